@@ -1,0 +1,23 @@
+-- Lists in order by a comparison, where elements that tie keep the order in which they came.
+use Rattle.std.specs.Prelude.{◌≡◌, Bool, false, List, [], ◌∷◌, cond}
+use Rattle.std.specs.List.{AllByRecursion}
+
+-- x, which came earlier than all of the list, goes in front of the first that is not before it
+abbrev pub earlier_in : {A : Type 0} → (A → A → Bool) → A → List A → List A
+earlier_in before x [] = x ∷ []
+earlier_in before x (y ∷ ys) = cond (before y x) (y ∷ earlier_in before x ys) (x ∷ y ∷ ys)
+
+-- o, which came later than all of the list, goes in front of the first that it is before
+abbrev pub later_in : {A : Type 0} → (A → A → Bool) → A → List A → List A
+later_in before o [] = o ∷ []
+later_in before o (y ∷ ys) = cond (before o y) (o ∷ y ∷ ys) (y ∷ later_in before o ys)
+
+-- the list in order
+abbrev pub in_order : {A : Type 0} → (A → A → Bool) → List A → List A
+in_order before [] = []
+in_order before (x ∷ xs) = earlier_in before x (in_order before xs)
+
+-- no element is before an earlier one
+abbrev pub IsInOrder : {A : Type 0} → (A → A → Bool) → List A → Type 0
+IsInOrder before [] = Unit {0}
+IsInOrder before (x ∷ xs) = AllByRecursion (λ y. before y x ≡ false) xs × IsInOrder before xs

@@ -1,0 +1,90 @@
+//! What every order book does.
+ghost use Rattle.std.specs.Prelude.{◌≡◌, ◌-◌, ◌<◌, ◌≤◌, List, [], length, Option, Some, None, IsSome, IsSomeAnd, IfSome, OnOk, OnErr, find};
+ghost use Rattle.std.specs.Option.{option_copied};
+ghost use Rattle.itch_book.specs.declared.order.Order.{Order};
+ghost use Rattle.itch_book.specs.Orders.{IsBook, get, is_in, is_of, after, next_price, level_total, lay, added, taken, without, replaced};
+ghost use Rattle.itch_book.specs.Taken.{IsLeft};
+
+use crate::order::{Order, Taken};
+use itch_codec::Side;
+use std::alloc::{AllocError, Allocator};
+
+/// The live orders of all locates, in snapshot order: by locate rising, bids before asks, bids from the highest price,
+/// asks from the lowest, and one price by time priority.
+pub trait OrderBook: Drop {
+    /// Where memory comes from.
+    type Alloc: Allocator + Copy;
+
+    // The orders in snapshot order, however they are kept.
+    ghost orders: { Self → List Order };
+
+    /// A book with no orders, which takes no memory yet.
+    fn new(alloc: Self::Alloc) -> Self
+        ensures { orders result ≡ [] };
+
+    /// The number of orders.
+    fn len(&self) -> usize
+        ensures { result ≡ length (orders self.now) };
+
+    /// The order of a reference.
+    fn get(&self, reference: u64) -> Option<&Order>
+        ensures { option_copied result ≡ get (orders self.now) reference };
+
+    /// The first order of a locate.
+    fn first(&self, locate: u16) -> Option<&Order>
+        ensures { option_copied result ≡ find (is_in locate) (orders self.now) };
+
+    /// The order of the same locate behind that of a reference.
+    fn after(&self, reference: u64) -> Option<&Order>
+        requires { IsSome (get (orders self.now) reference) }
+        ensures { option_copied result ≡ after (orders self.now) reference };
+
+    /// The order of a locate and side that has priority over all others there.
+    fn front(&self, locate: u16, side: Side) -> Option<&Order>
+        ensures { option_copied result ≡ find (is_of locate side) (orders self.now) };
+
+    /// The best price of a side, or the best one worse than `last`.
+    fn next_price(&self, locate: u16, side: Side, last: Option<u32>) -> Option<u32>
+        ensures { result ≡ next_price (orders self.now) locate side last };
+
+    /// The shares at a price, and the number of orders.
+    fn level_total(&self, locate: u16, side: Side, price: u32) -> (u128, u64)
+        ensures { result ≡ level_total (orders self.now) locate side price };
+
+    /// Adds an order, last at its price. Where memory is refused, the book stays as it was.
+    fn add(&mut self, order: Order) -> Result<(), AllocError>
+        requires some_shares { 0 < order.shares }
+        requires new_reference { get (orders self.old) order.reference ≡ None }
+        ensures ok { OnOk result (orders self.new ≡ lay (added order (orders self.old))) }
+        ensures err { OnErr result (orders self.new ≡ orders self.old) };
+
+    /// Takes shares from an order, which keeps its place, and is gone where nothing remains.
+    fn take(&mut self, reference: u64, shares: u32) -> Taken
+        requires { IsSomeAnd (get (orders self.old) reference) (λ x. shares ≤ x.shares) }
+        ensures orders { orders self.new ≡ lay (taken reference shares (orders self.old)) }
+        ensures left { IfSome (get (orders self.old) reference) (λ x. IsLeft (x.shares - shares) result) };
+
+    /// Removes an order, and answers it.
+    fn delete(&mut self, reference: u64) -> Order
+        requires { IsSome (get (orders self.old) reference) }
+        ensures orders { orders self.new ≡ lay (without reference (orders self.old)) }
+        ensures order { get (orders self.old) reference ≡ Some result };
+
+    /// Puts a new order in place of another one, last at its price, with the side, locate and attribution of the original.
+    /// Where memory is refused, the book stays as it was.
+    fn replace(
+        &mut self,
+        original: u64,
+        reference: u64,
+        shares: u32,
+        price: u32,
+    ) -> Result<(), AllocError>
+        requires live { IsSome (get (orders self.old) original) }
+        requires some_shares { 0 < shares }
+        requires new_reference { get (orders self.old) reference ≡ None }
+        ensures ok { OnOk result (orders self.new ≡ lay (replaced original reference shares price (orders self.old))) }
+        ensures err { OnErr result (orders self.new ≡ orders self.old) };
+
+    // The list is in snapshot order, each order has a reference of its own, shares, and a locate.
+    ghost is_book: { (b : Self) → IsBook (orders b) };
+}

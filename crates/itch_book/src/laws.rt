@@ -1,0 +1,80 @@
+//! What holds of orders and of every book, of whatever size.
+//!
+//! Each function of this module does nothing: its clauses are the laws.
+ghost use Rattle.std.specs.Prelude.{◌≡◌, ℕ, ◌<◌, ◌⊎◌, ◌↔◌, true, List, Some, IsPermutation, slice_get, find};
+ghost use Rattle.std.specs.List.{filter, AllByRecursion};
+ghost use Rattle.itch_codec.specs.declared.side.Side.{Side};
+ghost use Rattle.itch_book.specs.declared.order.Order.{Order};
+ghost use Rattle.itch_book.specs.Orders.{is_better, is_of, is_in, queue, sides, level, lay, get, first, added, taken, without, replaced, IsDistinct, AllFit, IsLive, IsBook};
+ghost use Rattle.itch_book.specs.Priority.{arrival, IsLine};
+
+use crate::book::OrderBook;
+
+/// A queue has the orders of its locate and side, each as often as they arrived. Of any two places of it, the one is
+/// before the other exactly if its order has the better price, or the same price and arrived earlier. No other list
+/// is such a line.
+#[tactic(auto, using(crate::proofs::LawRules::queue_laws))]
+pub fn queues()
+    ensures members { (orders : List Order) → (locate : ℕ) → (side : Side)
+        → IsPermutation (filter (is_of locate side) orders) (queue orders locate side) }
+    ensures priority { (orders : List Order) → (locate : ℕ) → (side : Side) → IsDistinct orders
+        → (i j : ℕ) → (x y : Order) → slice_get (queue orders locate side) i ≡ Some x → slice_get (queue orders locate side) j ≡ Some y
+        → ((i < j) ↔ ((is_better side x.price y.price ≡ true) ⊎ ((x.price ≡ y.price) × (arrival orders x < arrival orders y)))) }
+    ensures line { (orders : List Order) → (locate : ℕ) → (side : Side) → IsDistinct orders
+        → IsLine orders locate side (queue orders locate side) }
+    ensures only { (orders : List Order) → (locate : ℕ) → (side : Side) → (line : List Order) → IsDistinct orders
+        → IsLine orders locate side line → line ≡ queue orders locate side }
+{
+}
+
+/// The laid list is laid, and has the queues and the orders of the list that it was made of.
+#[tactic(auto, using(crate::proofs::LawRules::laid_laws))]
+pub fn laid_lists()
+    ensures laid { (orders : List Order) → lay (lay orders) ≡ lay orders }
+    ensures queues { (orders : List Order) → (locate : ℕ) → (side : Side) → AllFit orders
+        → queue (lay orders) locate side ≡ queue orders locate side }
+    ensures get { (orders : List Order) → (reference : ℕ) → IsDistinct orders → AllFit orders
+        → get (lay orders) reference ≡ get orders reference }
+{
+}
+
+/// What a change leaves of the laid list is, laid again, what it leaves of the list.
+#[tactic(auto, using(crate::proofs::LawRules::effect_laws))]
+pub fn changes()
+    ensures added { (x : Order) → (orders : List Order) → lay (added x (lay orders)) ≡ lay (added x orders) }
+    ensures taken { (reference shares : ℕ) → (orders : List Order)
+        → lay (taken reference shares (lay orders)) ≡ lay (taken reference shares orders) }
+    ensures without { (reference : ℕ) → (orders : List Order) → lay (without reference (lay orders)) ≡ lay (without reference orders) }
+    ensures replaced { (original reference shares price : ℕ) → (orders : List Order) → IsDistinct orders → AllFit orders
+        → lay (replaced original reference shares price (lay orders)) ≡ lay (replaced original reference shares price orders) }
+{
+}
+
+/// Lists with equal queues, or with equal orders at every price level, have one laid list.
+#[tactic(auto, using(crate::proofs::LawRules::same_laws))]
+pub fn same_lists()
+    ensures queues { (xs ys : List Order)
+        → ((locate : ℕ) → (side : Side) → queue xs locate side ≡ queue ys locate side) → lay xs ≡ lay ys }
+    ensures levels { (xs ys : List Order)
+        → ((locate : ℕ) → (side : Side) → (price : ℕ) → level xs locate side price ≡ level ys locate side price) → lay xs ≡ lay ys }
+{
+}
+
+/// Live orders with references of their own, laid, are a book's list. A book's list is laid, begins each locate and side
+/// with the first of its queue, and has the orders of a locate bids before asks.
+#[tactic(auto, using(crate::proofs::LawRules::book_laws))]
+pub fn books()
+    ensures made { (orders : List Order) → IsDistinct orders → AllByRecursion IsLive orders → IsBook (lay orders) }
+    ensures laid { (orders : List Order) → IsBook orders → lay orders ≡ orders }
+    ensures front { (orders : List Order) → (locate : ℕ) → (side : Side) → IsBook orders
+        → find (is_of locate side) orders ≡ first (queue orders locate side) }
+    ensures sides { (orders : List Order) → (locate : ℕ) → IsBook orders → sides orders locate ≡ filter (is_in locate) orders }
+{
+}
+
+/// The list of every book is its own laid list.
+#[tactic(auto, using(crate::proofs::LawRules::book_laws))]
+pub fn book_is_laid<B: OrderBook>(book: &B)
+    ensures { lay (B.orders book.now) ≡ B.orders book.now }
+{
+}

@@ -1,0 +1,106 @@
+//! A book that is one list.
+ghost use Rattle.std.specs.Prelude.{List};
+ghost use Rattle.itch_book.specs.Orders.{IsBook};
+ghost use Rattle.itch_book.specs.Kept.{IsBook-prop};
+
+use crate::book::OrderBook;
+use crate::order::{Order, Taken};
+use crate::places::{first_in, first_of, index_of, next_of, place_of, price_after, total_at};
+use itch_codec::Side;
+use std::alloc::{AllocError, Allocator, Global};
+
+/// The live orders as one list in snapshot order.
+///
+/// Each call goes over the list, so the time of a call grows with the number of live orders.
+#[derive(Drop)]
+pub struct ListBook<A: Allocator = Global> {
+    orders: Vec<Order, A>,
+    ghost is_kept: { IsBook orders.items } by { IsBook-prop orders.items },
+}
+
+impl<A: Allocator + Copy> OrderBook for ListBook<A> {
+    type Alloc = A;
+
+    ghost orders = { λ b. b.orders.items };
+
+    fn new(alloc: A) -> Self {
+        ListBook {
+            orders: Vec::new(alloc),
+        }
+    }
+
+    fn len(&self) -> usize {
+        self.orders.len()
+    }
+
+    fn get(&self, reference: u64) -> Option<&Order> {
+        self.orders.iter().find(|order| order.reference == reference)
+    }
+
+    fn first(&self, locate: u16) -> Option<&Order> {
+        first_in(&self.orders, locate)
+    }
+
+    fn after(&self, reference: u64) -> Option<&Order> {
+        next_of(&self.orders, reference)
+    }
+
+    fn front(&self, locate: u16, side: Side) -> Option<&Order> {
+        first_of(&self.orders, locate, side)
+    }
+
+    fn next_price(&self, locate: u16, side: Side, last: Option<u32>) -> Option<u32> {
+        price_after(&self.orders, locate, side, last)
+    }
+
+    fn level_total(&self, locate: u16, side: Side, price: u32) -> (u128, u64) {
+        total_at(&self.orders, locate, side, price)
+    }
+
+    fn add(&mut self, order: Order) -> Result<(), AllocError> {
+        let place = place_of(&self.orders, &order);
+        self.orders.insert(place, order)?;
+        Ok(())
+    }
+
+    fn take(&mut self, reference: u64, shares: u32) -> Taken {
+        let index = index_of(&self.orders, reference);
+        let left = self.orders[index].shares - shares;
+        if left == 0 {
+            self.orders.remove(index);
+            return Taken::Gone;
+        }
+        self.orders[index].shares = left;
+        Taken::Left(left)
+    }
+
+    fn delete(&mut self, reference: u64) -> Order {
+        let index = index_of(&self.orders, reference);
+        self.orders.remove(index)
+    }
+
+    fn replace(
+        &mut self,
+        original: u64,
+        reference: u64,
+        shares: u32,
+        price: u32,
+    ) -> Result<(), AllocError> {
+        let index = index_of(&self.orders, original);
+        let old = self.orders.remove(index);
+        let order = Order {
+            reference,
+            shares,
+            price,
+            ..old
+        };
+        let place = place_of(&self.orders, &order);
+        match self.orders.insert(place, order) {
+            Ok(()) => Ok(()),
+            // The order that was removed left room.
+            Err(_) => unreachable!(),
+        }
+    }
+
+    ghost is_book = { λ b. b.is_kept };
+}

@@ -1,0 +1,110 @@
+-- Over a layout's columns: what fields hold, what their faults are, and how their bytes are joined.
+use Rattle.std.proofs.Common.{◌≡◌, ℕ, zero, suc, ◌+◌, ◌-◌, ◌*◌, ◌<◌, ◌≤◌, ◌^◌, ◌==◌, ◌&&◌, ◌||◌, Bool, true, false, cond, eqb, List, [], ◌∷◌, ◌++◌, length, take, drop, get_or, map, Option, None, Some, refl, sym, ap, ◌∙◌, subst, arith}
+use Rattle.std.specs.Prelude.{unwrap_or, option_map}
+use Rattle.std.proofs.lemmas.Bool.Decides.{nat_tests}
+use Rattle.std.proofs.lemmas.List.{append-nil, append_assoc, take_at, drop_at, length-append, get_or-append-add, drop_all, take-append-drop}
+use Rattle.byteorder.specs.Numbers.{big_number-reads_back, big_from-lt, length-bytes_high_first}
+use Rattle.itch_codec.specs.declared.side.Side.{Side}
+use Rattle.itch_codec.specs.declared.side.Side.TheVariants.{Buy, Sell}
+use Rattle.itch_codec.specs.declared.fault.CodecFault.{CodecFault}
+use Rattle.itch_codec.specs.declared.fault.CodecFault.TheVariants.{BadText, BadSide}
+use Rattle.itch_codec.specs.Text.{IsPrintable, first_unprintable}
+use Rattle.itch_codec.specs.Numbers.{slice_at, number_at, byte_at, be, dec20, SpellsNumber, read20}
+use Rattle.itch_codec.specs.Layouts.{Class, Integer, Text, OneSide, Code, Codes, Digits, Column}
+use Rattle.itch_codec.specs.Fields.{AreBytes, Value, Number, Bytes, Way, Has, HasAt, HasAll, FitsAt, FitAll, IsAlpha, IsBytes, bytes_at, joined, side_byte, side_of, value_by, value_at, text_fault, side_fault, number_fault, fault_by, field_fault, first_of, first_fault}
+use Rattle.itch_codec.proofs.Texts.{printable-none, none-printable}
+use Rattle.itch_codec.proofs.Numbers.{read-spells, spells-read, dec20-spells, length-dec20}
+use Rattle.itch_codec.proofs.Bytes.{be-number, slice_bytes, length-slice_at, each_byte}
+
+abbrev side_fault_of : ℕ → Bool → Bool → Option CodecFault
+side_fault_of offset buy sell = cond (buy || sell) None (Some (BadSide offset))
+
+-- a side's byte tells the side, and is no fault
+side_there : (byte : ℕ) (side : Side) → byte ≡ side_byte side → side ≡ side_of byte
+side_there byte Buy h = rw h refl
+side_there byte Sell h = rw h refl
+
+side_fine : (offset : ℕ) (payload : List ℕ) (side : Side) → byte_at offset payload ≡ side_byte side → side_fault offset payload ≡ None
+side_fine offset payload Buy h = rw h refl
+side_fine offset payload Sell h = rw h refl
+
+side_found : (offset byte : ℕ) (b s : Bool) → eqb byte 66 ≡ b → eqb byte 83 ≡ s → side_fault_of offset b s ≡ None → byte ≡ side_byte (side_of byte)
+side_found offset byte true s e f h = rw e (grind (arith, nat_tests))
+side_found offset byte false true e f h = rw e (grind (arith, nat_tests))
+side_found offset byte false false e f h = absurd (cc)
+
+text_found : (offset : ℕ) (place : Option ℕ) → option_map (λ k. BadText (offset + k)) place ≡ None → place ≡ None
+text_found offset None h = refl
+text_found offset (Some k) h = absurd (cc)
+
+number_found : (field : List ℕ) (read : Option ℕ) → read20 field ≡ read → number_fault read ≡ None
+    → SpellsNumber field (unwrap_or read 0) × (1 ≤ unwrap_or read 0)
+number_found field None e h = absurd (cc)
+number_found field (Some zero) e h = absurd (cc)
+number_found field (Some (suc n)) e h = (read-spells field (suc n) e, omega arith)
+
+number_fine : (n : ℕ) → 1 ≤ n → number_fault (Some n) ≡ None
+number_fine zero h = absurd (omega arith)
+number_fine (suc n) h = let above : eqb (suc n) 0 ≡ false = grind (arith, nat_tests) in rw above refl
+
+-- a field holds one value
+has_value : (class : Class) (offset width : ℕ) (payload : List ℕ) (value : Value) → HasAt class offset width payload value
+    → value ≡ value_by class offset width payload
+has_value Integer offset width payload (Number n) h = ap Number h
+has_value Text offset width payload (Bytes bytes) h = ap Bytes h.0
+has_value OneSide offset width payload (Way side) h = ap Way (side_there (byte_at offset payload) side h)
+has_value Code offset width payload (Number n) h = ap Number h
+has_value Codes offset width payload (Bytes bytes) h = ap Bytes h
+has_value Digits offset width payload (Number n) h =
+    ap Number (sym (ap (λ read. unwrap_or read 0) (spells-read (slice_at offset width payload) n h.0)))
+has_value class offset width payload value h = absurd h
+
+-- a field that holds a value has no fault
+has_no_fault : (class : Class) (offset width : ℕ) (payload : List ℕ) (value : Value) → HasAt class offset width payload value
+    → fault_by class offset width payload ≡ None
+has_no_fault Text offset width payload (Bytes bytes) h =
+    ap (option_map (λ k. BadText (offset + k))) (printable-none (slice_at offset width payload) (subst IsPrintable h.0 h.1))
+has_no_fault OneSide offset width payload (Way side) h = side_fine offset payload side h
+has_no_fault Digits offset width payload (Number n) h =
+    ap number_fault (spells-read (slice_at offset width payload) n h.0) ∙ number_fine n h.1
+has_no_fault Integer offset width payload value h = refl
+has_no_fault Code offset width payload value h = refl
+has_no_fault Codes offset width payload value h = refl
+has_no_fault class offset width payload value h = absurd h
+
+-- a field without a fault holds a value
+no_fault_has : (class : Class) (offset width : ℕ) (payload : List ℕ) → fault_by class offset width payload ≡ None
+    → HasAt class offset width payload (value_by class offset width payload)
+no_fault_has Integer offset width payload h = refl
+no_fault_has Text offset width payload h = (refl, none-printable (slice_at offset width payload) (text_found offset _ h))
+no_fault_has OneSide offset width payload h = side_found offset (byte_at offset payload) _ _ refl refl h
+no_fault_has Code offset width payload h = refl
+no_fault_has Codes offset width payload h = refl
+no_fault_has Digits offset width payload h = number_found (slice_at offset width payload) _ refl h
+
+-- the same for all fields
+pub all_values : (payload : List ℕ) (columns : List Column) (values : List Value) → HasAll payload columns values → values ≡ map (value_at payload) columns
+all_values payload [] [] h = refl
+all_values payload [] (v ∷ vs) h = absurd h
+all_values payload (c ∷ cs) [] h = absurd h
+all_values payload (c ∷ cs) (v ∷ vs) h =
+    let first = has_value c.class c.offset c.width payload v h.0 in
+    let rest = all_values payload cs vs h.1 in λ i. first i ∷ rest i
+
+pub all_none : (payload : List ℕ) (columns : List Column) (values : List Value) → HasAll payload columns values → first_fault payload columns ≡ None
+all_none payload [] [] h = refl
+all_none payload [] (v ∷ vs) h = absurd h
+all_none payload (c ∷ cs) [] h = absurd h
+all_none payload (c ∷ cs) (v ∷ vs) h =
+    ap (λ fault. first_of fault (first_fault payload cs)) (has_no_fault c.class c.offset c.width payload v h.0)
+    ∙ all_none payload cs vs h.1
+
+both_none : (first later : Option CodecFault) → first_of first later ≡ None → (first ≡ None) × (later ≡ None)
+both_none None later h = (refl, h)
+both_none (Some fault) later h = absurd (cc)
+
+pub none_all : (payload : List ℕ) (columns : List Column) → first_fault payload columns ≡ None → HasAll payload columns (map (value_at payload) columns)
+none_all payload [] h = tt
+none_all payload (c ∷ cs) h =
+    let both = both_none (field_fault payload c) (first_fault payload cs) h in
+    (no_fault_has c.class c.offset c.width payload both.0, none_all payload cs both.1)

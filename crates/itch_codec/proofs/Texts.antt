@@ -1,0 +1,79 @@
+-- Printable bytes, and their first byte that is not.
+use Rattle.std.proofs.Common.{◌≡◌, ℕ, zero, suc, ◌+◌, ◌-◌, ◌<◌, ◌≤◌, Bool, true, false, not, cond, ltb, List, [], ◌∷◌, ◌++◌, length, take, drop, replicate, get_or, slice_index, Option, None, Some, refl, sym, ap, ◌∙◌, arith}
+use Rattle.std.specs.List.{prefix_len, position}
+use Rattle.std.proofs.Math.Numerals.{one-add}
+use Rattle.std.proofs.lemmas.List.Sums.{prefix_len-le-length}
+use Rattle.std.proofs.lemmas.Bool.Decides.{nat_tests}
+use Rattle.std.specs.Str.{IsUtf8}
+use Rattle.std.proofs.lemmas.Str.{IsUtf8-from_ascii}
+use Rattle.std.proofs.lemmas.List.{length-take, length-drop, length-replicate, ext_get_or, get_or-drop, get_or-take, get_or-replicate, take-append-drop}
+use Rattle.itch_codec.specs.Text.{IsPrintable, is_unprintable, first_unprintable, padded_to}
+
+abbrev printed_len : List ℕ → ℕ
+printed_len bytes = prefix_len (λ byte. not (is_unprintable byte)) bytes
+
+printable_byte : (byte : ℕ) → (32 ≤ byte) × (byte ≤ 126) → is_unprintable byte ≡ false
+printable_byte byte h = grind (arith, nat_tests)
+
+byte_printable : (byte : ℕ) → is_unprintable byte ≡ false → (32 ≤ byte) × (byte ≤ 126)
+byte_printable byte h = grind (arith, nat_tests)
+
+printable-len : (bytes : List ℕ) → IsPrintable bytes → printed_len bytes ≡ length bytes
+printable-len [] h = refl
+printable-len (byte ∷ bytes) h = rw (printable_byte byte h.0, printable-len bytes h.1, one-add) refl
+
+len_step : (byte : ℕ) (bytes : List ℕ) (b : Bool) → is_unprintable byte ≡ b → printed_len (byte ∷ bytes) ≡ length (byte ∷ bytes)
+    → (is_unprintable byte ≡ false) × (printed_len bytes ≡ length bytes)
+len_step byte bytes true e h = absurd (grind (arith, rw e at h))
+len_step byte bytes false e h = let k = rw e at h in (e, omega (arith, k))
+
+len-printable : (bytes : List ℕ) → printed_len bytes ≡ length bytes → IsPrintable bytes
+len-printable [] h = tt
+len-printable (byte ∷ bytes) h =
+    let step = len_step byte bytes (is_unprintable byte) refl h in (byte_printable byte step.0, len-printable bytes step.1)
+
+none_len : (bytes : List ℕ) (b : Bool) → ltb (printed_len bytes) (length bytes) ≡ b → first_unprintable bytes ≡ None → printed_len bytes ≡ length bytes
+unfolding first_unprintable
+none_len bytes true e h = absurd (let k = rw e at h in cc)
+none_len bytes false e h =
+    let le = prefix_len-le-length (λ byte. not (is_unprintable byte)) bytes in grind (arith, nat_tests)
+
+-- where no byte is found that is not printable, all are
+pub none-printable : (bytes : List ℕ) → first_unprintable bytes ≡ None → IsPrintable bytes
+none-printable bytes h = len-printable bytes (none_len bytes _ refl h)
+
+-- in printable bytes none is found that is not
+pub printable-none : (bytes : List ℕ) → IsPrintable bytes → first_unprintable bytes ≡ None
+unfolding first_unprintable
+printable-none bytes h =
+    let e = printable-len bytes h in
+    let t : ltb (printed_len bytes) (length bytes) ≡ false = grind (arith, nat_tests) in rw t refl
+
+pub ruleset printing = (none-printable, printable-none)
+
+-- what stands behind the text is spaces
+pub text-whole : (field : List ℕ) (len : ℕ) → len ≤ length field → ((k : ℕ) → len ≤ k → k < length field → slice_index field k ≡ 32)
+    → field ≡ padded_to (length field) (take len field)
+text-whole field len within spaces =
+    let size : length (take len field) ≡ len = simp length-take (omega arith) in
+    let left : length (drop len field) ≡ length field - len = length-drop len field in
+    let behind : drop len field ≡ replicate (length field - len) 32 =
+    ext_get_or 0 (drop len field) (replicate (length field - len) 32) (left ∙ sym (length-replicate (length field - len) 32)) (λ i h.
+      get_or-drop len field i 0 ∙ spaces (len + i) (omega arith) (omega arith) ∙ sym (get_or-replicate (length field - len) i 32 0 (omega arith))) in
+    sym (take-append-drop len field) ∙ ap (λ xs. take len field ++ xs) (behind ∙ ap (λ k. replicate (length field - k) 32) (sym size))
+
+-- printable bytes are text
+printable_at : (bytes : List ℕ) → IsPrintable bytes → (i : ℕ) → get_or bytes i 0 < 128
+printable_at [] h i = omega arith
+printable_at (byte ∷ bytes) h zero = let high = h.0.1 in omega arith
+printable_at (byte ∷ bytes) h (suc i) = printable_at bytes h.1 i
+
+printable_take : (len : ℕ) (bytes : List ℕ) → IsPrintable bytes → IsPrintable (take len bytes)
+printable_take zero bytes h = tt
+printable_take (suc len) [] h = tt
+printable_take (suc len) (byte ∷ bytes) h = (h.0, printable_take len bytes h.1)
+
+pub printable-utf8 : (len : ℕ) (bytes : List ℕ) → IsPrintable bytes → IsUtf8 (take len bytes)
+printable-utf8 len bytes h = IsUtf8-from_ascii (take len bytes) (printable_at (take len bytes) (printable_take len bytes h))
+
+pub ruleset trimming = (text-whole, printable-utf8, length-take, get_or-take)

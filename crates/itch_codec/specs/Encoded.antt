@@ -1,0 +1,8 @@
+-- The bytes of an encoded message: those that were built, or the payload that was kept.
+use Rattle.std.specs.Prelude.{ℕ, List}
+use Rattle.itch_codec.specs.declared.encoded.Form.{Form}
+use Rattle.itch_codec.specs.declared.encoded.Form.TheVariants.{Built, Kept}
+
+abbrev pub bytes_of : Form → List ℕ
+bytes_of (Built bytes) = bytes.items
+bytes_of (Kept payload) = payload.now

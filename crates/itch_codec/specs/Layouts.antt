@@ -1,0 +1,113 @@
+-- The layout of each message type, as data (TotalView-ITCH 5.0, "Message Formats").
+use Rattle.std.specs.Prelude.{◌≡◌, ℕ, ◌==◌, List, [], ◌∷◌, Option, None, Some, if◌then◌else◌}
+
+-- what may stand in a field: a number, a text, a side, one byte or several of any kind, or a number in decimal digits
+pub data Class : Type 0 where
+  Integer : Class
+  Text : Class
+  OneSide : Class
+  Code : Class
+  Codes : Class
+  Digits : Class
+
+-- a field: where it begins in the message, how many bytes it has, and what may stand in it
+pub record Column : Type 0 where
+  pub offset : ℕ
+  pub width : ℕ
+  pub class : Class
+
+-- a message type: its first byte, how many bytes it has, and its fields in order
+pub record Layout : Type 0 where
+  pub kind : ℕ
+  pub size : ℕ
+  pub columns : List Column
+
+abbrev pub column : ℕ → ℕ → Class → Column
+column offset width class = record { offset = offset; width = width; class = class }
+
+-- stock locate, tracking number and timestamp stand in front of the fields
+abbrev pub with_header : List Column → List Column
+with_header columns = column 1 2 Integer ∷ column 3 2 Integer ∷ column 5 6 Integer ∷ columns
+
+abbrev pub message_type : ℕ → ℕ → List Column → Layout
+message_type kind size columns = record { kind = kind; size = size; columns = with_header columns }
+
+abbrev pub system_event : Layout
+system_event = message_type 83 12 (column 11 1 Code ∷ [])
+
+-- the fields of a directory entry
+abbrev pub directory_columns : List Column
+directory_columns =
+    column 11 8 Text ∷ column 19 1 Code ∷ column 20 1 Code ∷ column 21 4 Integer ∷ column 25 1 Code ∷ column 26 1 Code ∷ column 27 2 Codes
+    ∷ column 29 1 Code ∷ column 30 1 Code ∷ column 31 1 Code ∷ column 32 1 Code ∷ column 33 1 Code ∷ column 34 4 Integer ∷ column 38 1 Code ∷ []
+
+abbrev pub stock_directory : Layout
+stock_directory = message_type 82 39 directory_columns
+
+abbrev pub trading_action : Layout
+trading_action = message_type 72 25 (column 11 8 Text ∷ column 19 1 Code ∷ column 20 1 Code ∷ column 21 4 Codes ∷ [])
+
+abbrev pub reg_sho : Layout
+reg_sho = message_type 89 20 (column 11 8 Text ∷ column 19 1 Code ∷ [])
+
+-- the fields of a new order
+abbrev pub order_columns : List Column → List Column
+order_columns columns =
+    column 11 8 Integer ∷ column 19 1 OneSide ∷ column 20 4 Integer ∷ column 24 8 Text ∷ column 32 4 Integer ∷ columns
+
+abbrev pub add_order : Layout
+add_order = message_type 65 36 (order_columns [])
+
+abbrev pub attributed_add_order : Layout
+attributed_add_order = message_type 70 40 (order_columns (column 36 4 Text ∷ []))
+
+-- the fields of an execution
+abbrev pub execution_columns : List Column → List Column
+execution_columns columns = column 11 8 Integer ∷ column 19 4 Integer ∷ column 23 8 Integer ∷ columns
+
+abbrev pub order_executed : Layout
+order_executed = message_type 69 31 (execution_columns [])
+
+abbrev pub order_executed_with_price : Layout
+order_executed_with_price = message_type 67 36 (execution_columns (column 31 1 Code ∷ column 32 4 Integer ∷ []))
+
+abbrev pub order_cancel : Layout
+order_cancel = message_type 88 23 (column 11 8 Integer ∷ column 19 4 Integer ∷ [])
+
+abbrev pub order_delete : Layout
+order_delete = message_type 68 19 (column 11 8 Integer ∷ [])
+
+abbrev pub order_replace : Layout
+order_replace = message_type 85 35 (column 11 8 Integer ∷ column 19 8 Integer ∷ column 27 4 Integer ∷ column 31 4 Integer ∷ [])
+
+abbrev pub trade : Layout
+trade = message_type 80 44 (order_columns (column 36 8 Integer ∷ []))
+
+abbrev pub cross_trade : Layout
+cross_trade = message_type 81 40 (column 11 8 Integer ∷ column 19 8 Text ∷ column 27 4 Integer ∷ column 31 8 Integer ∷ column 39 1 Code ∷ [])
+
+abbrev pub broken_trade : Layout
+broken_trade = message_type 66 19 (column 11 8 Integer ∷ [])
+
+-- End of Snapshot (GLIMPSE 5.0): the sequence number in twenty digits, and no header
+abbrev pub end_of_snapshot : Layout
+end_of_snapshot = record { kind = 71; size = 21; columns = column 1 20 Digits ∷ [] }
+
+-- every message type that is decoded
+abbrev pub table : List Layout
+table =
+    system_event ∷ stock_directory ∷ trading_action ∷ reg_sho ∷ add_order ∷ attributed_add_order ∷ order_executed ∷ order_executed_with_price
+    ∷ order_cancel ∷ order_delete ∷ order_replace ∷ trade ∷ cross_trade ∷ broken_trade ∷ end_of_snapshot ∷ []
+
+abbrev pub layout_in : List Layout → ℕ → Option Layout
+layout_in [] kind = None
+layout_in (layout ∷ layouts) kind = if kind == layout.kind then Some layout else layout_in layouts kind
+
+-- the layout of the type with this first byte
+abbrev pub layout_of : ℕ → Option Layout
+layout_of kind = layout_in table kind
+
+-- a payload that is not empty, and whose type is not in the table
+abbrev pub IsUndecoded : List ℕ → Type 0
+IsUndecoded [] = ⊥
+IsUndecoded (kind ∷ rest) = layout_of kind ≡ None

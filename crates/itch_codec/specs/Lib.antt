@@ -1,0 +1,9 @@
+pub mod Text
+pub mod AlphaFaults
+pub mod Numbers
+pub mod Layouts
+pub mod Fields
+pub mod Values
+pub mod Widths
+pub mod Messages
+pub mod Encoded

@@ -1,0 +1,65 @@
+-- Integers in bytes, and numbers in twenty decimal digits (TotalView-ITCH 5.0, "Data Types"; GLIMPSE 5.0, "End of Snapshot").
+use Rattle.std.specs.Prelude.{◌≡◌, ℕ, ◌+◌, ◌-◌, ◌<◌, ◌≤◌, ◌^◌, ◌==◌, Bool, true, false, ◌&&◌, ◌||◌, not, nat_le, IsTrue, List, [], ◌∷◌, ◌++◌, length, replicate, take, drop, slice_range, slice_index, decimal, Option, Some, None, if◌then◌else◌}
+use Rattle.std.specs.Char.{is_ascii_digit}
+use Rattle.std.specs.List.{prefix_len, list_all}
+use Rattle.std.specs.Str.{all_ascii_digits}
+use Rattle.std.specs.Str.Parse.{digits_value}
+use Rattle.byteorder.specs.Endian.{big_number, big_bytes}
+
+-- the bytes of a message from this place on, so many
+unfoldable pub slice_at : ℕ → ℕ → List ℕ → List ℕ
+slice_at offset width payload = slice_range payload offset (offset + width)
+
+-- the value to base 256 of these bytes, the highest first
+unfoldable pub number_at : ℕ → ℕ → List ℕ → ℕ
+number_at offset width payload = big_number width (slice_range payload offset (offset + width))
+
+abbrev pub byte_at : ℕ → List ℕ → ℕ
+byte_at offset payload = slice_index payload offset
+
+-- a number in so many bytes, the highest first
+unfoldable pub be : ℕ → ℕ → List ℕ
+be width number = big_bytes width number
+
+-- a number in twenty bytes: its digits, and spaces in front of them
+unfoldable pub dec20 : ℕ → List ℕ
+dec20 number = replicate (20 - length (decimal number)) 32 ++ decimal number
+
+abbrev pub is_space : ℕ → Bool
+is_space byte = byte == 32
+
+-- the field is spaces, at least one digit, and spaces, and the digits' value is this number, at most 10^19
+pub record IsNumber (field : List ℕ) (number : ℕ) (left digits right : List ℕ) : Type 0 where
+  pub whole : field ≡ left ++ (digits ++ right)
+  pub spaces_before : IsTrue (list_all is_space left)
+  pub all_digits : IsTrue (all_ascii_digits digits)
+  pub some_digit : 0 < length digits
+  pub spaces_behind : IsTrue (list_all is_space right)
+  pub value : number ≡ digits_value 10 digits
+  pub bounded : number ≤ 10 ^ 19
+
+abbrev pub SpellsNumber : List ℕ → ℕ → Type 0
+SpellsNumber field number =
+    (left : List ℕ) × (digits : List ℕ) × (right : List ℕ) × IsNumber field number left digits right
+
+-- a field without the spaces in front
+unfoldable pub after_spaces : List ℕ → List ℕ
+after_spaces field = drop (prefix_len is_space field) field
+
+unfoldable pub digits_in_front : List ℕ → List ℕ
+digits_in_front text = take (prefix_len is_ascii_digit text) text
+
+unfoldable pub behind_digits : List ℕ → List ℕ
+behind_digits text = drop (prefix_len is_ascii_digit text) text
+
+abbrev pub number_of_digits : List ℕ → Option ℕ
+number_of_digits digits = if nat_le (digits_value 10 digits) (10 ^ 19) then Some (digits_value 10 digits) else None
+
+-- the number of these digits, if there are any, and only spaces behind them
+abbrev pub number_of_parts : List ℕ → List ℕ → Option ℕ
+number_of_parts [] right = None
+number_of_parts (digit ∷ digits) right = if list_all is_space right then number_of_digits (digit ∷ digits) else None
+
+-- the number that a field of digits with spaces on both sides spells, if it spells one
+unfoldable pub read20 : List ℕ → Option ℕ
+read20 field = number_of_parts (digits_in_front (after_spaces field)) (behind_digits (after_spaces field))

@@ -1,0 +1,192 @@
+-- The values of each message's fields, in the order of its layout.
+use Rattle.std.specs.Prelude.{ℕ, List, [], ◌∷◌, get_or}
+use Rattle.itch_codec.specs.declared.header.Header.{Header}
+use Rattle.itch_codec.specs.declared.side.Side.{Side}
+use Rattle.itch_codec.specs.declared.side.Side.TheVariants.{Buy}
+use Rattle.itch_codec.specs.declared.stocks.SystemEvent.{SystemEvent}
+use Rattle.itch_codec.specs.declared.stocks.Directory.{Directory}
+use Rattle.itch_codec.specs.declared.stocks.StockDirectory.{StockDirectory}
+use Rattle.itch_codec.specs.declared.stocks.TradingAction.{TradingAction}
+use Rattle.itch_codec.specs.declared.stocks.RegSho.{RegSho}
+use Rattle.itch_codec.specs.declared.orders.AddOrder.{AddOrder}
+use Rattle.itch_codec.specs.declared.orders.AttributedAddOrder.{AttributedAddOrder}
+use Rattle.itch_codec.specs.declared.orders.OrderExecuted.{OrderExecuted}
+use Rattle.itch_codec.specs.declared.orders.OrderExecutedWithPrice.{OrderExecutedWithPrice}
+use Rattle.itch_codec.specs.declared.orders.OrderCancel.{OrderCancel}
+use Rattle.itch_codec.specs.declared.orders.OrderDelete.{OrderDelete}
+use Rattle.itch_codec.specs.declared.orders.OrderReplace.{OrderReplace}
+use Rattle.itch_codec.specs.declared.trades.Trade.{Trade}
+use Rattle.itch_codec.specs.declared.trades.CrossTrade.{CrossTrade}
+use Rattle.itch_codec.specs.declared.trades.BrokenTrade.{BrokenTrade}
+use Rattle.itch_codec.specs.Fields.{Value, Number, Bytes, Way}
+
+-- the values of a header, and those behind it
+abbrev pub header_values : Header → List Value → List Value
+header_values h values = Number h.locate ∷ Number h.tracking ∷ Number h.stamp ∷ values
+
+abbrev pub system_event_values : SystemEvent → List Value
+system_event_values m = header_values m.header (Number m.code ∷ [])
+
+abbrev pub directory_values : Directory → List Value
+directory_values d =
+    Bytes d.stock ∷ Number d.market_category ∷ Number d.financial_status ∷ Number d.round_lot_size ∷ Number d.round_lots_only
+    ∷ Number d.issue_classification ∷ Bytes d.issue_sub_type ∷ Number d.authenticity ∷ Number d.short_sale_threshold ∷ Number d.ipo_flag
+    ∷ Number d.luld_price_tier ∷ Number d.etp_flag ∷ Number d.etp_leverage_factor ∷ Number d.inverse_indicator ∷ []
+
+abbrev pub stock_directory_values : StockDirectory → List Value
+stock_directory_values m = header_values m.header (directory_values m.entry)
+
+abbrev pub trading_action_values : TradingAction → List Value
+trading_action_values m =
+    header_values m.header (Bytes m.stock ∷ Number m.state ∷ Number m.reserved ∷ Bytes m.reason ∷ [])
+
+abbrev pub reg_sho_values : RegSho → List Value
+reg_sho_values m = header_values m.header (Bytes m.stock ∷ Number m.action ∷ [])
+
+-- the values of a new order, and those behind it
+abbrev pub order_values : AddOrder → List Value → List Value
+order_values m values =
+    header_values m.header (Number m.reference ∷ Way m.side ∷ Number m.shares ∷ Bytes m.stock ∷ Number m.price ∷ values)
+
+abbrev pub add_order_values : AddOrder → List Value
+add_order_values m = order_values m []
+
+abbrev pub attributed_add_order_values : AttributedAddOrder → List Value
+attributed_add_order_values m = order_values m.order (Bytes m.attribution ∷ [])
+
+-- the values of an execution, and those behind it
+abbrev pub execution_values : OrderExecuted → List Value → List Value
+execution_values m values = header_values m.header (Number m.reference ∷ Number m.shares ∷ Number m.match_number ∷ values)
+
+abbrev pub order_executed_values : OrderExecuted → List Value
+order_executed_values m = execution_values m []
+
+abbrev pub order_executed_with_price_values : OrderExecutedWithPrice → List Value
+order_executed_with_price_values m = execution_values m.execution (Number m.printable ∷ Number m.price ∷ [])
+
+abbrev pub order_cancel_values : OrderCancel → List Value
+order_cancel_values m = header_values m.header (Number m.reference ∷ Number m.shares ∷ [])
+
+abbrev pub order_delete_values : OrderDelete → List Value
+order_delete_values m = header_values m.header (Number m.reference ∷ [])
+
+abbrev pub order_replace_values : OrderReplace → List Value
+order_replace_values m =
+    header_values m.header (Number m.original ∷ Number m.reference ∷ Number m.shares ∷ Number m.price ∷ [])
+
+abbrev pub trade_values : Trade → List Value
+trade_values m =
+    header_values m.header (Number m.reference ∷ Way m.side ∷ Number m.shares ∷ Bytes m.stock ∷ Number m.price ∷ Number m.match_number ∷ [])
+
+abbrev pub cross_trade_values : CrossTrade → List Value
+cross_trade_values m =
+    header_values m.header (Number m.shares ∷ Bytes m.stock ∷ Number m.price ∷ Number m.match_number ∷ Number m.cross_type ∷ [])
+
+abbrev pub broken_trade_values : BrokenTrade → List Value
+broken_trade_values m = header_values m.header (Number m.match_number ∷ [])
+
+-- the number, the bytes or the side that a value is
+abbrev pub number_in : Value → ℕ
+number_in (Number number) = number
+number_in value = 0
+
+abbrev pub bytes_in : Value → List ℕ
+bytes_in (Bytes bytes) = bytes
+bytes_in value = []
+
+abbrev pub side_in : Value → Side
+side_in (Way side) = side
+side_in value = Buy
+
+-- the values by place, counted from 0
+abbrev pub number : ℕ → List Value → ℕ
+number place values = number_in (get_or values place (Number 0))
+
+abbrev pub bytes : ℕ → List Value → List ℕ
+bytes place values = bytes_in (get_or values place (Number 0))
+
+abbrev pub side : ℕ → List Value → Side
+side place values = side_in (get_or values place (Number 0))
+
+-- the messages that such values make
+abbrev pub header_of : List Value → Header
+header_of vs = record { locate = number 0 vs; tracking = number 1 vs; stamp = number 2 vs }
+
+abbrev pub system_event_of : List Value → SystemEvent
+system_event_of vs = record { header = header_of vs; code = number 3 vs }
+
+abbrev pub directory_of : List Value → Directory
+directory_of vs = record {
+  stock = bytes 3 vs;
+  market_category = number 4 vs;
+  financial_status = number 5 vs;
+  round_lot_size = number 6 vs;
+  round_lots_only = number 7 vs;
+  issue_classification = number 8 vs;
+  issue_sub_type = bytes 9 vs;
+  authenticity = number 10 vs;
+  short_sale_threshold = number 11 vs;
+  ipo_flag = number 12 vs;
+  luld_price_tier = number 13 vs;
+  etp_flag = number 14 vs;
+  etp_leverage_factor = number 15 vs;
+  inverse_indicator = number 16 vs
+}
+
+abbrev pub stock_directory_of : List Value → StockDirectory
+stock_directory_of vs = record { header = header_of vs; entry = directory_of vs }
+
+abbrev pub trading_action_of : List Value → TradingAction
+trading_action_of vs =
+    record { header = header_of vs; stock = bytes 3 vs; state = number 4 vs; reserved = number 5 vs; reason = bytes 6 vs }
+
+abbrev pub reg_sho_of : List Value → RegSho
+reg_sho_of vs = record { header = header_of vs; stock = bytes 3 vs; action = number 4 vs }
+
+abbrev pub add_order_of : List Value → AddOrder
+add_order_of vs =
+    record { header = header_of vs; reference = number 3 vs; side = side 4 vs; shares = number 5 vs; stock = bytes 6 vs; price = number 7 vs }
+
+abbrev pub attributed_add_order_of : List Value → AttributedAddOrder
+attributed_add_order_of vs = record { order = add_order_of vs; attribution = bytes 8 vs }
+
+abbrev pub order_executed_of : List Value → OrderExecuted
+order_executed_of vs =
+    record { header = header_of vs; reference = number 3 vs; shares = number 4 vs; match_number = number 5 vs }
+
+abbrev pub order_executed_with_price_of : List Value → OrderExecutedWithPrice
+order_executed_with_price_of vs = record { execution = order_executed_of vs; printable = number 6 vs; price = number 7 vs }
+
+abbrev pub order_cancel_of : List Value → OrderCancel
+order_cancel_of vs = record { header = header_of vs; reference = number 3 vs; shares = number 4 vs }
+
+abbrev pub order_delete_of : List Value → OrderDelete
+order_delete_of vs = record { header = header_of vs; reference = number 3 vs }
+
+abbrev pub order_replace_of : List Value → OrderReplace
+order_replace_of vs =
+    record { header = header_of vs; original = number 3 vs; reference = number 4 vs; shares = number 5 vs; price = number 6 vs }
+
+abbrev pub trade_of : List Value → Trade
+trade_of vs = record {
+  header = header_of vs;
+  reference = number 3 vs;
+  side = side 4 vs;
+  shares = number 5 vs;
+  stock = bytes 6 vs;
+  price = number 7 vs;
+  match_number = number 8 vs
+}
+
+abbrev pub cross_trade_of : List Value → CrossTrade
+cross_trade_of vs = record {
+  header = header_of vs;
+  shares = number 3 vs;
+  stock = bytes 4 vs;
+  price = number 5 vs;
+  match_number = number 6 vs;
+  cross_type = number 7 vs
+}
+
+abbrev pub broken_trade_of : List Value → BrokenTrade
+broken_trade_of vs = record { header = header_of vs; match_number = number 3 vs }

@@ -1,0 +1,150 @@
+-- What the fields of each message may hold: each fits its width and class. A side needs no word.
+use Rattle.std.specs.Prelude.{◌≡◌, ℕ, ◌<◌, ◌≤◌, ◌^◌, List, length}
+use Rattle.itch_codec.specs.Fields.{AreBytes, IsBytes, IsAlpha}
+use Rattle.itch_codec.specs.Layouts.{IsUndecoded}
+use Rattle.itch_codec.specs.declared.header.Header.{Header}
+use Rattle.itch_codec.specs.declared.stocks.Directory.{Directory}
+use Rattle.itch_codec.specs.declared.stocks.SystemEvent.{SystemEvent}
+use Rattle.itch_codec.specs.declared.stocks.StockDirectory.{StockDirectory}
+use Rattle.itch_codec.specs.declared.stocks.TradingAction.{TradingAction}
+use Rattle.itch_codec.specs.declared.stocks.RegSho.{RegSho}
+use Rattle.itch_codec.specs.declared.orders.AddOrder.{AddOrder}
+use Rattle.itch_codec.specs.declared.orders.AttributedAddOrder.{AttributedAddOrder}
+use Rattle.itch_codec.specs.declared.orders.OrderExecuted.{OrderExecuted}
+use Rattle.itch_codec.specs.declared.orders.OrderExecutedWithPrice.{OrderExecutedWithPrice}
+use Rattle.itch_codec.specs.declared.orders.OrderCancel.{OrderCancel}
+use Rattle.itch_codec.specs.declared.orders.OrderDelete.{OrderDelete}
+use Rattle.itch_codec.specs.declared.orders.OrderReplace.{OrderReplace}
+use Rattle.itch_codec.specs.declared.trades.Trade.{Trade}
+use Rattle.itch_codec.specs.declared.trades.CrossTrade.{CrossTrade}
+use Rattle.itch_codec.specs.declared.trades.BrokenTrade.{BrokenTrade}
+use Rattle.itch_codec.specs.declared.message.Message.{Message}
+use Rattle.itch_codec.specs.declared.message.Message.TheVariants as is
+
+pub record IsHeader (h : Header) : Type 0 where
+  pub locate : h.locate < 2 ^ 16
+  pub tracking : h.tracking < 2 ^ 16
+  pub stamp : h.stamp < 2 ^ 48
+
+pub record IsDirectory (d : Directory) : Type 0 where
+  pub stock : IsAlpha 8 d.stock
+  pub market_category : d.market_category < 256
+  pub financial_status : d.financial_status < 256
+  pub round_lot_size : d.round_lot_size < 2 ^ 32
+  pub round_lots_only : d.round_lots_only < 256
+  pub issue_classification : d.issue_classification < 256
+  pub issue_sub_type : IsBytes 2 d.issue_sub_type
+  pub authenticity : d.authenticity < 256
+  pub short_sale_threshold : d.short_sale_threshold < 256
+  pub ipo_flag : d.ipo_flag < 256
+  pub luld_price_tier : d.luld_price_tier < 256
+  pub etp_flag : d.etp_flag < 256
+  pub etp_leverage_factor : d.etp_leverage_factor < 2 ^ 32
+  pub inverse_indicator : d.inverse_indicator < 256
+
+pub record IsSystemEvent (m : SystemEvent) : Type 0 where
+  pub header : IsHeader m.header
+  pub code : m.code < 256
+
+pub record IsStockDirectory (m : StockDirectory) : Type 0 where
+  pub header : IsHeader m.header
+  pub entry : IsDirectory m.entry
+
+pub record IsTradingAction (m : TradingAction) : Type 0 where
+  pub header : IsHeader m.header
+  pub stock : IsAlpha 8 m.stock
+  pub state : m.state < 256
+  pub reserved : m.reserved < 256
+  pub reason : IsBytes 4 m.reason
+
+pub record IsRegSho (m : RegSho) : Type 0 where
+  pub header : IsHeader m.header
+  pub stock : IsAlpha 8 m.stock
+  pub action : m.action < 256
+
+pub record IsAddOrder (m : AddOrder) : Type 0 where
+  pub header : IsHeader m.header
+  pub reference : m.reference < 2 ^ 64
+  pub shares : m.shares < 2 ^ 32
+  pub stock : IsAlpha 8 m.stock
+  pub price : m.price < 2 ^ 32
+
+pub record IsAttributedAddOrder (m : AttributedAddOrder) : Type 0 where
+  pub order : IsAddOrder m.order
+  pub attribution : IsAlpha 4 m.attribution
+
+pub record IsOrderExecuted (m : OrderExecuted) : Type 0 where
+  pub header : IsHeader m.header
+  pub reference : m.reference < 2 ^ 64
+  pub shares : m.shares < 2 ^ 32
+  pub match_number : m.match_number < 2 ^ 64
+
+pub record IsOrderExecutedWithPrice (m : OrderExecutedWithPrice) : Type 0 where
+  pub execution : IsOrderExecuted m.execution
+  pub printable : m.printable < 256
+  pub price : m.price < 2 ^ 32
+
+pub record IsOrderCancel (m : OrderCancel) : Type 0 where
+  pub header : IsHeader m.header
+  pub reference : m.reference < 2 ^ 64
+  pub shares : m.shares < 2 ^ 32
+
+pub record IsOrderDelete (m : OrderDelete) : Type 0 where
+  pub header : IsHeader m.header
+  pub reference : m.reference < 2 ^ 64
+
+pub record IsOrderReplace (m : OrderReplace) : Type 0 where
+  pub header : IsHeader m.header
+  pub original : m.original < 2 ^ 64
+  pub reference : m.reference < 2 ^ 64
+  pub shares : m.shares < 2 ^ 32
+  pub price : m.price < 2 ^ 32
+
+pub record IsTrade (m : Trade) : Type 0 where
+  pub header : IsHeader m.header
+  pub reference : m.reference < 2 ^ 64
+  pub shares : m.shares < 2 ^ 32
+  pub stock : IsAlpha 8 m.stock
+  pub price : m.price < 2 ^ 32
+  pub match_number : m.match_number < 2 ^ 64
+
+pub record IsCrossTrade (m : CrossTrade) : Type 0 where
+  pub header : IsHeader m.header
+  pub shares : m.shares < 2 ^ 64
+  pub stock : IsAlpha 8 m.stock
+  pub price : m.price < 2 ^ 32
+  pub match_number : m.match_number < 2 ^ 64
+  pub cross_type : m.cross_type < 256
+
+pub record IsBrokenTrade (m : BrokenTrade) : Type 0 where
+  pub header : IsHeader m.header
+  pub match_number : m.match_number < 2 ^ 64
+
+-- the bytes of a message that is not decoded
+pub record IsOther (bytes : List ℕ) : Type 0 where
+  pub undecoded : IsUndecoded bytes
+  pub wide : AreBytes bytes
+
+-- a sequence number
+pub record IsSequence (number : ℕ) : Type 0 where
+  pub low : 1 ≤ number
+  pub high : number ≤ 10 ^ 19
+
+-- each field of the message fits its width and class
+abbrev pub IsMessage : Message → Type 0
+IsMessage (is.SystemEvent m) = IsSystemEvent m
+IsMessage (is.StockDirectory m) = IsStockDirectory m
+IsMessage (is.TradingAction m) = IsTradingAction m
+IsMessage (is.RegSho m) = IsRegSho m
+IsMessage (is.AddOrder m) = IsAddOrder m
+IsMessage (is.AttributedAddOrder m) = IsAttributedAddOrder m
+IsMessage (is.OrderExecuted m) = IsOrderExecuted m
+IsMessage (is.OrderExecutedWithPrice m) = IsOrderExecutedWithPrice m
+IsMessage (is.OrderCancel m) = IsOrderCancel m
+IsMessage (is.OrderDelete m) = IsOrderDelete m
+IsMessage (is.OrderReplace m) = IsOrderReplace m
+IsMessage (is.Trade m) = IsTrade m
+IsMessage (is.CrossTrade m) = IsCrossTrade m
+IsMessage (is.BrokenTrade m) = IsBrokenTrade m
+IsMessage (is.End next) = IsSequence next
+IsMessage (is.Other bytes) = IsOther bytes

@@ -1,0 +1,68 @@
+//! Messages out of payloads.
+ghost use Rattle.std.specs.Prelude.{◌≡◌, List, length, Some, None, Ok, IfOk, IfErr, OnOk};
+ghost use Rattle.itch_codec.specs.declared.message.Message.{Message as MessageValue};
+ghost use Rattle.itch_codec.specs.Fields.{Reads};
+ghost use Rattle.itch_codec.specs.Widths.{IsMessage};
+ghost use Rattle.itch_codec.specs.Messages.{Spells, fault, message_of};
+
+use crate::fault::CodecFault;
+use crate::message::Message;
+use crate::number::Seq;
+use crate::orders::{
+    AddOrder, AttributedAddOrder, OrderCancel, OrderDelete, OrderExecuted, OrderExecutedWithPrice,
+    OrderReplace,
+};
+use crate::stocks::{RegSho, StockDirectory, SystemEvent, TradingAction};
+use crate::trades::{BrokenTrade, CrossTrade, Trade};
+use crate::types::size_of_type;
+use crate::undecoded::Undecoded;
+
+/// The message that a payload spells.
+///
+/// A payload that spells no message has a fault, which is answered: its length, or else that of the first field that has one.
+pub fn decode(payload: &[u8]) -> Result<Message<'_>, CodecFault>
+    ensures found { IfOk result (λ m. Spells m payload.entry.now) }
+    ensures only { (m : MessageValue) → Spells m payload.entry.now → result ≡ Ok m }
+    ensures fault { IfErr result (λ e. fault payload.entry.now ≡ Some e) }
+    ensures no_fault { OnOk result (fault payload.entry.now ≡ None) }
+    ensures message { IfOk result (λ m. m ≡ message_of payload.entry.now) }
+    ensures fits { IfOk result (λ m. IsMessage m) }
+{
+    read(payload)
+}
+
+// The message that the payload spells, or the payload's fault.
+fn read(payload: &[u8]) -> Result<Message<'_>, CodecFault>
+    ensures { Reads (λ m. Spells m payload.entry.now) (fault payload.entry.now) result }
+{
+    let Some(&kind) = payload.first() else {
+        return Err(CodecFault::Empty);
+    };
+    if let Some(want) = size_of_type(kind) && payload.len() != want {
+        return Err(CodecFault::WrongLength {
+            kind,
+            want,
+            got: payload.len(),
+        });
+    }
+    match kind {
+        b'S' => Ok(Message::SystemEvent(SystemEvent::decode(payload))),
+        b'R' => Ok(Message::StockDirectory(StockDirectory::decode(payload)?)),
+        b'H' => Ok(Message::TradingAction(TradingAction::decode(payload)?)),
+        b'Y' => Ok(Message::RegSho(RegSho::decode(payload)?)),
+        b'A' => Ok(Message::AddOrder(AddOrder::decode(payload)?)),
+        b'F' => Ok(Message::AttributedAddOrder(AttributedAddOrder::decode(payload)?)),
+        b'E' => Ok(Message::OrderExecuted(OrderExecuted::decode(payload))),
+        b'C' => Ok(Message::OrderExecutedWithPrice(OrderExecutedWithPrice::decode(payload))),
+        b'X' => Ok(Message::OrderCancel(OrderCancel::decode(payload))),
+        b'D' => Ok(Message::OrderDelete(OrderDelete::decode(payload))),
+        b'U' => Ok(Message::OrderReplace(OrderReplace::decode(payload))),
+        b'P' => Ok(Message::Trade(Trade::decode(payload)?)),
+        b'Q' => Ok(Message::CrossTrade(CrossTrade::decode(payload)?)),
+        b'B' => Ok(Message::BrokenTrade(BrokenTrade::decode(payload))),
+        b'G' => Ok(Message::End {
+            next: Seq::decode(payload)?,
+        }),
+        _ => Ok(Message::Other(Undecoded::kept(payload))),
+    }
+}

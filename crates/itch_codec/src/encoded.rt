@@ -1,0 +1,58 @@
+//! The bytes of a message.
+ghost use Rattle.std.specs.Prelude.{◌≡◌};
+ghost use Rattle.itch_codec.specs.Fields.{AreBytes};
+
+use std::marker::Model;
+
+use crate::fields::Buffer;
+
+/// The bytes that spell a message. They take no memory: they are built in place, or are the payload of a message that is not decoded.
+#[derive(Debug, Drop)]
+pub struct Encoded<'a> {
+    form: Form<'a>,
+}
+
+#[derive(Debug, Drop)]
+enum Form<'a> {
+    Built(Buffer),
+    Kept(&'a [u8]),
+}
+
+impl<'a> Model for Encoded<'a> {
+    ghost use Rattle.std.specs.Prelude.{ℕ, List};
+
+    ghost Value = { List ℕ };
+
+    ghost use Rattle.itch_codec.specs.Encoded.{bytes_of};
+
+    ghost view = { λ e. bytes_of e.form };
+}
+
+impl<'a> Encoded<'a> {
+    /// The bytes, from the message's type on.
+    pub fn bytes(&self) -> &[u8]
+        ensures { result.now ≡ self.now }
+    {
+        match &self.form {
+            Form::Built(bytes) => bytes.as_slice(),
+            Form::Kept(payload) => payload,
+        }
+    }
+
+    pub(crate) fn built(bytes: Buffer) -> Encoded<'a>
+        ensures { result ≡ bytes.items }
+    {
+        Encoded {
+            form: Form::Built(bytes),
+        }
+    }
+
+    pub(crate) fn kept(payload: &'a [u8]) -> Encoded<'a>
+        ensures bytes { result ≡ payload.entry.now }
+        ensures wide { AreBytes payload.entry.now }
+    {
+        Encoded {
+            form: Form::Kept(payload),
+        }
+    }
+}

@@ -1,0 +1,174 @@
+//! Fields of a payload: one reader and one writer for each class of field.
+ghost use Rattle.std.specs.Prelude.{◌≡◌, ℕ, ◌+◌, ◌<◌, ◌≤◌, ◌^◌, [], ◌∷◌, ◌++◌, length};
+ghost use Rattle.arrayvec.specs.ArrayVec.{array_vec_len};
+ghost use Rattle.itch_codec.specs.Numbers.{slice_at, number_at, byte_at, be};
+ghost use Rattle.itch_codec.specs.Layouts.{column, Text, OneSide};
+ghost use Rattle.itch_codec.specs.Fields.{Bytes, Way, Has, field_fault, Reads, AreBytes, IsBytes, IsAlpha, side_byte};
+
+use arrayvec::ArrayVec;
+use byteorder::{BigEndian, ByteOrder};
+
+use crate::fault::CodecFault;
+use crate::side::Side;
+use crate::text::Alpha;
+
+/// The bytes of a message as it is built; 44 is the greatest length of a message of the table.
+pub(crate) type Buffer = ArrayVec<u8, 48>;
+
+#[tactic(auto, unfolding(crate::specs::Numbers::number_at))]
+pub(crate) fn u16_at(payload: &[u8], offset: usize) -> u16
+    requires { offset + 2 ≤ length payload.now }
+    ensures { result ≡ number_at offset 2 payload.now }
+{
+    BigEndian::read_u16(&payload[offset..offset + 2])
+}
+
+#[tactic(auto, unfolding(crate::specs::Numbers::number_at))]
+pub(crate) fn u32_at(payload: &[u8], offset: usize) -> u32
+    requires { offset + 4 ≤ length payload.now }
+    ensures { result ≡ number_at offset 4 payload.now }
+{
+    BigEndian::read_u32(&payload[offset..offset + 4])
+}
+
+#[tactic(auto, unfolding(crate::specs::Numbers::number_at))]
+pub(crate) fn u48_at(payload: &[u8], offset: usize) -> u64
+    requires { offset + 6 ≤ length payload.now }
+    ensures value { result ≡ number_at offset 6 payload.now }
+    ensures small { result < 2 ^ 48 }
+{
+    BigEndian::read_u48(&payload[offset..offset + 6])
+}
+
+#[tactic(auto, unfolding(crate::specs::Numbers::number_at))]
+pub(crate) fn u64_at(payload: &[u8], offset: usize) -> u64
+    requires { offset + 8 ≤ length payload.now }
+    ensures { result ≡ number_at offset 8 payload.now }
+{
+    BigEndian::read_u64(&payload[offset..offset + 8])
+}
+
+#[tactic(auto, unfolding(crate::specs::Numbers::slice_at))]
+pub(crate) fn codes_at<const N: usize>(payload: &[u8], offset: usize) -> [u8; N]
+    requires { offset + N ≤ length payload.now }
+    ensures { result ≡ slice_at offset N payload.now }
+{
+    let mut bytes = [0; N];
+    bytes.copy_from_slice(&payload[offset..offset + N]);
+    bytes
+}
+
+pub(crate) fn text_at<const N: usize>(
+    payload: &[u8],
+    offset: usize,
+) -> Result<Alpha<N>, CodecFault>
+    requires { offset + N ≤ length payload.now }
+    ensures { Reads (λ text. Has payload.now (column offset N Text) (Bytes text)) (field_fault payload.now (column offset N Text)) result }
+{
+    match Alpha::checked(codes_at(payload, offset)) {
+        Ok(text) => Ok(text),
+        Err(place) => Err(CodecFault::BadText {
+            offset: offset + place,
+        }),
+    }
+}
+
+pub(crate) fn side_at(payload: &[u8], offset: usize) -> Result<Side, CodecFault>
+    requires { offset < length payload.now }
+    ensures { Reads (λ side. Has payload.now (column offset 1 OneSide) (Way side)) (field_fault payload.now (column offset 1 OneSide)) result }
+{
+    match payload[offset] {
+        b'B' => Ok(Side::Buy),
+        b'S' => Ok(Side::Sell),
+        _ => Err(CodecFault::BadSide { offset }),
+    }
+}
+
+fn put(out: &mut Buffer, bytes: &[u8])
+    requires { array_vec_len out.old + length bytes.now ≤ 48 }
+    ensures bytes { out.new.items ≡ out.old.items ++ bytes.now }
+    ensures len { array_vec_len out.new ≡ array_vec_len out.old + length bytes.now }
+    ensures wide { AreBytes bytes.now }
+{
+    out.try_extend_from_slice(bytes).unwrap();
+}
+
+#[tactic(auto, unfolding(crate::specs::Numbers::be))]
+pub(crate) fn put_u16(out: &mut Buffer, number: u16)
+    requires { array_vec_len out.old + 2 ≤ 48 }
+    ensures bytes { out.new.items ≡ out.old.items ++ be 2 number }
+    ensures len { array_vec_len out.new ≡ array_vec_len out.old + 2 }
+    ensures fits { number < 2 ^ 16 }
+{
+    put(out, &number.to_be_bytes());
+}
+
+#[tactic(auto, unfolding(crate::specs::Numbers::be))]
+pub(crate) fn put_u32(out: &mut Buffer, number: u32)
+    requires { array_vec_len out.old + 4 ≤ 48 }
+    ensures bytes { out.new.items ≡ out.old.items ++ be 4 number }
+    ensures len { array_vec_len out.new ≡ array_vec_len out.old + 4 }
+    ensures fits { number < 2 ^ 32 }
+{
+    put(out, &number.to_be_bytes());
+}
+
+#[tactic(auto, unfolding(crate::specs::Numbers::be))]
+pub(crate) fn put_u48(out: &mut Buffer, number: u64)
+    requires small { number < 2 ^ 48 }
+    requires room { array_vec_len out.old + 6 ≤ 48 }
+    ensures bytes { out.new.items ≡ out.old.items ++ be 6 number }
+    ensures len { array_vec_len out.new ≡ array_vec_len out.old + 6 }
+{
+    let mut bytes = [0; 6];
+    BigEndian::write_u48(&mut bytes, number);
+    put(out, &bytes);
+}
+
+#[tactic(auto, unfolding(crate::specs::Numbers::be))]
+pub(crate) fn put_u64(out: &mut Buffer, number: u64)
+    requires { array_vec_len out.old + 8 ≤ 48 }
+    ensures bytes { out.new.items ≡ out.old.items ++ be 8 number }
+    ensures len { array_vec_len out.new ≡ array_vec_len out.old + 8 }
+    ensures fits { number < 2 ^ 64 }
+{
+    put(out, &number.to_be_bytes());
+}
+
+pub(crate) fn put_code(out: &mut Buffer, byte: u8)
+    requires { array_vec_len out.old < 48 }
+    ensures bytes { out.new.items ≡ out.old.items ++ byte ∷ [] }
+    ensures len { array_vec_len out.new ≡ array_vec_len out.old + 1 }
+    ensures fits { byte < 256 }
+{
+    out.push(byte);
+}
+
+pub(crate) fn put_codes<const N: usize>(out: &mut Buffer, bytes: [u8; N])
+    requires { array_vec_len out.old + N ≤ 48 }
+    ensures bytes { out.new.items ≡ out.old.items ++ bytes.entry }
+    ensures len { array_vec_len out.new ≡ array_vec_len out.old + N }
+    ensures fits { IsBytes N bytes.entry }
+{
+    put(out, &bytes);
+}
+
+pub(crate) fn put_text<const N: usize>(out: &mut Buffer, text: &Alpha<N>)
+    requires { array_vec_len out.old + N ≤ 48 }
+    ensures bytes { out.new.items ≡ out.old.items ++ text.now }
+    ensures len { array_vec_len out.new ≡ array_vec_len out.old + N }
+    ensures fits { IsAlpha N text.now }
+{
+    put(out, text.bytes());
+}
+
+pub(crate) fn put_side(out: &mut Buffer, side: Side)
+    requires { array_vec_len out.old < 48 }
+    ensures bytes { out.new.items ≡ out.old.items ++ side_byte side ∷ [] }
+    ensures len { array_vec_len out.new ≡ array_vec_len out.old + 1 }
+{
+    out.push(match side {
+        Side::Buy => b'B',
+        Side::Sell => b'S',
+    });
+}

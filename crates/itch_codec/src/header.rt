@@ -1,0 +1,91 @@
+//! What stands in front of the fields of every message but the End of Snapshot.
+ghost use Rattle.std.specs.Prelude.{◌≡◌, ℕ, ◌<◌, ◌≤◌, ◌^◌, ◌↔◌, IsSome, IfSome};
+
+use std::marker::Model;
+
+use crate::fields::{Buffer, put_u16, put_u48, u16_at, u48_at};
+
+/// Nanoseconds since midnight, below 2^48.
+#[derive(Clone, Copy, Debug, PartialEq, Eq, PartialOrd, Ord, Hash)]
+pub struct Stamp {
+    value: u64,
+}
+
+impl Model for Stamp {
+    ghost Value = { ℕ };
+
+    ghost view = { λ s. s.value };
+
+    ghost invariant = { λ s. s.value < 2 ^ 48 };
+
+    ghost inverse = { λ n. record { value = n } };
+}
+
+impl Stamp {
+    /// The number as a timestamp, if it is below 2^48.
+    pub fn new(value: u64) -> Option<Stamp>
+        ensures accepts { IsSome result ↔ (value < 2 ^ 48) }
+        ensures stamp { IfSome result (λ stamp. stamp ≡ value) }
+    {
+        if value < 1 << 48 {
+            Some(Stamp { value })
+        } else {
+            None
+        }
+    }
+
+    /// The number itself.
+    pub fn value(self) -> u64
+        ensures value { result ≡ self }
+        ensures small { self < 2 ^ 48 }
+    {
+        self.value
+    }
+}
+
+/// Stock locate, tracking number and timestamp.
+#[derive(Clone, Copy, Debug, PartialEq, Eq)]
+pub struct Header {
+    /// The security's number of the day.
+    pub locate: u16,
+    /// The exchange's own number.
+    pub tracking: u16,
+    /// When the message was made.
+    pub stamp: Stamp,
+}
+
+impl Header {
+    ghost use Rattle.std.specs.Prelude.{[], ◌∷◌, length};
+    ghost use Rattle.arrayvec.specs.ArrayVec.{array_vec_len};
+    ghost use Rattle.itch_codec.specs.Layouts.{with_header};
+    ghost use Rattle.itch_codec.specs.Fields.{HasAll, joined};
+    ghost use Rattle.itch_codec.specs.Values.{header_values};
+    ghost use Rattle.itch_codec.specs.Widths.{IsHeader};
+
+    pub(crate) fn decode(payload: &[u8]) -> Header
+        requires { 11 ≤ length payload.now }
+        ensures { HasAll payload.now (with_header []) (header_values result []) }
+    {
+        Header {
+            locate: u16_at(payload, 1),
+            tracking: u16_at(payload, 3),
+            stamp: Stamp {
+                value: u48_at(payload, 5),
+            },
+        }
+    }
+    // The message's first byte and its header.
+    #[tactic(auto, using(crate::proofs::Joining::joining), unfolding(crate::specs::Fields::joined))]
+    pub(crate) fn encode(&self, kind: u8) -> Buffer
+        ensures bytes { result.items ≡ kind ∷ joined (with_header []) (header_values self.now []) }
+        ensures len { array_vec_len result ≡ 11 }
+        ensures fits { IsHeader self.now }
+    {
+        let mut out = Buffer::new();
+        out.push(kind);
+        put_u16(&mut out, self.locate);
+        put_u16(&mut out, self.tracking);
+        put_u48(&mut out, self.stamp.value());
+        out
+    }
+}

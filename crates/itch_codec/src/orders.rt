@@ -1,0 +1,278 @@
+//! The messages that make, change and end live orders.
+ghost use Rattle.std.specs.Prelude.{◌≡◌, ◌≤◌, [], ◌∷◌, ◌++◌, length};
+ghost use Rattle.arrayvec.specs.ArrayVec.{array_vec_len};
+ghost use Rattle.itch_codec.specs.Layouts.{with_header, execution_columns, order_columns, add_order, attributed_add_order, order_executed, order_executed_with_price, order_cancel, order_delete, order_replace};
+ghost use Rattle.itch_codec.specs.Fields.{HasAll, joined, first_fault, Reads};
+ghost use Rattle.itch_codec.specs.Values.{order_values, execution_values, add_order_values, attributed_add_order_values, order_executed_values, order_executed_with_price_values, order_cancel_values, order_delete_values, order_replace_values};
+ghost use Rattle.itch_codec.specs.Widths.{IsAddOrder, IsAttributedAddOrder, IsOrderExecuted, IsOrderExecutedWithPrice, IsOrderCancel, IsOrderDelete, IsOrderReplace};
+
+use crate::fault::CodecFault;
+use crate::fields::{Buffer, put_code, put_side, put_text, put_u32, put_u64, side_at, text_at, u32_at, u64_at};
+use crate::header::Header;
+use crate::side::Side;
+use crate::text::Alpha;
+
+/// Add Order without attribution, `A` (TotalView-ITCH 5.0, "Add Order Message").
+#[derive(Clone, Copy, Debug, PartialEq, Eq)]
+pub struct AddOrder {
+    pub header: Header,
+    /// The order reference number of the new order.
+    pub reference: u64,
+    pub side: Side,
+    pub shares: u32,
+    pub stock: Alpha<8>,
+    /// The price with four implied decimals.
+    pub price: u32,
+}
+
+impl AddOrder {
+    pub(crate) fn decode(payload: &[u8]) -> Result<AddOrder, CodecFault>
+        requires { 36 ≤ length payload.now }
+        ensures { Reads (λ m. HasAll payload.now add_order.columns (add_order_values m)) (first_fault payload.now add_order.columns) result }
+    {
+        Ok(AddOrder {
+            header: Header::decode(payload),
+            reference: u64_at(payload, 11),
+            side: side_at(payload, 19)?,
+            shares: u32_at(payload, 20),
+            stock: text_at(payload, 24)?,
+            price: u32_at(payload, 32),
+        })
+    }
+
+    // The fields of a new order, behind this first byte.
+    #[tactic(auto, using(crate::proofs::Joining::joining), unfolding(crate::specs::Fields::joined))]
+    fn begin(&self, kind: u8) -> Buffer
+        ensures bytes { result.items ≡ kind ∷ joined (with_header (order_columns [])) (order_values self.now []) }
+        ensures len { array_vec_len result ≡ 36 }
+        ensures fits { IsAddOrder self.now }
+    {
+        let mut out = self.header.encode(kind);
+        put_u64(&mut out, self.reference);
+        put_side(&mut out, self.side);
+        put_u32(&mut out, self.shares);
+        put_text(&mut out, &self.stock);
+        put_u32(&mut out, self.price);
+        out
+    }
+
+    #[tactic(auto, using(crate::proofs::Joining::joining), unfolding(crate::specs::Fields::joined))]
+    pub(crate) fn encode(&self) -> Buffer
+        ensures bytes { result.items ≡ add_order.kind ∷ joined add_order.columns (add_order_values self.now) }
+        ensures fits { IsAddOrder self.now }
+    {
+        self.begin(b'A')
+    }
+}
+
+/// Add Order with attribution, `F` (TotalView-ITCH 5.0, "Add Order with MPID Attribution Message").
+#[derive(Clone, Copy, Debug, PartialEq, Eq)]
+pub struct AttributedAddOrder {
+    pub order: AddOrder,
+    /// The market participant that the order is attributed to.
+    pub attribution: Alpha<4>,
+}
+
+impl AttributedAddOrder {
+    pub(crate) fn decode(payload: &[u8]) -> Result<AttributedAddOrder, CodecFault>
+        requires { length payload.now ≡ 40 }
+        ensures { Reads (λ m. HasAll payload.now attributed_add_order.columns (attributed_add_order_values m)) (first_fault payload.now attributed_add_order.columns) result }
+    {
+        Ok(AttributedAddOrder {
+            order: AddOrder::decode(payload)?,
+            attribution: text_at(payload, 36)?,
+        })
+    }
+
+    #[tactic(auto, using(crate::proofs::Joining::joining), unfolding(crate::specs::Fields::joined))]
+    pub(crate) fn encode(&self) -> Buffer
+        ensures bytes { result.items ≡ attributed_add_order.kind ∷ joined attributed_add_order.columns (attributed_add_order_values self.now) }
+        ensures fits { IsAttributedAddOrder self.now }
+    {
+        let mut out = self.order.begin(b'F');
+        put_text(&mut out, &self.attribution);
+        out
+    }
+}
+
+/// Order Executed, `E` (TotalView-ITCH 5.0, "Order Executed Message").
+#[derive(Clone, Copy, Debug, PartialEq, Eq)]
+pub struct OrderExecuted {
+    pub header: Header,
+    pub reference: u64,
+    /// The number of shares executed.
+    pub shares: u32,
+    pub match_number: u64,
+}
+
+impl OrderExecuted {
+    pub(crate) fn decode(payload: &[u8]) -> OrderExecuted
+        requires { 31 ≤ length payload.now }
+        ensures { HasAll payload.now order_executed.columns (order_executed_values result) }
+    {
+        OrderExecuted {
+            header: Header::decode(payload),
+            reference: u64_at(payload, 11),
+            shares: u32_at(payload, 19),
+            match_number: u64_at(payload, 23),
+        }
+    }
+
+    // The fields of an execution, behind this first byte.
+    #[tactic(auto, using(crate::proofs::Joining::joining), unfolding(crate::specs::Fields::joined))]
+    fn begin(&self, kind: u8) -> Buffer
+        ensures bytes { result.items ≡ kind ∷ joined (with_header (execution_columns [])) (execution_values self.now []) }
+        ensures len { array_vec_len result ≡ 31 }
+        ensures fits { IsOrderExecuted self.now }
+    {
+        let mut out = self.header.encode(kind);
+        put_u64(&mut out, self.reference);
+        put_u32(&mut out, self.shares);
+        put_u64(&mut out, self.match_number);
+        out
+    }
+
+    #[tactic(auto, using(crate::proofs::Joining::joining), unfolding(crate::specs::Fields::joined))]
+    pub(crate) fn encode(&self) -> Buffer
+        ensures bytes { result.items ≡ order_executed.kind ∷ joined order_executed.columns (order_executed_values self.now) }
+        ensures fits { IsOrderExecuted self.now }
+    {
+        self.begin(b'E')
+    }
+}
+
+/// Order Executed With Price, `C` (TotalView-ITCH 5.0, "Order Executed With Price Message").
+#[derive(Clone, Copy, Debug, PartialEq, Eq)]
+pub struct OrderExecutedWithPrice {
+    pub execution: OrderExecuted,
+    /// Whether the execution goes into time and sales. Any byte.
+    pub printable: u8,
+    /// The price of the execution, which changes nothing in the book.
+    pub price: u32,
+}
+
+impl OrderExecutedWithPrice {
+    pub(crate) fn decode(payload: &[u8]) -> OrderExecutedWithPrice
+        requires { length payload.now ≡ 36 }
+        ensures { HasAll payload.now order_executed_with_price.columns (order_executed_with_price_values result) }
+    {
+        OrderExecutedWithPrice {
+            execution: OrderExecuted::decode(payload),
+            printable: payload[31],
+            price: u32_at(payload, 32),
+        }
+    }
+
+    #[tactic(auto, using(crate::proofs::Joining::joining), unfolding(crate::specs::Fields::joined))]
+    pub(crate) fn encode(&self) -> Buffer
+        ensures bytes { result.items ≡ order_executed_with_price.kind ∷ joined order_executed_with_price.columns (order_executed_with_price_values self.now) }
+        ensures fits { IsOrderExecutedWithPrice self.now }
+    {
+        let mut out = self.execution.begin(b'C');
+        put_code(&mut out, self.printable);
+        put_u32(&mut out, self.price);
+        out
+    }
+}
+
+/// Order Cancel, `X` (TotalView-ITCH 5.0, "Order Cancel Message").
+#[derive(Clone, Copy, Debug, PartialEq, Eq)]
+pub struct OrderCancel {
+    pub header: Header,
+    pub reference: u64,
+    /// The number of shares cancelled.
+    pub shares: u32,
+}
+
+impl OrderCancel {
+    pub(crate) fn decode(payload: &[u8]) -> OrderCancel
+        requires { length payload.now ≡ 23 }
+        ensures { HasAll payload.now order_cancel.columns (order_cancel_values result) }
+    {
+        OrderCancel {
+            header: Header::decode(payload),
+            reference: u64_at(payload, 11),
+            shares: u32_at(payload, 19),
+        }
+    }
+
+    #[tactic(auto, using(crate::proofs::Joining::joining), unfolding(crate::specs::Fields::joined))]
+    pub(crate) fn encode(&self) -> Buffer
+        ensures bytes { result.items ≡ order_cancel.kind ∷ joined order_cancel.columns (order_cancel_values self.now) }
+        ensures fits { IsOrderCancel self.now }
+    {
+        let mut out = self.header.encode(b'X');
+        put_u64(&mut out, self.reference);
+        put_u32(&mut out, self.shares);
+        out
+    }
+}
+
+/// Order Delete, `D` (TotalView-ITCH 5.0, "Order Delete Message").
+#[derive(Clone, Copy, Debug, PartialEq, Eq)]
+pub struct OrderDelete {
+    pub header: Header,
+    pub reference: u64,
+}
+
+impl OrderDelete {
+    pub(crate) fn decode(payload: &[u8]) -> OrderDelete
+        requires { length payload.now ≡ 19 }
+        ensures { HasAll payload.now order_delete.columns (order_delete_values result) }
+    {
+        OrderDelete {
+            header: Header::decode(payload),
+            reference: u64_at(payload, 11),
+        }
+    }
+
+    #[tactic(auto, using(crate::proofs::Joining::joining), unfolding(crate::specs::Fields::joined))]
+    pub(crate) fn encode(&self) -> Buffer
+        ensures bytes { result.items ≡ order_delete.kind ∷ joined order_delete.columns (order_delete_values self.now) }
+        ensures fits { IsOrderDelete self.now }
+    {
+        let mut out = self.header.encode(b'D');
+        put_u64(&mut out, self.reference);
+        out
+    }
+}
+
+/// Order Replace, `U` (TotalView-ITCH 5.0, "Order Replace Message").
+#[derive(Clone, Copy, Debug, PartialEq, Eq)]
+pub struct OrderReplace {
+    pub header: Header,
+    /// The order that is replaced.
+    pub original: u64,
+    /// The order reference number of the new order.
+    pub reference: u64,
+    pub shares: u32,
+    pub price: u32,
+}
+
+impl OrderReplace {
+    pub(crate) fn decode(payload: &[u8]) -> OrderReplace
+        requires { length payload.now ≡ 35 }
+        ensures { HasAll payload.now order_replace.columns (order_replace_values result) }
+    {
+        OrderReplace {
+            header: Header::decode(payload),
+            original: u64_at(payload, 11),
+            reference: u64_at(payload, 19),
+            shares: u32_at(payload, 27),
+            price: u32_at(payload, 31),
+        }
+    }
+
+    #[tactic(auto, using(crate::proofs::Joining::joining), unfolding(crate::specs::Fields::joined))]
+    pub(crate) fn encode(&self) -> Buffer
+        ensures bytes { result.items ≡ order_replace.kind ∷ joined order_replace.columns (order_replace_values self.now) }
+        ensures fits { IsOrderReplace self.now }
+    {
+        let mut out = self.header.encode(b'U');
+        put_u64(&mut out, self.original);
+        put_u64(&mut out, self.reference);
+        put_u32(&mut out, self.shares);
+        put_u32(&mut out, self.price);
+        out
+    }
+}

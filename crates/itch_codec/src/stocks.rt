@@ -1,0 +1,213 @@
+//! System events and the securities' own messages.
+ghost use Rattle.std.specs.Prelude.{◌≡◌, ◌≤◌, [], ◌∷◌, ◌++◌, length};
+ghost use Rattle.arrayvec.specs.ArrayVec.{array_vec_len};
+ghost use Rattle.itch_codec.specs.Layouts.{system_event, directory_columns, stock_directory, trading_action, reg_sho};
+ghost use Rattle.itch_codec.specs.Fields.{HasAll, joined, first_fault, Reads};
+ghost use Rattle.itch_codec.specs.Values.{system_event_values, directory_values, stock_directory_values, trading_action_values, reg_sho_values};
+ghost use Rattle.itch_codec.specs.Widths.{IsSystemEvent, IsDirectory, IsStockDirectory, IsTradingAction, IsRegSho};
+
+use crate::fault::CodecFault;
+use crate::fields::{Buffer, codes_at, put_code, put_codes, put_text, put_u32, text_at, u32_at};
+use crate::header::Header;
+use crate::text::Alpha;
+
+/// System Event, `S` (TotalView-ITCH 5.0, "System Event Message").
+#[derive(Clone, Copy, Debug, PartialEq, Eq)]
+pub struct SystemEvent {
+    pub header: Header,
+    /// The event of the day, as `O` for the start of messages. Any byte.
+    pub code: u8,
+}
+
+impl SystemEvent {
+    pub(crate) fn decode(payload: &[u8]) -> SystemEvent
+        requires { length payload.now ≡ 12 }
+        ensures { HasAll payload.now system_event.columns (system_event_values result) }
+    {
+        SystemEvent {
+            header: Header::decode(payload),
+            code: payload[11],
+        }
+    }
+
+    #[tactic(auto, using(crate::proofs::Joining::joining), unfolding(crate::specs::Fields::joined))]
+    pub(crate) fn encode(&self) -> Buffer
+        ensures bytes { result.items ≡ system_event.kind ∷ joined system_event.columns (system_event_values self.now) }
+        ensures fits { IsSystemEvent self.now }
+    {
+        let mut out = self.header.encode(b'S');
+        put_code(&mut out, self.code);
+        out
+    }
+}
+
+/// What the directory says of a security: the fields of a Stock Directory message after its header.
+///
+/// The code fields may hold any byte.
+#[derive(Clone, Copy, Debug, PartialEq, Eq)]
+pub struct Directory {
+    pub stock: Alpha<8>,
+    pub market_category: u8,
+    pub financial_status: u8,
+    /// The number of shares in a round lot.
+    pub round_lot_size: u32,
+    pub round_lots_only: u8,
+    pub issue_classification: u8,
+    pub issue_sub_type: [u8; 2],
+    pub authenticity: u8,
+    pub short_sale_threshold: u8,
+    pub ipo_flag: u8,
+    pub luld_price_tier: u8,
+    pub etp_flag: u8,
+    pub etp_leverage_factor: u32,
+    pub inverse_indicator: u8,
+}
+
+impl Directory {
+    pub(crate) fn decode(payload: &[u8]) -> Result<Directory, CodecFault>
+        requires { length payload.now ≡ 39 }
+        ensures { Reads (λ m. HasAll payload.now directory_columns (directory_values m)) (first_fault payload.now directory_columns) result }
+    {
+        Ok(Directory {
+            stock: text_at(payload, 11)?,
+            market_category: payload[19],
+            financial_status: payload[20],
+            round_lot_size: u32_at(payload, 21),
+            round_lots_only: payload[25],
+            issue_classification: payload[26],
+            issue_sub_type: codes_at(payload, 27),
+            authenticity: payload[29],
+            short_sale_threshold: payload[30],
+            ipo_flag: payload[31],
+            luld_price_tier: payload[32],
+            etp_flag: payload[33],
+            etp_leverage_factor: u32_at(payload, 34),
+            inverse_indicator: payload[38],
+        })
+    }
+
+    #[tactic(auto, using(crate::proofs::Joining::joining), unfolding(crate::specs::Fields::joined))]
+    fn put(&self, out: &mut Buffer)
+        requires { array_vec_len out.old ≡ 11 }
+        ensures bytes { out.new.items ≡ out.old.items ++ joined directory_columns (directory_values self.now) }
+        ensures fits { IsDirectory self.now }
+    {
+        put_text(out, &self.stock);
+        put_code(out, self.market_category);
+        put_code(out, self.financial_status);
+        put_u32(out, self.round_lot_size);
+        put_code(out, self.round_lots_only);
+        put_code(out, self.issue_classification);
+        put_codes(out, self.issue_sub_type);
+        put_code(out, self.authenticity);
+        put_code(out, self.short_sale_threshold);
+        put_code(out, self.ipo_flag);
+        put_code(out, self.luld_price_tier);
+        put_code(out, self.etp_flag);
+        put_u32(out, self.etp_leverage_factor);
+        put_code(out, self.inverse_indicator);
+    }
+}
+
+/// Stock Directory, `R` (TotalView-ITCH 5.0, "Stock Directory").
+#[derive(Clone, Copy, Debug, PartialEq, Eq)]
+pub struct StockDirectory {
+    pub header: Header,
+    pub entry: Directory,
+}
+
+impl StockDirectory {
+    pub(crate) fn decode(payload: &[u8]) -> Result<StockDirectory, CodecFault>
+        requires { length payload.now ≡ 39 }
+        ensures { Reads (λ m. HasAll payload.now stock_directory.columns (stock_directory_values m)) (first_fault payload.now stock_directory.columns) result }
+    {
+        Ok(StockDirectory {
+            header: Header::decode(payload),
+            entry: Directory::decode(payload)?,
+        })
+    }
+
+    #[tactic(auto, using(crate::proofs::Joining::joining), unfolding(crate::specs::Fields::joined))]
+    pub(crate) fn encode(&self) -> Buffer
+        ensures bytes { result.items ≡ stock_directory.kind ∷ joined stock_directory.columns (stock_directory_values self.now) }
+        ensures fits { IsStockDirectory self.now }
+    {
+        let mut out = self.header.encode(b'R');
+        self.entry.put(&mut out);
+        out
+    }
+}
+
+/// Stock Trading Action, `H` (TotalView-ITCH 5.0, "Stock Trading Action").
+#[derive(Clone, Copy, Debug, PartialEq, Eq)]
+pub struct TradingAction {
+    pub header: Header,
+    pub stock: Alpha<8>,
+    /// The trading state, as `T` for trading. Any byte.
+    pub state: u8,
+    /// The reserved byte. Any byte.
+    pub reserved: u8,
+    /// Why the state was taken. Any bytes.
+    pub reason: [u8; 4],
+}
+
+impl TradingAction {
+    pub(crate) fn decode(payload: &[u8]) -> Result<TradingAction, CodecFault>
+        requires { length payload.now ≡ 25 }
+        ensures { Reads (λ m. HasAll payload.now trading_action.columns (trading_action_values m)) (first_fault payload.now trading_action.columns) result }
+    {
+        Ok(TradingAction {
+            header: Header::decode(payload),
+            stock: text_at(payload, 11)?,
+            state: payload[19],
+            reserved: payload[20],
+            reason: codes_at(payload, 21),
+        })
+    }
+
+    #[tactic(auto, using(crate::proofs::Joining::joining), unfolding(crate::specs::Fields::joined))]
+    pub(crate) fn encode(&self) -> Buffer
+        ensures bytes { result.items ≡ trading_action.kind ∷ joined trading_action.columns (trading_action_values self.now) }
+        ensures fits { IsTradingAction self.now }
+    {
+        let mut out = self.header.encode(b'H');
+        put_text(&mut out, &self.stock);
+        put_code(&mut out, self.state);
+        put_code(&mut out, self.reserved);
+        put_codes(&mut out, self.reason);
+        out
+    }
+}
+
+/// Reg SHO Short Sale Price Test Restricted Indicator, `Y` (TotalView-ITCH 5.0, "Reg SHO Restriction").
+#[derive(Clone, Copy, Debug, PartialEq, Eq)]
+pub struct RegSho {
+    pub header: Header,
+    pub stock: Alpha<8>,
+    /// The restriction in force, as `0` for none. Any byte.
+    pub action: u8,
+}
+
+impl RegSho {
+    pub(crate) fn decode(payload: &[u8]) -> Result<RegSho, CodecFault>
+        requires { length payload.now ≡ 20 }
+        ensures { Reads (λ m. HasAll payload.now reg_sho.columns (reg_sho_values m)) (first_fault payload.now reg_sho.columns) result }
+    {
+        Ok(RegSho {
+            header: Header::decode(payload),
+            stock: text_at(payload, 11)?,
+            action: payload[19],
+        })
+    }
+
+    #[tactic(auto, using(crate::proofs::Joining::joining), unfolding(crate::specs::Fields::joined))]
+    pub(crate) fn encode(&self) -> Buffer
+        ensures bytes { result.items ≡ reg_sho.kind ∷ joined reg_sho.columns (reg_sho_values self.now) }
+        ensures fits { IsRegSho self.now }
+    {
+        let mut out = self.header.encode(b'Y');
+        put_text(&mut out, &self.stock);
+        put_code(&mut out, self.action);
+        out
+    }
+}

@@ -1,0 +1,130 @@
+//! The messages that tell of trades, and change no order.
+ghost use Rattle.std.specs.Prelude.{◌≡◌, ◌≤◌, [], ◌∷◌, ◌++◌, length};
+ghost use Rattle.arrayvec.specs.ArrayVec.{array_vec_len};
+ghost use Rattle.itch_codec.specs.Layouts.{trade, cross_trade, broken_trade};
+ghost use Rattle.itch_codec.specs.Fields.{HasAll, joined, first_fault, Reads};
+ghost use Rattle.itch_codec.specs.Values.{trade_values, cross_trade_values, broken_trade_values};
+ghost use Rattle.itch_codec.specs.Widths.{IsTrade, IsCrossTrade, IsBrokenTrade};
+
+use crate::fault::CodecFault;
+use crate::fields::{Buffer, put_code, put_side, put_text, put_u32, put_u64, side_at, text_at, u32_at, u64_at};
+use crate::header::Header;
+use crate::side::Side;
+use crate::text::Alpha;
+
+/// Trade, non-cross, `P` (TotalView-ITCH 5.0, "Trade Message (Non-Cross)").
+#[derive(Clone, Copy, Debug, PartialEq, Eq)]
+pub struct Trade {
+    pub header: Header,
+    pub reference: u64,
+    pub side: Side,
+    pub shares: u32,
+    pub stock: Alpha<8>,
+    /// The price with four implied decimals.
+    pub price: u32,
+    pub match_number: u64,
+}
+
+impl Trade {
+    pub(crate) fn decode(payload: &[u8]) -> Result<Trade, CodecFault>
+        requires { length payload.now ≡ 44 }
+        ensures { Reads (λ m. HasAll payload.now trade.columns (trade_values m)) (first_fault payload.now trade.columns) result }
+    {
+        Ok(Trade {
+            header: Header::decode(payload),
+            reference: u64_at(payload, 11),
+            side: side_at(payload, 19)?,
+            shares: u32_at(payload, 20),
+            stock: text_at(payload, 24)?,
+            price: u32_at(payload, 32),
+            match_number: u64_at(payload, 36),
+        })
+    }
+
+    #[tactic(auto, using(crate::proofs::Joining::joining), unfolding(crate::specs::Fields::joined))]
+    pub(crate) fn encode(&self) -> Buffer
+        ensures bytes { result.items ≡ trade.kind ∷ joined trade.columns (trade_values self.now) }
+        ensures fits { IsTrade self.now }
+    {
+        let mut out = self.header.encode(b'P');
+        put_u64(&mut out, self.reference);
+        put_side(&mut out, self.side);
+        put_u32(&mut out, self.shares);
+        put_text(&mut out, &self.stock);
+        put_u32(&mut out, self.price);
+        put_u64(&mut out, self.match_number);
+        out
+    }
+}
+
+/// Cross Trade, `Q` (TotalView-ITCH 5.0, "Cross Trade Message").
+#[derive(Clone, Copy, Debug, PartialEq, Eq)]
+pub struct CrossTrade {
+    pub header: Header,
+    pub shares: u64,
+    pub stock: Alpha<8>,
+    /// The price of the cross with four implied decimals.
+    pub price: u32,
+    pub match_number: u64,
+    /// The kind of cross. Any byte.
+    pub cross_type: u8,
+}
+
+impl CrossTrade {
+    pub(crate) fn decode(payload: &[u8]) -> Result<CrossTrade, CodecFault>
+        requires { length payload.now ≡ 40 }
+        ensures { Reads (λ m. HasAll payload.now cross_trade.columns (cross_trade_values m)) (first_fault payload.now cross_trade.columns) result }
+    {
+        Ok(CrossTrade {
+            header: Header::decode(payload),
+            shares: u64_at(payload, 11),
+            stock: text_at(payload, 19)?,
+            price: u32_at(payload, 27),
+            match_number: u64_at(payload, 31),
+            cross_type: payload[39],
+        })
+    }
+
+    #[tactic(auto, using(crate::proofs::Joining::joining), unfolding(crate::specs::Fields::joined))]
+    pub(crate) fn encode(&self) -> Buffer
+        ensures bytes { result.items ≡ cross_trade.kind ∷ joined cross_trade.columns (cross_trade_values self.now) }
+        ensures fits { IsCrossTrade self.now }
+    {
+        let mut out = self.header.encode(b'Q');
+        put_u64(&mut out, self.shares);
+        put_text(&mut out, &self.stock);
+        put_u32(&mut out, self.price);
+        put_u64(&mut out, self.match_number);
+        put_code(&mut out, self.cross_type);
+        out
+    }
+}
+
+/// Broken Trade, `B` (TotalView-ITCH 5.0, "Broken Trade / Order Execution Message").
+#[derive(Clone, Copy, Debug, PartialEq, Eq)]
+pub struct BrokenTrade {
+    pub header: Header,
+    pub match_number: u64,
+}
+
+impl BrokenTrade {
+    pub(crate) fn decode(payload: &[u8]) -> BrokenTrade
+        requires { length payload.now ≡ 19 }
+        ensures { HasAll payload.now broken_trade.columns (broken_trade_values result) }
+    {
+        BrokenTrade {
+            header: Header::decode(payload),
+            match_number: u64_at(payload, 11),
+        }
+    }
+
+    #[tactic(auto, using(crate::proofs::Joining::joining), unfolding(crate::specs::Fields::joined))]
+    pub(crate) fn encode(&self) -> Buffer
+        ensures bytes { result.items ≡ broken_trade.kind ∷ joined broken_trade.columns (broken_trade_values self.now) }
+        ensures fits { IsBrokenTrade self.now }
+    {
+        let mut out = self.header.encode(b'B');
+        put_u64(&mut out, self.match_number);
+        out
+    }
+}

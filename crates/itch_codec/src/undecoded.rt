@@ -1,0 +1,74 @@
+//! Messages of types that are not decoded.
+ghost use Rattle.std.specs.Prelude.{◌≡◌, ℕ, ◌↔◌, List, nat_eq, IsSome, IfSome};
+ghost use Rattle.std.specs.Cmp.Lexicographic.{pointwise};
+ghost use Rattle.std.specs.Cmp.Rules.{comparing};
+ghost use Rattle.std.proofs.Common.{rules};
+ghost use Rattle.itch_codec.specs.Numbers.{byte_at};
+ghost use Rattle.itch_codec.specs.Layouts.{IsUndecoded};
+
+use std::marker::Model;
+
+use crate::types::size_of_type;
+
+/// A message of a type that is not decoded: a payload that is not empty, and whose first byte is no type of the table.
+#[derive(Debug, Drop)]
+pub struct Undecoded<'a> {
+    payload: &'a [u8],
+}
+
+impl<'a> Model for Undecoded<'a> {
+    ghost Value = { List ℕ };
+
+    ghost view = { λ u. u.payload.now };
+
+    ghost invariant = { λ u. IsUndecoded u.payload.now };
+}
+
+impl<'a> Undecoded<'a> {
+    /// The payload as a message that is not decoded, if it is not empty and its first byte is no type of the table.
+    pub fn new(payload: &'a [u8]) -> Option<Undecoded<'a>>
+        ensures accepts { IsSome result ↔ IsUndecoded payload.entry.now }
+        ensures payload { IfSome result (λ message. message ≡ payload.entry.now) }
+    {
+        match payload.first() {
+            Some(&kind) if size_of_type(kind).is_none() => Some(Undecoded { payload }),
+            _ => None,
+        }
+    }
+
+    pub(crate) fn kept(payload: &'a [u8]) -> Undecoded<'a>
+        requires { IsUndecoded payload.now }
+        ensures { result ≡ payload.entry.now }
+    {
+        Undecoded { payload }
+    }
+
+    /// The first byte of the payload, which is the message's type.
+    pub fn kind(&self) -> u8
+        ensures { result ≡ byte_at 0 self.now }
+    {
+        self.payload[0]
+    }
+
+    /// The whole message.
+    pub fn payload(&self) -> &'a [u8]
+        ensures payload { result.now ≡ self.now }
+        ensures undecoded { IsUndecoded self.now }
+    {
+        self.payload
+    }
+}
+
+impl PartialEq for Undecoded<'_> {
+    ghost eq = { λ a b. pointwise nat_eq a b };
+
+    ghost laws = { Prim.search (comparing, rules) };
+
+    fn eq(&self, other: &Self) -> bool {
+        self.payload == other.payload
+    }
+}
+
+impl Eq for Undecoded<'_> {
+    ghost laws = { Prim.search (comparing, rules) };
+}

@@ -1,0 +1,5 @@
+pub mod BlockLemmas
+pub mod Days
+pub mod Filling
+pub mod SplitterLemmas
+pub mod Writes

@@ -1,0 +1,52 @@
+-- A stream of blocks: each is a length in two bytes, the higher first, and then that many bytes of payload.
+use Rattle.std.specs.Prelude.{◌≡◌, ℕ, ◌<◌, ◌⊎◌, List, [], ◌++◌, length}
+use Rattle.std.specs.List.{flat_map, AllByRecursion}
+use Rattle.byteorder.specs.Endian.{big_bytes}
+
+-- a payload whose length two bytes can say
+abbrev pub IsPayload : List ℕ → Type 0
+IsPayload payload = length payload < 65536
+
+-- the block of a payload
+abbrev pub block : List ℕ → List ℕ
+block payload = big_bytes 2 (length payload) ++ payload
+
+-- these bytes are the block of this payload
+abbrev pub IsBlockOf : List ℕ → List ℕ → Type 0
+IsBlockOf payload bytes = IsPayload payload × (bytes ≡ block payload)
+
+-- these bytes are one block, and no more
+abbrev pub IsBlock : List ℕ → Type 0
+IsBlock bytes = (payload : List ℕ) × IsBlockOf payload bytes
+
+-- no beginning of these bytes is a block
+abbrev pub HasNoBlock : List ℕ → Type 0
+HasNoBlock bytes = (payload more : List ℕ) → IsPayload payload → bytes ≡ block payload ++ more → ⊥
+
+-- the blocks of these payloads, one after another
+abbrev pub blocks : List (List ℕ) → List ℕ
+blocks payloads = flat_map block payloads
+
+-- the bytes are the blocks of these payloads, and then a rest that begins with no block
+pub record Blocks (bytes : List ℕ) (payloads : List (List ℕ)) (rest : List ℕ) : Type 0 where
+  pub whole : bytes ≡ blocks payloads ++ rest
+  pub each : AllByRecursion IsPayload payloads
+  pub no_more : HasNoBlock rest
+
+-- what may end a day: nothing, or an empty block and anything behind it
+abbrev pub Ends : List ℕ → Type 0
+Ends rest = (rest ≡ []) ⊎ ((more : List ℕ) × (rest ≡ block [] ++ more))
+
+-- an unfinished block: some bytes, of which no beginning is a block
+abbrev pub Open : List ℕ → Type 0
+Open rest = (0 < length rest) × HasNoBlock rest
+
+-- a payload that is not empty
+abbrev pub IsFull : List ℕ → Type 0
+IsFull payload = (0 < length payload) × IsPayload payload
+
+-- the bytes are the blocks of these payloads, none of them empty, and then the end or an unfinished block
+pub record Day (bytes : List ℕ) (payloads : List (List ℕ)) (rest : List ℕ) : Type 0 where
+  pub whole : bytes ≡ blocks payloads ++ rest
+  pub each : AllByRecursion IsFull payloads
+  pub last : Ends rest ⊎ Open rest

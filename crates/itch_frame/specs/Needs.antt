@@ -1,0 +1,8 @@
+-- How long the block at hand is.
+use Rattle.std.specs.Prelude.{ℕ, ◌+◌, ◌*◌, List, [], ◌∷◌}
+
+-- its length, as far as its bytes tell: two length bytes come first
+abbrev pub need : List ℕ → ℕ
+need [] = 2
+need (high ∷ []) = 2
+need (high ∷ low ∷ payload) = 2 + (high * 256 + low)

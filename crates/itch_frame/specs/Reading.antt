@@ -1,0 +1,51 @@
+-- What contracts see of a reader of blocks.
+use Rattle.std.specs.Prelude.{◌≡◌, ℕ, ◌<◌, ◌≤◌, List, [], ◌∷◌, ◌++◌, length, Option, None, Some, Result, Ok, Err, IfSome}
+use Rattle.std.specs.Borrow.{Bor}
+use Rattle.std.specs.Io.KnownBytes.{prepend_known, Consumes, Keeps, IsAtEnd}
+use Rattle.itch_frame.specs.Blocks.{IsPayload, block, Open}
+use Rattle.itch_frame.specs.Counting.{Rises, KeepsOrForgets}
+use Rattle.itch_frame.specs.declared.stage.Stage.{Stage}
+use Rattle.itch_frame.specs.declared.stage.Stage.TheVariants.{Going, Given, Ended, Cut}
+use Rattle.itch_frame.specs.declared.fault.FrameFault.{FrameFault}
+use Rattle.itch_frame.specs.declared.fault.FrameFault.TheVariants.{Read, Truncated, Write, TooLong}
+
+-- the reader below, the bytes held of an unfinished block, and how far the reading is
+pub record Reading (R : Type 0) : Type 0 where
+  pub reader : R
+  pub held : List ℕ
+  pub stage : Stage
+
+-- the bytes held of an unfinished block: a block that was given is no more held
+abbrev pub held_of : Stage → List ℕ → List ℕ
+held_of Going bytes = bytes
+held_of Given bytes = []
+held_of Ended bytes = bytes
+held_of Cut bytes = bytes
+
+-- the bytes held of an unfinished block, and then those unread, where they are told
+abbrev pub bytes_left : {R : Type 0} → (R → Option (List ℕ)) → Reading R → Option (List ℕ)
+bytes_left remaining r = prepend_known r.held (remaining r.reader)
+
+module _ {R : Type 0} (remaining : R → Option (List ℕ)) (failures : R → ℕ) where
+  -- what a call that asks for the next block may answer, and leave
+  abbrev pub NextBlock : Reading R → Result (Option (Bor (List ℕ))) FrameFault → Reading R → Type 0
+  -- a block came off the front, and nothing behind it was read
+  NextBlock old (Ok (Some p)) new =
+      IsPayload p.now × Consumes (bytes_left remaining old) (bytes_left remaining new) (block p.now) × (new.held ≡ []) × (failures new.reader ≡ failures old.reader)
+  -- no byte was left
+  NextBlock old (Ok None) new =
+      IsAtEnd (bytes_left remaining old) × (new.stage ≡ Ended) × (new.held ≡ []) × (failures new.reader ≡ failures old.reader)
+  -- some bytes were left, and no beginning of them is a block
+  NextBlock old (Err (Truncated held)) new =
+      IfSome (bytes_left remaining old) (λ b. Open b × (held ≡ length b)) × (new.stage ≡ Cut) × (held ≡ length new.held) × (failures new.reader ≡ failures old.reader)
+  -- the bytes held are held still, and those read since then behind them: nothing is lost, where the reader still tells its bytes
+  NextBlock old (Err (Read error)) new =
+      KeepsOrForgets (bytes_left remaining old) (bytes_left remaining new) × (new.stage ≡ Going) × Rises (failures old.reader) (failures new.reader)
+      × ((more : List ℕ) × (new.held ≡ old.held ++ more))
+  NextBlock old (Err (Write sent error)) new = ⊥
+  NextBlock old (Err TooLong) new = ⊥
+
+-- what the answer was, once the input has ended, is the answer ever after, and nothing is read
+abbrev pub StaysEnded : {R : Type 0} → Reading R → Result (Option (Bor (List ℕ))) FrameFault → Reading R → Type 0
+StaysEnded old r new =
+    (old.stage ≡ Ended → (r ≡ Ok None) × (new ≡ old)) × (old.stage ≡ Cut → (r ≡ Err (Truncated (length old.held))) × (new ≡ old))

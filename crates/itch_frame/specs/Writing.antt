@@ -1,0 +1,41 @@
+-- What a write of one block, or of several, leaves.
+use Rattle.std.specs.Prelude.{◌≡◌, ℕ, ◌+◌, ◌-◌, ◌<◌, ◌≤◌, List, ◌∷◌, ◌++◌, length, take, Option, Result, Ok, Err}
+use Rattle.std.specs.Io.KnownBytes.{Appends}
+use Rattle.itch_frame.specs.Blocks.{IsPayload, block, blocks}
+use Rattle.itch_frame.specs.Counting.{Rises, AppendsOrForgets}
+use Rattle.itch_frame.specs.declared.fault.FrameFault.{FrameFault}
+use Rattle.itch_frame.specs.declared.fault.FrameFault.TheVariants.{Read, Truncated, Write, TooLong}
+
+module _ {W : Type 0} (contents : W → Option (List ℕ)) (failures : W → ℕ) where
+  -- what writing these bytes may answer, and leave; `before` of the block were written before them
+  abbrev pub WritePart : W → ℕ → List ℕ → Result (Unit {0}) FrameFault → W → Type 0
+  WritePart old before bytes (Ok done) new =
+      Appends (contents old) (contents new) bytes × (failures new ≡ failures old)
+  -- exactly the bytes up to `sent` were written
+  WritePart old before bytes (Err (Write sent error)) new =
+      (before ≤ sent) × (sent < before + length bytes) × AppendsOrForgets (contents old) (contents new) (take (sent - before) bytes)
+      × Rises (failures old) (failures new)
+  WritePart old before bytes (Err TooLong) new = ⊥
+  WritePart old before bytes (Err (Read error)) new = ⊥
+  WritePart old before bytes (Err (Truncated held)) new = ⊥
+
+  -- what writing the block of this payload may answer, and leave
+  abbrev pub WriteBlock : W → List ℕ → Result (Unit {0}) FrameFault → W → Type 0
+  WriteBlock old payload (Ok done) new = IsPayload payload × WritePart old 0 (block payload) (Ok done) new
+  WriteBlock old payload (Err (Write sent error)) new = IsPayload payload × WritePart old 0 (block payload) (Err (Write sent error)) new
+  -- nothing was written
+  WriteBlock old payload (Err TooLong) new = (65535 < length payload) × (new ≡ old)
+  WriteBlock old payload (Err (Read error)) new = ⊥
+  WriteBlock old payload (Err (Truncated held)) new = ⊥
+
+  -- what writing the blocks of these payloads may answer, and leave
+  abbrev pub WriteBlocks : W → List (List ℕ) → Result ℕ FrameFault → W → Type 0
+  WriteBlocks old payloads (Ok count) new =
+      Appends (contents old) (contents new) (blocks payloads) × (failures new ≡ failures old) × (count ≡ length payloads)
+  -- some blocks were written whole, and exactly the bytes of the next one up to `sent`
+  WriteBlocks old payloads (Err (Write sent error)) new =
+      (done : List (List ℕ)) × (payload : List ℕ) × (more : List (List ℕ)) × (payloads ≡ done ++ payload ∷ more) × (sent < length (block payload))
+      × AppendsOrForgets (contents old) (contents new) (blocks done ++ take sent (block payload)) × Rises (failures old) (failures new)
+  WriteBlocks old payloads (Err TooLong) new = ⊥
+  WriteBlocks old payloads (Err (Read error)) new = ⊥
+  WriteBlocks old payloads (Err (Truncated held)) new = ⊥

@@ -1,0 +1,126 @@
+//! Blocks from a reader.
+ghost use Rattle.std.specs.Prelude.{◌≡◌, ℕ, ◌+◌, ◌-◌, ◌<◌, ◌≤◌, List, [], ◌++◌, length, take, drop, vec_len, IfOk, MatchResult, true, false};
+ghost use Rattle.std.specs.Io.KnownBytes.{prepend_known, Keeps, IsAtEnd};
+ghost use Rattle.itch_frame.specs.Blocks.{IsBlockOf};
+ghost use Rattle.itch_frame.specs.Counting.{CountsErr, KeepsOrForgets};
+ghost use Rattle.itch_frame.specs.Needs.{need};
+
+use crate::counted::CountedRead;
+use crate::fault::FrameFault;
+use crate::splitter::{LONGEST, lacking};
+use crate::stage::Stage;
+use std::alloc::{AllocError, Allocator, Global};
+use std::io;
+use std::marker::Model;
+
+/// Gives the blocks of a reader one by one, and never asks for more than the block at hand lacks.
+#[derive(Drop)]
+pub struct BlockReader<R: CountedRead, A: Allocator = Global> {
+    reader: R,
+    // As long as the longest block. The first `len` bytes are those of the block at hand.
+    buffer: Vec<u8, A>,
+    len: usize,
+    stage: Stage,
+}
+
+impl<R: CountedRead, A: Allocator> Model for BlockReader<R, A> {
+    ghost use Rattle.std.specs.Prelude.{◌≡◌, ◌<◌, ◌≤◌, length, take, vec_len, []};
+    ghost use Rattle.std.specs.Io.KnownBytes.{IsAtEnd};
+    ghost use Rattle.itch_frame.specs.Needs.{need};
+    ghost use Rattle.itch_frame.specs.Reading.{Reading, held_of};
+    ghost use Rattle.itch_frame.specs.declared.stage.Stage.TheVariants.{Ended, Cut};
+
+    ghost Value = { Reading R };
+
+    ghost view = { λ r. record { reader = r.reader; held = held_of r.stage (take r.len r.buffer.items); stage = r.stage } };
+
+    ghost invariant = { λ r. (vec_len r.buffer ≡ 65537) × (r.len ≤ 65537) × (r.len ≤ need (take r.len r.buffer.items))
+        × (r.stage ≡ Ended → (r.len ≡ 0) × IsAtEnd (R.remaining r.reader))
+        × (r.stage ≡ Cut → (0 < r.len) × (r.len < need (take r.len r.buffer.items)) × IsAtEnd (R.remaining r.reader)) };
+}
+
+impl<R: CountedRead, A: Allocator> BlockReader<R, A> {
+    ghost use types.Logic.{sem};
+    ghost use Rattle.std.specs.Prelude.{◌≡◌, [], IfOk};
+    ghost use Rattle.std.specs.Io.BufRead.{Rests};
+    ghost use Rattle.itch_frame.specs.Reading.{NextBlock, StaysEnded};
+    ghost use Rattle.itch_frame.specs.contracts.reader.BlockReader.{the_row as reader_row};
+
+    /// A reader of blocks that stands before the first byte of `reader`. It takes all its memory here, 65,537 bytes.
+    pub fn new(alloc: A, reader: R) -> Result<BlockReader<R, A>, AllocError>
+    where
+        R: Drop,
+        ensures { IfOk result (λ r. (r.reader ≡ reader) × (r.held ≡ []) × (r.stage ≡ Stage.Going)) }
+    {
+        Ok(BlockReader {
+            reader,
+            buffer: vec![in alloc; 0; LONGEST]?,
+            len: 0,
+            stage: Stage::Going,
+        })
+    }
+
+    /// The payload of the next block, or `None` at the end of input. The block given before is dropped.
+    ///
+    /// After `Read` what was read so far is kept, and the call may be made again. `None` and `Truncated` are
+    /// answered ever after, and nothing more is read.
+    pub fn next_block(&mut self) -> Result<Option<&[u8]>, FrameFault>
+        ensures* next { sem 𝓛 (Rests (reader_row R.row A.row R.CountedRead A.Allocator) self.entry (λ new.
+            NextBlock R.remaining R.failures self.old result new × StaysEnded self.old result new)) }
+    {
+        match self.stage {
+            Stage::Ended => return Ok(None),
+            Stage::Cut => return Err(FrameFault::Truncated { held: self.len }),
+            Stage::Given => self.len = 0,
+            Stage::Going => {}
+        }
+        self.stage = Stage::Going;
+        match fill_block(&mut self.reader, &mut self.buffer, &mut self.len) {
+            Err(error) => Err(FrameFault::Read(error)),
+            Ok(true) => {
+                self.stage = Stage::Given;
+                Ok(Some(&self.buffer[2..self.len]))
+            }
+            Ok(false) => {
+                if self.len == 0 {
+                    self.stage = Stage::Ended;
+                    return Ok(None);
+                }
+                self.stage = Stage::Cut;
+                Err(FrameFault::Truncated { held: self.len })
+            }
+        }
+    }
+}
+
+/// Reads until the block at hand, the first `len` bytes of `buffer`, is whole (true), or the input ends (false).
+fn fill_block<R: CountedRead>(
+    reader: &mut R,
+    buffer: &mut [u8],
+    len: &mut usize,
+) -> io::Result<bool>
+    requires room { length buffer.old ≡ 65537 }
+    requires begun { len.old ≤ need (take len.old buffer.old) }
+    requires within { len.old ≤ 65537 }
+    ensures begun { len.new ≤ need (take len.new buffer.new) }
+    ensures within { len.new ≤ 65537 }
+    ensures kept { MatchResult result
+        (λ _. Keeps (prepend_known (take len.old buffer.old) (R.remaining reader.old)) (prepend_known (take len.new buffer.new) (R.remaining reader.new)))
+        (λ _. KeepsOrForgets (prepend_known (take len.old buffer.old) (R.remaining reader.old)) (prepend_known (take len.new buffer.new) (R.remaining reader.new))) }
+    ensures front { (more : List ℕ) × (take len.new buffer.new ≡ take len.old buffer.old ++ more) }
+    ensures whole { result ≡ Ok true → IsBlockOf (take (len.new - 2) (drop 2 buffer.new)) (take len.new buffer.new) }
+    ensures ended { result ≡ Ok false → (len.new < need (take len.new buffer.new)) × IsAtEnd (R.remaining reader.new) }
+    ensures count { CountsErr result (R.failures reader.old) (R.failures reader.new) }
+{
+    loop {
+        let lacks = lacking(&buffer[..*len]);
+        if lacks == 0 {
+            return Ok(true);
+        }
+        let count = reader.read_some(&mut buffer[*len..*len + lacks])?;
+        if count == 0 {
+            return Ok(false);
+        }
+        *len += count;
+    }
+}

@@ -1,0 +1,102 @@
+//! Blocks out of a stream that comes in pieces.
+ghost use Rattle.std.specs.Prelude.{◌≡◌, ℕ, ◌+◌, ◌-◌, ◌<◌, ◌≤◌, min, List, [], ◌++◌, length, take, slice_index, vec_capacity, vec_len, IfOk, IfSome, IfNone};
+ghost use Rattle.itch_frame.specs.Blocks.{IsBlock, IsBlockOf};
+ghost use Rattle.itch_frame.specs.Cuts.{IsBegun, IsTake};
+ghost use Rattle.itch_frame.specs.Needs.{need};
+
+use byteorder::{BigEndian, ByteOrder};
+use std::alloc::{AllocError, Allocator, Global};
+use std::marker::Model;
+
+/// The longest block: two length bytes and 65,535 bytes of payload.
+pub(crate) const LONGEST: usize = 65_537;
+
+/// Cuts a stream that comes in pieces into blocks.
+#[derive(Drop)]
+pub struct Splitter<A: Allocator = Global> {
+    held: Vec<u8, A>,
+}
+
+impl<A: Allocator> Model for Splitter<A> {
+    ghost Value = { List ℕ };
+
+    ghost view = { λ s. s.held.items };
+
+    ghost invariant = { λ s. (65537 ≤ vec_capacity s.held) × (length s.held.items ≤ need s.held.items) × (length s.held.items ≤ 65537) };
+}
+
+impl<A: Allocator> Splitter<A> {
+    /// Holds nothing. It takes all its memory here, 65,537 bytes.
+    pub fn new(alloc: A) -> Result<Splitter<A>, AllocError>
+        ensures { IfOk result (λ s. s ≡ []) }
+    {
+        Ok(Splitter {
+            held: Vec::with_capacity(alloc, LONGEST)?,
+        })
+    }
+
+    /// Takes bytes from the front of `piece` up to the end of the block at hand, and answers how many: 0 while a block is ready.
+    pub fn take(&mut self, piece: &[u8]) -> usize
+        ensures { IsTake self.old piece.now result self.new }
+    {
+        let first = fill(&mut self.held, piece);
+        first + fill(&mut self.held, &piece[first..])
+    }
+
+    /// The payload, once the block is whole. A block of length 0 has an empty one.
+    pub fn ready(&self) -> Option<&[u8]>
+        ensures some { IfSome result (λ payload. IsBlockOf payload.now self.now) }
+        ensures none { IfNone result (¬ IsBlock self.now) }
+    {
+        let held = self.held.as_slice();
+        if held.len() >= 2 && lacking(held) == 0 {
+            Some(&held[2..])
+        } else {
+            None
+        }
+    }
+
+    /// Drops all that is held.
+    pub fn clear(&mut self)
+        ensures { self.new ≡ [] }
+    {
+        self.held.clear();
+    }
+
+    /// How many bytes are held, the length bytes included.
+    pub fn held(&self) -> usize
+        ensures count { result ≡ length self.now }
+        ensures bound { result ≤ 65537 }
+    {
+        self.held.len()
+    }
+}
+
+/// How many bytes the block at hand lacks, as far as its bytes tell: both length bytes come first.
+pub(crate) fn lacking(held: &[u8]) -> usize
+    ensures count { result ≡ need held.now - length held.now }
+    ensures bound { need held.now ≤ 65537 }
+    ensures bytes { (k : ℕ) → slice_index held.now k < 256 }
+{
+    let len = held.len();
+    if len < 2 {
+        2 - len
+    } else {
+        (2 + usize::from(BigEndian::read_u16(held))).saturating_sub(len)
+    }
+}
+
+/// Moves as much of the piece as the block at hand lacks, and answers how much.
+fn fill<A: Allocator>(held: &mut Vec<u8, A>, piece: &[u8]) -> usize
+    requires room { 65537 ≤ vec_capacity held.old }
+    requires begun { length held.old.items ≤ need held.old.items }
+    ensures count { result ≡ min (need held.old.items - length held.old.items) (length piece.now) }
+    ensures items { held.new.items ≡ held.old.items ++ take result piece.now }
+    ensures room { 65537 ≤ vec_capacity held.new }
+    ensures bound { length held.new.items ≤ 65537 }
+    ensures bytes { (k : ℕ) → slice_index held.old.items k < 256 }
+{
+    let count = lacking(held.as_slice()).min(piece.len());
+    held.extend_from_slice(&piece[..count]).unwrap();
+    count
+}

@@ -1,0 +1,78 @@
+-- Why a payload is not taken: in a laid market, and behind other payloads.
+use Rattle.std.proofs.Common.{◌≡◌, ℕ, ◌+◌, ◌<◌, ◌≤◌, ◌⊎◌, zero, suc, Bool, List, [], ◌∷◌, ◌++◌, map, length, take, Option, None, Some, refl, sym, ap, subst, ◌∙◌, inl, inr, arith, length-append}
+use Rattle.std.specs.Option.{option_map}
+use Rattle.std.proofs.lemmas.Bool.{cases_lt}
+use Rattle.itch_codec.specs.declared.fault.CodecFault.{CodecFault}
+use Rattle.itch_codec.specs.Messages.{fault, message_of}
+use Rattle.itch_frame.specs.declared.fault.FrameFault.TheVariants.{Read, Truncated, Write, TooLong}
+use Rattle.itch_market.specs.declared.refusal.Refusal.{Refusal}
+use Rattle.itch_market.specs.declared.stop.Stop.{Stop}
+use Rattle.itch_market.specs.declared.stop.Stop.TheVariants.{End, Frame, Codec, Rule, TooManyMessages}
+use Rattle.itch_market.specs.Content.{Content, laid}
+use Rattle.itch_market.specs.Reasons.{reason}
+use Rattle.itch_market.specs.Effects.{effect, takes_memory}
+use Rattle.itch_market.specs.Goods.{IsGood}
+use Rattle.itch_market.specs.Runs.{after}
+use Rattle.itch_market.specs.Stops.{cause_by, cause, cause_at}
+use Rattle.itch_market.specs.Replays.{NoCause, IsRefusal, Refuses, Halts}
+use Rattle.itch_market.proofs.Laid.{reason-laid, takes_memory-laid}
+
+-- a laid market takes no payload for another reason
+pub cause-laid : (m : Content) (p : List ℕ) → IsGood m → cause (laid m) p ≡ cause m p
+cause-laid m p good = by_fault (fault p) where
+  by_fault : (f : Option CodecFault) → cause_by f (laid m) p ≡ cause_by f m p
+  by_fault (Some f) = refl
+  by_fault None = ap (option_map Rule) (reason-laid m (message_of p) good)
+
+pub refuses-laid : (m : Content) (p : List ℕ) (why : Refusal) → IsGood m → Refuses (laid m) p why → Refuses m p why
+refuses-laid m p why good (clean, refusal) =
+    (clean,
+    subst (λ takes. IsRefusal (reason m (message_of p)) takes why) (takes_memory-laid m (message_of p))
+    (subst (λ r. IsRefusal r (takes_memory (laid m) (message_of p)) why) (reason-laid m (message_of p) good) refusal))
+
+pub halts-laid : (full : Bool) (m : Content) (old new : Option (List ℕ)) (stop : Stop) → IsGood m → Halts full (laid m) old new stop → Halts full m old new stop
+halts-laid full m old new End good h = h
+halts-laid full m old new (Frame (Truncated held)) good h = h
+halts-laid full m old new (Frame (Read error)) good h = h
+halts-laid full m old new (Frame (Write sent error)) good h = h
+halts-laid full m old new (Frame TooLong) good h = h
+halts-laid full m old new (Codec f) good h = h
+halts-laid full m old new (Rule why) good (p, off, some, refuses) = (p, off, some, refuses-laid m p why good refuses)
+halts-laid full m old new TooManyMessages good h = h
+
+-- what is taken has no fault and no reason
+pub no_fault : (m : Content) (p : List ℕ) → cause m p ≡ None → fault p ≡ None
+no_fault m p none = by_fault (fault p) none where
+  by_fault : (f : Option CodecFault) → cause_by f m p ≡ None → f ≡ None
+  by_fault (Some f) some = cc
+  by_fault None none = refl
+
+pub no_reason : (m : Content) (p : List ℕ) → cause m p ≡ None → reason m (message_of p) ≡ None
+no_reason m p none = by_reason (reason m (message_of p)) (subst (λ f. cause_by f m p ≡ None) (no_fault m p none) none) where
+  by_reason : (r : Option Refusal) → option_map Rule r ≡ None → r ≡ None
+  by_reason (Some r) some = cc
+  by_reason None none = refl
+
+-- the payload behind others is asked in the market that those leave
+pub cause_behind : (m : Content) (ps : List (List ℕ)) (p : List ℕ) (qs : List (List ℕ)) → cause_at m (ps ++ p ∷ qs) (length ps) ≡ cause (after m (map message_of ps)) p
+cause_behind m [] p qs = refl
+cause_behind m (q ∷ ps) p qs = cause_behind (effect m (message_of q)) ps p qs
+
+-- payloads behind it change nothing
+pub cause_before : (m : Content) (ps qs : List (List ℕ)) (k : ℕ) → k < length ps → cause_at m (ps ++ qs) k ≡ cause_at m ps k
+cause_before m [] qs k within = absurd (omega arith)
+cause_before m (p ∷ ps) qs zero within = refl
+cause_before m (p ∷ ps) qs (suc k) within = cause_before (effect m (message_of p)) ps qs k (omega arith)
+
+-- one payload more that is taken
+pub none_more : (m : Content) (ps : List (List ℕ)) (p : List ℕ) → NoCause m ps → cause (after m (map message_of ps)) p ≡ None → NoCause m (ps ++ p ∷ [])
+none_more m ps p none clean k within =
+    elim (cases_lt k (length ps)) [
+      | inl before ↦ cause_before m ps (p ∷ []) k before ∙ none k before
+      | inr behind ↦ let last : k ≡ length ps = omega (arith, length-append ps (p ∷ [])) in ap (cause_at m (ps ++ p ∷ [])) last ∙ cause_behind m ps p [] ∙ clean
+    ]
+
+-- the market behind one message more
+pub after_more : (m : Content) (ps : List (List ℕ)) (p : List ℕ) → after m (map message_of (ps ++ p ∷ [])) ≡ effect (after m (map message_of ps)) (message_of p)
+after_more m [] p = refl
+after_more m (q ∷ ps) p = after_more (effect m (message_of q)) ps p

@@ -1,0 +1,13 @@
+pub mod Maps
+pub mod Bytes
+pub mod Directories
+pub mod Allowed
+pub mod Goods
+pub mod Laid
+pub mod LawRules
+pub mod Causes
+pub mod Taking
+pub mod Stopping
+pub mod Told
+pub mod Searches
+pub mod OneStop

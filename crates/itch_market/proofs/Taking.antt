@@ -1,0 +1,77 @@
+-- What a replay has done so far, and one block more.
+use Rattle.std.proofs.Common.{◌≡◌, ℕ, ◌+◌, ◌-◌, ◌^◌, ◌<◌, ◌≤◌, ◌==◌, Bool, true, false, List, [], ◌∷◌, ◌++◌, map, length, Option, None, Some, Ok, Err, Result, refl, sym, ap, subst, ◌∙◌, arith, length-append, append-nil}
+use Rattle.std.proofs.lemmas.Bool.Decides.{nat_tests}
+use Rattle.std.specs.List.{AllByRecursion}
+use Rattle.std.specs.Io.KnownBytes.{Consumes}
+use Rattle.std.proofs.KnownBytes.{Consumes-nil, Consumes-trans}
+use Rattle.itch_codec.specs.Messages.{message_of}
+use Rattle.itch_frame.specs.Blocks.{block, blocks, IsFull}
+use Rattle.itch_frame.proofs.BlockLemmas.{blocks-append, each-push}
+use Rattle.itch_market.specs.declared.stop.Stop.{Stop}
+use Rattle.itch_market.specs.Content.{Content, laid}
+use Rattle.itch_market.specs.Effects.{effect}
+use Rattle.itch_market.specs.Goods.{IsGood}
+use Rattle.itch_market.specs.Runs.{after}
+use Rattle.itch_market.specs.Stops.{cause}
+use Rattle.itch_market.specs.Replays.{Fits, NoCause, TakesOne, TakesOff, Halts, Step, Takes, Replays, ReplaysFirst}
+use Rattle.itch_market.proofs.Goods.{effect_good}
+use Rattle.itch_market.proofs.Laid.{effect-laid}
+use Rattle.itch_market.proofs.Causes.{cause-laid, halts-laid, no_reason, none_more, after_more}
+
+-- some payloads were taken, and the market that they leave is good
+pub record Going (m : Content) (old new : Option (List ℕ)) (count : ℕ) (n : Content) : Type 0 where
+  pub payloads : List (List ℕ)
+  pub takes : Takes m old new payloads n
+  pub good : IsGood (after m (map message_of payloads))
+  pub counted : length payloads ≡ count
+  pub few : count ≤ 10 ^ 19 - 1
+
+-- at first none was
+pub going_first : (m : Content) (bytes : Option (List ℕ)) → IsGood m → laid m ≡ m → Going m bytes bytes 0 m
+going_first m bytes good in_place = record {
+  payloads = [];
+  takes = record { bytes = Consumes-nil bytes; full = tt; none = λ k within. absurd (omega arith); fits = tt; left = sym in_place };
+  good = good;
+  counted = refl;
+  few = omega arith;
+}
+
+consumed_more : (a b c : Option (List ℕ)) (ps : List (List ℕ)) (p : List ℕ) → Consumes a b (blocks ps) → Consumes b c (block p) → Consumes a c (blocks (ps ++ p ∷ []))
+consumed_more a b c ps p first second =
+    subst (Consumes a c) (ap (λ last. blocks ps ++ last) (sym (append-nil (block p))) ∙ sym (blocks-append ps (p ∷ []))) (Consumes-trans a b c (blocks ps) (block p) first second)
+
+-- then one more, unless there are as many as may be
+pub going_on : (m : Content) (old mid new : Option (List ℕ)) (count : ℕ) (n k : Content) → Going m old mid count n → Step (count == 10 ^ 19 - 1) n mid new (Ok tt) k → Going m old new (count + 1) k
+going_on m old mid new count n k going (p, off, room, (clean, fits, next)) =
+    let ps = going.payloads in
+    let so_far = after m (map message_of ps) in
+    let taken : cause so_far p ≡ None = sym (cause-laid so_far p going.good) ∙ ap (λ x. cause x p) (sym going.takes.left) ∙ clean in
+    record {
+      payloads = ps ++ p ∷ [];
+      takes = record {
+        bytes = consumed_more old mid new ps p going.takes.bytes off.1;
+        full = each-push IsFull ps p going.takes.full off.0;
+        none = none_more m ps p going.takes.none taken;
+        fits = each-push Fits ps p going.takes.fits fits;
+        left =
+            next ∙ ap (λ x. laid (effect x (message_of p))) going.takes.left ∙ effect-laid so_far (message_of p) going.good
+            ∙ ap laid (sym (after_more m ps p))
+      };
+      good = subst IsGood (sym (after_more m ps p)) (effect_good so_far (message_of p) going.good fits (no_reason so_far p taken));
+      counted = length-append ps (p ∷ []) ∙ ap (λ c. c + 1) going.counted;
+      few = not_last count going.few room;
+    } where
+  not_last : (c : ℕ) → c ≤ 10 ^ 19 - 1 → (c == 10 ^ 19 - 1) ≡ false → c + 1 ≤ 10 ^ 19 - 1
+  not_last c few room = grind (arith, nat_tests)
+
+-- and there it stops
+pub going_halts : (m : Content) (old mid new : Option (List ℕ)) (count : ℕ) (n k : Content) (stop : Stop)
+    → Going m old mid count n → Step (count == 10 ^ 19 - 1) n mid new (Err stop) k → Replays m old new count stop k
+going_halts m old mid new count n k stop going (same, halts) =
+    let so_far = after m (map message_of going.payloads) in
+    (going.payloads, mid, subst (Takes m old mid going.payloads) (sym same) going.takes, going.counted, going.few,
+    halts-laid (count == 10 ^ 19 - 1) so_far mid new stop going.good (subst (λ x. Halts (count == 10 ^ 19 - 1) x mid new stop) going.takes.left halts))
+
+-- or it was to take no more
+pub going_short : (m : Content) (old new : Option (List ℕ)) (count : ℕ) (n : Content) → Going m old new count n → ReplaysFirst count m old new count None n
+going_short m old new count n going = (refl, going.few, going.payloads, going.takes, going.counted)

@@ -1,0 +1,8 @@
+use Rattle.itch_market.proofs.Told.{replays_stop, replays_content}
+use Rattle.itch_market.proofs.replaying.replay.Goals as goal
+
+pub returns-clause-stops : goal.returns-clause-stops
+returns-clause-stops g c = replays_stop _ _ _ _ _ _ (rw c.in_default-Some.is-1 at c.replay_first.ensures.steps).1
+
+pub returns-clause-content : goal.returns-clause-content
+returns-clause-content g c = replays_content _ _ _ _ _ _ (rw c.in_default-Some.is-1 at c.replay_first.ensures.steps).1

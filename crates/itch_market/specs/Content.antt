@@ -1,0 +1,25 @@
+-- What contracts see of a market.
+use Rattle.std.specs.Prelude.{ℕ, List, [], Option, None}
+use Rattle.std.specs.Ordering.{nat_cmp}
+use Rattle.std.specs.FinMap as map
+use Rattle.itch_book.specs.declared.order.Order.{Order}
+use Rattle.itch_book.specs.Orders as book
+use Rattle.itch_market.specs.declared.security.Security.{Security}
+
+-- the directory: what is kept of the security at each locate
+abbrev pub Securities : Type 0
+Securities = map.FinMap nat_cmp Security
+
+-- a market: the last event code, the directory with its trading states, and the live orders
+pub record Content : Type 0 where
+  pub event : Option ℕ
+  pub securities : Securities
+  pub orders : List Order
+
+-- the market before any message
+abbrev pub empty : Content
+empty = record { event = None; securities = map.empty; orders = [] }
+
+-- the market with its orders in snapshot order
+abbrev pub laid : Content → Content
+laid m = record m { orders = book.lay m.orders }

@@ -1,0 +1,79 @@
+-- What a message that is not refused changes in a market.
+use Rattle.std.specs.Prelude.{ℕ, Bool, true, false, not, List, Option, Some, None, is_some}
+use Rattle.std.specs.FinMap as map
+use Rattle.itch_book.specs.declared.order.Order.{Order}
+use Rattle.itch_book.specs.Orders as book
+use Rattle.itch_codec.specs.declared.message.Message.{Message}
+use Rattle.itch_codec.specs.declared.message.Message.TheVariants as is
+use Rattle.itch_codec.specs.declared.orders.AddOrder.{AddOrder}
+use Rattle.itch_codec.specs.declared.stocks.Directory.{Directory}
+use Rattle.itch_codec.specs.declared.stocks.TradingAction.{TradingAction}
+use Rattle.itch_market.specs.declared.security.Security.{Security}
+use Rattle.itch_market.specs.declared.security.Action.{Action}
+use Rattle.itch_market.specs.Content.{Content, Securities}
+
+-- a new directory entry, with the trading action and the Reg SHO restriction that stood there
+abbrev pub entered : Option Security → Directory → Security
+entered None entry = record { entry = entry; action = None; sho = None }
+entered (Some s) entry = record s { entry = entry }
+
+-- a trading action without its reserved byte
+abbrev pub action_of : TradingAction → Action
+action_of x = record { state = x.state; reason = x.reason }
+
+abbrev pub with_action : Action → Security → Security
+with_action action s = record s { action = Some action }
+
+abbrev pub with_sho : ℕ → Security → Security
+with_sho sho s = record s { sho = Some sho }
+
+-- the directory with the security of a locate changed, if there is one
+abbrev pub changed_at : (Security → Security) → ℕ → Option Security → Securities → Securities
+changed_at change locate None securities = securities
+changed_at change locate (Some s) securities = map.insert securities locate (change s)
+
+abbrev pub changed : (Security → Security) → ℕ → Securities → Securities
+changed change locate securities = changed_at change locate (map.get securities locate) securities
+
+-- the live order that an add order message makes
+abbrev pub order_of : AddOrder → Option (List ℕ) → Order
+order_of x mpid = record { reference = x.reference; locate = x.header.locate; side = x.side; shares = x.shares; price = x.price; mpid = mpid }
+
+-- what is left of the market after a message
+abbrev pub effect : Content → Message → Content
+effect m (is.SystemEvent x) = record m { event = Some x.code }
+effect m (is.StockDirectory x) =
+    record m { securities = map.insert m.securities x.header.locate (entered (map.get m.securities x.header.locate) x.entry) }
+effect m (is.TradingAction x) = record m { securities = changed (with_action (action_of x)) x.header.locate m.securities }
+effect m (is.RegSho x) = record m { securities = changed (with_sho x.action) x.header.locate m.securities }
+effect m (is.AddOrder x) = record m { orders = book.added (order_of x None) m.orders }
+effect m (is.AttributedAddOrder x) = record m { orders = book.added (order_of x.order (Some x.attribution)) m.orders }
+effect m (is.OrderExecuted x) = record m { orders = book.taken x.reference x.shares m.orders }
+effect m (is.OrderExecutedWithPrice x) = record m { orders = book.taken x.execution.reference x.execution.shares m.orders }
+effect m (is.OrderCancel x) = record m { orders = book.taken x.reference x.shares m.orders }
+effect m (is.OrderDelete x) = record m { orders = book.without x.reference m.orders }
+effect m (is.OrderReplace x) = record m { orders = book.replaced x.original x.reference x.shares x.price m.orders }
+effect m (is.Trade x) = m
+effect m (is.CrossTrade x) = m
+effect m (is.BrokenTrade x) = m
+effect m (is.End next) = m
+effect m (is.Other payload) = m
+
+-- the messages that take memory: those that make an order or a directory entry
+abbrev pub takes_memory : Content → Message → Bool
+takes_memory m (is.SystemEvent x) = false
+takes_memory m (is.StockDirectory x) = not (is_some (map.get m.securities x.header.locate))
+takes_memory m (is.TradingAction x) = false
+takes_memory m (is.RegSho x) = false
+takes_memory m (is.AddOrder x) = true
+takes_memory m (is.AttributedAddOrder x) = true
+takes_memory m (is.OrderExecuted x) = false
+takes_memory m (is.OrderExecutedWithPrice x) = false
+takes_memory m (is.OrderCancel x) = false
+takes_memory m (is.OrderDelete x) = false
+takes_memory m (is.OrderReplace x) = true
+takes_memory m (is.Trade x) = false
+takes_memory m (is.CrossTrade x) = false
+takes_memory m (is.BrokenTrade x) = false
+takes_memory m (is.End next) = false
+takes_memory m (is.Other payload) = false

@@ -1,0 +1,10 @@
+pub mod Content
+pub mod Reasons
+pub mod Effects
+pub mod Widths
+pub mod Goods
+pub mod Runs
+pub mod Sames
+pub mod Firsts
+pub mod Stops
+pub mod Replays

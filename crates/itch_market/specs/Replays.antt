@@ -1,0 +1,117 @@
+-- What a replay does to its reader and its market, step by step.
+use Rattle.std.specs.Prelude.{◌≡◌, ℕ, ◌-◌, ◌<◌, ◌≤◌, ◌^◌, ◌==◌, ◌⊎◌, Bool, true, false, IsTrue, List, [], map, length, ⊤, Option, Some, None, Result, Ok, Err, IfSome}
+use Rattle.std.specs.List.{AllByRecursion}
+use Rattle.std.specs.Io.KnownBytes.{Consumes, IsAtEnd}
+use Rattle.itch_codec.specs.Messages.{fault, message_of}
+use Rattle.itch_codec.specs.Widths.{IsMessage}
+use Rattle.itch_frame.specs.Blocks.{block, blocks, Open, IsFull}
+use Rattle.itch_frame.specs.Counting.{KeepsOrForgets, Rises}
+use Rattle.itch_frame.specs.declared.fault.FrameFault.TheVariants.{Read, Truncated, Write, TooLong}
+use Rattle.itch_market.specs.declared.refusal.Refusal.{Refusal}
+use Rattle.itch_market.specs.declared.refusal.Refusal.TheVariants.{UnknownLocate, StockMismatch, ZeroShares, DuplicateRef, UnknownRef, LocateMismatch, TooManyShares, UnexpectedEnd, OutOfMemory}
+use Rattle.itch_market.specs.declared.stop.Stop.{Stop}
+use Rattle.itch_market.specs.declared.stop.Stop.TheVariants.{End, Frame, Codec, Rule, TooManyMessages}
+use Rattle.itch_market.specs.Content.{Content, laid}
+use Rattle.itch_market.specs.Reasons.{reason}
+use Rattle.itch_market.specs.Effects.{effect, takes_memory}
+use Rattle.itch_market.specs.Runs.{after}
+use Rattle.itch_market.specs.Stops.{cause, cause_at}
+
+-- none of these payloads has a fault or is refused
+abbrev pub NoCause : Content → List (List ℕ) → Type 0
+NoCause m payloads = (k : ℕ) → k < length payloads → cause_at m payloads k ≡ None
+
+-- the fields of a payload's message fit
+abbrev pub Fits : List ℕ → Type 0
+Fits payload = IsMessage (message_of payload)
+
+-- a message was refused: for its reason, or for want of memory where it has none and takes some
+abbrev pub IsRefusal : Option Refusal → Bool → Refusal → Type 0
+IsRefusal None takes why = (why ≡ OutOfMemory) × IsTrue takes
+IsRefusal (Some reason) takes why = why ≡ reason
+
+abbrev pub Refuses : Content → List ℕ → Refusal → Type 0
+Refuses m payload why = (fault payload ≡ None) × IsRefusal (reason m (message_of payload)) (takes_memory m (message_of payload)) why
+
+-- the message of a payload is applied, or not
+abbrev pub TakesOne : Content → List ℕ → Result (Unit {0}) Stop → Content → Type 0
+TakesOne m payload (Ok done) n = (cause m payload ≡ None) × Fits payload × (n ≡ laid (effect m (message_of payload)))
+TakesOne m payload (Err (Codec f)) n = (n ≡ m) × (fault payload ≡ Some f)
+TakesOne m payload (Err (Rule why)) n = (n ≡ m) × Refuses m payload why
+TakesOne m payload (Err End) n = ⊥
+TakesOne m payload (Err (Frame f)) n = ⊥
+TakesOne m payload (Err TooManyMessages) n = ⊥
+
+-- a block that is not empty came off the front, and nothing behind it was read
+abbrev pub TakesOff : Option (List ℕ) → Option (List ℕ) → List ℕ → Type 0
+TakesOff old new payload = IsFull payload × Consumes old new (block payload)
+
+-- why no further message is taken, from a market to which as many as may be were applied (`full`) or not
+abbrev pub Halts : Bool → Content → Option (List ℕ) → Option (List ℕ) → Stop → Type 0
+Halts full m old new End = IsAtEnd old ⊎ Consumes old new (block [])
+Halts full m old new (Frame (Truncated held)) = IfSome old (λ bytes. Open bytes × (held ≡ length bytes))
+Halts full m old new (Frame (Read error)) = KeepsOrForgets old new
+Halts full m old new (Frame (Write sent error)) = ⊥
+Halts full m old new (Frame TooLong) = ⊥
+Halts full m old new (Codec f) = (payload : List ℕ) × TakesOff old new payload × (full ≡ false) × (fault payload ≡ Some f)
+Halts full m old new (Rule why) = (payload : List ℕ) × TakesOff old new payload × (full ≡ false) × Refuses m payload why
+Halts full m old new TooManyMessages = (payload : List ℕ) × TakesOff old new payload × (full ≡ true)
+
+-- a failed read is counted, and nothing else is
+abbrev pub Counts : Stop → ℕ → ℕ → Type 0
+Counts End old new = new ≡ old
+Counts (Frame (Truncated held)) old new = new ≡ old
+Counts (Frame (Read error)) old new = Rises old new
+Counts (Frame (Write sent error)) old new = ⊥
+Counts (Frame TooLong) old new = ⊥
+Counts (Codec f) old new = new ≡ old
+Counts (Rule why) old new = new ≡ old
+Counts TooManyMessages old new = new ≡ old
+
+abbrev pub CountsFirst : Option Stop → ℕ → ℕ → Type 0
+CountsFirst None old new = new ≡ old
+CountsFirst (Some stop) old new = Counts stop old new
+
+-- what one block does: its message is applied, or the replay stops
+abbrev pub Step : Bool → Content → Option (List ℕ) → Option (List ℕ) → Result (Unit {0}) Stop → Content → Type 0
+Step full m old new (Ok done) n = (payload : List ℕ) × TakesOff old new payload × (full ≡ false) × TakesOne m payload (Ok done) n
+Step full m old new (Err stop) n = (n ≡ m) × Halts full m old new stop
+
+-- these payloads were taken off the front, and their messages applied
+pub record Takes (m : Content) (old new : Option (List ℕ)) (payloads : List (List ℕ)) (n : Content) : Type 0 where
+  pub bytes : Consumes old new (blocks payloads)
+  pub full : AllByRecursion IsFull payloads
+  pub none : NoCause m payloads
+  pub fits : AllByRecursion Fits payloads
+  pub left : n ≡ laid (after m (map message_of payloads))
+
+-- some messages are applied, and then the replay stops
+abbrev pub Replays : Content → Option (List ℕ) → Option (List ℕ) → ℕ → Stop → Content → Type 0
+Replays m old new count stop n =
+    (payloads : List (List ℕ)) × (mid : Option (List ℕ)) × Takes m old mid payloads n × (length payloads ≡ count) × (count ≤ 10 ^ 19 - 1)
+    × Halts (count == 10 ^ 19 - 1) (after m (map message_of payloads)) mid new stop
+
+-- so many messages are applied and no more is read, or the replay stops before
+abbrev pub ReplaysFirst : ℕ → Content → Option (List ℕ) → Option (List ℕ) → ℕ → Option Stop → Content → Type 0
+ReplaysFirst most m old new count (Some stop) n = (count < most) × Replays m old new count stop n
+ReplaysFirst most m old new count None n =
+    (count ≡ most) × (count ≤ 10 ^ 19 - 1) × (payloads : List (List ℕ)) × Takes m old new payloads n × (length payloads ≡ count)
+
+-- a stop that the file alone decides: no read failed, and memory was not refused
+abbrev pub IsTold : Stop → Type 0
+IsTold End = ⊤
+IsTold (Frame (Truncated held)) = ⊤
+IsTold (Frame (Read error)) = ⊥
+IsTold (Frame (Write sent error)) = ⊥
+IsTold (Frame TooLong) = ⊥
+IsTold (Codec f) = ⊤
+IsTold (Rule UnknownLocate) = ⊤
+IsTold (Rule StockMismatch) = ⊤
+IsTold (Rule ZeroShares) = ⊤
+IsTold (Rule DuplicateRef) = ⊤
+IsTold (Rule UnknownRef) = ⊤
+IsTold (Rule LocateMismatch) = ⊤
+IsTold (Rule (TooManyShares remain)) = ⊤
+IsTold (Rule UnexpectedEnd) = ⊤
+IsTold (Rule OutOfMemory) = ⊥
+IsTold TooManyMessages = ⊤

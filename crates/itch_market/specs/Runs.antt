@@ -1,0 +1,24 @@
+-- What a list of messages leaves of a market, and whether it follows the order rules.
+use Rattle.std.specs.Prelude.{◌≡◌, List, [], ◌∷◌, None}
+use Rattle.itch_codec.specs.declared.message.Message.{Message}
+use Rattle.itch_market.specs.Content.{Content, empty}
+use Rattle.itch_market.specs.Reasons.{reason}
+use Rattle.itch_market.specs.Effects.{effect}
+
+-- what these messages leave of a market
+abbrev pub after : Content → List Message → Content
+after m [] = m
+after m (x ∷ xs) = after (effect m x) xs
+
+-- what these messages leave of the empty market
+abbrev pub run : List Message → Content
+run ms = after empty ms
+
+-- no message is refused in the market that those before it leave of this one
+abbrev pub FollowsFrom : Content → List Message → Type 0
+FollowsFrom m [] = Unit {0}
+FollowsFrom m (x ∷ xs) = (reason m x ≡ None) × FollowsFrom (effect m x) xs
+
+-- the messages follow the order rules
+abbrev pub Follows : List Message → Type 0
+Follows ms = FollowsFrom empty ms

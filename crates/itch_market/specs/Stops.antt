@@ -1,0 +1,45 @@
+-- Where a replay of a day file stops, and why: a search for the first bad place.
+use Rattle.std.specs.Prelude.{◌≡◌, ℕ, ◌+◌, ◌-◌, ◌^◌, ◌==◌, nat_lt, min, if◌then◌else◌, List, [], ◌∷◌, map, length, take, Option, Some, None, slice_get, option_map, option_and_then}
+use Rattle.itch_codec.specs.declared.fault.CodecFault.{CodecFault}
+use Rattle.itch_codec.specs.Messages.{fault, message_of}
+use Rattle.itch_frame.specs.Blocks.{Day}
+use Rattle.itch_frame.specs.declared.fault.FrameFault.TheVariants.{Truncated}
+use Rattle.itch_market.specs.declared.stop.Stop.{Stop}
+use Rattle.itch_market.specs.declared.stop.Stop.TheVariants.{End, Frame, Codec, Rule, TooManyMessages}
+use Rattle.itch_market.specs.Content.{Content}
+use Rattle.itch_market.specs.Reasons.{reason}
+use Rattle.itch_market.specs.Runs.{after}
+use Rattle.itch_market.specs.Firsts.{IsFirst}
+
+-- why a payload is not taken: it has this fault, or an order rule refuses its message
+abbrev pub cause_by : Option CodecFault → Content → List ℕ → Option Stop
+cause_by (Some f) m payload = Some (Codec f)
+cause_by None m payload = option_map Rule (reason m (message_of payload))
+
+abbrev pub cause : Content → List ℕ → Option Stop
+cause m payload = cause_by (fault payload) m payload
+
+-- why the payload behind the first k is not taken, in the market that those leave
+abbrev pub cause_at : Content → List (List ℕ) → ℕ → Option Stop
+cause_at m payloads k = option_and_then (cause (after m (map message_of (take k payloads)))) (slice_get payloads k)
+
+-- how a day's rest stops a replay: as an end where it is nothing or begins with an empty block, else as an unfinished block
+abbrev pub end_of : List ℕ → Stop
+end_of [] = End
+end_of (x ∷ []) = Frame (Truncated 1)
+end_of (x ∷ y ∷ rest) = if (x + y) == 0 then End else Frame (Truncated (length (x ∷ y ∷ rest)))
+
+-- the stop behind all payloads, or behind as many as a replay takes
+abbrev pub last_stop : ℕ → List (List ℕ) → List ℕ → Stop
+last_stop most payloads rest = if nat_lt most (length payloads) then TooManyMessages else end_of rest
+
+-- why a replay would stop behind the first k payloads, if it would
+abbrev pub stop_at : ℕ → Content → List (List ℕ) → List ℕ → ℕ → Option Stop
+stop_at most m payloads rest k = if k == min most (length payloads) then Some (last_stop most payloads rest) else cause_at m payloads k
+
+-- the first k messages of a day file are taken, and then a replay from this market stops
+pub record Stops (m : Content) (bytes : List ℕ) (k : ℕ) (stop : Stop) : Type 0 where
+  pub payloads : List (List ℕ)
+  pub rest : List ℕ
+  pub day : Day bytes payloads rest
+  pub first : IsFirst (stop_at (10 ^ 19 - 1) m payloads rest) k stop

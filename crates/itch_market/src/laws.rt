@@ -1,0 +1,33 @@
+//! What holds of all good markets and messages, of whatever size.
+//!
+//! Each function does nothing: its clauses are the laws.
+ghost use Rattle.std.specs.Prelude.{◌≡◌, List, None};
+ghost use Rattle.std.specs.List.{AllByRecursion};
+ghost use Rattle.itch_codec.specs.declared.message.Message.{Message};
+ghost use Rattle.itch_market.specs.Content.{Content, empty, laid};
+ghost use Rattle.itch_market.specs.Reasons.{reason};
+ghost use Rattle.itch_market.specs.Effects.{effect, takes_memory};
+ghost use Rattle.itch_codec.specs.Widths.{IsMessage};
+ghost use Rattle.itch_market.specs.Goods.{IsGood};
+ghost use Rattle.itch_market.specs.Runs.{FollowsFrom, after};
+
+/// A market with its orders in snapshot order refuses the same messages for the same reasons,
+/// and the others leave it with the same orders in snapshot order.
+#[tactic(auto, using(crate::proofs::LawRules::laid_laws))]
+pub fn laid_stays_alike()
+    ensures reason { (m : Content) → (x : Message) → IsGood m → reason (laid m) x ≡ reason m x }
+    ensures effect { (m : Content) → (x : Message) → IsGood m → laid (effect (laid m) x) ≡ laid (effect m x) }
+    ensures memory { (m : Content) → (x : Message) → takes_memory (laid m) x ≡ takes_memory m x }
+    ensures twice { (m : Content) → laid (laid m) ≡ laid m }
+{
+}
+
+/// The market before any message is good, and every message that is not refused leaves a good market good.
+#[tactic(auto, using(crate::proofs::LawRules::good_laws))]
+pub fn good_stays_good()
+    ensures empty { IsGood empty }
+    ensures laid { (m : Content) → IsGood m → IsGood (laid m) }
+    ensures effect { (m : Content) → (x : Message) → IsGood m → IsMessage x → reason m x ≡ None → IsGood (effect m x) }
+    ensures after { (m : Content) → (ms : List Message) → IsGood m → AllByRecursion IsMessage ms → FollowsFrom m ms → IsGood (after m ms) }
+{
+}

@@ -1,0 +1,17 @@
+//! The market of a feed: the securities' directory, their trading states and live orders, and the order rules that each message has to follow.
+#![tactic(auto)]
+
+pub mod laws;
+mod locates;
+mod market;
+mod refusal;
+mod replaying;
+mod security;
+mod stop;
+
+pub use locates::Locates;
+pub use market::Market;
+pub use refusal::Refusal;
+pub use replaying::{replay, replay_first};
+pub use security::{Action, Security};
+pub use stop::{ReplayEnd, Stop};

@@ -1,0 +1,113 @@
+//! The market of a feed.
+ghost use Rattle.std.specs.Prelude.{◌≡◌, IfSome, IfNone, IsTrue, OnOk, OnErr, IsOkUnless};
+ghost use Rattle.std.specs.Option.{option_copied};
+ghost use Rattle.std.specs.FinMap as map;
+ghost use Rattle.itch_book.specs.Orders as book;
+ghost use Rattle.itch_market.specs.Content.{empty, laid};
+ghost use Rattle.itch_market.specs.Reasons.{reason};
+ghost use Rattle.itch_market.specs.Effects.{effect, takes_memory};
+ghost use Rattle.itch_market.specs.Goods.{IsGood};
+
+mod actions;
+mod rules;
+
+use crate::locates::Locates;
+use crate::refusal::Refusal;
+use crate::security::Security;
+use itch_book::{Order, OrderBook};
+use itch_codec::{Message, Side};
+use std::collections::BTreeMap;
+use std::marker::Model;
+
+/// The market of a feed: the last event, the directory with each security's trading states, and the live orders.
+#[derive(Drop)]
+pub struct Market<B: OrderBook> {
+    event: Option<u8>,
+    securities: BTreeMap<u16, Security, B::Alloc>,
+    book: B,
+}
+
+impl<B: OrderBook> Model for Market<B> {
+    ghost use Rattle.std.specs.FinMap as map;
+    ghost use Rattle.itch_market.specs.Content.{Content};
+    ghost use Rattle.itch_market.specs.Goods.{IsGood};
+    ghost use Rattle.std.specs.Coded.{codes};
+
+    ghost Value = { Content };
+
+    ghost coded = { Prim.hlevel (codes, map.code) };
+
+    ghost view = { λ m. record { event = m.event; securities = map.from_entries m.securities.entries; orders = B.orders m.book } };
+
+    ghost invariant = { λ m. IsGood (record { event = m.event; securities = map.from_entries m.securities.entries; orders = B.orders m.book }) };
+}
+
+impl<B: OrderBook> Market<B> {
+    /// The market before any message, which takes no memory yet.
+    pub fn new(alloc: B::Alloc) -> Self
+        ensures { result ≡ empty }
+    {
+        Market {
+            event: None,
+            securities: BTreeMap::new(alloc),
+            book: B::new(alloc),
+        }
+    }
+
+    /// The code of the last system event, if any came.
+    pub fn phase(&self) -> Option<u8>
+        ensures { result ≡ self.now.event }
+    {
+        self.event
+    }
+
+    /// What is kept of the security at a locate, if the directory has one there.
+    pub fn security(&self, locate: u16) -> Option<&Security>
+        ensures { option_copied result ≡ map.get self.now.securities locate }
+    {
+        self.securities.get(&locate)
+    }
+
+    /// The locates of the directory, rising.
+    pub fn locates(&self) -> Locates<'_>
+        ensures { result ≡ map.keys self.now.securities }
+    {
+        Locates {
+            keys: self.securities.keys(),
+        }
+    }
+
+    /// The order of a locate and side that has priority over all others there, if there is one.
+    pub fn best(&self, locate: u16, side: Side) -> Option<&Order>
+        ensures { option_copied result ≡ book.first (book.queue self.now.orders locate side) }
+    {
+        self.book.front(locate, side)
+    }
+
+    /// Changes the market by a message, or says which of the order rules refuses it.
+    ///
+    /// A refusal leaves the market as it was. [`Refusal::OutOfMemory`] comes only of a message that no rule refuses
+    /// and that adds an order or a directory entry, and only where memory was refused.
+    pub fn apply(&mut self, message: &Message<'_>) -> Result<(), Refusal>
+        ensures refused { IfSome (reason self.old message.now) (λ why. result ≡ Err why) }
+        ensures accepted { IfNone (reason self.old message.now) (IsOkUnless result Refusal.OutOfMemory) }
+        ensures ok { OnOk result (self.new ≡ laid (effect self.old message.now)) }
+        ensures err { OnErr result (self.new ≡ self.old) }
+        ensures memory { result ≡ Err Refusal.OutOfMemory → IsTrue (takes_memory self.old message.now) }
+    {
+        if let Some(why) = self.refusal(message) {
+            return Err(why);
+        }
+        self.act(message)?;
+        Ok(())
+    }
+
+    /// The live orders.
+    pub fn book(&self) -> &B
+        ensures orders { B.orders result.now ≡ self.now.orders }
+        ensures good { IsGood self.now }
+        ensures in_order { laid self.now ≡ self.now }
+    {
+        &self.book
+    }
+}

@@ -1,0 +1,155 @@
+//! What messages that are not refused do.
+ghost use Rattle.std.specs.Prelude.{◌≡◌, ◌<◌, ◌≤◌, Some, None, IsTrue, IsErr, OnOk, OnErr, IsSome, IsSomeAnd};
+ghost use Rattle.std.specs.FinMap as map;
+ghost use Rattle.itch_book.specs.Orders as book;
+ghost use Rattle.itch_market.specs.Content.{laid};
+ghost use Rattle.itch_codec.specs.Widths.{IsDirectory};
+ghost use Rattle.itch_market.specs.Widths.{IsOrder};
+ghost use Rattle.itch_market.specs.Reasons.{reason, add_reason};
+ghost use Rattle.itch_market.specs.Effects.{effect, takes_memory, entered, order_of};
+
+use super::Market;
+use crate::security::{Action, Security};
+use itch_book::{Order, OrderBook};
+use itch_codec::{
+    AddOrder, Alpha, Directory, Message, OrderReplace, RegSho, StockDirectory, SystemEvent, TradingAction,
+};
+use std::alloc::AllocError;
+
+/// The security that an entry makes of the one that stood at its locate, if any did.
+fn entered(old: Option<Security>, entry: Directory) -> Security
+    ensures security { result ≡ entered old entry }
+    ensures fits { IsDirectory entry }
+{
+    let stock = entry.stock;
+    stock.bytes();
+    let (action, sho) = match old {
+        Some(security) => (security.action, security.sho),
+        None => (None, None),
+    };
+    Security { entry, action, sho }
+}
+
+/// The live order that a message makes.
+fn order_of(x: AddOrder, mpid: Option<Alpha<4>>) -> Order
+    ensures order { result ≡ order_of x mpid }
+    ensures fits { IsOrder result }
+{
+    if let Some(text) = &mpid {
+        text.bytes();
+    }
+    Order {
+        reference: x.reference,
+        locate: x.header.locate,
+        side: x.side,
+        shares: x.shares,
+        price: x.price,
+        mpid,
+    }
+}
+
+impl<B: OrderBook> Market<B> {
+    /// Changes the market by a message that is not refused.
+    pub(super) fn act(&mut self, message: &Message<'_>) -> Result<(), AllocError>
+        requires { reason self.old message.now ≡ None }
+        ensures ok { OnOk result (self.new ≡ laid (effect self.old message.now)) }
+        ensures err { OnErr result (self.new ≡ self.old) }
+        ensures memory { IsErr result → IsTrue (takes_memory self.old message.now) }
+    {
+        match *message {
+            Message::SystemEvent(event) => self.set_event(event),
+            Message::StockDirectory(entry) => return self.enter(entry),
+            Message::TradingAction(action) => self.set_action(action),
+            Message::RegSho(sho) => self.set_sho(sho),
+            Message::AddOrder(order) => return self.add(order, None),
+            Message::AttributedAddOrder(x) => return self.add(x.order, Some(x.attribution)),
+            Message::OrderExecuted(x) => self.take(x.reference, x.shares),
+            Message::OrderExecutedWithPrice(x) => {
+                self.take(x.execution.reference, x.execution.shares)
+            }
+            Message::OrderCancel(x) => self.take(x.reference, x.shares),
+            Message::OrderDelete(x) => self.delete(x.reference),
+            Message::OrderReplace(x) => return self.replace(x),
+            Message::Trade(_)
+            | Message::CrossTrade(_)
+            | Message::BrokenTrade(_)
+            | Message::End { .. }
+            | Message::Other(_) => self.keep(),
+        }
+        Ok(())
+    }
+
+    /// Changes nothing, and the orders stand in snapshot order as ever.
+    fn keep(&self)
+        ensures { laid self.now ≡ self.now }
+    {
+        let _book = &self.book;
+    }
+
+    fn set_event(&mut self, x: SystemEvent)
+        ensures { self.new ≡ laid (effect self.old (Message.SystemEvent x)) }
+    {
+        self.event = Some(x.code);
+    }
+
+    fn enter(&mut self, x: StockDirectory) -> Result<(), AllocError>
+        requires { reason self.old (Message.StockDirectory x) ≡ None }
+        ensures ok { OnOk result (self.new ≡ laid (effect self.old (Message.StockDirectory x))) }
+        ensures err { OnErr result (self.new ≡ self.old) }
+        ensures memory { IsErr result → IsTrue (takes_memory self.old (Message.StockDirectory x)) }
+    {
+        let locate = x.header.locate;
+        let old = self.securities.get(&locate).copied();
+        self.securities.insert(locate, entered(old, x.entry))?;
+        Ok(())
+    }
+
+    fn set_action(&mut self, x: TradingAction)
+        ensures { self.new ≡ laid (effect self.old (Message.TradingAction x)) }
+    {
+        if let Some(security) = self.securities.get_mut(&x.header.locate) {
+            security.action = Some(Action {
+                state: x.state,
+                reason: x.reason,
+            });
+        }
+    }
+
+    fn set_sho(&mut self, x: RegSho)
+        ensures { self.new ≡ laid (effect self.old (Message.RegSho x)) }
+    {
+        if let Some(security) = self.securities.get_mut(&x.header.locate) {
+            security.sho = Some(x.action);
+        }
+    }
+
+    fn add(&mut self, x: AddOrder, mpid: Option<Alpha<4>>) -> Result<(), AllocError>
+        requires { add_reason self.old x ≡ None }
+        ensures ok { OnOk result (self.new ≡ laid (record self.old { orders = book.added (order_of x mpid) self.old.orders })) }
+        ensures err { OnErr result (self.new ≡ self.old) }
+    {
+        self.book.add(order_of(x, mpid))
+    }
+
+    fn take(&mut self, reference: u64, shares: u32)
+        requires { IsSomeAnd (book.get self.old.orders reference) (λ x. shares ≤ x.shares) }
+        ensures { self.new ≡ laid (record self.old { orders = book.taken reference shares self.old.orders }) }
+    {
+        let _left = self.book.take(reference, shares);
+    }
+
+    fn delete(&mut self, reference: u64)
+        requires { IsSome (book.get self.old.orders reference) }
+        ensures { self.new ≡ laid (record self.old { orders = book.without reference self.old.orders }) }
+    {
+        let _order = self.book.delete(reference);
+    }
+
+    fn replace(&mut self, x: OrderReplace) -> Result<(), AllocError>
+        requires { reason self.old (Message.OrderReplace x) ≡ None }
+        ensures ok { OnOk result (self.new ≡ laid (effect self.old (Message.OrderReplace x))) }
+        ensures err { OnErr result (self.new ≡ self.old) }
+    {
+        self.book.replace(x.original, x.reference, x.shares, x.price)
+    }
+}

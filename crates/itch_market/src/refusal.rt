@@ -1,0 +1,46 @@
+//! Why a market refuses a message.
+ghost use Rattle.std.specs.Prelude.{◌≡◌};
+ghost use Rattle.itch_market.specs.declared.refusal.Refusal.TheVariants.{OutOfMemory};
+
+use std::alloc::AllocError;
+use thiserror::Error;
+
+/// Why a market refuses a message. Each refusal leaves the market as it was.
+#[derive(Clone, Copy, Debug, PartialEq, Eq, Error)]
+pub enum Refusal {
+    /// The locate is not in the directory.
+    #[error("unknown locate")]
+    UnknownLocate,
+    /// The directory has another stock at the locate.
+    #[error("stock mismatch")]
+    StockMismatch,
+    /// An order of no shares.
+    #[error("zero shares")]
+    ZeroShares,
+    /// The new order's reference is that of a live order.
+    #[error("duplicate reference")]
+    DuplicateRef,
+    /// No live order has the reference.
+    #[error("unknown reference")]
+    UnknownRef,
+    /// The live order of the reference has another locate.
+    #[error("locate mismatch")]
+    LocateMismatch,
+    /// More shares than remain.
+    #[error("too many shares, {remain} remain")]
+    TooManyShares { remain: u32 },
+    /// End of Snapshot does not belong into a feed.
+    #[error("unexpected end")]
+    UnexpectedEnd,
+    /// Memory was refused.
+    #[error("out of memory")]
+    OutOfMemory,
+}
+
+impl From<AllocError> for Refusal {
+    ghost from_gives = { λ _ why. why ≡ OutOfMemory };
+
+    fn from(_error: AllocError) -> Refusal {
+        Refusal::OutOfMemory
+    }
+}

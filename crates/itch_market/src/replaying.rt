@@ -1,0 +1,101 @@
+//! Day files applied to a market, message by message.
+ghost use Rattle.std.specs.Prelude.{◌≡◌, ℕ, List, map, take, Option, Some, None, IfSome, MatchResult, true, false};
+ghost use Rattle.itch_codec.specs.Messages.{message_of};
+ghost use Rattle.itch_frame.specs.Blocks.{Day};
+ghost use Rattle.itch_frame.specs.Reading.{bytes_left};
+ghost use Rattle.itch_market.specs.Content.{laid};
+ghost use Rattle.itch_market.specs.Runs.{after};
+ghost use Rattle.itch_market.specs.Stops.{Stops};
+ghost use Rattle.itch_market.specs.Replays.{Counts, CountsFirst, Step, TakesOne, Replays, ReplaysFirst, IsTold};
+
+use crate::market::Market;
+use crate::stop::{ReplayEnd, Stop};
+use itch_book::OrderBook;
+use itch_codec::decode;
+use itch_frame::BlockReader;
+use itch_frame::counted::CountedRead;
+use std::alloc::Allocator;
+
+/// As many messages as a day file may have: 10^19 - 1.
+const MOST: u64 = 9_999_999_999_999_999_999;
+
+/// Applies the messages of a day file, up to the first that is not taken, and tells how many there were and why it stopped.
+///
+/// The market is that of the messages before the stop. A block that was refused has been read, and behind an end block
+/// nothing is read. After `Frame(Read)` a second call goes on where the first stopped.
+pub fn replay<R: CountedRead, A: Allocator, B: OrderBook>(
+    reader: &mut BlockReader<R, A>,
+    market: &mut Market<B>,
+) -> ReplayEnd
+    // The file alone decides where it stops, unless a read failed or memory was refused.
+    ensures stops { IfSome (bytes_left R.remaining reader.old) (λ bytes. IsTold result.stop → Stops market.old bytes result.count result.stop) }
+    // The market left is that of the file's first messages.
+    ensures content { IfSome (bytes_left R.remaining reader.old) (λ bytes. (payloads : List (List ℕ)) → (rest : List ℕ) → Day bytes payloads rest
+        → market.new ≡ laid (after market.old (map message_of (take result.count payloads)))) }
+    // What was read, what was not, and what each stop means.
+    ensures steps { Replays market.old (bytes_left R.remaining reader.old) (bytes_left R.remaining reader.new) result.count result.stop market.new }
+    ensures failures { Counts result.stop (R.failures reader.old.reader) (R.failures reader.new.reader) }
+{
+    match replay_first(reader, market, u64::MAX) {
+        (count, Some(stop)) => ReplayEnd { count, stop },
+        (_, None) => unreachable!(),
+    }
+}
+
+/// Applies the first `most` messages of a day file and reads no further, or stops before, and tells why.
+pub fn replay_first<R: CountedRead, A: Allocator, B: OrderBook>(
+    reader: &mut BlockReader<R, A>,
+    market: &mut Market<B>,
+    most: u64,
+) -> (u64, Option<Stop>)
+    ensures steps { ReplaysFirst most market.old (bytes_left R.remaining reader.old) (bytes_left R.remaining reader.new) result.0 result.1 market.new }
+    ensures failures { CountsFirst result.1 (R.failures reader.old.reader) (R.failures reader.new.reader) }
+{
+    // Each market is good, and its orders stand in snapshot order: its book tells so.
+    let _book = market.book();
+    for count in 0..most {
+        if let Err(stop) = step(reader, market, count == MOST) {
+            return (count, Some(stop));
+        }
+    }
+    (most, None)
+}
+
+// Applies the message of the next block, unless there were as many as may be.
+fn step<R: CountedRead, A: Allocator, B: OrderBook>(
+    reader: &mut BlockReader<R, A>,
+    market: &mut Market<B>,
+    full: bool,
+) -> Result<(), Stop>
+    ensures step { Step full market.old (bytes_left R.remaining reader.old) (bytes_left R.remaining reader.new) result market.new }
+    ensures failures { MatchResult result (λ _. R.failures reader.new.reader ≡ R.failures reader.old.reader)
+        (λ stop. Counts stop (R.failures reader.old.reader) (R.failures reader.new.reader)) }
+{
+    match reader.next_block() {
+        Ok(Some(payload)) => {
+            if payload.is_empty() {
+                return Err(Stop::End);
+            }
+            if full {
+                return Err(Stop::TooManyMessages);
+            }
+            take(market, payload)
+        }
+        Ok(None) => Err(Stop::End),
+        Err(fault) => Err(Stop::Frame(fault)),
+    }
+}
+
+// Applies the message of a payload.
+fn take<B: OrderBook>(market: &mut Market<B>, payload: &[u8]) -> Result<(), Stop>
+    ensures { TakesOne market.old payload.now result market.new }
+{
+    let message = match decode(payload) {
+        Ok(message) => message,
+        Err(fault) => return Err(Stop::Codec(fault)),
+    };
+    match market.apply(&message) {
+        Ok(()) => Ok(()),
+        Err(why) => Err(Stop::Rule(why)),
+    }
+}

@@ -1,0 +1,29 @@
+//! Where and why a replay stops.
+
+use crate::refusal::Refusal;
+use itch_codec::CodecFault;
+use itch_frame::FrameFault;
+
+/// Why a replay stopped.
+#[derive(Clone, Copy, Debug)]
+pub enum Stop {
+    /// The end of input at a block's border, or a block of length 0, behind which nothing was read.
+    End,
+    /// A read failed, or the input ended in an unfinished block.
+    Frame(FrameFault),
+    /// The payload of the next block is no message.
+    Codec(CodecFault),
+    /// An order rule refuses the next message, or memory was refused.
+    Rule(Refusal),
+    /// A further block after 10^19 - 1 messages.
+    TooManyMessages,
+}
+
+/// How a replay ended: how many messages were applied, and why no further one was.
+///
+/// The fault's place, counted from 1, is `count + 1`.
+#[derive(Clone, Copy, Debug)]
+pub struct ReplayEnd {
+    pub count: u64,
+    pub stop: Stop,
+}
