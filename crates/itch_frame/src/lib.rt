@@ -21,4 +21,4 @@ pub use fault::FrameFault;
 pub use reader::BlockReader;
 pub use splitter::Splitter;
 pub use stage::Stage;
-pub use writer::write_block;
+pub use writer::{write_block, write_part};

@@ -19,8 +19,10 @@ pub fn write_block<W: CountedWrite>(writer: &mut W, payload: &[u8]) -> Result<()
     write_part(writer, payload, 2)
 }
 
-// Writes a part of a block, `before` bytes of which were written before it.
-fn write_part<W: CountedWrite>(
+/// Writes bytes as they are: a part of what is sent together, `before` bytes of which were written before it.
+///
+/// A fault is `Write`, and tells how much of the whole was written.
+pub fn write_part<W: CountedWrite>(
     writer: &mut W,
     bytes: &[u8],
     before: usize,

@@ -12,7 +12,7 @@ use Rattle.itch_market.specs.Content.{Content, laid}
 use Rattle.itch_market.specs.Reasons.{reason}
 use Rattle.itch_market.specs.Effects.{effect, takes_memory}
 use Rattle.itch_market.specs.Goods.{IsGood}
-use Rattle.itch_market.specs.Runs.{after}
+use Rattle.itch_market.specs.Runs.{after, FollowsFrom}
 use Rattle.itch_market.specs.Stops.{cause_by, cause, cause_at}
 use Rattle.itch_market.specs.Replays.{NoCause, IsRefusal, Refuses, Halts}
 use Rattle.itch_market.proofs.Laid.{reason-laid, takes_memory-laid}
@@ -76,3 +76,9 @@ none_more m ps p none clean k within =
 pub after_more : (m : Content) (ps : List (List ℕ)) (p : List ℕ) → after m (map message_of (ps ++ p ∷ [])) ≡ effect (after m (map message_of ps)) (message_of p)
 after_more m [] p = refl
 after_more m (q ∷ ps) p = after_more (effect m (message_of q)) ps p
+
+-- messages of payloads that are all taken follow the order rules
+pub none_follows : (m : Content) (ps : List (List ℕ)) → NoCause m ps → FollowsFrom m (map message_of ps)
+none_follows m [] none = tt
+none_follows m (p ∷ ps) none =
+    (no_reason m p (none 0 (omega arith)), none_follows (effect m (message_of p)) ps (λ k within. none (suc k) (omega arith)))

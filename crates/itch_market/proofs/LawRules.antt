@@ -1,7 +1,10 @@
 -- The lemmas that the laws are, in the laws' own words.
 use Rattle.itch_market.proofs.Goods.{empty_good, laid_good, effect_good, after_good}
+use Rattle.itch_market.proofs.Sames.{reason_same, effect_same}
 use Rattle.itch_market.proofs.Laid.{reason-laid, effect-laid, takes_memory-laid, laid_twice}
 
 pub ruleset laid_laws = (reason-laid, effect-laid, takes_memory-laid, laid_twice)
 
 pub ruleset good_laws = (empty_good, laid_good, effect_good, after_good)
+
+pub ruleset same_laws = (reason_same, effect_same)

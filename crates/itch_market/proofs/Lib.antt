@@ -11,3 +11,5 @@ pub mod Stopping
 pub mod Told
 pub mod Searches
 pub mod OneStop
+pub mod Runs
+pub mod Sames

@@ -30,4 +30,4 @@ stops_somewhere m bytes = on_day (day_some bytes) where
         (stop_behind (10 ^ 19 - 1) m ps rest (min (10 ^ 19 - 1) (length ps)) refl) in
       (found.0, found.1, record { payloads = ps; rest = rest; day = day; first = found.2 })
 
-pub ruleset stop_laws = (stops_place, stops_reason, stops_somewhere)
+pub ruleset stop_laws = (stops_somewhere)

@@ -1,9 +1,15 @@
 -- What a list of messages leaves of a market, and whether it follows the order rules.
 use Rattle.std.specs.Prelude.{◌≡◌, List, [], ◌∷◌, None}
+use Rattle.std.specs.List.{AllByRecursion}
 use Rattle.itch_codec.specs.declared.message.Message.{Message}
+use Rattle.itch_codec.specs.Widths.{IsMessage}
 use Rattle.itch_market.specs.Content.{Content, empty}
 use Rattle.itch_market.specs.Reasons.{reason}
 use Rattle.itch_market.specs.Effects.{effect}
+
+-- messages whose fields fit
+abbrev pub AreMessages : List Message → Type 0
+AreMessages ms = AllByRecursion IsMessage ms
 
 -- what these messages leave of a market
 abbrev pub after : Content → List Message → Content

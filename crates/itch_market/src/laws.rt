@@ -1,7 +1,7 @@
 //! What holds of all good markets and messages, of whatever size.
 //!
 //! Each function does nothing: its clauses are the laws.
-ghost use Rattle.std.specs.Prelude.{◌≡◌, List, None};
+ghost use Rattle.std.specs.Prelude.{◌≡◌, ℕ, List, None};
 ghost use Rattle.std.specs.List.{AllByRecursion};
 ghost use Rattle.itch_codec.specs.declared.message.Message.{Message};
 ghost use Rattle.itch_market.specs.Content.{Content, empty, laid};
@@ -10,6 +10,9 @@ ghost use Rattle.itch_market.specs.Effects.{effect, takes_memory};
 ghost use Rattle.itch_codec.specs.Widths.{IsMessage};
 ghost use Rattle.itch_market.specs.Goods.{IsGood};
 ghost use Rattle.itch_market.specs.Runs.{FollowsFrom, after};
+ghost use Rattle.itch_market.specs.Sames.{Same};
+ghost use Rattle.itch_market.specs.Stops.{Stops};
+ghost use Rattle.itch_market.specs.declared.stop.Stop.{Stop};
 
 /// A market with its orders in snapshot order refuses the same messages for the same reasons,
 /// and the others leave it with the same orders in snapshot order.
@@ -31,3 +34,18 @@ pub fn good_stays_good()
     ensures after { (m : Content) → (ms : List Message) → IsGood m → AllByRecursion IsMessage ms → FollowsFrom m ms → IsGood (after m ms) }
 {
 }
+
+/// The same markets refuse the same messages, each for one reason, and are the same after each message that they take.
+#[tactic(auto, using(crate::proofs::LawRules::same_laws))]
+pub fn same_stay_same()
+    ensures reason { (m n : Content) → (x : Message) → IsGood m → IsGood n → Same m n → reason m x ≡ reason n x }
+    ensures effect { (m n : Content) → (x : Message) → IsGood m → IsGood n → IsMessage x → reason m x ≡ None → Same m n → Same (effect m x) (effect n x) }
+{}
+
+/// A day file stops a replay at one place, for one reason, and at some place.
+#[tactic(auto, using(crate::proofs::OneStop::stop_laws))]
+pub fn one_stop()
+    ensures place { (m : Content) → (bytes : List ℕ) → (k j : ℕ) → (s t : Stop) → Stops m bytes k s → Stops m bytes j t → k ≡ j }
+    ensures reason { (m : Content) → (bytes : List ℕ) → (k j : ℕ) → (s t : Stop) → Stops m bytes k s → Stops m bytes j t → s ≡ t }
+    ensures somewhere { (m : Content) → (bytes : List ℕ) → (k : ℕ) × (s : Stop) × Stops m bytes k s }
+{}

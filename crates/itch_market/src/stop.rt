@@ -3,19 +3,25 @@
 use crate::refusal::Refusal;
 use itch_codec::CodecFault;
 use itch_frame::FrameFault;
+use thiserror::Error;
 
 /// Why a replay stopped.
-#[derive(Clone, Copy, Debug)]
+#[derive(Clone, Copy, Debug, Error)]
 pub enum Stop {
     /// The end of input at a block's border, or a block of length 0, behind which nothing was read.
+    #[error("end of input")]
     End,
     /// A read failed, or the input ended in an unfinished block.
+    #[error("{0}")]
     Frame(FrameFault),
     /// The payload of the next block is no message.
+    #[error("{0}")]
     Codec(CodecFault),
     /// An order rule refuses the next message, or memory was refused.
+    #[error("{0}")]
     Rule(Refusal),
     /// A further block after 10^19 - 1 messages.
+    #[error("too many messages")]
     TooManyMessages,
 }
 

@@ -1,0 +1,14 @@
+pub mod Locates
+pub mod Loading
+pub mod OneSnapshot
+pub mod LateStart
+pub mod Sizes
+pub mod Spelled
+pub mod Wires
+pub mod Closed
+pub mod LawRules
+pub mod Keys
+pub mod Cursors
+pub mod LengthLemmas
+pub mod Partings
+pub mod Sent

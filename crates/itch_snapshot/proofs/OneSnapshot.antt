@@ -1,0 +1,44 @@
+-- A snapshot replays to its market, and two markets are the same exactly if they have one snapshot list.
+use Rattle.std.proofs.Common.{◌≡◌, ◌↔◌, ℕ, List, [], ◌∷◌, ◌++◌, flat_map, refl, sym, ap, ap₂, ◌∙◌, subst}
+use Rattle.std.specs.FinMap as finite
+use Rattle.itch_codec.specs.declared.side.Side.{Side}
+use Rattle.itch_codec.specs.declared.side.Side.TheVariants.{Buy, Sell}
+use Rattle.itch_book.specs.declared.order.Order.{Order}
+use Rattle.itch_book.specs.Orders as book
+use Rattle.itch_market.specs.declared.security.Security.{Security}
+use Rattle.itch_market.specs.Content.{Content, laid}
+use Rattle.itch_market.specs.Goods.{IsGood}
+use Rattle.itch_market.specs.Runs.{run, Follows}
+use Rattle.itch_market.specs.Sames.{Same}
+use Rattle.itch_market.proofs.Sames.{laid_is_same, laid_same, same_laid}
+use Rattle.itch_snapshot.specs.Snapshot.{snap, event_part, locate_messages, locate_part}
+use Rattle.itch_snapshot.proofs.Loading.{snap_leads}
+
+pub snap_follows : (m : Content) → IsGood m → Follows (snap m)
+snap_follows m good = (snap_leads m good).follows
+
+pub run-snap : (m : Content) → IsGood m → run (snap m) ≡ laid m
+run-snap m good = (snap_leads m good).leaves
+
+pub replayed_same : (m : Content) → IsGood m → Same (run (snap m)) m
+replayed_same m good = subst (λ n. Same n m) (sym (run-snap m good)) (laid_is_same m good)
+
+-- orders with equal queues have one part for each locate
+parts_same : (xs ys : List Order) → ((locate : ℕ) (side : Side) → book.queue xs locate side ≡ book.queue ys locate side) → (es : List (ℕ × Security))
+    → flat_map (locate_part xs) es ≡ flat_map (locate_part ys) es
+parts_same xs ys same [] = refl
+parts_same xs ys same (e ∷ es) = ap₂ ◌++◌ (ap (locate_messages e) (ap₂ ◌++◌ (same e.0 Buy) (same e.0 Sell))) (parts_same xs ys same es)
+
+pub snap_same : (m n : Content) → Same m n → snap m ≡ snap n
+snap_same m n same =
+    ap₂ ◌++◌ (ap event_part same.event)
+    (ap (λ securities. flat_map (locate_part m.orders) (finite.entries securities)) same.securities ∙ parts_same m.orders n.orders same.queues (finite.entries n.securities))
+
+pub same_snap : (m n : Content) → IsGood m → IsGood n → snap m ≡ snap n → Same m n
+same_snap m n good fine e = same_laid m n good fine (sym (run-snap m good) ∙ ap run e ∙ run-snap n fine)
+
+pub one_snap : (m n : Content) → IsGood m → IsGood n → Same m n ↔ (snap m ≡ snap n)
+one_snap m n good fine = (snap_same m n, same_snap m n good fine)
+
+pub one_laid : (m n : Content) → IsGood m → IsGood n → Same m n ↔ (laid m ≡ laid n)
+one_laid m n good fine = (laid_same m n, same_laid m n good fine)

@@ -1,0 +1,43 @@
+-- Lists compared element by element.
+use Rattle.std.proofs.Common.{◌≡◌, ◌≢◌, ℕ, ◌+◌, ◌-◌, ◌<◌, zero, suc, List, [], ◌∷◌, ◌++◌, length, Some, None, slice_get, refl, arith}
+use Rattle.itch_snapshot.specs.Parting.{IsParting}
+
+-- both lists begin with these elements, behind which so much of each is left, and the place is the next one
+pub record AgreeSoFar {A : Type 0} (xs ys seen left right : List A) (place : ℕ) : Type 0 where
+  pub one : xs ≡ seen ++ left
+  pub other : ys ≡ seen ++ right
+  pub next : place ≡ length seen + 1
+
+module _ {A : Type 0} where
+  one_further : (x : A) (xs ys : List A) (n : ℕ) → IsParting xs ys n → IsParting (x ∷ xs) (x ∷ ys) (suc n)
+  one_further x xs ys n rest = record { before = before; there = rest.there } where
+    before : (i : ℕ) → i < suc n → slice_get (x ∷ xs) i ≡ slice_get (x ∷ ys) i
+    before zero early = refl
+    before (suc i) early = rest.before i (omega arith)
+
+  parting_behind : (seen xs ys : List A) → slice_get xs 0 ≢ slice_get ys 0 → IsParting (seen ++ xs) (seen ++ ys) (length seen)
+  parting_behind [] xs ys differ = record { before = λ i early. absurd (omega arith); there = differ }
+  parting_behind (x ∷ seen) xs ys differ = one_further x (seen ++ xs) (seen ++ ys) (length seen) (parting_behind seen xs ys differ)
+
+  -- behind what agrees the lists part
+  they_part : (xs ys seen left right : List A) (place : ℕ) → AgreeSoFar xs ys seen left right place → slice_get left 0 ≢ slice_get right 0
+      → (0 < place) × IsParting xs ys (place - 1)
+  they_part xs ys seen left right place agree differ =
+      let at : place - 1 ≡ length seen = omega (arith, agree.next) in
+      (omega (arith, agree.next), rw (at, agree.one, agree.other) (parting_behind seen left right differ))
+
+  -- one list is at its end and the other is not, or two elements differ
+  pub shorter_one : (ys seen left right right' : List A) (xs : List A) (place : ℕ) (y : A) → AgreeSoFar xs ys seen left right place → left ≡ [] → right ≡ y ∷ right'
+      → (0 < place) × IsParting xs ys (place - 1)
+  shorter_one ys seen left right right' xs place y agree none some =
+      they_part xs ys seen left right place agree (λ same. let no_one : None ≡ Some y = rw (none, some) at same in cc)
+
+  pub shorter_other : (xs seen left left' right : List A) (ys : List A) (place : ℕ) (x : A) → AgreeSoFar xs ys seen left right place → left ≡ x ∷ left' → right ≡ []
+      → (0 < place) × IsParting xs ys (place - 1)
+  shorter_other xs seen left left' right ys place x agree some none =
+      they_part xs ys seen left right place agree (λ same. let no_one : Some x ≡ None = rw (some, none) at same in cc)
+
+  pub other_element : (xs ys seen left left' right right' : List A) (place : ℕ) (x y : A) → AgreeSoFar xs ys seen left right place → left ≡ x ∷ left' → right ≡ y ∷ right' → x ≢ y
+      → (0 < place) × IsParting xs ys (place - 1)
+  other_element xs ys seen left left' right right' place x y agree one other differ =
+      they_part xs ys seen left right place agree (λ same. let alike : Some x ≡ Some y = rw (one, other) at same in let same_one : x ≡ y = cc in differ same_one)

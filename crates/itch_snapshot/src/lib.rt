@@ -1,0 +1,17 @@
+//! Snapshots of a market: its canonical list of messages, written and read.
+#![tactic(auto)]
+
+mod compare;
+mod fault;
+mod iter;
+pub mod laws;
+mod length;
+mod named;
+mod parts;
+mod write;
+
+pub use compare::{part_place, same_market};
+pub use fault::SnapFault;
+pub use iter::SnapshotIter;
+pub use length::snapshot_len;
+pub use write::write_snapshot;

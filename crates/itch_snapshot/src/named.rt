@@ -1,0 +1,11 @@
+//! An order of a snapshot.
+
+use itch_book::Order;
+use itch_codec::Alpha;
+
+/// An order, with the stock that the directory has at its locate.
+#[derive(Clone, Copy)]
+pub(crate) struct NamedOrder {
+    pub(crate) stock: Alpha<8>,
+    pub(crate) order: Order,
+}

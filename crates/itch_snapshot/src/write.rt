@@ -1,0 +1,45 @@
+//! Snapshots to a writer.
+ghost use Rattle.std.specs.Prelude.{◌<◌, ◌^◌, length};
+ghost use Rattle.itch_codec.specs.Messages.{spelling};
+ghost use Rattle.itch_codec.specs.Widths.{IsMessage};
+ghost use Rattle.itch_frame.specs.Writing.{WriteBlock};
+ghost use Rattle.itch_snapshot.specs.Snapshot.{snap};
+ghost use Rattle.itch_snapshot.specs.Writes.{WritesSnapshot};
+
+use crate::fault::SnapFault;
+use crate::iter::SnapshotIter;
+use itch_book::OrderBook;
+use itch_codec::{Message, Seq, encode};
+use itch_frame::counted::CountedWrite;
+use itch_frame::{FrameFault, write_block};
+use itch_market::Market;
+
+/// Writes the canonical bytes of a market and the block of an End of Snapshot with `next`, and answers the number of
+/// messages written, End of Snapshot included.
+///
+/// The only fault is `Frame(Write)`: the blocks before were written whole, and of this one as many bytes as it tells.
+pub fn write_snapshot<W: CountedWrite, B: OrderBook>(
+    market: &Market<B>,
+    next: Seq,
+    writer: &mut W,
+) -> Result<u64, SnapFault>
+    requires { length (snap market.now) < 10 ^ 19 }
+    ensures { WritesSnapshot W.contents W.failures market.now next writer.old result writer.new }
+{
+    let mut count = 0u64;
+    for message in SnapshotIter::new(market) {
+        write_message(writer, &message)?;
+        count += 1;
+    }
+    write_message(writer, &Message::End { next })?;
+    Ok(count + 1)
+}
+
+// Writes the block of a message's spelling.
+fn write_message<W: CountedWrite>(writer: &mut W, message: &Message<'_>) -> Result<(), FrameFault>
+    ensures block { WriteBlock W.contents W.failures writer.old (spelling message.now) result writer.new }
+    ensures fits { IsMessage message.now }
+{
+    let payload = encode(message);
+    write_block(writer, payload.bytes())
+}

@@ -1,0 +1,3 @@
+pub mod Statuses
+pub mod Readings
+pub mod Outputs

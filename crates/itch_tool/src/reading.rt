@@ -1,0 +1,47 @@
+//! A day file read into a market.
+ghost use Rattle.itch_frame.specs.Reading.{bytes_left};
+ghost use Rattle.itch_tool.specs.Readings.{ReadsMarket};
+
+use crate::fault::{Source, ToolFault};
+use itch_book::OrderBook;
+use itch_frame::BlockReader;
+use itch_frame::counted::CountedRead;
+use itch_market::{Market, ReplayEnd, Stop, replay, replay_first};
+use std::alloc::Allocator;
+
+/// Applies the messages of a day file to a market, all of them or the first ones, and tells how many.
+pub fn read_market<R: CountedRead, A: Allocator, B: OrderBook>(
+    reader: &mut BlockReader<R, A>,
+    market: &mut Market<B>,
+    after: Option<u64>,
+) -> Result<u64, ToolFault>
+    ensures { ReadsMarket after market.old (bytes_left R.remaining reader.old) (bytes_left R.remaining reader.new) result market.new }
+{
+    let Some(most) = after else {
+        return read_whole(reader, market);
+    };
+    match replay_first(reader, market, most) {
+        (count, None) => Ok(count),
+        (count, Some(Stop::End)) => Err(ToolFault::Short { count }),
+        (count, Some(stop)) => Err(ToolFault::Stopped {
+            file: Source::Only,
+            end: ReplayEnd { count, stop },
+        }),
+    }
+}
+
+fn read_whole<R: CountedRead, A: Allocator, B: OrderBook>(
+    reader: &mut BlockReader<R, A>,
+    market: &mut Market<B>,
+) -> Result<u64, ToolFault>
+    ensures { ReadsMarket None market.old (bytes_left R.remaining reader.old) (bytes_left R.remaining reader.new) result market.new }
+{
+    let end = replay(reader, market);
+    match end.stop {
+        Stop::End => Ok(end.count),
+        _ => Err(ToolFault::Stopped {
+            file: Source::Only,
+            end,
+        }),
+    }
+}

@@ -1,0 +1,55 @@
+//! The commands over files and standard streams.
+
+use crate::check::check;
+use crate::fault::ToolFault;
+use crate::request::Request;
+use crate::snap::snap;
+use itch_frame::counted::{Counted, CountedWrite};
+use std::alloc::Allocator;
+use std::fs;
+use std::io::{self, BufReader, BufWriter, Read, Write};
+use std::rt::Files;
+
+// Files and streams are read and written in pieces of this many bytes.
+const PIECE: usize = 1 << 16;
+
+/// Performs a request, with its output on standard output. True is status 0, and false status 1 with the output written.
+pub fn run<R: Files + Input + Print + AllocGlobal>(
+    rt: &R,
+    request: Request<'_>,
+) -> Result<bool, ToolFault> {
+    let alloc = rt.alloc();
+    let Ok(buffered) = BufWriter::with_capacity(alloc, PIECE, io::writer(rt)) else {
+        return Err(ToolFault::OutOfMemory);
+    };
+    let mut out = Counted::new(buffered);
+    let answer = match request.file() {
+        Some(path) => {
+            let Ok(file) = fs::open(rt, path) else {
+                return Err(ToolFault::Open);
+            };
+            perform(alloc, request, file, &mut out)?
+        }
+        None => perform(alloc, request, rt.reader(), &mut out)?,
+    };
+    match out.into_inner().flush() {
+        Ok(()) => Ok(answer),
+        Err(error) => Err(ToolFault::Write(error)),
+    }
+}
+
+fn perform<A: Allocator + Copy, R: Read + Drop, W: CountedWrite>(
+    alloc: A,
+    request: Request<'_>,
+    reader: R,
+    out: &mut W,
+) -> Result<bool, ToolFault> {
+    let Ok(buffered) = BufReader::with_capacity(alloc, PIECE, reader) else {
+        return Err(ToolFault::OutOfMemory);
+    };
+    let reader = Counted::new(buffered);
+    match request {
+        Request::Snap { after, .. } => snap(alloc, reader, after, out),
+        Request::Check { .. } => check(alloc, reader, out),
+    }
+}

@@ -1,0 +1,56 @@
+//! `snap`: the canonical snapshot of a file.
+ghost use Rattle.std.specs.Prelude.{◌-◌, ◌+◌, ◌≤◌, ◌^◌, ◌++◌, length};
+ghost use Rattle.itch_snapshot.specs.Bytes.{canon, closing};
+ghost use Rattle.itch_snapshot.specs.Snapshot.{snap as snapshot_list};
+ghost use Rattle.itch_tool.specs.Outputs.{Outputs, WritesOutput, snapshot_of};
+
+use crate::fault::ToolFault;
+use crate::reading::read_market;
+use itch_book::{ListBook, OrderBook};
+use itch_codec::Seq;
+use itch_frame::counted::{CountedRead, CountedWrite};
+use itch_frame::{BlockReader, FrameFault};
+use itch_market::Market;
+use itch_snapshot::{SnapFault, write_snapshot};
+use std::alloc::Allocator;
+
+/// Writes the canonical snapshot behind a day file's messages, or behind its first ones: the canonical bytes of the market
+/// that they leave, and an End of Snapshot with the number of the first message that it does not contain.
+///
+/// With `after`, reading stops behind that many messages. A fault before is answered as such, and an earlier end as `Short`.
+pub fn snap<R: CountedRead + Drop, A: Allocator + Copy, W: CountedWrite>(
+    alloc: A,
+    reader: R,
+    after: Option<u64>,
+    out: &mut W,
+) -> Result<bool, ToolFault>
+    ensures { Outputs W.contents W.failures snapshot_of after (R.remaining reader) out.old result out.new }
+{
+    let mut reader = BlockReader::new(alloc, reader)?;
+    let mut market: Market<ListBook<A>> = Market::new(alloc);
+    let count = match read_market(&mut reader, &mut market, after) {
+        Ok(count) => count,
+        Err(fault) => return Err(fault),
+    };
+    write_market(&market, count, out)
+}
+
+// Writes the snapshot of a market behind so many messages.
+fn write_market<B: OrderBook, W: CountedWrite>(
+    market: &Market<B>,
+    count: u64,
+    out: &mut W,
+) -> Result<bool, ToolFault>
+    requires few { count ≤ 10 ^ 19 - 1 }
+    requires short { length (snapshot_list market.now) ≤ count }
+    ensures { WritesOutput W.contents W.failures (canon market.now ++ closing (count + 1)) out.old result out.new }
+{
+    let Some(next) = Seq::new(count + 1) else {
+        unreachable!()
+    };
+    match write_snapshot(market, next, out) {
+        Ok(_) => Ok(true),
+        Err(SnapFault::Frame(FrameFault::Write { error, .. })) => Err(ToolFault::Write(error)),
+        Err(_) => unreachable!(),
+    }
+}
