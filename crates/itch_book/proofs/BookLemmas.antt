@@ -1,16 +1,18 @@
 -- What each change of the orders does to the laid list, and what holds of a book's list.
-use Rattle.std.proofs.Common.{◌≡◌, ℕ, ◌≤◌, ◌<◌, ◌-◌, nat_lt, Bool, true, false, cond, not, List, [], ◌∷◌, ◌++◌, map, filter, find, Option, Some, None, refl, sym, ap, ap₂, ◌∙◌, subst}
+use Rattle.std.proofs.Common.{◌≡◌, ℕ, ◌<◌, ◌-◌, Bool, true, cond, not, List, [], ◌∷◌, ◌++◌, map, filter, find, Option, Some, None, refl, sym, ap, ◌∙◌}
 use Rattle.std.specs.List.{AllByRecursion}
 use Rattle.std.proofs.lemmas.Bool.{cond_both}
 use Rattle.std.proofs.lemmas.List.Elements.{filter-append}
 use Rattle.itch_codec.specs.declared.side.Side.{Side}
 use Rattle.itch_book.specs.declared.order.Order.{Order}
-use Rattle.itch_book.specs.Stable.{in_order, later_in, IsInOrder}
+use Rattle.itch_book.specs.Stable.{in_order, later_in}
 use Rattle.itch_book.specs.Orders.{is_of, is_in, queue, sides, lay, stands_before, fits, AllFit, IsLive, IsDistinct, IsBook, first, has_reference, get, without, less, has_shares, taken, added, replaced_by, replaced}
 use Rattle.itch_book.proofs.Lists.{by_test, filter_swap, filter-map}
 use Rattle.itch_book.proofs.StableLemmas.{IsInOrder-filter, IsInOrder-in_order, in_order-map, in_order-filter, in_order-sorted, in_order-push}
 use Rattle.itch_book.proofs.Distinct.{find_first, live_fit, live_added, live_without, live_taken, live_replaced, IsDistinct-added, IsDistinct-without, IsDistinct-taken, IsDistinct-replaced}
-use Rattle.itch_book.proofs.OrderLemmas.{stands_order, queue_is, both_queues, lay_is, lay_fit, lay_twice, All-lay, IsDistinct-lay, get-lay}
+use Rattle.itch_book.proofs.OrderLemmas.{stands_order, queue_is, both_queues, lay_is, lay_fit, lay_twice, All-lay, IsDistinct-lay}
+pub use Rattle.itch_book.proofs.OrderLemmas.{get-lay, AllAt-lay}
+pub use Rattle.itch_book.proofs.Distinct.{AllAt-added, AllAt-taken, AllAt-without, AllAt-replaced}
 
 -- one more order goes to its place in the laid list
 pub lay-added : (x : Order) (os : List Order) → lay (added x os) ≡ cond (fits x) (later_in stands_before x (lay os)) (lay os)
@@ -18,8 +20,8 @@ lay-added x os =
     lay_is (added x os)
     ∙ ap (in_order stands_before) (filter-append fits os (x ∷ []))
     ∙ by_test (fits x)
-      (λ e. simp e (in_order-push stands_before stands_order (filter fits os) x ∙ ap (later_in stands_before x) (sym (lay_is os))))
-      (λ e. simp e (ap (in_order stands_before) (append_nothing (filter fits os)) ∙ sym (lay_is os)))
+    (λ e. simp e (in_order-push stands_before stands_order (filter fits os) x ∙ ap (later_in stands_before x) (sym (lay_is os))))
+    (λ e. simp e (ap (in_order stands_before) (append_nothing (filter fits os)) ∙ sym (lay_is os)))
   where
     append_nothing : (xs : List Order) → xs ++ [] ≡ xs
     append_nothing [] = refl

@@ -1,8 +1,8 @@
 -- Orders with references of their own, and orders that may be live.
-use Rattle.std.proofs.Common.{◌≡◌, ℕ, ◌≤◌, ◌<◌, ◌+◌, ◌-◌, ◌==◌, nat_lt, Bool, true, false, cond, not, List, [], ◌∷◌, ◌++◌, map, length, filter, find, Option, Some, None, refl, sym, ap, ◌∙◌, subst, arith, length-append}
+use Rattle.std.proofs.Common.{◌≡◌, ℕ, ◌≤◌, ◌<◌, ◌-◌, nat_lt, Bool, true, not, List, [], ◌∷◌, map, length, filter, find, Option, Some, None, refl, ap, ◌∙◌, subst, arith, length-append}
 use Rattle.std.specs.List.{AllByRecursion}
 use Rattle.std.specs.Cmp.{IsStrictWeakOrder}
-use Rattle.std.proofs.lemmas.Bool.{cond_both, false≢true}
+use Rattle.std.proofs.lemmas.Bool.{cond_both}
 use Rattle.std.proofs.lemmas.Bool.Decides.{nat_tests}
 use Rattle.std.proofs.lemmas.List.Elements.{filter-append}
 use Rattle.itch_book.specs.declared.order.Order.{Order}
@@ -51,7 +51,7 @@ pub IsDistinct-cons : (x : Order) (xs : List Order) → get xs x.reference ≡ N
 IsDistinct-cons x xs h d r =
     cond_both (has_reference r x) (x ∷ filter (has_reference r) xs) (filter (has_reference r) xs) (λ t. length t ≤ 1)
     (λ e. let none : filter (has_reference r) xs ≡ [] = walk_none (has_reference r) xs (subst (λ q. get xs q ≡ None) (own_reference r x e) h) in
-      let len = ap length none in omega arith)
+    let len = ap length none in omega arith)
     (λ e. d r)
 
 pub IsDistinct-filter : (p : Order → Bool) (xs : List Order) → IsDistinct xs → IsDistinct (filter p xs)
@@ -79,8 +79,8 @@ IsDistinct-added x xs h d r =
     let one = d r in
     by_test (has_reference r x)
     (λ e. let none : filter (has_reference r) xs ≡ [] = walk_none (has_reference r) xs (subst (λ q. get xs q ≡ None) (own_reference r x e) h) in
-      let len = ap length none in
-      let last : length (filter (has_reference r) (x ∷ [])) ≡ 1 = simp e refl in omega arith)
+    let len = ap length none in
+    let last : length (filter (has_reference r) (x ∷ [])) ≡ 1 = simp e refl in omega arith)
     (λ e. let last : length (filter (has_reference r) (x ∷ [])) ≡ 0 = simp e refl in omega arith)
 
 pub IsDistinct-without : (r : ℕ) (xs : List Order) → IsDistinct xs → IsDistinct (without r xs)
@@ -139,8 +139,8 @@ pub live_taken : (r n : ℕ) (xs : List Order) → AllByRecursion IsLive xs → 
 live_taken r n xs all =
     All-weaker_rec (λ x. (has_shares x ≡ true) × (fits x ≡ true)) IsLive (λ x h. (let some = h.0 in grind (arith, nat_tests), h.1)) (taken r n xs)
     (All-both_rec (λ x. has_shares x ≡ true) (λ x. fits x ≡ true) (taken r n xs)
-      (passes_filter has_shares (map (less r n) xs))
-      (AllAt-taken (λ l. nat_lt l 65536 ≡ true) r n xs (live_fit xs all)))
+    (passes_filter has_shares (map (less r n) xs))
+    (AllAt-taken (λ l. nat_lt l 65536 ≡ true) r n xs (live_fit xs all)))
 
 pub live_replaced : (original reference shares price : ℕ) (xs : List Order) → 0 < shares → AllByRecursion IsLive xs → AllByRecursion IsLive (replaced original reference shares price xs)
 live_replaced original reference shares price xs some all = by_order (get xs original) refl

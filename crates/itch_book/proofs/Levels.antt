@@ -1,11 +1,11 @@
 -- Two lists that agree wherever elements tie have one list in order.
-use Rattle.std.proofs.Common.{◌≡◌, Bool, true, false, cond, not, ◌&&◌, List, [], ◌∷◌, filter, refl, sym, ap, ◌∙◌}
+use Rattle.std.proofs.Common.{◌≡◌, Bool, true, false, not, ◌&&◌, List, [], ◌∷◌, filter, refl, sym, ap, ◌∙◌}
 use Rattle.std.specs.List.{AllByRecursion}
 use Rattle.std.specs.Cmp.{IsStrictWeakOrder}
 use Rattle.std.proofs.lemmas.Bool.{false≢true}
 use Rattle.itch_book.specs.Stable.{in_order, IsInOrder}
 use Rattle.itch_book.proofs.Lists.{by_test, All-weaker_rec, filter_none, passes_filter}
-use Rattle.itch_book.proofs.StableLemmas.{not_itself, before_after, IsInOrder-in_order, in_order-filter, in_order-sorted}
+use Rattle.itch_book.proofs.StableLemmas.{not_itself, IsInOrder-in_order, in_order-filter, in_order-sorted}
 
 -- neither of the two is before the other
 abbrev pub ties : {A : Type 0} → (A → A → Bool) → A → A → Bool
@@ -18,18 +18,20 @@ module _ {A : Type 0} (before : A → A → Bool) (o : IsStrictWeakOrder before)
   -- nothing ties with what is before the first of a list in order
   none_ties : (x y : A) (ys : List A) → before x y ≡ true → IsInOrder before (y ∷ ys) → filter (ties before x) (y ∷ ys) ≡ []
   none_ties x y ys h k =
-      filter_none (ties before x) (y ∷ ys)
-      (simp h refl, All-weaker_rec (λ z. before z y ≡ false) (λ z. ties before x z ≡ false)
-        (λ z f. let g : before x z ≡ true = by_test (before x z) (λ e. e) (λ e. absurd (false≢true (sym (o.chain x z y e f) ∙ h))) in simp g refl) ys k.0)
+      filter_none (ties before x) (y ∷ ys) (
+        simp h refl,
+        All-weaker_rec (λ z. before z y ≡ false) (λ z. ties before x z ≡ false)
+            (λ z f. let g : before x z ≡ true = by_test (before x z) (λ e. e) (λ e. absurd (false≢true (sym (o.chain x z y e f) ∙ h))) in simp g refl) ys k.0,
+      )
 
   -- the first of one list is not before the first of the other
   not_ahead : (x y : A) (xs ys : List A) → IsInOrder before (y ∷ ys) → ((z : A) → filter (ties before z) (x ∷ xs) ≡ filter (ties before z) (y ∷ ys)) → before x y ≡ false
   not_ahead x y xs ys k same =
       by_test (before x y)
       (λ e. let t = ties_itself x in
-        let some : x ∷ filter (ties before x) xs ≡ filter (ties before x) (y ∷ ys) = simp t at (same x) in
-        let none : x ∷ filter (ties before x) xs ≡ [] = some ∙ none_ties x y ys e k in
-        absurd (let no_one : ⊥ = cc in no_one))
+      let some : x ∷ filter (ties before x) xs ≡ filter (ties before x) (y ∷ ys) = simp t at (same x) in
+      let none : x ∷ filter (ties before x) xs ≡ [] = some ∙ none_ties x y ys e k in
+      absurd (let no_one : ⊥ = cc in no_one))
       (λ e. e)
 
   -- lists in order that agree wherever elements tie are one list
@@ -47,11 +49,11 @@ module _ {A : Type 0} (before : A → A → Bool) (o : IsStrictWeakOrder before)
       let here : x ∷ filter (ties before x) xs ≡ y ∷ filter (ties before x) ys = simp (t, u) at (same x) in
       let first_same : x ≡ y = cc in
       let rest = ordered_same xs ys h.1 k.1 (λ z. by_test (ties before z x)
-        (λ e. let f : ties before z y ≡ true = rw (← first_same) e in
-          let there : x ∷ filter (ties before z) xs ≡ y ∷ filter (ties before z) ys = simp (e, f) at (same z) in
-          let tails : filter (ties before z) xs ≡ filter (ties before z) ys = cc in tails)
-        (λ e. let f : ties before z y ≡ false = rw (← first_same) e in
-          let tails : filter (ties before z) xs ≡ filter (ties before z) ys = simp (e, f) at (same z) in tails)) in
+      (λ e. let f : ties before z y ≡ true = rw (← first_same) e in
+      let there : x ∷ filter (ties before z) xs ≡ y ∷ filter (ties before z) ys = simp (e, f) at (same z) in
+      let tails : filter (ties before z) xs ≡ filter (ties before z) ys = cc in tails)
+      (λ e. let f : ties before z y ≡ false = rw (← first_same) e in
+      let tails : filter (ties before z) xs ≡ filter (ties before z) ys = simp (e, f) at (same z) in tails)) in
       cc
 
   -- two lists that agree wherever elements tie have one list in order

@@ -6,6 +6,7 @@ pub mod Distinct
 pub mod OrderLemmas
 pub mod BookLemmas
 pub mod QueueLemmas
+pub mod PriceLemmas
 pub mod Walks
 pub mod LawRules
 mod PlaceLemmas

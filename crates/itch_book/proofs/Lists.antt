@@ -1,5 +1,5 @@
 -- Facts on each element, said by recursion over a list, and what a filter keeps.
-use Rattle.std.proofs.Common.{◌≡◌, ◌≤◌, ◌+◌, Bool, true, false, cond, not, ◌&&◌, List, [], ◌∷◌, ◌++◌, map, length, filter, find, Option, Some, None, refl, sym, ap, ◌∙◌, arith}
+use Rattle.std.proofs.Common.{◌≡◌, ◌≤◌, Bool, true, false, List, [], ◌∷◌, ◌++◌, map, length, filter, find, Some, None, refl, ap, ◌∙◌, arith}
 use Rattle.std.specs.List.{AllByRecursion}
 use Rattle.std.proofs.lemmas.Bool.{cond_both}
 
@@ -94,7 +94,7 @@ absent_in_filter p q [] h = refl
 absent_in_filter p q (x ∷ xs) h =
     by_test (p x)
     (λ e. let some : Some x ≡ None = simp e at h in absurd (let no_one : ⊥ = cc in no_one))
-    (λ e. let less : find p xs ≡ None = simp e at h in by_test (q x) (λ f. simp (f, e) (absent_in_filter p q xs less)) (λ f. simp (f, e) (absent_in_filter p q xs less)))
+    (λ e. let less : find p xs ≡ None = simp e at h in by_test (q x) (λ f. simp (f, e) (absent_in_filter p q xs less)) (λ f. simp f (absent_in_filter p q xs less)))
 
 -- what is found passes the test
 pub found_passes : {X : Type 0} (p : X → Bool) (xs : List X) (x : X) → find p xs ≡ Some x → p x ≡ true

@@ -1,17 +1,16 @@
 -- The laid list and the queues: one stable sort by locate, side and price.
-use Rattle.std.proofs.Common.{◌≡◌, ℕ, zero, suc, ◌≤◌, ◌<◌, ◌+◌, ◌-◌, ◌==◌, nat_lt, Bool, true, false, cond, not, ◌&&◌, ◌||◌, List, [], ◌∷◌, ◌++◌, map, length, filter, find, Option, Some, None, refl, sym, ap, ap₂, ◌∙◌, subst, arith}
+use Rattle.std.proofs.Common.{◌≡◌, ℕ, zero, suc, ◌<◌, ◌==◌, nat_lt, Bool, true, false, cond, not, ◌&&◌, ◌||◌, List, [], ◌∷◌, ◌++◌, filter, refl, sym, ap, ap₂, ◌∙◌, arith}
 use Rattle.std.specs.List.{AllByRecursion}
 use Rattle.std.specs.Cmp.{IsStrictWeakOrder}
-use Rattle.std.proofs.lemmas.Bool.{cond_both, and_parts}
+use Rattle.std.proofs.lemmas.Bool.{and_parts}
 use Rattle.std.proofs.lemmas.Bool.Decides.{nat_tests}
-use Rattle.std.proofs.lemmas.List.Elements.{filter-append}
 use Rattle.itch_codec.specs.declared.side.Side.{Side}
 use Rattle.itch_codec.specs.declared.side.Side.TheVariants.{Buy, Sell}
 use Rattle.itch_book.specs.declared.order.Order.{Order}
-use Rattle.itch_book.specs.Stable.{in_order, later_in}
-use Rattle.itch_book.specs.Orders.{is_better, same_side, is_of, is_in, is_level, level, queue, sides, queues_below, lay, place_before, stands_before, fits, AllFit, AllAt, IsLive, IsDistinct, first, has_reference, get}
-use Rattle.itch_book.proofs.Lists.{by_test, All-weaker_rec, All-filter_rec, passes_filter, filter_none, filter_all, filter_within, filter_swap}
-use Rattle.itch_book.proofs.StableLemmas.{All-in_order, in_order-agree, in_order-short, in_order-filter, in_order-twice, in_order-push, in_order-parts}
+use Rattle.itch_book.specs.Stable.{in_order}
+use Rattle.itch_book.specs.Orders.{is_better, same_side, is_of, is_in, is_level, level, queue, sides, queues_below, lay, place_before, stands_before, fits, AllFit, AllAt, IsDistinct, first, has_reference, get}
+use Rattle.itch_book.proofs.Lists.{All-filter_rec, passes_filter, filter_none, filter_all, filter_swap}
+use Rattle.itch_book.proofs.StableLemmas.{All-in_order, in_order-agree, in_order-short, in_order-filter, in_order-twice, in_order-parts}
 use Rattle.itch_book.proofs.Levels.{ties, in_order_same}
 use Rattle.itch_book.proofs.Distinct.{find_first, IsDistinct-in_order, IsDistinct-filter}
 
@@ -83,11 +82,15 @@ place_here Sell l p q = grind (arith, nat_tests)
 stands_here : (s t : Side) (l p m q : ℕ) (u : Side) (n : ℕ) → l ≡ n → s ≡ u → m ≡ n → t ≡ u → place_before l s p m t q ≡ is_better u p q
 stands_here s t l p m q u n a b c d = rw (a, b, c, d) (place_here u n p q)
 
+-- among the orders of a locate and side, what stands before has the better price
+pub stands_of : (l : ℕ) (s : Side) (x y : Order) → is_of l s x ≡ true → is_of l s y ≡ true → stands_before x y ≡ is_better s x.price y.price
+stands_of l s x y h k = stands_here x.side y.side x.locate x.price y.locate y.price s l (locate_is l s x h) (side_is l s x h) (locate_is l s y k) (side_is l s y k)
+
 -- a queue is a stable sort by place
 pub queue_is : (os : List Order) (l : ℕ) (s : Side) → queue os l s ≡ in_order stands_before (filter (is_of l s) os)
 queue_is os l s =
     in_order-agree (λ x y. is_better s x.price y.price) stands_before (λ x. is_of l s x ≡ true)
-    (λ x y h k. sym (stands_here x.side y.side x.locate x.price y.locate y.price s l (locate_is l s x h) (side_is l s x h) (locate_is l s y k) (side_is l s y k)))
+    (λ x y h k. sym (stands_of l s x y h k))
     (filter (is_of l s) os) (passes_filter (is_of l s) os)
 
 bid_first : (s t : Side) (l p m q n : ℕ) → l ≡ n → s ≡ Buy → m ≡ n → t ≡ Sell → place_before l s p m t q ≡ true
@@ -107,8 +110,8 @@ pub both_queues : (os : List Order) (l : ℕ) → sides os l ≡ in_order stands
 both_queues os l =
     ap₂ ◌++◌ (queue_is os l Buy) (queue_is os l Sell)
     ∙ sym (in_order-parts stands_before stands_order (is_of l Buy) (is_of l Sell) (is_in l)
-      (λ x y h k. bid_first x.side y.side x.locate x.price y.locate y.price l (locate_is l Buy x h) (side_is l Buy x h) (locate_is l Sell y k) (side_is l Sell y k))
-      (λ x. either_side x.side (x.locate == l)) os)
+    (λ x y h k. bid_first x.side y.side x.locate x.price y.locate y.price l (locate_is l Buy x h) (side_is l Buy x h) (locate_is l Sell y k) (side_is l Sell y k))
+    (λ x. either_side x.side (x.locate == l)) os)
 
 lower_first : (s t : Side) (l p m q : ℕ) → l < m → place_before l s p m t q ≡ true
 lower_first Buy Buy l p m q h = grind (arith, nat_tests)
@@ -131,8 +134,8 @@ below_is zero os =
 below_is (suc n) os =
     ap₂ ◌++◌ (below_is n os) (both_queues os n)
     ∙ sym (in_order-parts stands_before stands_order (λ x. nat_lt x.locate n) (is_in n) (λ x. nat_lt x.locate (suc n))
-      (λ x y h k. lower_stands x y (let same = in_is n y k in grind (arith, nat_tests)))
-      (λ x. grind (arith, nat_tests)) os)
+    (λ x y h k. lower_stands x y (let same = in_is n y k in grind (arith, nat_tests)))
+    (λ x. grind (arith, nat_tests)) os)
 
 -- the laid list is one stable sort by place
 pub lay_is : (os : List Order) → lay os ≡ in_order stands_before (filter fits os)
@@ -195,16 +198,16 @@ filter_alike p q same (x ∷ xs) = ap₂ (λ b t. cond b (x ∷ t) t) (same x) (
 pub stands_same : (xs ys : List Order) → ((l : ℕ) (s : Side) (p : ℕ) → level xs l s p ≡ level ys l s p) → in_order stands_before xs ≡ in_order stands_before ys
 stands_same xs ys same =
     in_order_same stands_before stands_order xs ys (λ z.
-      filter_alike (ties stands_before z) (is_level z.locate z.side z.price) (ties_level z) xs
-      ∙ same z.locate z.side z.price
-      ∙ sym (filter_alike (ties stands_before z) (is_level z.locate z.side z.price) (ties_level z) ys))
+    filter_alike (ties stands_before z) (is_level z.locate z.side z.price) (ties_level z) xs
+    ∙ same z.locate z.side z.price
+    ∙ sym (filter_alike (ties stands_before z) (is_level z.locate z.side z.price) (ties_level z) ys))
 
 -- lists that agree at every price level have one laid list
 pub lay_same_levels : (xs ys : List Order) → ((l : ℕ) (s : Side) (p : ℕ) → level xs l s p ≡ level ys l s p) → lay xs ≡ lay ys
 lay_same_levels xs ys same =
     lay_is xs
     ∙ stands_same (filter fits xs) (filter fits ys) (λ l s p.
-      filter_swap (is_level l s p) fits xs ∙ ap (filter fits) (same l s p) ∙ sym (filter_swap (is_level l s p) fits ys))
+    filter_swap (is_level l s p) fits xs ∙ ap (filter fits) (same l s p) ∙ sym (filter_swap (is_level l s p) fits ys))
     ∙ sym (lay_is ys)
 
 -- the order of a reference is that of the laid list

@@ -1,9 +1,8 @@
 -- The places of a list at which an order is found, taken out, or put in.
-use Rattle.std.proofs.Common.{◌≡◌, ℕ, zero, suc, ◌≤◌, ◌<◌, ◌-◌, ◌+◌, ◌==◌, nat_lt, Bool, true, false, cond, not, List, [], ◌∷◌, ◌++◌, map, length, take, drop, set, get_or, insert, remove, filter, find, position, slice_get, Option, Some, None, IsSome, refl, sym, ap, ◌∙◌, subst, arith, one-add, add-one, inl, inr}
-use Rattle.std.specs.List.{AllByRecursion, AllWithin, position_or_len}
+use Rattle.std.proofs.Common.{◌≡◌, ℕ, zero, suc, ◌≤◌, ◌<◌, ◌-◌, ◌+◌, nat_lt, Bool, true, false, not, List, [], ◌∷◌, map, length, take, drop, set, get_or, insert, remove, filter, find, position, Option, Some, None, IsSome, refl, sym, ap, ◌∙◌, subst, arith, one-add, add-one, inl, inr}
+use Rattle.std.specs.List.{AllByRecursion, position_or_len}
 use Rattle.std.specs.List.Sorted.{IsPartitionedBy, IsPartitionPoint}
-use Rattle.std.specs.Cmp.{IsStrictWeakOrder}
-use Rattle.std.proofs.lemmas.Bool.{cond_both, false≢true, cases_eq, not-true, not-false, not_from_false}
+use Rattle.std.proofs.lemmas.Bool.{false≢true, cases_eq, not-true, not-false, not_from_false}
 use Rattle.std.proofs.lemmas.Bool.Decides.{nat_tests}
 use Rattle.std.proofs.lemmas.List.Sums.{position_or_len_is}
 use Rattle.std.proofs.lemmas.List.Folds.{find_at}
@@ -62,14 +61,14 @@ taken_part r n [] x d live h some = refl
 taken_part r n (y ∷ ys) x d live h some =
     by_test (has_reference r y)
     (λ e. let here : Some y ≡ Some x = simp e at h in
-      let this : y ≡ x = cc in
-      let s : has_shares (record x { shares = x.shares - n }) ≡ true = grind (arith, nat_tests) in
-      let t : has_shares (record y { shares = y.shares - n }) ≡ true = rw this s in
-      simp (e, t) (ap (λ (z : Order). record z { shares = z.shares - n } ∷ filter has_shares (map (less r n) ys)) this
-        ∙ ap (λ t. record x { shares = x.shares - n } ∷ t) (taken_absent r n ys live.1 (same_absent r y ys d e))))
+    let this : y ≡ x = cc in
+    let s : has_shares (record x { shares = x.shares - n }) ≡ true = grind (arith, nat_tests) in
+    let t : has_shares (record y { shares = y.shares - n }) ≡ true = rw this s in
+    simp (e, t) (ap (λ (z : Order). record z { shares = z.shares - n } ∷ filter has_shares (map (less r n) ys)) this
+    ∙ ap (λ t. record x { shares = x.shares - n } ∷ t) (taken_absent r n ys live.1 (same_absent r y ys d e))))
     (λ e. let there : get ys r ≡ Some x = simp e at h in
-      let s = live_shares y live.0 in
-      simp (e, s, one-add) (ap (λ t. y ∷ t) (taken_part r n ys x (tail_distinct y ys d) live.1 there some)))
+    let s = live_shares y live.0 in
+    simp (e, s, one-add) (ap (λ t. y ∷ t) (taken_part r n ys x (tail_distinct y ys d) live.1 there some)))
 
 -- and from one that is gone then
 pub taken_all : (r n : ℕ) (xs : List Order) (x : Order) → IsDistinct xs → AllByRecursion IsLive xs → get xs r ≡ Some x → x.shares - n ≡ 0
@@ -78,13 +77,13 @@ taken_all r n [] x d live h none = refl
 taken_all r n (y ∷ ys) x d live h none =
     by_test (has_reference r y)
     (λ e. let here : Some y ≡ Some x = simp e at h in
-      let this : y ≡ x = cc in
-      let s : has_shares (record x { shares = x.shares - n }) ≡ false = grind (arith, nat_tests) in
-      let t : has_shares (record y { shares = y.shares - n }) ≡ false = rw this s in
-      simp (e, t) (taken_absent r n ys live.1 (same_absent r y ys d e)))
+    let this : y ≡ x = cc in
+    let s : has_shares (record x { shares = x.shares - n }) ≡ false = grind (arith, nat_tests) in
+    let t : has_shares (record y { shares = y.shares - n }) ≡ false = rw this s in
+    simp (e, t) (taken_absent r n ys live.1 (same_absent r y ys d e)))
     (λ e. let there : get ys r ≡ Some x = simp e at h in
-      let s = live_shares y live.0 in
-      simp (e, s, one-add) (ap (λ t. y ∷ t) (taken_all r n ys x (tail_distinct y ys d) live.1 there none)))
+    let s = live_shares y live.0 in
+    simp (e, s, one-add) (ap (λ t. y ∷ t) (taken_all r n ys x (tail_distinct y ys d) live.1 there none)))
 
 -- the order of a reference stands at its place
 pub get_there : (r : ℕ) (xs : List Order) (x d : Order) → get xs r ≡ Some x → get_or xs (position_or_len (has_reference r) xs) d ≡ x
@@ -129,7 +128,7 @@ parted x xs h i j d le within e =
     elim (cases_eq i j) [
       | inl same ↦ rw same e
       | inr differ ↦ not_from_false (stands_before x (get_or xs i d))
-        (stands_order.chain x (get_or xs j d) (get_or xs i d) behind_x (in_order_places stands_before xs i j d h (omega arith) within))
+          (stands_order.chain x (get_or xs j d) (get_or xs i d) behind_x (in_order_places stands_before xs i j d h (omega arith) within))
     ]
 
 -- where they end is the place of the order
@@ -137,8 +136,8 @@ pub place_is : (x : Order) (xs : List Order) (i : ℕ) → i ≤ length xs → I
     → i ≡ position_or_len (stands_before x) xs
 place_is x xs i within point =
     sym (position_or_len_is (stands_before x) xs i x within
-      (λ k lt. not-true (stands_before x (get_or xs k x)) (point.0 k x (omega arith) lt))
-      (λ lt. not-false (stands_before x (get_or xs i x)) (point.1 i x (omega arith) lt)))
+    (λ k lt. not-true (stands_before x (get_or xs k x)) (point.0 k x (omega arith) lt))
+    (λ lt. not-false (stands_before x (get_or xs i x)) (point.1 i x (omega arith) lt)))
 
 -- the next of a locate behind the order at a place
 pub after_there : (r : ℕ) (xs : List Order) (i : ℕ) (d : Order) → IsSome (get xs r) → i ≡ position_or_len (has_reference r) xs

@@ -1,12 +1,11 @@
 -- A queue is the one line of its orders in which each stands by priority.
-use Rattle.std.proofs.Common.{◌≡◌, ℕ, ◌≤◌, ◌<◌, ◌+◌, ◌==◌, Bool, true, false, cond, not, ◌&&◌, List, [], ◌∷◌, length, filter, find, slice_get, Option, Some, None, IsPermutation, ◌⊎◌, ◌↔◌, inl, inr, refl, sym, ap, ap₂, ◌∙◌, subst, arith, one-add}
-use Rattle.std.specs.List.{AllByRecursion, position_or_len}
+use Rattle.std.proofs.Common.{◌≡◌, ℕ, ◌<◌, ◌+◌, ◌==◌, true, false, not, ◌&&◌, List, [], ◌∷◌, filter, Some, None, IsPermutation, inl, inr, refl, sym, ◌∙◌, subst, arith}
+use Rattle.std.specs.List.{AllByRecursion}
 use Rattle.std.proofs.lemmas.Bool.{false≢true}
 use Rattle.std.proofs.lemmas.Bool.Decides.{nat_tests}
 use Rattle.itch_codec.specs.declared.side.Side.{Side}
 use Rattle.itch_codec.specs.declared.side.Side.TheVariants.{Buy, Sell}
 use Rattle.itch_book.specs.declared.order.Order.{Order}
-use Rattle.itch_book.specs.Stable.{in_order}
 use Rattle.itch_book.specs.Orders.{is_better, is_of, is_at_price, queue, has_reference, get, IsDistinct, IsQueue}
 use Rattle.itch_book.specs.Priority.{arrival, HasPriority, IsByPriority, IsLine}
 use Rattle.itch_book.proofs.Lists.{by_test, All-weaker_rec}
@@ -46,10 +45,10 @@ IsQueue-unique orders l s line h =
     let was = IsQueue-queue orders l s in
     let before = λ (x y : Order). is_better s x.price y.price in
     ordered_same before (better_order s) line (queue orders l s) h.better_first was.better_first (λ z.
-      filter_alike (ties before z) (is_at_price z.price) (λ x. ties_price s z.price x.price) line
-      ∙ h.as_they_came z.price
-      ∙ sym (was.as_they_came z.price)
-      ∙ sym (filter_alike (ties before z) (is_at_price z.price) (λ x. ties_price s z.price x.price) (queue orders l s)))
+    filter_alike (ties before z) (is_at_price z.price) (λ x. ties_price s z.price x.price) line
+    ∙ h.as_they_came z.price
+    ∙ sym (was.as_they_came z.price)
+    ∙ sym (filter_alike (ties before z) (is_at_price z.price) (λ x. ties_price s z.price x.price) (queue orders l s)))
 
 other_reference : (r : ℕ) (x : Order) (xs : List Order) → get xs r ≡ None → has_reference r x ≡ true → AllByRecursion (λ y. has_reference y.reference x ≡ false) xs
 other_reference r x [] h e = tt
@@ -64,10 +63,11 @@ arrival_rises [] d = tt
 arrival_rises (x ∷ xs) d =
     let own = has_own x in
     let others = other_reference x.reference x xs (head_distinct x xs d) own in
-    let zero_is : arrival (x ∷ xs) x ≡ 0 = simp own refl in
-    (All-weaker_rec (λ y. has_reference y.reference x ≡ false) (λ y. arrival (x ∷ xs) x < arrival (x ∷ xs) y) (λ y h. let later = one_behind x xs y h in omega arith) xs others,
-    Rises-weaker (λ y. has_reference y.reference x ≡ false) (λ a b. arrival xs a < arrival xs b) (λ a b. arrival (x ∷ xs) a < arrival (x ∷ xs) b)
-      (λ a b h k lt. let a_later = one_behind x xs a h in let b_later = one_behind x xs b k in omega arith) xs others (arrival_rises xs (tail_distinct x xs d)))
+    let zero_is : arrival (x ∷ xs) x ≡ 0 = simp own refl in (
+      All-weaker_rec (λ y. has_reference y.reference x ≡ false) (λ y. arrival (x ∷ xs) x < arrival (x ∷ xs) y) (λ y h. let later = one_behind x xs y h in omega arith) xs others,
+      Rises-weaker (λ y. has_reference y.reference x ≡ false) (λ a b. arrival xs a < arrival xs b) (λ a b. arrival (x ∷ xs) a < arrival (x ∷ xs) b)
+          (λ a b h k lt. let a_later = one_behind x xs a h in let b_later = one_behind x xs b k in omega arith) xs others (arrival_rises xs (tail_distinct x xs d)),
+    )
   where
     one_behind : (x : Order) (xs : List Order) (y : Order) → has_reference y.reference x ≡ false → arrival (x ∷ xs) y ≡ 1 + arrival xs y
     one_behind x xs y h = simp h refl
@@ -89,6 +89,7 @@ queue_rises orders l s d =
     everywhere : (xs : List Order) → AllByRecursion (λ x. Unit {0}) xs
     everywhere [] = tt
     everywhere (x ∷ xs) = (tt, everywhere xs)
+
     by_case : (x y : Order) → Stably (λ (x y : Order). is_better s x.price y.price) (λ (x y : Order). arrival orders x < arrival orders y) x y → HasPriority orders s x y
     by_case x y (inl e) = inl e
     by_case x y (inr h) = inr (price_is s x.price y.price h.0 h.1, h.2)
@@ -110,6 +111,6 @@ IsLine-unique orders l s line d h =
     (Rises-from_places (HasPriority orders s) line (λ i j x y e f lt. (h.by_priority i j x y e f).0 lt))
     (queue_rises orders l s d)
     (λ r.
-      let few = IsDistinct-filter (is_of l s) orders d r in
-      sym (short_same (has_reference r) (filter (is_of l s) orders) line h.members few)
-      ∙ short_same (has_reference r) (filter (is_of l s) orders) (queue orders l s) (queue_members orders l s) few)
+    let few = IsDistinct-filter (is_of l s) orders d r in
+    sym (short_same (has_reference r) (filter (is_of l s) orders) line h.members few)
+    ∙ short_same (has_reference r) (filter (is_of l s) orders) (queue orders l s) (queue_members orders l s) few)

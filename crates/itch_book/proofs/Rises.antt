@@ -1,5 +1,5 @@
 -- Lists in which each element is related to all behind it.
-use Rattle.std.proofs.Common.{◌≡◌, ℕ, zero, suc, ◌≤◌, ◌<◌, ◌+◌, ◌==◌, eqb, Bool, true, false, cond, List, [], ◌∷◌, ◌++◌, length, filter, slice_get, Option, Some, None, IsPermutation, ◌⊎◌, ◌↔◌, inl, inr, refl, sym, ap, ◌∙◌, subst, arith}
+use Rattle.std.proofs.Common.{◌≡◌, ℕ, zero, suc, ◌≤◌, ◌<◌, ◌==◌, Bool, true, false, cond, List, [], ◌∷◌, length, filter, slice_get, Some, IsPermutation, ◌⊎◌, ◌↔◌, inl, inr, refl, sym, ap, ◌∙◌, subst, arith}
 use Rattle.std.specs.List.{AllByRecursion}
 use Rattle.std.specs.Cmp.{IsStrictWeakOrder}
 use Rattle.std.proofs.lemmas.Bool.{cond_both, cases_order}
@@ -49,13 +49,14 @@ places_from_Rises R (z ∷ zs) h (suc i) (suc j) x y e f lt = places_from_Rises 
 -- one place is below another exactly if its element is related to the other's
 pub places_exactly : {A : Type 0} (R : A → A → Type 0) → ((x y : A) → R x y → R y x → ⊥) → (xs : List A) → Rises R xs
     → (i j : ℕ) (x y : A) → slice_get xs i ≡ Some x → slice_get xs j ≡ Some y → (i < j) ↔ R x y
-places_exactly R one_way xs h i j x y e f =
-    (places_from_Rises R xs h i j x y e f,
-    λ r. elim (cases_order i j) [
-      | inl same ↦ absurd (let here : slice_get xs i ≡ Some y = rw same f in let this : x ≡ y = cc in let self : R x x = rw (← this) at r in one_way x x self self)
-      | inr (inl lt) ↦ lt
-      | inr (inr gt) ↦ absurd (one_way x y r (places_from_Rises R xs h j i y x f e gt))
-    ])
+places_exactly R one_way xs h i j x y e f = (
+  places_from_Rises R xs h i j x y e f,
+  λ r. elim (cases_order i j) [
+    | inl same ↦ absurd (let here : slice_get xs i ≡ Some y = rw same f in let this : x ≡ y = cc in let self : R x x = rw (← this) at r in one_way x x self self)
+    | inr (inl lt) ↦ lt
+    | inr (inr gt) ↦ absurd (one_way x y r (places_from_Rises R xs h j i y x f e gt))
+  ],
+)
 
 -- a list in which each number stands once, and that rises, is determined by what it has
 pub Rises-same : {A : Type 0} (R : A → A → Type 0) (key : A → ℕ) → ((x y : A) → R x y → R y x → ⊥) → (xs ys : List A) → Rises R xs → Rises R ys
@@ -71,23 +72,23 @@ Rises-same R key one_way (x ∷ xs) (y ∷ ys) h k same =
     let e : (key x == key x) ≡ true = grind (arith, nat_tests) in
     by_test (key y == key x)
     (λ f.
-      let here : x ∷ filter (λ z. key z == key x) xs ≡ y ∷ filter (λ z. key z == key x) ys = simp (e, f) at (same (key x)) in
-      let this : x ≡ y = cc in
-      let rest = Rises-same R key one_way xs ys h.1 k.1 (λ n. by_test (key x == n)
-        (λ g. let g' : (key y == n) ≡ true = rw (← this) g in
-          let there : x ∷ filter (λ z. key z == n) xs ≡ y ∷ filter (λ z. key z == n) ys = simp (g, g') at (same n) in
-          let tails : filter (λ z. key z == n) xs ≡ filter (λ z. key z == n) ys = cc in tails)
-        (λ g. let g' : (key y == n) ≡ false = rw (← this) g in
-          let tails : filter (λ z. key z == n) xs ≡ filter (λ z. key z == n) ys = simp (g, g') at (same n) in tails)) in
-      cc)
+    let here : x ∷ filter (λ z. key z == key x) xs ≡ y ∷ filter (λ z. key z == key x) ys = simp (e, f) at (same (key x)) in
+    let this : x ≡ y = cc in
+    let rest = Rises-same R key one_way xs ys h.1 k.1 (λ n. by_test (key x == n)
+    (λ g. let g' : (key y == n) ≡ true = rw (← this) g in
+    let there : x ∷ filter (λ z. key z == n) xs ≡ y ∷ filter (λ z. key z == n) ys = simp (g, g') at (same n) in
+    let tails : filter (λ z. key z == n) xs ≡ filter (λ z. key z == n) ys = cc in tails)
+    (λ g. let g' : (key y == n) ≡ false = rw (← this) g in
+    let tails : filter (λ z. key z == n) xs ≡ filter (λ z. key z == n) ys = simp (g, g') at (same n) in tails)) in
+    cc)
     (λ f.
-      let f' : (key x == key y) ≡ false = grind (arith, nat_tests) in
-      let e' : (key y == key y) ≡ true = grind (arith, nat_tests) in
-      let behind_y : x ∷ filter (λ z. key z == key x) xs ≡ filter (λ z. key z == key x) ys = simp (e, f) at (same (key x)) in
-      let behind_x : filter (λ z. key z == key y) xs ≡ y ∷ filter (λ z. key z == key y) ys = simp (e', f') at (same (key y)) in
-      let yx = subst (AllByRecursion (R y)) (sym behind_y) (All-filter_rec (R y) (λ z. key z == key x) ys k.0) in
-      let xy = subst (AllByRecursion (R x)) behind_x (All-filter_rec (R x) (λ z. key z == key y) xs h.0) in
-      absurd (one_way x y xy.0 yx.0))
+    let f' : (key x == key y) ≡ false = grind (arith, nat_tests) in
+    let e' : (key y == key y) ≡ true = grind (arith, nat_tests) in
+    let behind_y : x ∷ filter (λ z. key z == key x) xs ≡ filter (λ z. key z == key x) ys = simp (e, f) at (same (key x)) in
+    let behind_x : filter (λ z. key z == key y) xs ≡ y ∷ filter (λ z. key z == key y) ys = simp (e', f') at (same (key y)) in
+    let yx = subst (AllByRecursion (R y)) (sym behind_y) (All-filter_rec (R y) (λ z. key z == key x) ys k.0) in
+    let xy = subst (AllByRecursion (R x)) behind_x (All-filter_rec (R x) (λ z. key z == key y) xs h.0) in
+    absurd (one_way x y xy.0 yx.0))
 
 -- a stable sort: what is behind another is so by the comparison, or ties and came later
 abbrev pub Stably : {A : Type 0} → (A → A → Bool) → (A → A → Type 0) → A → A → Type 0
@@ -100,9 +101,11 @@ module _ {A : Type 0} (before : A → A → Bool) (o : IsStrictWeakOrder before)
       cond_both (before y x) (y ∷ earlier_in before x ys) (x ∷ y ∷ ys) (Rises (Stably before E))
       (λ e. (All-earlier_in before (Stably before E y) x ys (inl e) k.0, Rises-earlier_in x ys h.1 k.1 all.1))
       (λ e.
-        let none = All-weaker_rec (λ z. before z y ≡ false) (λ z. before z x ≡ false) (λ z f. o.chain z y x f e) ys h.0 in
-        (All-weaker_rec (λ z. (before z x ≡ false) × E x z) (Stably before E x) (λ z f. by_test (before x z) (λ g. inl g) (λ g. inr (g, f.0, f.1))) (y ∷ ys)
-          (All-both_rec (λ z. before z x ≡ false) (E x) (y ∷ ys) (e, none) all), k))
+      let none = All-weaker_rec (λ z. before z y ≡ false) (λ z. before z x ≡ false) (λ z f. o.chain z y x f e) ys h.0 in (
+        All-weaker_rec (λ z. (before z x ≡ false) × E x z) (Stably before E x) (λ z f. by_test (before x z) (λ g. inl g) (λ g. inr (g, f.0, f.1))) (y ∷ ys)
+            (All-both_rec (λ z. before z x ≡ false) (E x) (y ∷ ys) (e, none) all),
+        k,
+      ))
 
   pub Rises-in_order : (xs : List A) → Rises E xs → Rises (Stably before E) (in_order before xs)
   Rises-in_order [] h = tt
@@ -114,8 +117,8 @@ IsPermutation-earlier_in before x [] = IsPermutation-refl (x ∷ [])
 IsPermutation-earlier_in before x (y ∷ ys) =
     cond_both (before y x) (y ∷ earlier_in before x ys) (x ∷ y ∷ ys) (IsPermutation (x ∷ y ∷ ys))
     (λ e. IsPermutation-trans (x ∷ y ∷ ys) (y ∷ x ∷ ys) (y ∷ earlier_in before x ys)
-      (IsPermutation-sym (y ∷ x ∷ ys) (x ∷ y ∷ ys) (IsPermutation-middle (y ∷ []) x ys))
-      (IsPermutation-cons y (x ∷ ys) (earlier_in before x ys) (IsPermutation-earlier_in before x ys)))
+    (IsPermutation-sym (y ∷ x ∷ ys) (x ∷ y ∷ ys) (IsPermutation-middle (y ∷ []) x ys))
+    (IsPermutation-cons y (x ∷ ys) (earlier_in before x ys) (IsPermutation-earlier_in before x ys)))
     (λ e. IsPermutation-refl (x ∷ y ∷ ys))
 
 pub IsPermutation-in_order : {A : Type 0} (before : A → A → Bool) (xs : List A) → IsPermutation xs (in_order before xs)
@@ -137,9 +140,9 @@ one_passes p [] b h = tt
 one_passes p (x ∷ xs) b h =
     by_test (p x)
     (λ e. let here : x ∷ filter p xs ≡ b ∷ [] = simp e at h in
-      let this : x ≡ b = cc in
-      let rest : filter p xs ≡ [] = cc in
-      (λ f. this, All-weaker_rec (λ z. p z ≡ false) (λ z. p z ≡ true → z ≡ b) (λ z f g. absurd (let no_one : ⊥ = cc in no_one)) xs (none_passes p xs rest)))
+    let this : x ≡ b = cc in
+    let rest : filter p xs ≡ [] = cc in
+    (λ f. this, All-weaker_rec (λ z. p z ≡ false) (λ z. p z ≡ true → z ≡ b) (λ z f g. absurd (let no_one : ⊥ = cc in no_one)) xs (none_passes p xs rest)))
     (λ e. let rest : filter p xs ≡ b ∷ [] = simp e at h in (λ f. absurd (let no_one : ⊥ = cc in no_one), one_passes p xs b rest))
 
 permuted : {A : Type 0} (P : A → Type 0) (xs ys : List A) → IsPermutation xs ys → AllByRecursion P xs → AllByRecursion P ys
@@ -156,6 +159,7 @@ short_same p xs ys same short = by_kept (filter p xs) refl
   where
     many : length (filter p ys) ≡ length (filter p xs)
     many = length-filter p ys ∙ sum_by-IsPermutation (λ x. cond (p x) 1 0) xs ys same ∙ sym (length-filter p xs)
+
     by_kept : (zs : List _) → filter p xs ≡ zs → zs ≡ filter p ys
     by_kept [] e = sym (filter_none p ys (permuted (λ x. p x ≡ false) xs ys same (none_passes p xs e)))
     by_kept (b ∷ []) e =

@@ -1,5 +1,5 @@
 -- Lists in order by a comparison that compares any two values, where elements that tie keep their order.
-use Rattle.std.proofs.Common.{◌≡◌, ◌≤◌, ℕ, ◌+◌, Bool, true, false, cond, not, ◌&&◌, ◌||◌, List, [], ◌∷◌, ◌++◌, map, length, filter, refl, sym, ap, ◌∙◌, arith}
+use Rattle.std.proofs.Common.{◌≡◌, ◌≤◌, ◌+◌, Bool, true, false, cond, ◌||◌, List, [], ◌∷◌, ◌++◌, map, length, filter, refl, sym, ap, ◌∙◌, arith}
 use Rattle.std.specs.List.{AllByRecursion}
 use Rattle.std.specs.Cmp.{IsStrictWeakOrder}
 use Rattle.std.proofs.lemmas.Bool.{cond_both, false≢true}
@@ -120,16 +120,16 @@ module _ {A : Type 0} (before : A → A → Bool) (o : IsStrictWeakOrder before)
   earlier_in-filter p x (y ∷ ys) h =
       by_test (before y x)
       (λ e. let rest = earlier_in-filter p x ys h.1 in
-        by_test (p x)
-        (λ f. let shorter : filter p (earlier_in before x ys) ≡ earlier_in before x (filter p ys) = simp f at rest in
-          by_test (p y) (λ g. simp (e, f, g, shorter) refl) (λ g. simp (e, f, g, shorter) refl))
-        (λ f. let shorter : filter p (earlier_in before x ys) ≡ filter p ys = simp f at rest in
-          by_test (p y) (λ g. simp (e, f, g, shorter) refl) (λ g. simp (e, f, g, shorter) refl)))
+      by_test (p x)
+      (λ f. let shorter : filter p (earlier_in before x ys) ≡ earlier_in before x (filter p ys) = simp f at rest in
+      by_test (p y) (λ g. simp (e, f, g, shorter) refl) (λ g. simp (e, f, g, shorter) refl))
+      (λ f. let shorter : filter p (earlier_in before x ys) ≡ filter p ys = simp f at rest in
+      by_test (p y) (λ g. simp (e, f, g, shorter) refl) (λ g. simp (e, f, g, shorter) refl)))
       (λ e.
-        let none = All-filter_rec (λ z. before z x ≡ false) p (y ∷ ys) (e, All-weaker_rec (λ z. before z y ≡ false) (λ z. before z x ≡ false) (λ z k. o.chain z y x k e) ys h.0) in
-        by_test (p x)
-        (λ f. simp (e, f) (sym (earlier_in-front before x (filter p (y ∷ ys)) none)))
-        (λ f. simp (e, f) refl))
+      let none = All-filter_rec (λ z. before z x ≡ false) p (y ∷ ys) (e, All-weaker_rec (λ z. before z y ≡ false) (λ z. before z x ≡ false) (λ z k. o.chain z y x k e) ys h.0) in
+      by_test (p x)
+      (λ f. simp (e, f) (sym (earlier_in-front before x (filter p (y ∷ ys)) none)))
+      (λ f. simp (e, f) refl))
 
   -- a filter of the list in order is the filter in order
   pub in_order-filter : (p : A → Bool) (xs : List A) → filter p (in_order before xs) ≡ in_order before (filter p xs)
@@ -146,11 +146,11 @@ module _ {A : Type 0} (before : A → A → Bool) (o : IsStrictWeakOrder before)
       let rest = later_in-earlier_in l x ys in
       by_test (before y x)
       (λ e. by_test (before l y)
-        (λ f. let g : before l x ≡ true = before_chain l y x f (o.one_way y x e) in simp (e, f, g) refl)
-        (λ f. simp (e, f) (ap (λ t. y ∷ t) rest)))
+      (λ f. let g : before l x ≡ true = before_chain l y x f (o.one_way y x e) in simp (e, f, g) refl)
+      (λ f. simp (e, f) (ap (λ t. y ∷ t) rest)))
       (λ e. by_test (before l x)
-        (λ f. let g : before l y ≡ true = before_chain l x y f e in simp (e, f, g) refl)
-        (λ f. by_test (before l y) (λ g. simp (e, f, g) refl) (λ g. simp (e, f, g) refl)))
+      (λ f. let g : before l y ≡ true = before_chain l x y f e in simp (e, f, g) refl)
+      (λ f. by_test (before l y) (λ g. simp (e, f, g) refl) (λ g. simp (e, f, g) refl)))
 
   -- one more that comes last
   pub in_order-push : (xs : List A) (l : A) → in_order before (xs ++ l ∷ []) ≡ later_in before l (in_order before xs)
@@ -167,14 +167,14 @@ module _ {A : Type 0} (before : A → A → Bool) (o : IsStrictWeakOrder before)
       let qs = in_order before (filter q xs) in
       by_test (p x)
       (λ e. by_test (q x)
-        (λ f. absurd (false≢true (sym (not_itself x) ∙ apart x x e f)))
-        (λ f. let g : r x ≡ true = either x ∙ simp (e, f) refl in
-          let behind = All-in_order before (λ y. before y x ≡ false) (filter q xs)
-            (All-weaker_rec (λ y. q y ≡ true) (λ y. before y x ≡ false) (λ y h. o.one_way x y (apart x y e h)) (filter q xs) (passes_filter q xs)) in
-          simp (e, f, g) (ap (earlier_in before x) rest ∙ earlier_in-left before x ps qs behind)))
+      (λ f. absurd (false≢true (sym (not_itself x) ∙ apart x x e f)))
+      (λ f. let g : r x ≡ true = either x ∙ simp (e, f) refl in
+      let behind = All-in_order before (λ y. before y x ≡ false) (filter q xs)
+      (All-weaker_rec (λ y. q y ≡ true) (λ y. before y x ≡ false) (λ y h. o.one_way x y (apart x y e h)) (filter q xs) (passes_filter q xs)) in
+      simp (e, f, g) (ap (earlier_in before x) rest ∙ earlier_in-left before x ps qs behind)))
       (λ e. by_test (q x)
-        (λ f. let g : r x ≡ true = either x ∙ simp (e, f) refl in
-          let ahead = All-in_order before (λ y. before y x ≡ true) (filter p xs)
-            (All-weaker_rec (λ y. p y ≡ true) (λ y. before y x ≡ true) (λ y h. apart y x h f) (filter p xs) (passes_filter p xs)) in
-          simp (e, f, g) (ap (earlier_in before x) rest ∙ earlier_in-right before x ps qs ahead))
-        (λ f. let g : r x ≡ false = either x ∙ simp (e, f) refl in simp (e, f, g) rest))
+      (λ f. let g : r x ≡ true = either x ∙ simp (e, f) refl in
+      let ahead = All-in_order before (λ y. before y x ≡ true) (filter p xs)
+      (All-weaker_rec (λ y. p y ≡ true) (λ y. before y x ≡ true) (λ y h. apart y x h f) (filter p xs) (passes_filter p xs)) in
+      simp (e, f, g) (ap (earlier_in before x) rest ∙ earlier_in-right before x ps qs ahead))
+      (λ f. let g : r x ≡ false = either x ∙ simp (e, f) refl in simp (e, f, g) rest))

@@ -1,12 +1,12 @@
 -- Walking the orders of a locate, from one to the next behind it.
-use Rattle.std.proofs.Common.{◌≡◌, ℕ, ◌==◌, Bool, true, false, cond, not, List, [], ◌∷◌, filter, find, Option, Some, None, IsSome, IfSome, refl, sym, ap, ◌∙◌, subst, arith}
-use Rattle.std.specs.List.{AllByRecursion}
-use Rattle.std.proofs.lemmas.Bool.{cond_both, false≢true}
+use Rattle.std.proofs.Common.{◌≡◌, ℕ, ◌==◌, Bool, false, List, [], ◌∷◌, filter, find, Option, Some, None, IfSome, refl, sym, ap, ◌∙◌, subst, arith}
+use Rattle.std.proofs.lemmas.Bool.{cond_both}
 use Rattle.std.proofs.lemmas.Bool.Decides.{nat_tests}
 use Rattle.itch_book.specs.declared.order.Order.{Order}
 use Rattle.itch_book.specs.Orders.{is_in, sides, IsDistinct, IsBook, has_reference, get, behind, after, next_in, from_order}
 use Rattle.itch_book.proofs.Lists.{by_test, found_passes}
-use Rattle.itch_book.proofs.Distinct.{walk_none, has_own, tail_distinct, head_distinct}
+use Rattle.itch_book.proofs.Distinct.{has_own, tail_distinct, head_distinct}
+pub use Rattle.itch_book.proofs.Distinct.{walk_none}
 use Rattle.itch_book.proofs.OrderLemmas.{in_is}
 use Rattle.itch_book.proofs.BookLemmas.{sides-book}
 
@@ -17,11 +17,11 @@ other_reference p y (z ∷ zs) x none found =
     by_test (has_reference y.reference z)
     (λ e. let some : Some z ≡ None = simp e at none in absurd (let no_one : ⊥ = cc in no_one))
     (λ e. let rest : get zs y.reference ≡ None = simp e at none in
-      by_test (p z)
-      (λ f. let here : Some z ≡ Some x = simp f at found in
-        let this : z ≡ x = cc in
-        subst (λ w. has_reference w.reference y ≡ false) this (turned y.reference z.reference e))
-      (λ f. let there : find p zs ≡ Some x = simp f at found in other_reference p y zs x rest there))
+    by_test (p z)
+    (λ f. let here : Some z ≡ Some x = simp f at found in
+    let this : z ≡ x = cc in
+    subst (λ w. has_reference w.reference y ≡ false) this (turned y.reference z.reference e))
+    (λ f. let there : find p zs ≡ Some x = simp f at found in other_reference p y zs x rest there))
   where
     turned : (a b : ℕ) → (b == a) ≡ false → (a == b) ≡ false
     turned a b h = grind (arith, nat_tests)
@@ -32,12 +32,12 @@ found_get p [] x d h = absurd (let no_one : ⊥ = cc in no_one)
 found_get p (y ∷ ys) x d h =
     by_test (p y)
     (λ e. let here : Some y ≡ Some x = simp e at h in
-      let this : y ≡ x = cc in
-      let own = has_own y in
-      subst (λ w. get (y ∷ ys) w.reference ≡ Some w) this (simp own refl))
+    let this : y ≡ x = cc in
+    let own = has_own y in
+    subst (λ w. get (y ∷ ys) w.reference ≡ Some w) this (simp own refl))
     (λ e. let there : find p ys ≡ Some x = simp e at h in
-      let other = other_reference p y ys x (head_distinct y ys d) there in
-      simp other (found_get p ys x (tail_distinct y ys d) there))
+    let other = other_reference p y ys x (head_distinct y ys d) there in
+    simp other (found_get p ys x (tail_distinct y ys d) there))
 
 -- the orders that pass a test are the first that does, and those behind it
 pub walk_some : (p : Order → Bool) (xs : List Order) (x : Order) → IsDistinct xs → find p xs ≡ Some x → filter p xs ≡ x ∷ filter p (behind x.reference xs)
@@ -45,12 +45,12 @@ walk_some p [] x d h = absurd (let no_one : ⊥ = cc in no_one)
 walk_some p (y ∷ ys) x d h =
     by_test (p y)
     (λ e. let here : Some y ≡ Some x = simp e at h in
-      let this : y ≡ x = cc in
-      let own = has_own y in
-      subst (λ w. filter p (y ∷ ys) ≡ w ∷ filter p (behind w.reference (y ∷ ys))) this (simp (own, e) refl))
+    let this : y ≡ x = cc in
+    let own = has_own y in
+    subst (λ w. filter p (y ∷ ys) ≡ w ∷ filter p (behind w.reference (y ∷ ys))) this (simp (own, e) refl))
     (λ e. let there : find p ys ≡ Some x = simp e at h in
-      let other = other_reference p y ys x (head_distinct y ys d) there in
-      simp (other, e) (walk_some p ys x (tail_distinct y ys d) there))
+    let other = other_reference p y ys x (head_distinct y ys d) there in
+    simp (other, e) (walk_some p ys x (tail_distinct y ys d) there))
 
 pub IsDistinct-behind : (r : ℕ) (xs : List Order) → IsDistinct xs → IsDistinct (behind r xs)
 IsDistinct-behind r [] d = d
@@ -63,24 +63,24 @@ behind_get p r [] x d h = absurd (let no_one : ⊥ = cc in no_one)
 behind_get p r (y ∷ ys) x d h =
     by_test (has_reference r y)
     (λ e. let there : find p ys ≡ Some x = simp e at h in
-      let other = other_reference p y ys x (head_distinct y ys d) there in
-      simp other (found_get p ys x (tail_distinct y ys d) there))
+    let other = other_reference p y ys x (head_distinct y ys d) there in
+    simp other (found_get p ys x (tail_distinct y ys d) there))
     (λ e. let there : find p (behind r ys) ≡ Some x = simp e at h in
-      let rest = behind_get p r ys x (tail_distinct y ys d) there in
-      let other = other_reference (has_reference x.reference) y ys x (head_distinct y ys d) rest in
-      simp other rest)
+    let rest = behind_get p r ys x (tail_distinct y ys d) there in
+    let other = other_reference (has_reference x.reference) y ys x (head_distinct y ys d) rest in
+    simp other rest)
 
 pub behind-behind : (p : Order → Bool) (r : ℕ) (xs : List Order) (x : Order) → IsDistinct xs → find p (behind r xs) ≡ Some x → behind x.reference (behind r xs) ≡ behind x.reference xs
 behind-behind p r [] x d h = refl
 behind-behind p r (y ∷ ys) x d h =
     by_test (has_reference r y)
     (λ e. let there : find p ys ≡ Some x = simp e at h in
-      let other = other_reference p y ys x (head_distinct y ys d) there in
-      simp (e, other) refl)
+    let other = other_reference p y ys x (head_distinct y ys d) there in
+    simp (e, other) refl)
     (λ e. let there : find p (behind r ys) ≡ Some x = simp e at h in
-      let rest = behind_get p r ys x (tail_distinct y ys d) there in
-      let other = other_reference (has_reference x.reference) y ys x (head_distinct y ys d) rest in
-      simp (e, other) (behind-behind p r ys x (tail_distinct y ys d) there))
+    let rest = behind_get p r ys x (tail_distinct y ys d) there in
+    let other = other_reference (has_reference x.reference) y ys x (head_distinct y ys d) rest in
+    simp (e, other) (behind-behind p r ys x (tail_distinct y ys d) there))
 
 -- the same from an order on
 pub walk_on : (p : Order → Bool) (r : ℕ) (xs : List Order) (x : Order) → IsDistinct xs → find p (behind r xs) ≡ Some x → filter p (behind r xs) ≡ x ∷ filter p (behind x.reference xs)

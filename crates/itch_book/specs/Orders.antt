@@ -1,5 +1,6 @@
 -- What a book means: the list of its orders, and what each change does to such a list.
-use Rattle.std.specs.Prelude.{◌≡◌, ℕ, ◌-◌, ◌+◌, ◌*◌, ◌≤◌, ◌<◌, ◌==◌, nat_lt, Bool, true, false, not, ◌&&◌, ◌||◌, cond, if◌then◌else◌, List, [], ◌∷◌, ◌++◌, map, length, Option, Some, None, option_map, suc, zero}
+-- Names in quotes are the sections of TotalView-ITCH 5.0 on the messages that make the change.
+use Rattle.std.specs.Prelude.{◌≡◌, ℕ, ◌-◌, ◌≤◌, ◌<◌, ◌==◌, nat_lt, Bool, true, false, not, ◌&&◌, ◌||◌, if◌then◌else◌, List, [], ◌∷◌, ◌++◌, map, length, Option, Some, None, option_map, suc, zero}
 use Rattle.std.specs.List.{filter, find, sum_by, AllByRecursion}
 use Rattle.itch_book.specs.declared.order.Order.{Order}
 use Rattle.itch_codec.specs.declared.side.Side.{Side}
@@ -39,7 +40,8 @@ queues_below (suc n) orders = queues_below n orders ++ sides orders n
 unfoldable pub lay : List Order → List Order
 lay orders = queues_below 65536 orders
 
--- an order of the first locate, side and price stands before one of the second in snapshot order
+-- an order of the first locate, side and price stands before one of the second in snapshot order:
+-- by locate rising, bids before asks, and then the better price first
 abbrev pub place_before : ℕ → Side → ℕ → ℕ → Side → ℕ → Bool
 place_before l Buy p m Buy q = nat_lt l m || (l == m && nat_lt q p)
 place_before l Buy p m Sell q = nat_lt l m || l == m
@@ -142,9 +144,13 @@ abbrev pub is_worse : Side → Option ℕ → ℕ → Bool
 is_worse side None price = true
 is_worse side (Some last) price = is_better side last price
 
+-- an order of this locate and side whose price is worse than the last, if there is a last one
+abbrev pub is_next : ℕ → Side → Option ℕ → Order → Bool
+is_next locate side last x = is_of locate side x && is_worse side last x.price
+
 -- the best price of a side, or the best one worse than another
 abbrev pub next_price : List Order → ℕ → Side → Option ℕ → Option ℕ
-next_price orders locate side last = option_map (λ x. x.price) (find (λ x. is_of locate side x && is_worse side last x.price) orders)
+next_price orders locate side last = option_map (λ x. x.price) (find (is_next locate side last) orders)
 
 -- an order of this locate, side and price
 abbrev pub is_level : ℕ → Side → ℕ → Order → Bool

@@ -51,26 +51,29 @@ pub trait OrderBook: Drop {
     fn level_total(&self, locate: u16, side: Side, price: u32) -> (u128, u64)
         ensures { result ≡ level_total (orders self.now) locate side price };
 
-    /// Adds an order, last at its price. Where memory is refused, the book stays as it was.
+    /// Adds an order, last at its price (TotalView-ITCH 5.0, "Add Order Message").
+    /// Where memory is refused, the book stays as it was.
     fn add(&mut self, order: Order) -> Result<(), AllocError>
         requires some_shares { 0 < order.shares }
         requires new_reference { get (orders self.old) order.reference ≡ None }
         ensures ok { OnOk result (orders self.new ≡ lay (added order (orders self.old))) }
         ensures err { OnErr result (orders self.new ≡ orders self.old) };
 
-    /// Takes shares from an order, which keeps its place, and is gone where nothing remains.
+    /// Takes shares from an order, which keeps its place, and is gone where nothing remains
+    /// (TotalView-ITCH 5.0, "Order Executed Message", "Order Cancel Message").
     fn take(&mut self, reference: u64, shares: u32) -> Taken
         requires { IsSomeAnd (get (orders self.old) reference) (λ x. shares ≤ x.shares) }
         ensures orders { orders self.new ≡ lay (taken reference shares (orders self.old)) }
         ensures left { IfSome (get (orders self.old) reference) (λ x. IsLeft (x.shares - shares) result) };
 
-    /// Removes an order, and answers it.
+    /// Removes an order, and answers it (TotalView-ITCH 5.0, "Order Delete Message").
     fn delete(&mut self, reference: u64) -> Order
         requires { IsSome (get (orders self.old) reference) }
         ensures orders { orders self.new ≡ lay (without reference (orders self.old)) }
         ensures order { get (orders self.old) reference ≡ Some result };
 
-    /// Puts a new order in place of another one, last at its price, with the side, locate and attribution of the original.
+    /// Puts a new order in place of another one, last at its price, with the side, locate and attribution of the original
+    /// (TotalView-ITCH 5.0, "Order Replace Message").
     /// Where memory is refused, the book stays as it was.
     fn replace(
         &mut self,

@@ -1,11 +1,11 @@
 //! What holds of orders and of every book, of whatever size.
 //!
 //! Each function of this module does nothing: its clauses are the laws.
-ghost use Rattle.std.specs.Prelude.{◌≡◌, ℕ, ◌<◌, ◌⊎◌, ◌↔◌, true, List, Some, IsPermutation, slice_get, find};
+ghost use Rattle.std.specs.Prelude.{◌≡◌, ℕ, ◌<◌, ◌⊎◌, ◌↔◌, true, false, List, Some, Option, IsPermutation, IfSome, IfNone, Contains, slice_get, find};
 ghost use Rattle.std.specs.List.{filter, AllByRecursion};
 ghost use Rattle.itch_codec.specs.declared.side.Side.{Side};
 ghost use Rattle.itch_book.specs.declared.order.Order.{Order};
-ghost use Rattle.itch_book.specs.Orders.{is_better, is_of, is_in, queue, sides, level, lay, get, first, added, taken, without, replaced, IsDistinct, AllFit, IsLive, IsBook};
+ghost use Rattle.itch_book.specs.Orders.{is_better, is_of, is_in, queue, sides, level, is_next, next_price, lay, get, first, added, taken, without, replaced, IsDistinct, AllFit, IsLive, IsBook};
 ghost use Rattle.itch_book.specs.Priority.{arrival, IsLine};
 
 use crate::book::OrderBook;
@@ -13,7 +13,7 @@ use crate::book::OrderBook;
 /// A queue has the orders of its locate and side, each as often as they arrived. Of any two places of it, the one is
 /// before the other exactly if its order has the better price, or the same price and arrived earlier. No other list
 /// is such a line.
-#[tactic(auto, using(crate::proofs::LawRules::queue_laws))]
+#[tactic(auto, using(crate::proofs::QueueLemmas::queue_members))]
 pub fn queues()
     ensures members { (orders : List Order) → (locate : ℕ) → (side : Side)
         → IsPermutation (filter (is_of locate side) orders) (queue orders locate side) }
@@ -24,8 +24,7 @@ pub fn queues()
         → IsLine orders locate side (queue orders locate side) }
     ensures only { (orders : List Order) → (locate : ℕ) → (side : Side) → (line : List Order) → IsDistinct orders
         → IsLine orders locate side line → line ≡ queue orders locate side }
-{
-}
+{}
 
 /// The laid list is laid, and has the queues and the orders of the list that it was made of.
 #[tactic(auto, using(crate::proofs::LawRules::laid_laws))]
@@ -35,8 +34,7 @@ pub fn laid_lists()
         → queue (lay orders) locate side ≡ queue orders locate side }
     ensures get { (orders : List Order) → (reference : ℕ) → IsDistinct orders → AllFit orders
         → get (lay orders) reference ≡ get orders reference }
-{
-}
+{}
 
 /// What a change leaves of the laid list is, laid again, what it leaves of the list.
 #[tactic(auto, using(crate::proofs::LawRules::effect_laws))]
@@ -47,8 +45,7 @@ pub fn changes()
     ensures without { (reference : ℕ) → (orders : List Order) → lay (without reference (lay orders)) ≡ lay (without reference orders) }
     ensures replaced { (original reference shares price : ℕ) → (orders : List Order) → IsDistinct orders → AllFit orders
         → lay (replaced original reference shares price (lay orders)) ≡ lay (replaced original reference shares price orders) }
-{
-}
+{}
 
 /// Lists with equal queues, or with equal orders at every price level, have one laid list.
 #[tactic(auto, using(crate::proofs::LawRules::same_laws))]
@@ -57,8 +54,7 @@ pub fn same_lists()
         → ((locate : ℕ) → (side : Side) → queue xs locate side ≡ queue ys locate side) → lay xs ≡ lay ys }
     ensures levels { (xs ys : List Order)
         → ((locate : ℕ) → (side : Side) → (price : ℕ) → level xs locate side price ≡ level ys locate side price) → lay xs ≡ lay ys }
-{
-}
+{}
 
 /// Live orders with references of their own, laid, are a book's list. A book's list is laid, begins each locate and side
 /// with the first of its queue, and has the orders of a locate bids before asks.
@@ -69,12 +65,24 @@ pub fn books()
     ensures front { (orders : List Order) → (locate : ℕ) → (side : Side) → IsBook orders
         → find (is_of locate side) orders ≡ first (queue orders locate side) }
     ensures sides { (orders : List Order) → (locate : ℕ) → IsBook orders → sides orders locate ≡ filter (is_in locate) orders }
-{
-}
+{}
+
+/// The next price of a side is that of an order whose price is worse than the last; no such order has a better price.
+/// Where there is no next price, there is no such order.
+#[tactic(auto, using(crate::proofs::LawRules::price_laws))]
+pub fn next_prices()
+    ensures stands { (orders : List Order) → (locate : ℕ) → (side : Side) → (last : Option ℕ)
+        → IfSome (next_price orders locate side last)
+        (λ price. (x : Order) × Contains orders x × (is_next locate side last x ≡ true) × (x.price ≡ price)) }
+    ensures best { (orders : List Order) → (locate : ℕ) → (side : Side) → (last : Option ℕ) → IsBook orders
+        → IfSome (next_price orders locate side last)
+        (λ price. AllByRecursion (λ x. is_next locate side last x ≡ true → is_better side x.price price ≡ false) orders) }
+    ensures none { (orders : List Order) → (locate : ℕ) → (side : Side) → (last : Option ℕ)
+        → IfNone (next_price orders locate side last) (AllByRecursion (λ x. is_next locate side last x ≡ false) orders) }
+{}
 
 /// The list of every book is its own laid list.
 #[tactic(auto, using(crate::proofs::LawRules::book_laws))]
 pub fn book_is_laid<B: OrderBook>(book: &B)
     ensures { lay (B.orders book.now) ≡ B.orders book.now }
-{
-}
+{}

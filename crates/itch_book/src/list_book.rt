@@ -34,7 +34,9 @@ impl<A: Allocator + Copy> OrderBook for ListBook<A> {
     }
 
     fn get(&self, reference: u64) -> Option<&Order> {
-        self.orders.iter().find(|order| order.reference == reference)
+        self.orders
+            .iter()
+            .find(|order| order.reference == reference)
     }
 
     fn first(&self, locate: u16) -> Option<&Order> {
@@ -75,8 +77,8 @@ impl<A: Allocator + Copy> OrderBook for ListBook<A> {
     }
 
     fn delete(&mut self, reference: u64) -> Order {
-        let index = index_of(&self.orders, reference);
-        self.orders.remove(index)
+        let place = index_of(&self.orders, reference);
+        self.orders.remove(place)
     }
 
     fn replace(
@@ -104,3 +106,8 @@ impl<A: Allocator + Copy> OrderBook for ListBook<A> {
 
     ghost is_book = { λ b. b.is_kept };
 }
+
+#[cfg(test)]
+mod refusals;
+#[cfg(test)]
+mod tests;

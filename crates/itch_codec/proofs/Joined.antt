@@ -1,15 +1,12 @@
 -- Fields that stand one after the other: what stands in their joined bytes, and that those are the payload.
-use Rattle.std.proofs.Common.{◌≡◌, ℕ, zero, suc, ◌+◌, ◌-◌, ◌*◌, ◌<◌, ◌≤◌, ◌^◌, ◌==◌, ◌&&◌, Bool, true, false, not, eqb, List, [], ◌∷◌, ◌++◌, length, take, drop, get_or, refl, sym, ap, ◌∙◌, subst, arith}
+use Rattle.std.proofs.Common.{◌≡◌, ℕ, ◌+◌, ◌-◌, ◌<◌, ◌≤◌, ◌^◌, ◌==◌, ◌&&◌, Bool, true, false, not, List, [], ◌∷◌, ◌++◌, length, drop, refl, sym, ap, ◌∙◌, subst, arith}
 use Rattle.std.proofs.lemmas.Bool.Decides.{nat_tests}
 use Rattle.std.proofs.lemmas.List.{append-nil, append_assoc, take_at, drop_at, length-append, get_or_at, drop_all, take-append-drop, drop-drop, drop_more}
 use Rattle.byteorder.specs.Endian.{big_number, big_bytes}
 use Rattle.byteorder.specs.Numbers.{big_number-reads_back, big_from-lt, length-bytes_high_first}
-use Rattle.itch_codec.specs.declared.side.Side.{Side}
-use Rattle.itch_codec.specs.declared.side.Side.TheVariants.{Buy, Sell}
-use Rattle.itch_codec.specs.Text.{IsPrintable}
 use Rattle.itch_codec.specs.Numbers.{slice_at, number_at, byte_at, be, dec20, SpellsNumber}
 use Rattle.itch_codec.specs.Layouts.{Class, Integer, Text, OneSide, Code, Codes, Digits, Column}
-use Rattle.itch_codec.specs.Fields.{AreBytes, Value, Number, Bytes, Way, HasAt, HasAll, FitsAt, FitAll, bytes_at, joined, side_byte}
+use Rattle.itch_codec.specs.Fields.{AreBytes, Value, Number, Bytes, TheSide, HasAt, HasAll, FitsAt, FitAll, bytes_at, joined, side_byte}
 use Rattle.itch_codec.proofs.Numbers.{dec20-spells, length-dec20}
 use Rattle.itch_codec.proofs.Bytes.{be-number, slice_bytes, length-slice_at, each_byte}
 
@@ -74,7 +71,7 @@ pub bytes_len : (class : Class) (width : ℕ) (value : Value) → is_wide class 
     → length (bytes_at class width value) ≡ width
 bytes_len Integer width (Number n) w h = length-be width n
 bytes_len Text width (Bytes bytes) w h = h.0
-bytes_len OneSide width (Way side) w h = let e = same width 1 w in omega arith
+bytes_len OneSide width (TheSide side) w h = let e = same width 1 w in omega arith
 bytes_len Code width (Number n) w h = let e = same width 1 w in omega arith
 bytes_len Codes width (Bytes bytes) w h = h.0
 bytes_len Digits width (Number n) w h = let e = same width 20 w in length-dec20 n (omega arith) ∙ sym e
@@ -86,7 +83,7 @@ has_mid : (class : Class) (offset width : ℕ) (value : Value) (front rest : Lis
 has_mid Integer offset width (Number n) front rest w h f =
     sym (number-slice offset width _ ∙ ap (big_number width) (slice_mid offset width front (be width n) rest f (length-be width n)) ∙ number-be width n h)
 has_mid Text offset width (Bytes bytes) front rest w h f = (sym (slice_mid offset width front bytes rest f h.0), h.1)
-has_mid OneSide offset width (Way side) front rest w h f = get_or_at front (side_byte side) rest 0 offset f
+has_mid OneSide offset width (TheSide side) front rest w h f = get_or_at front (side_byte side) rest 0 offset f
 has_mid Code offset width (Number n) front rest w h f = sym (get_or_at front n rest 0 offset f)
 has_mid Codes offset width (Bytes bytes) front rest w h f = sym (slice_mid offset width front bytes rest f h.0)
 has_mid Digits offset width (Number n) front rest w h f =
@@ -105,10 +102,11 @@ joined_has at end (c ∷ cs) [] front payload g h f e = absurd h
 joined_has at end (c ∷ cs) (v ∷ vs) front payload g h f e =
     let next = next_is at end c cs g in
     let bytes = bytes_at c.class c.width v in
-    let len = bytes_len c.class c.width v next.wide h.0 in
-    (subst (λ p. HasAt c.class c.offset c.width p v) (sym e) (has_mid c.class c.offset c.width v front (joined cs vs) next.wide h.0 (f ∙ next.here)),
+    let len = bytes_len c.class c.width v next.wide h.0 in (
+      subst (λ p. HasAt c.class c.offset c.width p v) (sym e) (has_mid c.class c.offset c.width v front (joined cs vs) next.wide h.0 (f ∙ next.here)),
       joined_has (at + c.width) end cs vs (front ++ bytes) payload next.rest h.1 (length-append front bytes ∙ omega arith)
-      (e ∙ sym (append_assoc front bytes (joined cs vs))))
+          (e ∙ sym (append_assoc front bytes (joined cs vs))),
+    )
 
 pub joined_len : (at end : ℕ) (cs : List Column) (vs : List Value) → is_gapless at end cs ≡ true → FitAll cs vs → at + length (joined cs vs) ≡ end
 unfolding joined
@@ -126,7 +124,6 @@ slice_one : (offset width : ℕ) (payload : List ℕ) → width ≡ 1 → offset
 unfolding slice_at
 slice_one offset width payload w h =
     let one : (offset + width) - offset ≡ 1 = omega arith in rw (one, drop_more payload offset 0 h) refl
-
 
 abbrev is_digits : Class → Bool
 is_digits Digits = true
@@ -146,7 +143,7 @@ has_bytes Integer offset width payload (Number n) d w b l h =
     ap (be width) (h ∙ number-slice offset width payload)
     ∙ be-number width (slice_at offset width payload) (length-slice_at offset width payload l) (slice_bytes offset width payload b)
 has_bytes Text offset width payload (Bytes bytes) d w b l h = h.0
-has_bytes OneSide offset width payload (Way side) d w b l h =
+has_bytes OneSide offset width payload (TheSide side) d w b l h =
     let one = same width 1 w in ap (λ byte. byte ∷ []) (sym h) ∙ sym (slice_one offset width payload one (omega arith))
 has_bytes Code offset width payload (Number n) d w b l h =
     let one = same width 1 w in ap (λ byte. byte ∷ []) h ∙ sym (slice_one offset width payload one (omega arith))
@@ -187,7 +184,7 @@ has_fits Integer offset width payload (Number n) w b l h =
     let small = big_from-lt 0 width (slice_at offset width payload) (each_byte _ (slice_bytes offset width payload b)) in
     subst (λ k. k < 256 ^ width) (sym e) small
 has_fits Text offset width payload (Bytes bytes) w b l h = (ap length h.0 ∙ length-slice_at offset width payload l, h.1)
-has_fits OneSide offset width payload (Way side) w b l h = tt
+has_fits OneSide offset width payload (TheSide side) w b l h = tt
 has_fits Code offset width payload (Number n) w b l h = subst (λ k. k < 256) (sym h) (each_byte payload b offset)
 has_fits Codes offset width payload (Bytes bytes) w b l h =
     (ap length h ∙ length-slice_at offset width payload l, subst AreBytes (sym h) (slice_bytes offset width payload b))

@@ -137,17 +137,21 @@ pub read-spells : (field : List ℕ) (n : ℕ) → read20 field ≡ Some n → S
 unfolding read20 after_spaces digits_in_front behind_digits
 read-spells field n h =
     let text = after_spaces field in
-    let parts = number_parts n (digits_in_front text) (behind_digits text) h in
-    (take (prefix_len is_space field) field, digits_in_front text, behind_digits text, record {
-      whole = sym (take-append-drop (prefix_len is_space field) field)
-      ∙ ap (λ xs. take (prefix_len is_space field) field ++ xs) (sym (take-append-drop (prefix_len is_ascii_digit text) text));
-      spaces_before = front_passes is_space field;
-      all_digits = digits_pass text;
-      some_digit = parts.some_digit;
-      spaces_behind = parts.blank;
-      value = parts.value;
-      bounded = parts.bounded
-    })
+    let parts = number_parts n (digits_in_front text) (behind_digits text) h in (
+      take (prefix_len is_space field) field,
+      digits_in_front text,
+      behind_digits text,
+      record {
+        whole = sym (take-append-drop (prefix_len is_space field) field)
+            ∙ ap (λ xs. take (prefix_len is_space field) field ++ xs) (sym (take-append-drop (prefix_len is_ascii_digit text) text));
+        spaces_before = front_passes is_space field;
+        all_digits = digits_pass text;
+        some_digit = parts.some_digit;
+        spaces_behind = parts.blank;
+        value = parts.value;
+        bounded = parts.bounded;
+      },
+    )
 
 text_of : (left digits right : List ℕ) → list_all is_space left ≡ true → all_ascii_digits digits ≡ true → 0 < length digits
     → after_spaces (left ++ (digits ++ right)) ≡ digits ++ right
@@ -188,16 +192,20 @@ spaces_all (suc n) = spaces_all n
 pub dec20-spells : (n : ℕ) → n ≤ 10 ^ 19 → SpellsNumber (dec20 n) n
 unfolding dec20
 dec20-spells n h =
-    let small : n < 2 ^ 64 = omega arith in
-    (replicate (20 - length (decimal n)) 32, decimal n, [], record {
-      whole = ap (λ xs. replicate (20 - length (decimal n)) 32 ++ xs) (sym (append-nil (decimal n)));
-      spaces_before = spaces_all (20 - length (decimal n));
-      all_digits = digits_decimal numerals n small;
-      some_digit = decimal_nonempty n small;
-      spaces_behind = refl;
-      value = sym (digits_value-decimal numerals n small);
-      bounded = h
-    })
+    let small : n < 2 ^ 64 = omega arith in (
+      replicate (20 - length (decimal n)) 32,
+      decimal n,
+      [],
+      record {
+        whole = ap (λ xs. replicate (20 - length (decimal n)) 32 ++ xs) (sym (append-nil (decimal n)));
+        spaces_before = spaces_all (20 - length (decimal n));
+        all_digits = digits_decimal numerals n small;
+        some_digit = decimal_nonempty n small;
+        spaces_behind = refl;
+        value = sym (digits_value-decimal numerals n small);
+        bounded = h;
+      },
+    )
 
 pub ruleset writing = (decimal-short, written_at)
 

@@ -1,17 +1,15 @@
 -- What spells a message: each message has a spelling, and a payload spells at most one message.
-use Rattle.std.proofs.Common.{◌≡◌, ℕ, zero, suc, ◌+◌, ◌<◌, ◌≤◌, ◌^◌, ◌==◌, Bool, true, false, cond, eqb, List, [], ◌∷◌, ◌++◌, length, drop, map, Option, None, Some, Result, Ok, Err, refl, sym, ap, ◌∙◌, subst, arith}
+use Rattle.std.proofs.Common.{◌≡◌, ℕ, ◌<◌, ◌==◌, Bool, true, false, cond, List, [], ◌∷◌, length, map, Option, None, Some, Result, Ok, Err, refl, sym, ap, ◌∙◌, subst, arith}
 use Rattle.std.specs.Prelude.{IfOk}
 use Rattle.std.specs.List.{AllByRecursion}
 use Rattle.std.proofs.lemmas.Bool.Decides.{nat_tests}
 use Rattle.itch_codec.specs.declared.fault.CodecFault.{CodecFault}
-use Rattle.itch_codec.specs.declared.fault.CodecFault.TheVariants.{WrongLength}
 use Rattle.itch_codec.specs.declared.message.Message.{Message}
 use Rattle.itch_codec.specs.declared.message.Message.TheVariants as is
-use Rattle.itch_codec.specs.Numbers.{byte_at}
 use Rattle.itch_codec.specs.Layouts.{Layout, table, layout_in, layout_of, IsUndecoded, end_of_snapshot, system_event, stock_directory, trading_action, reg_sho, add_order, attributed_add_order, order_executed, order_executed_with_price, order_cancel, order_delete, order_replace, trade, cross_trade, broken_trade}
-use Rattle.itch_codec.specs.Fields.{AreBytes, Value, HasAll, FitAll, joined, value_at, first_fault, Reads}
+use Rattle.itch_codec.specs.Fields.{AreBytes, Value, FitAll, value_at, first_fault, Reads}
 use Rattle.itch_codec.specs.Widths.{IsMessage, IsOther}
-use Rattle.itch_codec.specs.Messages.{Shape, Fields, Payload, shape, IsLaid, IsKept, HasShape, Spells, bytes_of_shape, spelling, IsEnd, IsKeptWhole, laid_fault, fault_by_layout, fault, made, message_by_layout, message_of}
+use Rattle.itch_codec.specs.Messages.{Shape, Fields, Payload, shape, IsLaid, HasShape, Spells, bytes_of_shape, spelling, IsEnd, IsKeptWhole, laid_fault, fault_by_layout, fault, made, message_by_layout, message_of}
 use Rattle.itch_codec.proofs.Tables.{all_values, all_none, none_all}
 use Rattle.itch_codec.proofs.Joined.{is_gapless, gapless_le, has_no_digits, joined_has, joined_len, has_joined, all_fit}
 
@@ -80,15 +78,15 @@ row_in : (layouts : List Layout) (kind : ℕ) (layout : Layout) → AllByRecursi
 row_in [] kind layout each h = absurd (cc)
 row_in (l ∷ ls) kind layout each h = row_at l ls kind layout each _ refl h (row_in ls kind layout each.1)
   where
-  row_at : (l : Layout) (ls : List Layout) (kind : ℕ) (layout : Layout) → AllByRecursion IsRow (l ∷ ls) → (b : Bool) → (kind == l.kind) ≡ b
-      → cond (kind == l.kind) (Some l) (layout_in ls kind) ≡ Some layout → (layout_in ls kind ≡ Some layout → IsRow layout × (layout.kind ≡ kind))
-      → IsRow layout × (layout.kind ≡ kind)
-  row_at l ls kind layout each true e h rest =
-      let found = rw e at h in
-      let one : l ≡ layout = cc in
-      let kinds : kind ≡ l.kind = grind (arith, nat_tests) in
-      (subst IsRow one each.0, sym (kinds ∙ ap (λ x. x.kind) one))
-  row_at l ls kind layout each false e h rest = rest (rw e at h)
+    row_at : (l : Layout) (ls : List Layout) (kind : ℕ) (layout : Layout) → AllByRecursion IsRow (l ∷ ls) → (b : Bool) → (kind == l.kind) ≡ b
+        → cond (kind == l.kind) (Some l) (layout_in ls kind) ≡ Some layout → (layout_in ls kind ≡ Some layout → IsRow layout × (layout.kind ≡ kind))
+        → IsRow layout × (layout.kind ≡ kind)
+    row_at l ls kind layout each true e h rest =
+        let found = rw e at h in
+        let one : l ≡ layout = cc in
+        let kinds : kind ≡ l.kind = grind (arith, nat_tests) in
+        (subst IsRow one each.0, sym (kinds ∙ ap (λ x. x.kind) one))
+    row_at l ls kind layout each false e h rest = rest (rw e at h)
 
 row_of : (kind : ℕ) (layout : Layout) → layout_of kind ≡ Some layout → IsRow layout × (layout.kind ≡ kind)
 row_of kind layout h = row_in table kind layout rows h
@@ -225,7 +223,7 @@ shape_spelled : (s : Shape) (m : Message) → Makes s m → ShapeFits s → HasS
 shape_spelled (Fields layout values) m from h = record {
   first = refl;
   size = let len = joined_len 1 layout.size layout.columns values from.0.gapless h in omega arith;
-  fields = joined_has 1 layout.size layout.columns values (layout.kind ∷ []) _ from.0.gapless h refl refl
+  fields = joined_has 1 layout.size layout.columns values (layout.kind ∷ []) _ from.0.gapless h refl refl;
 }
 shape_spelled (Payload bytes) m from h = record { whole = refl; undecoded = h.undecoded }
 
@@ -270,13 +268,18 @@ not_kept (is.BrokenTrade m) n h = h
 not_kept (is.End next) n h = h
 not_kept (is.Other bytes) n h = absurd (n tt)
 
-pub spelling_size : (m : Message) → IsMessage m → 0 < length (spelling m)
+-- a spelling is not empty
+pub spelling_some : (m : Message) → IsMessage m → 0 < length (spelling m)
 unfolding spelling
-spelling_size m h = shape_some (shape m) m (makes m) (fits m h)
+spelling_some m h = shape_some (shape m) m (makes m) (fits m h)
 
-pub spelling_short : (m : Message) → (IsKeptWhole m → ⊥) → IsMessage m → length (spelling m) < 65536
+pub spelling_short : (m : Message) → IsMessage m → (IsKeptWhole m → ⊥) → length (spelling m) < 65536
 unfolding spelling
-spelling_short m n h = not_kept m n (shape_short (shape m) m (makes m) (fits m h))
+spelling_short m h n = not_kept m n (shape_short (shape m) m (makes m) (fits m h))
+
+-- the spelling of a message that is decoded fits a block
+pub spelling_size : (m : Message) → IsMessage m → (IsKeptWhole m → ⊥) → (0 < length (spelling m)) × (length (spelling m) < 65536)
+spelling_size m h n = (spelling_some m h, spelling_short m h n)
 
 -- each message but End has one spelling
 abbrev HasOneSpelling : Shape → Type 0
@@ -358,6 +361,16 @@ pub spelling-message_of : (payload : List ℕ) → AreBytes payload → fault pa
 spelling-message_of payload b h no_end = sym (spelling-Spells (message_of payload) payload no_end b (Spells-message_of payload h))
 
 pub ruleset spelling_laws = (
-  same_message, message_of-Spells, fault-Spells, Spells-message_of, Spells-spelling, spelling_size, spelling_short, spelling-Spells, IsMessage-Spells,
-  message_of-spelling, fault-spelling, spelling-message_of
+  same_message,
+  message_of-Spells,
+  fault-Spells,
+  Spells-message_of,
+  Spells-spelling,
+  spelling_size,
+  spelling_short,
+  spelling-Spells,
+  IsMessage-Spells,
+  message_of-spelling,
+  fault-spelling,
+  spelling-message_of,
 )

@@ -1,20 +1,17 @@
 -- Over a layout's columns: what fields hold, what their faults are, and how their bytes are joined.
-use Rattle.std.proofs.Common.{◌≡◌, ℕ, zero, suc, ◌+◌, ◌-◌, ◌*◌, ◌<◌, ◌≤◌, ◌^◌, ◌==◌, ◌&&◌, ◌||◌, Bool, true, false, cond, eqb, List, [], ◌∷◌, ◌++◌, length, take, drop, get_or, map, Option, None, Some, refl, sym, ap, ◌∙◌, subst, arith}
+use Rattle.std.proofs.Common.{◌≡◌, ℕ, zero, suc, ◌+◌, ◌≤◌, ◌||◌, Bool, true, false, cond, eqb, List, [], ◌∷◌, map, Option, None, Some, refl, sym, ap, ◌∙◌, subst, arith}
 use Rattle.std.specs.Prelude.{unwrap_or, option_map}
 use Rattle.std.proofs.lemmas.Bool.Decides.{nat_tests}
-use Rattle.std.proofs.lemmas.List.{append-nil, append_assoc, take_at, drop_at, length-append, get_or-append-add, drop_all, take-append-drop}
-use Rattle.byteorder.specs.Numbers.{big_number-reads_back, big_from-lt, length-bytes_high_first}
 use Rattle.itch_codec.specs.declared.side.Side.{Side}
 use Rattle.itch_codec.specs.declared.side.Side.TheVariants.{Buy, Sell}
 use Rattle.itch_codec.specs.declared.fault.CodecFault.{CodecFault}
 use Rattle.itch_codec.specs.declared.fault.CodecFault.TheVariants.{BadText, BadSide}
-use Rattle.itch_codec.specs.Text.{IsPrintable, first_unprintable}
-use Rattle.itch_codec.specs.Numbers.{slice_at, number_at, byte_at, be, dec20, SpellsNumber, read20}
+use Rattle.itch_codec.specs.Text.{IsPrintable}
+use Rattle.itch_codec.specs.Numbers.{slice_at, byte_at, SpellsNumber, read20}
 use Rattle.itch_codec.specs.Layouts.{Class, Integer, Text, OneSide, Code, Codes, Digits, Column}
-use Rattle.itch_codec.specs.Fields.{AreBytes, Value, Number, Bytes, Way, Has, HasAt, HasAll, FitsAt, FitAll, IsAlpha, IsBytes, bytes_at, joined, side_byte, side_of, value_by, value_at, text_fault, side_fault, number_fault, fault_by, field_fault, first_of, first_fault}
+use Rattle.itch_codec.specs.Fields.{Value, Number, Bytes, TheSide, HasAt, HasAll, side_byte, side_of, value_by, value_at, side_fault, number_fault, fault_by, field_fault, first_of, first_fault}
 use Rattle.itch_codec.proofs.Texts.{printable-none, none-printable}
-use Rattle.itch_codec.proofs.Numbers.{read-spells, spells-read, dec20-spells, length-dec20}
-use Rattle.itch_codec.proofs.Bytes.{be-number, slice_bytes, length-slice_at, each_byte}
+use Rattle.itch_codec.proofs.Numbers.{read-spells, spells-read}
 
 abbrev side_fault_of : ℕ → Bool → Bool → Option CodecFault
 side_fault_of offset buy sell = cond (buy || sell) None (Some (BadSide offset))
@@ -52,7 +49,7 @@ has_value : (class : Class) (offset width : ℕ) (payload : List ℕ) (value : V
     → value ≡ value_by class offset width payload
 has_value Integer offset width payload (Number n) h = ap Number h
 has_value Text offset width payload (Bytes bytes) h = ap Bytes h.0
-has_value OneSide offset width payload (Way side) h = ap Way (side_there (byte_at offset payload) side h)
+has_value OneSide offset width payload (TheSide side) h = ap TheSide (side_there (byte_at offset payload) side h)
 has_value Code offset width payload (Number n) h = ap Number h
 has_value Codes offset width payload (Bytes bytes) h = ap Bytes h
 has_value Digits offset width payload (Number n) h =
@@ -64,7 +61,7 @@ has_no_fault : (class : Class) (offset width : ℕ) (payload : List ℕ) (value 
     → fault_by class offset width payload ≡ None
 has_no_fault Text offset width payload (Bytes bytes) h =
     ap (option_map (λ k. BadText (offset + k))) (printable-none (slice_at offset width payload) (subst IsPrintable h.0 h.1))
-has_no_fault OneSide offset width payload (Way side) h = side_fine offset payload side h
+has_no_fault OneSide offset width payload (TheSide side) h = side_fine offset payload side h
 has_no_fault Digits offset width payload (Number n) h =
     ap number_fault (spells-read (slice_at offset width payload) n h.0) ∙ number_fine n h.1
 has_no_fault Integer offset width payload value h = refl

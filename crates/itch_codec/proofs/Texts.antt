@@ -1,6 +1,6 @@
 -- Printable bytes, and their first byte that is not.
 use Rattle.std.proofs.Common.{◌≡◌, ℕ, zero, suc, ◌+◌, ◌-◌, ◌<◌, ◌≤◌, Bool, true, false, not, cond, ltb, List, [], ◌∷◌, ◌++◌, length, take, drop, replicate, get_or, slice_index, Option, None, Some, refl, sym, ap, ◌∙◌, arith}
-use Rattle.std.specs.List.{prefix_len, position}
+use Rattle.std.specs.List.{prefix_len}
 use Rattle.std.proofs.Math.Numerals.{one-add}
 use Rattle.std.proofs.lemmas.List.Sums.{prefix_len-le-length}
 use Rattle.std.proofs.lemmas.Bool.Decides.{nat_tests}
@@ -59,7 +59,7 @@ text-whole field len within spaces =
     let left : length (drop len field) ≡ length field - len = length-drop len field in
     let behind : drop len field ≡ replicate (length field - len) 32 =
     ext_get_or 0 (drop len field) (replicate (length field - len) 32) (left ∙ sym (length-replicate (length field - len) 32)) (λ i h.
-      get_or-drop len field i 0 ∙ spaces (len + i) (omega arith) (omega arith) ∙ sym (get_or-replicate (length field - len) i 32 0 (omega arith))) in
+    get_or-drop len field i 0 ∙ spaces (len + i) (omega arith) (omega arith) ∙ sym (get_or-replicate (length field - len) i 32 0 (omega arith))) in
     sym (take-append-drop len field) ∙ ap (λ xs. take len field ++ xs) (behind ∙ ap (λ k. replicate (length field - k) 32) (sym size))
 
 -- printable bytes are text

@@ -1,5 +1,5 @@
 -- The fields of a message: what a column of the layout holds, how it is spelled, and its fault.
-use Rattle.std.specs.Prelude.{◌≡◌, ℕ, ◌+◌, ◌*◌, ◌<◌, ◌≤◌, ◌^◌, ◌==◌, ◌||◌, List, [], ◌∷◌, ◌++◌, length, Option, Some, None, option_map, unwrap_or, Result, Ok, Err, if◌then◌else◌}
+use Rattle.std.specs.Prelude.{◌≡◌, ℕ, ◌+◌, ◌<◌, ◌≤◌, ◌^◌, ◌==◌, ◌||◌, List, [], ◌∷◌, ◌++◌, length, Option, Some, None, option_map, unwrap_or, Result, Ok, Err, if◌then◌else◌}
 use Rattle.std.specs.List.{AllByRecursion}
 use Rattle.itch_codec.specs.declared.side.Side.{Side}
 use Rattle.itch_codec.specs.declared.side.Side.TheVariants.{Buy, Sell}
@@ -25,7 +25,7 @@ IsAlpha width bytes = (length bytes ≡ width) × IsPrintable bytes
 pub data Value : Type 0 where
   Number : (number : ℕ) → Value
   Bytes : (bytes : List ℕ) → Value
-  Way : (side : Side) → Value
+  TheSide : (side : Side) → Value
 
 -- the byte of a side: B or S
 abbrev pub side_byte : Side → ℕ
@@ -36,12 +36,13 @@ side_byte Sell = 83
 abbrev pub HasAt : Class → ℕ → ℕ → List ℕ → Value → Type 0
 HasAt Integer offset width payload (Number number) = number ≡ number_at offset width payload
 HasAt Text offset width payload (Bytes bytes) = (bytes ≡ slice_at offset width payload) × IsPrintable bytes
-HasAt OneSide offset width payload (Way side) = byte_at offset payload ≡ side_byte side
+HasAt OneSide offset width payload (TheSide side) = byte_at offset payload ≡ side_byte side
 HasAt Code offset width payload (Number byte) = byte ≡ byte_at offset payload
 HasAt Codes offset width payload (Bytes bytes) = bytes ≡ slice_at offset width payload
 HasAt Digits offset width payload (Number number) = SpellsNumber (slice_at offset width payload) number × (1 ≤ number)
 HasAt class offset width payload value = ⊥
 
+-- a column's field holds the value
 abbrev pub Has : List ℕ → Column → Value → Type 0
 Has payload column value = HasAt column.class column.offset column.width payload value
 
@@ -55,12 +56,13 @@ HasAll payload columns values = ⊥
 abbrev pub FitsAt : Class → ℕ → Value → Type 0
 FitsAt Integer width (Number number) = number < 256 ^ width
 FitsAt Text width (Bytes bytes) = IsAlpha width bytes
-FitsAt OneSide width (Way side) = Unit {0}
+FitsAt OneSide width (TheSide side) = Unit {0}
 FitsAt Code width (Number byte) = byte < 256
 FitsAt Codes width (Bytes bytes) = IsBytes width bytes
 FitsAt Digits width (Number number) = (1 ≤ number) × (number ≤ 10 ^ 19)
 FitsAt class width value = ⊥
 
+-- each value fits its column
 abbrev pub FitAll : List Column → List Value → Type 0
 FitAll [] [] = Unit {0}
 FitAll (column ∷ columns) (value ∷ values) = FitsAt column.class column.width value × FitAll columns values
@@ -72,7 +74,7 @@ bytes_at Digits width (Number number) = dec20 number
 bytes_at Code width (Number byte) = byte ∷ []
 bytes_at class width (Number number) = be width number
 bytes_at class width (Bytes bytes) = bytes
-bytes_at class width (Way side) = side_byte side ∷ []
+bytes_at class width (TheSide side) = side_byte side ∷ []
 
 -- the fields' bytes, one after the other
 unfoldable pub joined : List Column → List Value → List ℕ
@@ -88,20 +90,24 @@ side_of byte = if byte == 66 then Buy else Sell
 abbrev pub value_by : Class → ℕ → ℕ → List ℕ → Value
 value_by Integer offset width payload = Number (number_at offset width payload)
 value_by Text offset width payload = Bytes (slice_at offset width payload)
-value_by OneSide offset width payload = Way (side_of (byte_at offset payload))
+value_by OneSide offset width payload = TheSide (side_of (byte_at offset payload))
 value_by Code offset width payload = Number (byte_at offset payload)
 value_by Codes offset width payload = Bytes (slice_at offset width payload)
 value_by Digits offset width payload = Number (unwrap_or (read20 (slice_at offset width payload)) 0)
 
+-- the value in a column's field, where it has no fault
 abbrev pub value_at : List ℕ → Column → Value
 value_at payload column = value_by column.class column.offset column.width payload
 
+-- the first byte of the text that is not printable
 abbrev pub text_fault : ℕ → ℕ → List ℕ → Option CodecFault
 text_fault offset width payload = option_map (λ place. BadText (offset + place)) (first_unprintable (slice_at offset width payload))
 
+-- a byte that is neither B nor S
 abbrev pub side_fault : ℕ → List ℕ → Option CodecFault
 side_fault offset payload = if byte_at offset payload == 66 || byte_at offset payload == 83 then None else Some (BadSide offset)
 
+-- no number, or the number 0
 abbrev pub number_fault : Option ℕ → Option CodecFault
 number_fault number = if unwrap_or number 0 == 0 then Some BadNumber else None
 
@@ -112,9 +118,11 @@ fault_by OneSide offset width payload = side_fault offset payload
 fault_by Digits offset width payload = number_fault (read20 (slice_at offset width payload))
 fault_by class offset width payload = None
 
+-- the fault of a column's field
 abbrev pub field_fault : List ℕ → Column → Option CodecFault
 field_fault payload column = fault_by column.class column.offset column.width payload
 
+-- the first fault of two
 abbrev pub first_of : Option CodecFault → Option CodecFault → Option CodecFault
 first_of (Some fault) later = Some fault
 first_of None later = later

@@ -22,6 +22,7 @@ pub record Layout : Type 0 where
   pub size : ℕ
   pub columns : List Column
 
+-- a column of so many bytes from this place on
 abbrev pub column : ℕ → ℕ → Class → Column
 column offset width class = record { offset = offset; width = width; class = class }
 
@@ -29,9 +30,11 @@ column offset width class = record { offset = offset; width = width; class = cla
 abbrev pub with_header : List Column → List Column
 with_header columns = column 1 2 Integer ∷ column 3 2 Integer ∷ column 5 6 Integer ∷ columns
 
+-- a message type with a header in front of its fields
 abbrev pub message_type : ℕ → ℕ → List Column → Layout
 message_type kind size columns = record { kind = kind; size = size; columns = with_header columns }
 
+-- System Event, S: event code
 abbrev pub system_event : Layout
 system_event = message_type 83 12 (column 11 1 Code ∷ [])
 
@@ -41,12 +44,15 @@ directory_columns =
     column 11 8 Text ∷ column 19 1 Code ∷ column 20 1 Code ∷ column 21 4 Integer ∷ column 25 1 Code ∷ column 26 1 Code ∷ column 27 2 Codes
     ∷ column 29 1 Code ∷ column 30 1 Code ∷ column 31 1 Code ∷ column 32 1 Code ∷ column 33 1 Code ∷ column 34 4 Integer ∷ column 38 1 Code ∷ []
 
+-- Stock Directory, R: header and entry
 abbrev pub stock_directory : Layout
 stock_directory = message_type 82 39 directory_columns
 
+-- Stock Trading Action, H: stock, trading state, reserved, reason
 abbrev pub trading_action : Layout
 trading_action = message_type 72 25 (column 11 8 Text ∷ column 19 1 Code ∷ column 20 1 Code ∷ column 21 4 Codes ∷ [])
 
+-- Reg SHO Restriction, Y: stock, action
 abbrev pub reg_sho : Layout
 reg_sho = message_type 89 20 (column 11 8 Text ∷ column 19 1 Code ∷ [])
 
@@ -55,9 +61,11 @@ abbrev pub order_columns : List Column → List Column
 order_columns columns =
     column 11 8 Integer ∷ column 19 1 OneSide ∷ column 20 4 Integer ∷ column 24 8 Text ∷ column 32 4 Integer ∷ columns
 
+-- Add Order without attribution, A
 abbrev pub add_order : Layout
 add_order = message_type 65 36 (order_columns [])
 
+-- Add Order with MPID Attribution, F: as A, then attribution
 abbrev pub attributed_add_order : Layout
 attributed_add_order = message_type 70 40 (order_columns (column 36 4 Text ∷ []))
 
@@ -65,27 +73,35 @@ attributed_add_order = message_type 70 40 (order_columns (column 36 4 Text ∷ [
 abbrev pub execution_columns : List Column → List Column
 execution_columns columns = column 11 8 Integer ∷ column 19 4 Integer ∷ column 23 8 Integer ∷ columns
 
+-- Order Executed, E
 abbrev pub order_executed : Layout
 order_executed = message_type 69 31 (execution_columns [])
 
+-- Order Executed With Price, C: as E, then printable, price
 abbrev pub order_executed_with_price : Layout
 order_executed_with_price = message_type 67 36 (execution_columns (column 31 1 Code ∷ column 32 4 Integer ∷ []))
 
+-- Order Cancel, X: reference, cancelled shares
 abbrev pub order_cancel : Layout
 order_cancel = message_type 88 23 (column 11 8 Integer ∷ column 19 4 Integer ∷ [])
 
+-- Order Delete, D: reference
 abbrev pub order_delete : Layout
 order_delete = message_type 68 19 (column 11 8 Integer ∷ [])
 
+-- Order Replace, U: original reference, new reference, shares, price
 abbrev pub order_replace : Layout
 order_replace = message_type 85 35 (column 11 8 Integer ∷ column 19 8 Integer ∷ column 27 4 Integer ∷ column 31 4 Integer ∷ [])
 
+-- Trade, non-cross, P: as A, then match number
 abbrev pub trade : Layout
 trade = message_type 80 44 (order_columns (column 36 8 Integer ∷ []))
 
+-- Cross Trade, Q: shares, stock, cross price, match number, cross type
 abbrev pub cross_trade : Layout
 cross_trade = message_type 81 40 (column 11 8 Integer ∷ column 19 8 Text ∷ column 27 4 Integer ∷ column 31 8 Integer ∷ column 39 1 Code ∷ [])
 
+-- Broken Trade, B: match number
 abbrev pub broken_trade : Layout
 broken_trade = message_type 66 19 (column 11 8 Integer ∷ [])
 
@@ -99,6 +115,7 @@ table =
     system_event ∷ stock_directory ∷ trading_action ∷ reg_sho ∷ add_order ∷ attributed_add_order ∷ order_executed ∷ order_executed_with_price
     ∷ order_cancel ∷ order_delete ∷ order_replace ∷ trade ∷ cross_trade ∷ broken_trade ∷ end_of_snapshot ∷ []
 
+-- the first layout in a list with this first byte
 abbrev pub layout_in : List Layout → ℕ → Option Layout
 layout_in [] kind = None
 layout_in (layout ∷ layouts) kind = if kind == layout.kind then Some layout else layout_in layouts kind

@@ -1,12 +1,12 @@
 -- What spells a message, what a payload's fault is, and which message a payload spells (TotalView-ITCH 5.0, "Message Formats").
-use Rattle.std.specs.Prelude.{◌≡◌, ℕ, ◌<◌, ◌==◌, List, [], ◌∷◌, map, length, Option, Some, None, if◌then◌else◌}
+use Rattle.std.specs.Prelude.{◌≡◌, ℕ, ◌==◌, List, [], ◌∷◌, map, length, Option, Some, None, if◌then◌else◌}
 use Rattle.itch_codec.specs.declared.fault.CodecFault.{CodecFault}
 use Rattle.itch_codec.specs.declared.fault.CodecFault.TheVariants.{Empty, WrongLength}
 use Rattle.itch_codec.specs.declared.message.Message.{Message}
 use Rattle.itch_codec.specs.declared.message.Message.TheVariants as is
 use Rattle.itch_codec.specs.Layouts.{Layout, layout_of, IsUndecoded, end_of_snapshot, system_event, stock_directory, trading_action, reg_sho, add_order, attributed_add_order, order_executed, order_executed_with_price, order_cancel, order_delete, order_replace, trade, cross_trade, broken_trade}
 use Rattle.itch_codec.specs.Numbers.{byte_at}
-use Rattle.itch_codec.specs.Fields.{Value, Number, HasAll, FitAll, joined, value_at, first_fault}
+use Rattle.itch_codec.specs.Fields.{Value, Number, HasAll, joined, value_at, first_fault}
 use Rattle.itch_codec.specs.Values.{number, system_event_values, system_event_of, stock_directory_values, stock_directory_of, trading_action_values, trading_action_of, reg_sho_values, reg_sho_of, add_order_values, add_order_of, attributed_add_order_values, attributed_add_order_of, order_executed_values, order_executed_of, order_executed_with_price_values, order_executed_with_price_of, order_cancel_values, order_cancel_of, order_delete_values, order_delete_of, order_replace_values, order_replace_of, trade_values, trade_of, cross_trade_values, cross_trade_of, broken_trade_values, broken_trade_of}
 
 -- how a message is spelled: by the fields of its layout, or by the whole payload
@@ -44,6 +44,7 @@ pub record IsKept (bytes payload : List ℕ) : Type 0 where
   pub whole : payload ≡ bytes
   pub undecoded : IsUndecoded payload
 
+-- the payload is spelled so
 abbrev pub HasShape : Shape → List ℕ → Type 0
 HasShape (Fields layout values) payload = IsLaid layout values payload
 HasShape (Payload bytes) payload = IsKept bytes payload
@@ -52,6 +53,7 @@ HasShape (Payload bytes) payload = IsKept bytes payload
 abbrev pub Spells : Message → List ℕ → Type 0
 Spells m payload = HasShape (shape m) payload
 
+-- the layout's first byte and the fields' bytes; or the payload
 abbrev pub bytes_of_shape : Shape → List ℕ
 bytes_of_shape (Fields layout values) = layout.kind ∷ joined layout.columns values
 bytes_of_shape (Payload bytes) = bytes
@@ -77,6 +79,7 @@ laid_fault layout payload =
     then first_fault payload layout.columns
     else Some (WrongLength layout.kind layout.size (length payload))
 
+-- the fault of a payload of this layout, or none where its type is not in the table
 abbrev pub fault_by_layout : Option Layout → List ℕ → Option CodecFault
 fault_by_layout None payload = None
 fault_by_layout (Some layout) payload = laid_fault layout payload
@@ -105,6 +108,7 @@ made kind values =
     if kind == broken_trade.kind then is.BrokenTrade (broken_trade_of values) else (
     is.End (number 0 values)))))))))))))))
 
+-- the message of a payload of this layout, or the payload where its type is not in the table
 abbrev pub message_by_layout : Option Layout → List ℕ → Message
 message_by_layout None payload = is.Other payload
 message_by_layout (Some layout) payload = made layout.kind (map (value_at payload) layout.columns)

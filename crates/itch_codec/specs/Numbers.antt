@@ -1,5 +1,5 @@
 -- Integers in bytes, and numbers in twenty decimal digits (TotalView-ITCH 5.0, "Data Types"; GLIMPSE 5.0, "End of Snapshot").
-use Rattle.std.specs.Prelude.{◌≡◌, ℕ, ◌+◌, ◌-◌, ◌<◌, ◌≤◌, ◌^◌, ◌==◌, Bool, true, false, ◌&&◌, ◌||◌, not, nat_le, IsTrue, List, [], ◌∷◌, ◌++◌, length, replicate, take, drop, slice_range, slice_index, decimal, Option, Some, None, if◌then◌else◌}
+use Rattle.std.specs.Prelude.{◌≡◌, ℕ, ◌+◌, ◌-◌, ◌<◌, ◌≤◌, ◌^◌, ◌==◌, Bool, nat_le, IsTrue, List, [], ◌∷◌, ◌++◌, length, replicate, take, drop, slice_range, slice_index, decimal, Option, Some, None, if◌then◌else◌}
 use Rattle.std.specs.Char.{is_ascii_digit}
 use Rattle.std.specs.List.{prefix_len, list_all}
 use Rattle.std.specs.Str.{all_ascii_digits}
@@ -14,6 +14,7 @@ slice_at offset width payload = slice_range payload offset (offset + width)
 unfoldable pub number_at : ℕ → ℕ → List ℕ → ℕ
 number_at offset width payload = big_number width (slice_range payload offset (offset + width))
 
+-- the byte of a message at this place
 abbrev pub byte_at : ℕ → List ℕ → ℕ
 byte_at offset payload = slice_index payload offset
 
@@ -25,6 +26,7 @@ be width number = big_bytes width number
 unfoldable pub dec20 : ℕ → List ℕ
 dec20 number = replicate (20 - length (decimal number)) 32 ++ decimal number
 
+-- the byte is a space
 abbrev pub is_space : ℕ → Bool
 is_space byte = byte == 32
 
@@ -38,6 +40,7 @@ pub record IsNumber (field : List ℕ) (number : ℕ) (left digits right : List 
   pub value : number ≡ digits_value 10 digits
   pub bounded : number ≤ 10 ^ 19
 
+-- the field spells the number, with some parts
 abbrev pub SpellsNumber : List ℕ → ℕ → Type 0
 SpellsNumber field number =
     (left : List ℕ) × (digits : List ℕ) × (right : List ℕ) × IsNumber field number left digits right
@@ -46,12 +49,15 @@ SpellsNumber field number =
 unfoldable pub after_spaces : List ℕ → List ℕ
 after_spaces field = drop (prefix_len is_space field) field
 
+-- the digits that a text begins with
 unfoldable pub digits_in_front : List ℕ → List ℕ
 digits_in_front text = take (prefix_len is_ascii_digit text) text
 
+-- what stands behind the digits that a text begins with
 unfoldable pub behind_digits : List ℕ → List ℕ
 behind_digits text = drop (prefix_len is_ascii_digit text) text
 
+-- the digits' value, if it is at most 10^19
 abbrev pub number_of_digits : List ℕ → Option ℕ
 number_of_digits digits = if nat_le (digits_value 10 digits) (10 ^ 19) then Some (digits_value 10 digits) else None
 

@@ -1,5 +1,5 @@
 -- Texts of a fixed width: printable characters, left-justified and padded on the right with spaces (TotalView-ITCH 5.0, "Data Types").
-use Rattle.std.specs.Prelude.{◌≡◌, ℕ, ◌-◌, ◌<◌, ◌≤◌, Bool, ◌||◌, nat_lt, List, [], ◌∷◌, ◌++◌, length, replicate, Option, position, slice_index, ◌≢◌}
+use Rattle.std.specs.Prelude.{◌≡◌, ℕ, ◌-◌, ◌<◌, ◌≤◌, Bool, ◌||◌, nat_lt, List, ◌++◌, length, replicate, Option, position, slice_index, ◌≢◌}
 use Rattle.std.specs.List.{AllByRecursion}
 
 -- a byte from the space to the tilde
@@ -10,6 +10,7 @@ IsPrintableByte byte = (32 ≤ byte) × (byte ≤ 126)
 abbrev pub IsPrintable : List ℕ → Type 0
 IsPrintable bytes = AllByRecursion IsPrintableByte bytes
 
+-- the byte is below the space or above the tilde
 abbrev pub is_unprintable : ℕ → Bool
 is_unprintable byte = nat_lt byte 32 || nat_lt 126 byte
 

@@ -18,39 +18,46 @@ use Rattle.itch_codec.specs.declared.orders.OrderReplace.{OrderReplace}
 use Rattle.itch_codec.specs.declared.trades.Trade.{Trade}
 use Rattle.itch_codec.specs.declared.trades.CrossTrade.{CrossTrade}
 use Rattle.itch_codec.specs.declared.trades.BrokenTrade.{BrokenTrade}
-use Rattle.itch_codec.specs.Fields.{Value, Number, Bytes, Way}
+use Rattle.itch_codec.specs.Fields.{Value, Number, Bytes, TheSide}
 
 -- the values of a header, and those behind it
 abbrev pub header_values : Header → List Value → List Value
 header_values h values = Number h.locate ∷ Number h.tracking ∷ Number h.stamp ∷ values
 
+-- the values of a System Event
 abbrev pub system_event_values : SystemEvent → List Value
 system_event_values m = header_values m.header (Number m.code ∷ [])
 
+-- the values of a directory entry
 abbrev pub directory_values : Directory → List Value
 directory_values d =
     Bytes d.stock ∷ Number d.market_category ∷ Number d.financial_status ∷ Number d.round_lot_size ∷ Number d.round_lots_only
     ∷ Number d.issue_classification ∷ Bytes d.issue_sub_type ∷ Number d.authenticity ∷ Number d.short_sale_threshold ∷ Number d.ipo_flag
     ∷ Number d.luld_price_tier ∷ Number d.etp_flag ∷ Number d.etp_leverage_factor ∷ Number d.inverse_indicator ∷ []
 
+-- the values of a Stock Directory message
 abbrev pub stock_directory_values : StockDirectory → List Value
 stock_directory_values m = header_values m.header (directory_values m.entry)
 
+-- the values of a Stock Trading Action
 abbrev pub trading_action_values : TradingAction → List Value
 trading_action_values m =
     header_values m.header (Bytes m.stock ∷ Number m.state ∷ Number m.reserved ∷ Bytes m.reason ∷ [])
 
+-- the values of a Reg SHO Restriction
 abbrev pub reg_sho_values : RegSho → List Value
 reg_sho_values m = header_values m.header (Bytes m.stock ∷ Number m.action ∷ [])
 
 -- the values of a new order, and those behind it
 abbrev pub order_values : AddOrder → List Value → List Value
 order_values m values =
-    header_values m.header (Number m.reference ∷ Way m.side ∷ Number m.shares ∷ Bytes m.stock ∷ Number m.price ∷ values)
+    header_values m.header (Number m.reference ∷ TheSide m.side ∷ Number m.shares ∷ Bytes m.stock ∷ Number m.price ∷ values)
 
+-- the values of an Add Order
 abbrev pub add_order_values : AddOrder → List Value
 add_order_values m = order_values m []
 
+-- the values of an Add Order with attribution
 abbrev pub attributed_add_order_values : AttributedAddOrder → List Value
 attributed_add_order_values m = order_values m.order (Bytes m.attribution ∷ [])
 
@@ -58,63 +65,77 @@ attributed_add_order_values m = order_values m.order (Bytes m.attribution ∷ []
 abbrev pub execution_values : OrderExecuted → List Value → List Value
 execution_values m values = header_values m.header (Number m.reference ∷ Number m.shares ∷ Number m.match_number ∷ values)
 
+-- the values of an Order Executed message
 abbrev pub order_executed_values : OrderExecuted → List Value
 order_executed_values m = execution_values m []
 
+-- the values of an Order Executed With Price message
 abbrev pub order_executed_with_price_values : OrderExecutedWithPrice → List Value
 order_executed_with_price_values m = execution_values m.execution (Number m.printable ∷ Number m.price ∷ [])
 
+-- the values of an Order Cancel
 abbrev pub order_cancel_values : OrderCancel → List Value
 order_cancel_values m = header_values m.header (Number m.reference ∷ Number m.shares ∷ [])
 
+-- the values of an Order Delete
 abbrev pub order_delete_values : OrderDelete → List Value
 order_delete_values m = header_values m.header (Number m.reference ∷ [])
 
+-- the values of an Order Replace
 abbrev pub order_replace_values : OrderReplace → List Value
 order_replace_values m =
     header_values m.header (Number m.original ∷ Number m.reference ∷ Number m.shares ∷ Number m.price ∷ [])
 
+-- the values of a Trade
 abbrev pub trade_values : Trade → List Value
 trade_values m =
-    header_values m.header (Number m.reference ∷ Way m.side ∷ Number m.shares ∷ Bytes m.stock ∷ Number m.price ∷ Number m.match_number ∷ [])
+    header_values m.header (Number m.reference ∷ TheSide m.side ∷ Number m.shares ∷ Bytes m.stock ∷ Number m.price ∷ Number m.match_number ∷ [])
 
+-- the values of a Cross Trade
 abbrev pub cross_trade_values : CrossTrade → List Value
 cross_trade_values m =
     header_values m.header (Number m.shares ∷ Bytes m.stock ∷ Number m.price ∷ Number m.match_number ∷ Number m.cross_type ∷ [])
 
+-- the values of a Broken Trade
 abbrev pub broken_trade_values : BrokenTrade → List Value
 broken_trade_values m = header_values m.header (Number m.match_number ∷ [])
 
--- the number, the bytes or the side that a value is
+-- the number that a value is
 abbrev pub number_in : Value → ℕ
 number_in (Number number) = number
 number_in value = 0
 
+-- the bytes that a value is
 abbrev pub bytes_in : Value → List ℕ
 bytes_in (Bytes bytes) = bytes
 bytes_in value = []
 
+-- the side that a value is
 abbrev pub side_in : Value → Side
-side_in (Way side) = side
+side_in (TheSide side) = side
 side_in value = Buy
 
--- the values by place, counted from 0
+-- the number at this place of the values, counted from 0
 abbrev pub number : ℕ → List Value → ℕ
 number place values = number_in (get_or values place (Number 0))
 
+-- the bytes at this place
 abbrev pub bytes : ℕ → List Value → List ℕ
 bytes place values = bytes_in (get_or values place (Number 0))
 
+-- the side at this place
 abbrev pub side : ℕ → List Value → Side
 side place values = side_in (get_or values place (Number 0))
 
--- the messages that such values make
+-- the header in the first three values
 abbrev pub header_of : List Value → Header
 header_of vs = record { locate = number 0 vs; tracking = number 1 vs; stamp = number 2 vs }
 
+-- a System Event with these values
 abbrev pub system_event_of : List Value → SystemEvent
 system_event_of vs = record { header = header_of vs; code = number 3 vs }
 
+-- the directory entry in the values behind a header
 abbrev pub directory_of : List Value → Directory
 directory_of vs = record {
   stock = bytes 3 vs;
@@ -130,43 +151,54 @@ directory_of vs = record {
   luld_price_tier = number 13 vs;
   etp_flag = number 14 vs;
   etp_leverage_factor = number 15 vs;
-  inverse_indicator = number 16 vs
+  inverse_indicator = number 16 vs;
 }
 
+-- a Stock Directory message with these values
 abbrev pub stock_directory_of : List Value → StockDirectory
 stock_directory_of vs = record { header = header_of vs; entry = directory_of vs }
 
+-- a Stock Trading Action with these values
 abbrev pub trading_action_of : List Value → TradingAction
 trading_action_of vs =
     record { header = header_of vs; stock = bytes 3 vs; state = number 4 vs; reserved = number 5 vs; reason = bytes 6 vs }
 
+-- a Reg SHO Restriction with these values
 abbrev pub reg_sho_of : List Value → RegSho
 reg_sho_of vs = record { header = header_of vs; stock = bytes 3 vs; action = number 4 vs }
 
+-- an Add Order with these values
 abbrev pub add_order_of : List Value → AddOrder
 add_order_of vs =
     record { header = header_of vs; reference = number 3 vs; side = side 4 vs; shares = number 5 vs; stock = bytes 6 vs; price = number 7 vs }
 
+-- an Add Order with attribution with these values
 abbrev pub attributed_add_order_of : List Value → AttributedAddOrder
 attributed_add_order_of vs = record { order = add_order_of vs; attribution = bytes 8 vs }
 
+-- an Order Executed message with these values
 abbrev pub order_executed_of : List Value → OrderExecuted
 order_executed_of vs =
     record { header = header_of vs; reference = number 3 vs; shares = number 4 vs; match_number = number 5 vs }
 
+-- an Order Executed With Price message with these values
 abbrev pub order_executed_with_price_of : List Value → OrderExecutedWithPrice
 order_executed_with_price_of vs = record { execution = order_executed_of vs; printable = number 6 vs; price = number 7 vs }
 
+-- an Order Cancel with these values
 abbrev pub order_cancel_of : List Value → OrderCancel
 order_cancel_of vs = record { header = header_of vs; reference = number 3 vs; shares = number 4 vs }
 
+-- an Order Delete with these values
 abbrev pub order_delete_of : List Value → OrderDelete
 order_delete_of vs = record { header = header_of vs; reference = number 3 vs }
 
+-- an Order Replace with these values
 abbrev pub order_replace_of : List Value → OrderReplace
 order_replace_of vs =
     record { header = header_of vs; original = number 3 vs; reference = number 4 vs; shares = number 5 vs; price = number 6 vs }
 
+-- a Trade with these values
 abbrev pub trade_of : List Value → Trade
 trade_of vs = record {
   header = header_of vs;
@@ -175,9 +207,10 @@ trade_of vs = record {
   shares = number 5 vs;
   stock = bytes 6 vs;
   price = number 7 vs;
-  match_number = number 8 vs
+  match_number = number 8 vs;
 }
 
+-- a Cross Trade with these values
 abbrev pub cross_trade_of : List Value → CrossTrade
 cross_trade_of vs = record {
   header = header_of vs;
@@ -185,8 +218,9 @@ cross_trade_of vs = record {
   stock = bytes 4 vs;
   price = number 5 vs;
   match_number = number 6 vs;
-  cross_type = number 7 vs
+  cross_type = number 7 vs;
 }
 
+-- a Broken Trade with these values
 abbrev pub broken_trade_of : List Value → BrokenTrade
 broken_trade_of vs = record { header = header_of vs; match_number = number 3 vs }

@@ -1,5 +1,5 @@
 -- What the fields of each message may hold: each fits its width and class. A side needs no word.
-use Rattle.std.specs.Prelude.{◌≡◌, ℕ, ◌<◌, ◌≤◌, ◌^◌, List, length}
+use Rattle.std.specs.Prelude.{ℕ, ◌<◌, ◌≤◌, ◌^◌, List}
 use Rattle.itch_codec.specs.Fields.{AreBytes, IsBytes, IsAlpha}
 use Rattle.itch_codec.specs.Layouts.{IsUndecoded}
 use Rattle.itch_codec.specs.declared.header.Header.{Header}
@@ -21,11 +21,13 @@ use Rattle.itch_codec.specs.declared.trades.BrokenTrade.{BrokenTrade}
 use Rattle.itch_codec.specs.declared.message.Message.{Message}
 use Rattle.itch_codec.specs.declared.message.Message.TheVariants as is
 
+-- the fields of a header fit
 pub record IsHeader (h : Header) : Type 0 where
   pub locate : h.locate < 2 ^ 16
   pub tracking : h.tracking < 2 ^ 16
   pub stamp : h.stamp < 2 ^ 48
 
+-- the fields of a directory entry fit
 pub record IsDirectory (d : Directory) : Type 0 where
   pub stock : IsAlpha 8 d.stock
   pub market_category : d.market_category < 256
@@ -42,14 +44,17 @@ pub record IsDirectory (d : Directory) : Type 0 where
   pub etp_leverage_factor : d.etp_leverage_factor < 2 ^ 32
   pub inverse_indicator : d.inverse_indicator < 256
 
+-- the fields of a System Event fit
 pub record IsSystemEvent (m : SystemEvent) : Type 0 where
   pub header : IsHeader m.header
   pub code : m.code < 256
 
+-- the fields of a Stock Directory message fit
 pub record IsStockDirectory (m : StockDirectory) : Type 0 where
   pub header : IsHeader m.header
   pub entry : IsDirectory m.entry
 
+-- the fields of a Stock Trading Action fit
 pub record IsTradingAction (m : TradingAction) : Type 0 where
   pub header : IsHeader m.header
   pub stock : IsAlpha 8 m.stock
@@ -57,11 +62,13 @@ pub record IsTradingAction (m : TradingAction) : Type 0 where
   pub reserved : m.reserved < 256
   pub reason : IsBytes 4 m.reason
 
+-- the fields of a Reg SHO Restriction fit
 pub record IsRegSho (m : RegSho) : Type 0 where
   pub header : IsHeader m.header
   pub stock : IsAlpha 8 m.stock
   pub action : m.action < 256
 
+-- the fields of an Add Order fit
 pub record IsAddOrder (m : AddOrder) : Type 0 where
   pub header : IsHeader m.header
   pub reference : m.reference < 2 ^ 64
@@ -69,30 +76,36 @@ pub record IsAddOrder (m : AddOrder) : Type 0 where
   pub stock : IsAlpha 8 m.stock
   pub price : m.price < 2 ^ 32
 
+-- the fields of an Add Order with attribution fit
 pub record IsAttributedAddOrder (m : AttributedAddOrder) : Type 0 where
   pub order : IsAddOrder m.order
   pub attribution : IsAlpha 4 m.attribution
 
+-- the fields of an Order Executed message fit
 pub record IsOrderExecuted (m : OrderExecuted) : Type 0 where
   pub header : IsHeader m.header
   pub reference : m.reference < 2 ^ 64
   pub shares : m.shares < 2 ^ 32
   pub match_number : m.match_number < 2 ^ 64
 
+-- the fields of an Order Executed With Price message fit
 pub record IsOrderExecutedWithPrice (m : OrderExecutedWithPrice) : Type 0 where
   pub execution : IsOrderExecuted m.execution
   pub printable : m.printable < 256
   pub price : m.price < 2 ^ 32
 
+-- the fields of an Order Cancel fit
 pub record IsOrderCancel (m : OrderCancel) : Type 0 where
   pub header : IsHeader m.header
   pub reference : m.reference < 2 ^ 64
   pub shares : m.shares < 2 ^ 32
 
+-- the fields of an Order Delete fit
 pub record IsOrderDelete (m : OrderDelete) : Type 0 where
   pub header : IsHeader m.header
   pub reference : m.reference < 2 ^ 64
 
+-- the fields of an Order Replace fit
 pub record IsOrderReplace (m : OrderReplace) : Type 0 where
   pub header : IsHeader m.header
   pub original : m.original < 2 ^ 64
@@ -100,6 +113,7 @@ pub record IsOrderReplace (m : OrderReplace) : Type 0 where
   pub shares : m.shares < 2 ^ 32
   pub price : m.price < 2 ^ 32
 
+-- the fields of a Trade fit
 pub record IsTrade (m : Trade) : Type 0 where
   pub header : IsHeader m.header
   pub reference : m.reference < 2 ^ 64
@@ -108,6 +122,7 @@ pub record IsTrade (m : Trade) : Type 0 where
   pub price : m.price < 2 ^ 32
   pub match_number : m.match_number < 2 ^ 64
 
+-- the fields of a Cross Trade fit
 pub record IsCrossTrade (m : CrossTrade) : Type 0 where
   pub header : IsHeader m.header
   pub shares : m.shares < 2 ^ 64
@@ -116,6 +131,7 @@ pub record IsCrossTrade (m : CrossTrade) : Type 0 where
   pub match_number : m.match_number < 2 ^ 64
   pub cross_type : m.cross_type < 256
 
+-- the fields of a Broken Trade fit
 pub record IsBrokenTrade (m : BrokenTrade) : Type 0 where
   pub header : IsHeader m.header
   pub match_number : m.match_number < 2 ^ 64

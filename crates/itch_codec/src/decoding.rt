@@ -38,7 +38,9 @@ fn read(payload: &[u8]) -> Result<Message<'_>, CodecFault>
     let Some(&kind) = payload.first() else {
         return Err(CodecFault::Empty);
     };
-    if let Some(want) = size_of_type(kind) && payload.len() != want {
+    if let Some(want) = size_of_type(kind)
+        && payload.len() != want
+    {
         return Err(CodecFault::WrongLength {
             kind,
             want,

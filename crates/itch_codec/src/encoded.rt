@@ -2,9 +2,8 @@
 ghost use Rattle.std.specs.Prelude.{◌≡◌};
 ghost use Rattle.itch_codec.specs.Fields.{AreBytes};
 
-use std::marker::Model;
-
 use crate::fields::Buffer;
+use std::marker::Model;
 
 /// The bytes that spell a message. They take no memory: they are built in place, or are the payload of a message that is not decoded.
 #[derive(Debug, Drop)]

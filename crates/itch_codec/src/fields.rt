@@ -3,14 +3,13 @@ ghost use Rattle.std.specs.Prelude.{◌≡◌, ℕ, ◌+◌, ◌<◌, ◌≤◌,
 ghost use Rattle.arrayvec.specs.ArrayVec.{array_vec_len};
 ghost use Rattle.itch_codec.specs.Numbers.{slice_at, number_at, byte_at, be};
 ghost use Rattle.itch_codec.specs.Layouts.{column, Text, OneSide};
-ghost use Rattle.itch_codec.specs.Fields.{Bytes, Way, Has, field_fault, Reads, AreBytes, IsBytes, IsAlpha, side_byte};
-
-use arrayvec::ArrayVec;
-use byteorder::{BigEndian, ByteOrder};
+ghost use Rattle.itch_codec.specs.Fields.{Bytes, TheSide, Has, field_fault, Reads, AreBytes, IsBytes, IsAlpha, side_byte};
 
 use crate::fault::CodecFault;
 use crate::side::Side;
 use crate::text::Alpha;
+use arrayvec::ArrayVec;
+use byteorder::{BigEndian, ByteOrder};
 
 /// The bytes of a message as it is built; 44 is the greatest length of a message of the table.
 pub(crate) type Buffer = ArrayVec<u8, 48>;
@@ -58,10 +57,7 @@ pub(crate) fn codes_at<const N: usize>(payload: &[u8], offset: usize) -> [u8; N]
     bytes
 }
 
-pub(crate) fn text_at<const N: usize>(
-    payload: &[u8],
-    offset: usize,
-) -> Result<Alpha<N>, CodecFault>
+pub(crate) fn text_at<const N: usize>(payload: &[u8], offset: usize) -> Result<Alpha<N>, CodecFault>
     requires { offset + N ≤ length payload.now }
     ensures { Reads (λ text. Has payload.now (column offset N Text) (Bytes text)) (field_fault payload.now (column offset N Text)) result }
 {
@@ -75,7 +71,7 @@ pub(crate) fn text_at<const N: usize>(
 
 pub(crate) fn side_at(payload: &[u8], offset: usize) -> Result<Side, CodecFault>
     requires { offset < length payload.now }
-    ensures { Reads (λ side. Has payload.now (column offset 1 OneSide) (Way side)) (field_fault payload.now (column offset 1 OneSide)) result }
+    ensures { Reads (λ side. Has payload.now (column offset 1 OneSide) (TheSide side)) (field_fault payload.now (column offset 1 OneSide)) result }
 {
     match payload[offset] {
         b'B' => Ok(Side::Buy),

@@ -1,9 +1,8 @@
 //! What stands in front of the fields of every message but the End of Snapshot.
 ghost use Rattle.std.specs.Prelude.{◌≡◌, ℕ, ◌<◌, ◌≤◌, ◌^◌, ◌↔◌, IsSome, IfSome};
 
-use std::marker::Model;
-
 use crate::fields::{Buffer, put_u16, put_u48, u16_at, u48_at};
+use std::marker::Model;
 
 /// Nanoseconds since midnight, below 2^48.
 #[derive(Clone, Copy, Debug, PartialEq, Eq, PartialOrd, Ord, Hash)]

@@ -14,32 +14,28 @@ pub fn one_message()
     ensures one { (m n : Message) → (payload : List ℕ) → Spells m payload → Spells n payload → m ≡ n }
     ensures read { (m : Message) → (payload : List ℕ) → Spells m payload → m ≡ message_of payload }
     ensures fits { (m : Message) → (payload : List ℕ) → AreBytes payload → Spells m payload → IsMessage m }
-{
-}
+{}
 
 /// A payload has a fault exactly if it spells no message.
 #[tactic(auto, using(crate::proofs::Spelling::spelling_laws))]
 pub fn fault_or_message()
     ensures no_fault { (m : Message) → (payload : List ℕ) → Spells m payload → fault payload ≡ None }
     ensures message { (payload : List ℕ) → fault payload ≡ None → Spells (message_of payload) payload }
-{
-}
+{}
 
 /// A message whose fields fit is spelled by its bytes. They are not empty, and at most 65,535 unless the message is kept as it was received.
 #[tactic(auto, using(crate::proofs::Spelling::spelling_laws))]
 pub fn some_spelling()
     ensures spells { (m : Message) → IsMessage m → Spells m (spelling m) }
     ensures some { (m : Message) → IsMessage m → 0 < length (spelling m) }
-    ensures short { (m : Message) → ¬ IsKeptWhole m → IsMessage m → length (spelling m) < 65536 }
-{
-}
+    ensures short { (m : Message) → IsMessage m → ¬ IsKeptWhole m → length (spelling m) < 65536 }
+{}
 
 /// Each message but End of Snapshot has one spelling in bytes.
 #[tactic(auto, using(crate::proofs::Spelling::spelling_laws))]
 pub fn one_spelling()
     ensures { (m : Message) → (payload : List ℕ) → ¬ IsEnd m → AreBytes payload → Spells m payload → payload ≡ spelling m }
-{
-}
+{}
 
 /// Decoding undoes encoding, and encoding undoes decoding but for End of Snapshot.
 #[tactic(auto, using(crate::proofs::Spelling::spelling_laws))]
@@ -47,8 +43,7 @@ pub fn there_and_back()
     ensures no_fault { (m : Message) → IsMessage m → fault (spelling m) ≡ None }
     ensures message { (m : Message) → IsMessage m → message_of (spelling m) ≡ m }
     ensures bytes { (payload : List ℕ) → AreBytes payload → fault payload ≡ None → ¬ IsEnd (message_of payload) → spelling (message_of payload) ≡ payload }
-{
-}
+{}
 
 /// Twenty digits spell at most one number, and each number up to 10^19 has its twenty.
 #[tactic(auto, using(crate::proofs::Numbers::number_laws))]
@@ -56,5 +51,4 @@ pub fn numbers()
     ensures one { (field : List ℕ) → (m n : ℕ) → SpellsNumber field m → SpellsNumber field n → m ≡ n }
     ensures spells { (n : ℕ) → n ≤ 10 ^ 19 → SpellsNumber (dec20 n) n }
     ensures len { (n : ℕ) → n < 2 ^ 64 → length (dec20 n) ≡ 20 }
-{
-}
+{}

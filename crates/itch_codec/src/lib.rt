@@ -13,6 +13,8 @@ mod number;
 mod orders;
 mod side;
 mod stocks;
+#[cfg(test)]
+mod tests;
 mod text;
 mod trades;
 mod types;

@@ -27,8 +27,6 @@ pub enum Message<'a> {
     CrossTrade(CrossTrade),
     BrokenTrade(BrokenTrade),
     /// End of Snapshot (GLIMPSE 5.0), with the number of the first message that the snapshot does not contain.
-    End {
-        next: Seq,
-    },
+    End { next: Seq },
     Other(Undecoded<'a>),
 }

@@ -5,11 +5,10 @@ ghost use Rattle.std.specs.List.{prefix_len, list_all};
 ghost use Rattle.std.specs.Str.{all_ascii_digits};
 ghost use Rattle.itch_codec.specs.Numbers.{dec20, SpellsNumber, read20, is_space, after_spaces, digits_in_front, behind_digits, number_of_digits, number_of_parts};
 
-use itoa::write_digits;
-use std::marker::Model;
-
 use crate::fault::CodecFault;
 use crate::fields::{Buffer, codes_at, put_codes};
+use itoa::write_digits;
+use std::marker::Model;
 
 const GREATEST: u64 = 10_000_000_000_000_000_000;
 

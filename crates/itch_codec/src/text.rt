@@ -109,9 +109,7 @@ fn unprintable(bytes: &[u8]) -> Option<usize>
     ensures printable { (result ≡ None) ↔ IsPrintable bytes.now }
     ensures within { IfSome result (λ at. at < length bytes.now) }
 {
-    bytes
-        .iter()
-        .position(|byte| *byte < b' ' || *byte > b'~')
+    bytes.iter().position(|byte| *byte < b' ' || *byte > b'~')
 }
 
 // The text, with spaces behind it.

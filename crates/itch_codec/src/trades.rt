@@ -7,7 +7,9 @@ ghost use Rattle.itch_codec.specs.Values.{trade_values, cross_trade_values, brok
 ghost use Rattle.itch_codec.specs.Widths.{IsTrade, IsCrossTrade, IsBrokenTrade};
 
 use crate::fault::CodecFault;
-use crate::fields::{Buffer, put_code, put_side, put_text, put_u32, put_u64, side_at, text_at, u32_at, u64_at};
+use crate::fields::{
+    Buffer, put_code, put_side, put_text, put_u32, put_u64, side_at, text_at, u32_at, u64_at,
+};
 use crate::header::Header;
 use crate::side::Side;
 use crate::text::Alpha;

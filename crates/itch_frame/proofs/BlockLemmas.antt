@@ -1,9 +1,9 @@
 -- What the bytes of blocks tell of their payloads.
-use Rattle.std.proofs.Common.{◌≡◌, ℕ, ◌+◌, ◌<◌, ◌%◌, ◌/◌, List, [], ◌∷◌, ◌++◌, length, take, drop, refl, sym, ap, ◌∙◌, append_assoc, arith}
+use Rattle.std.proofs.Common.{◌≡◌, ℕ, ◌%◌, ◌/◌, List, [], ◌∷◌, ◌++◌, length, take, drop, refl, sym, ap, ◌∙◌, append_assoc, arith}
 use Rattle.std.specs.List.{AllByRecursion}
 use Rattle.std.proofs.lemmas.List.{take_at, drop_at, append-nil}
 use Rattle.std.proofs.lemmas.List.Concat.{flat_map-append}
-use Rattle.itch_frame.specs.Blocks.{IsPayload, block, blocks, HasNoBlock, Blocks}
+use Rattle.itch_frame.specs.Blocks.{IsPayload, block, blocks, Blocks}
 
 -- where two streams begin with a block and are the same, the payloads are the same, and what stands behind them
 pub same_block : (p q r s : List ℕ) → IsPayload p → IsPayload q → block p ++ r ≡ block q ++ s → (p ≡ q) × (r ≡ s)

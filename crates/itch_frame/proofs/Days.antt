@@ -3,8 +3,8 @@ use Rattle.std.proofs.Common.{◌≡◌, ℕ, ◌+◌, ◌*◌, ◌/◌, ◌%◌
 use Rattle.std.specs.List.{AllByRecursion}
 use Rattle.std.proofs.lemmas.List.{take-append-drop, length-take-le, length-drop}
 use Rattle.std.proofs.lemmas.Bool.{cases_lt}
-use Rattle.itch_frame.specs.Blocks.{IsPayload, block, blocks, HasNoBlock, Ends, Open, IsFull, Day}
-use Rattle.itch_frame.proofs.BlockLemmas.{same_block, HasNone, nothing_left, one_way, each-append, blocks-append}
+use Rattle.itch_frame.specs.Blocks.{block, blocks, HasNoBlock, Ends, Open, IsFull, Day}
+use Rattle.itch_frame.proofs.BlockLemmas.{same_block, HasNone, one_way, each-append, blocks-append}
 
 -- what may end a day begins with no block that is not empty
 no_full : (rest : List ℕ) → Ends rest ⊎ Open rest → HasNone IsFull rest

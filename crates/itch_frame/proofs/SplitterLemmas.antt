@@ -1,6 +1,5 @@
 -- How far the block at hand is, and the law on cut streams.
-use Rattle.std.proofs.Common.{◌≡◌, ℕ, ◌+◌, ◌-◌, ◌*◌, ◌/◌, ◌%◌, ◌<◌, ◌≤◌, ◌⊎◌, min, List, [], ◌∷◌, ◌++◌, length, take, drop, get_or, refl, sym, ap, subst, ◌∙◌, inl, inr, append_assoc, arith, length-append}
-use Rattle.std.specs.List.{AllByRecursion}
+use Rattle.std.proofs.Common.{◌≡◌, ℕ, ◌+◌, ◌-◌, ◌/◌, ◌%◌, ◌<◌, ◌≤◌, ◌⊎◌, min, List, [], ◌∷◌, ◌++◌, length, take, drop, get_or, refl, sym, ap, subst, ◌∙◌, inl, inr, append_assoc, arith, length-append}
 use Rattle.std.proofs.lemmas.List.{take_all, take_at, take-append-le, take-take, length-take-le, length-drop, append-nil, nil_from_length, get_or_append_left, drop-take}
 use Rattle.std.proofs.Math.Seq.{take-append-add, take-add}
 use Rattle.std.proofs.lemmas.Bool.{cases_lt}
@@ -46,10 +45,6 @@ front_whole buffer len within bound is x_fits y_fits =
     let same : take (length (take len buffer) - 2) (drop 2 (take len buffer)) ≡ take (len - 2) (drop 2 buffer) =
     ap (λ n. take (n - 2) (drop 2 (take len buffer))) all ∙ ap (take (len - 2)) payload ∙ take-take (len - 2) (len - 2) (drop 2 buffer) (omega arith) in
     subst (λ (p : List ℕ). IsBlockOf p (take len buffer)) same (whole_block (take len buffer) (omega (arith, all)) (is ∙ sym all) (omega (arith, all)) x_fits y_fits)
-
--- bytes that lack some are no block
-pub unfinished : (held : List ℕ) → length held < need held → IsBlock held → ⊥
-unfinished held lacks is = let needs : (2 ≤ length held) × (need held ≡ length held) = block_need held is in omega (arith, needs.1)
 
 need_start : (held : List ℕ) → length held < 2 → need held ≡ 2
 need_start [] short = refl

@@ -1,6 +1,6 @@
 -- What a splitter does with the pieces of a stream, step by step.
-use Rattle.std.specs.Prelude.{◌≡◌, ℕ, ◌+◌, ◌<◌, ◌≤◌, List, [], ◌∷◌, ◌++◌, length, take}
-use Rattle.itch_frame.specs.Blocks.{block, IsPayload, IsBlock, IsBlockOf, Blocks}
+use Rattle.std.specs.Prelude.{◌≡◌, ℕ, ◌<◌, ◌≤◌, List, [], ◌∷◌, ◌++◌, length, take}
+use Rattle.itch_frame.specs.Blocks.{IsBlock, IsBlockOf, Blocks}
 
 -- no shorter beginning of these bytes is a block
 abbrev pub IsBegun : List ℕ → Type 0

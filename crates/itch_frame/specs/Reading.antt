@@ -1,7 +1,7 @@
 -- What contracts see of a reader of blocks.
-use Rattle.std.specs.Prelude.{◌≡◌, ℕ, ◌<◌, ◌≤◌, List, [], ◌∷◌, ◌++◌, length, Option, None, Some, Result, Ok, Err, IfSome}
+use Rattle.std.specs.Prelude.{◌≡◌, ℕ, List, [], ◌++◌, length, Option, None, Some, Result, Ok, Err, IfSome}
 use Rattle.std.specs.Borrow.{Bor}
-use Rattle.std.specs.Io.KnownBytes.{prepend_known, Consumes, Keeps, IsAtEnd}
+use Rattle.std.specs.Io.KnownBytes.{prepend_known, Consumes, IsAtEnd}
 use Rattle.itch_frame.specs.Blocks.{IsPayload, block, Open}
 use Rattle.itch_frame.specs.Counting.{Rises, KeepsOrForgets}
 use Rattle.itch_frame.specs.declared.stage.Stage.{Stage}

@@ -1,5 +1,5 @@
 //! What holds of every stream of blocks, of whatever length. Each function does nothing: its clauses are the laws.
-ghost use Rattle.std.specs.Prelude.{◌≡◌, List, [], ◌++◌, ℕ};
+ghost use Rattle.std.specs.Prelude.{◌≡◌, List, [], ℕ};
 ghost use Rattle.std.specs.List.{AllByRecursion};
 ghost use Rattle.itch_frame.specs.Blocks.{block, blocks, IsPayload, Blocks, Day};
 ghost use Rattle.itch_frame.specs.Cuts.{CutStep, Run, AnyCut};

@@ -1,9 +1,14 @@
-//! Blocks of a two-byte length and that many bytes of payload, as day files and streams of market data carry them.
+//! Blocks of a two-byte length and that many bytes of payload, as streams and files of market data carry them.
 //!
 //! A block is its payload's length as two bytes, the higher first, and then the payload, of at most 65,535 bytes.
-//! [`Splitter`] cuts blocks out of a stream that comes in pieces, [`BlockReader`] reads them one by one,
-//! and [`write_block`] writes one. Readers and writers count their failures (`counted`), so that no call
-//! can blame the outside for a fault of its own.
+//! So stand the packets of SoupBinTCP 3.00 on a connection, and the messages of a day in a file.
+//!
+//! - [`Splitter`] cuts blocks out of a stream that comes in pieces. However it is cut, the blocks are the same.
+//! - [`BlockReader`] reads blocks one by one, and never reads past the block at hand.
+//! - [`write_block`] writes one.
+//!
+//! Readers and writers count their failures (`counted`), so that no call can blame the outside for a fault of its own.
+//! `laws` has what holds of every stream, and `testing` a reader and a writer that fail where a test asks for it.
 #![tactic(auto)]
 
 pub mod counted;

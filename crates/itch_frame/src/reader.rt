@@ -54,7 +54,7 @@ impl<R: CountedRead, A: Allocator> BlockReader<R, A> {
     {
         Ok(BlockReader {
             reader,
-            buffer: vec![in alloc; 0; LONGEST]?,
+            buffer: zeros(alloc, LONGEST)?,
             len: 0,
             stage: Stage::Going,
         })
@@ -91,6 +91,13 @@ impl<R: CountedRead, A: Allocator> BlockReader<R, A> {
             }
         }
     }
+}
+
+/// So many bytes, all zero.
+fn zeros<A: Allocator>(alloc: A, len: usize) -> Result<Vec<u8, A>, AllocError>
+    ensures { IfOk result (λ bytes. vec_len bytes ≡ len) }
+{
+    vec![in alloc; 0; len]
 }
 
 /// Reads until the block at hand, the first `len` bytes of `buffer`, is whole (true), or the input ends (false).

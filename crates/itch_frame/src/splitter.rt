@@ -1,7 +1,7 @@
 //! Blocks out of a stream that comes in pieces.
-ghost use Rattle.std.specs.Prelude.{◌≡◌, ℕ, ◌+◌, ◌-◌, ◌<◌, ◌≤◌, min, List, [], ◌++◌, length, take, slice_index, vec_capacity, vec_len, IfOk, IfSome, IfNone};
+ghost use Rattle.std.specs.Prelude.{◌≡◌, ℕ, ◌+◌, ◌-◌, ◌<◌, ◌≤◌, min, List, [], ◌++◌, length, take, slice_index, vec_capacity, IfOk, IfSome, IfNone};
 ghost use Rattle.itch_frame.specs.Blocks.{IsBlock, IsBlockOf};
-ghost use Rattle.itch_frame.specs.Cuts.{IsBegun, IsTake};
+ghost use Rattle.itch_frame.specs.Cuts.{IsTake};
 ghost use Rattle.itch_frame.specs.Needs.{need};
 
 use byteorder::{BigEndian, ByteOrder};

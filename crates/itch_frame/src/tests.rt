@@ -1,4 +1,4 @@
-//! The rows, each failure in turn, and the calls that take no memory.
+//! Worked cases, each failure in turn, and the calls that take no memory.
 use crate::counted::{Counted, CountedRead, CountedWrite};
 use crate::testing::{FuseWriter, PieceReader};
 use crate::{BlockReader, FrameFault, Splitter, laws, write_block};

@@ -1,5 +1,5 @@
 -- What is known of a market where a message is not refused.
-use Rattle.std.proofs.Common.{◌≡◌, ℕ, ◌<◌, ◌≤◌, Bool, true, false, List, Option, Some, None, IsSome, IsSomeAnd, is_some, nat_lt, ◌==◌, refl, arith}
+use Rattle.std.proofs.Common.{◌≡◌, ℕ, ◌<◌, Bool, true, false, List, Option, Some, None, IsSome, IsSomeAnd, is_some, ◌==◌, refl, arith}
 use Rattle.std.proofs.lemmas.Bool.Decides.{nat_tests}
 use Rattle.std.specs.FinMap as map
 use Rattle.itch_book.specs.declared.order.Order.{Order}
@@ -9,7 +9,7 @@ use Rattle.itch_codec.specs.declared.orders.OrderReplace.{OrderReplace}
 use Rattle.itch_codec.specs.declared.message.Message.TheVariants as is
 use Rattle.itch_market.specs.declared.security.Security.{Security}
 use Rattle.itch_market.specs.declared.refusal.Refusal.{Refusal}
-use Rattle.itch_market.specs.declared.refusal.Refusal.TheVariants.{UnknownLocate, StockMismatch, UnknownRef, LocateMismatch, ZeroShares, DuplicateRef}
+use Rattle.itch_market.specs.declared.refusal.Refusal.TheVariants.{StockMismatch, LocateMismatch, ZeroShares, DuplicateRef}
 use Rattle.itch_market.specs.Content.{Content}
 use Rattle.itch_market.specs.Reasons.{refuse, is_other_stock, is_live, security_reason, order_reason, add_reason, reason}
 

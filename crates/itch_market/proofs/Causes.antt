@@ -1,5 +1,5 @@
 -- Why a payload is not taken: in a laid market, and behind other payloads.
-use Rattle.std.proofs.Common.{◌≡◌, ℕ, ◌+◌, ◌<◌, ◌≤◌, ◌⊎◌, zero, suc, Bool, List, [], ◌∷◌, ◌++◌, map, length, take, Option, None, Some, refl, sym, ap, subst, ◌∙◌, inl, inr, arith, length-append}
+use Rattle.std.proofs.Common.{◌≡◌, ℕ, ◌<◌, zero, suc, Bool, List, [], ◌∷◌, ◌++◌, map, length, Option, None, Some, refl, ap, subst, ◌∙◌, inl, inr, arith, length-append}
 use Rattle.std.specs.Option.{option_map}
 use Rattle.std.proofs.lemmas.Bool.{cases_lt}
 use Rattle.itch_codec.specs.declared.fault.CodecFault.{CodecFault}
@@ -25,10 +25,11 @@ cause-laid m p good = by_fault (fault p) where
   by_fault None = ap (option_map Rule) (reason-laid m (message_of p) good)
 
 pub refuses-laid : (m : Content) (p : List ℕ) (why : Refusal) → IsGood m → Refuses (laid m) p why → Refuses m p why
-refuses-laid m p why good (clean, refusal) =
-    (clean,
-    subst (λ takes. IsRefusal (reason m (message_of p)) takes why) (takes_memory-laid m (message_of p))
-    (subst (λ r. IsRefusal r (takes_memory (laid m) (message_of p)) why) (reason-laid m (message_of p) good) refusal))
+refuses-laid m p why good (clean, refusal) = (
+  clean,
+  subst (λ takes. IsRefusal (reason m (message_of p)) takes why) (takes_memory-laid m (message_of p))
+      (subst (λ r. IsRefusal r (takes_memory (laid m) (message_of p)) why) (reason-laid m (message_of p) good) refusal),
+)
 
 pub halts-laid : (full : Bool) (m : Content) (old new : Option (List ℕ)) (stop : Stop) → IsGood m → Halts full (laid m) old new stop → Halts full m old new stop
 halts-laid full m old new End good h = h

@@ -1,5 +1,5 @@
 -- What a message that is not refused leaves of a good market is a good market.
-use Rattle.std.proofs.Common.{◌≡◌, ℕ, ◌-◌, ◌<◌, ◌≤◌, ◌^◌, Bool, true, false, cond, List, [], ◌∷◌, ◌++◌, Option, Some, None, IsSome, is_some, OnOk, OnErr, Result, Ok, Err, nat_lt, eqb, map, filter, refl, sym, subst, arith}
+use Rattle.std.proofs.Common.{◌≡◌, ℕ, ◌<◌, ◌^◌, Bool, true, false, cond, List, [], ◌∷◌, Option, Some, None, IsSome, OnOk, OnErr, Result, Ok, Err, eqb, map, refl, subst, arith}
 use Rattle.std.proofs.lemmas.Bool.Decides.{nat_tests}
 use Rattle.std.specs.List.{AllByRecursion}
 use Rattle.std.specs.FinMap as map
@@ -18,9 +18,9 @@ use Rattle.itch_market.specs.declared.security.Security.{Security}
 use Rattle.itch_market.specs.Content.{Content, Securities, empty, laid}
 use Rattle.itch_market.specs.Reasons.{reason, add_reason}
 use Rattle.itch_market.specs.Effects.{effect, entered, with_action, with_sho, action_of, changed_at, changed, order_of}
+use Rattle.itch_market.specs.Widths.{IsMaybe, IsSecurity, IsOrder}
 use Rattle.itch_codec.specs.Fields.{IsAlpha}
-use Rattle.itch_market.specs.Widths.{IsMaybe, IsAction, IsSecurity, IsOrder}
-use Rattle.itch_codec.specs.Widths.{IsAddOrder, IsDirectory, IsMessage}
+use Rattle.itch_codec.specs.Widths.{IsDirectory, IsAddOrder, IsMessage}
 use Rattle.itch_market.specs.Goods.{IsGood, IsListed}
 use Rattle.itch_market.specs.Runs.{after, run, FollowsFrom, Follows}
 use Rattle.itch_market.proofs.Maps.{get-insert}

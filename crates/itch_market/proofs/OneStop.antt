@@ -1,5 +1,5 @@
 -- Each file stops a replay at one place, for one reason.
-use Rattle.std.proofs.Common.{◌≡◌, ℕ, ◌-◌, ◌^◌, min, List, Option, None, Some, length, refl, sym, ap, subst, ◌∙◌}
+use Rattle.std.proofs.Common.{◌≡◌, ℕ, ◌-◌, ◌^◌, min, List, length, refl, subst}
 use Rattle.itch_frame.specs.Blocks.{Day}
 use Rattle.itch_frame.proofs.Days.{day_one, day_some}
 use Rattle.itch_market.specs.declared.stop.Stop.{Stop}
@@ -27,7 +27,7 @@ stops_somewhere m bytes = on_day (day_some bytes) where
   on_day : (ps : List (List ℕ)) × (rest : List ℕ) × Day bytes ps rest → (k : ℕ) × (s : Stop) × Stops m bytes k s
   on_day (ps, rest, day) =
       let found = first_is_there (stop_at (10 ^ 19 - 1) m ps rest) (min (10 ^ 19 - 1) (length ps)) (last_stop (10 ^ 19 - 1) ps rest)
-        (stop_behind (10 ^ 19 - 1) m ps rest (min (10 ^ 19 - 1) (length ps)) refl) in
+      (stop_behind (10 ^ 19 - 1) m ps rest (min (10 ^ 19 - 1) (length ps)) refl) in
       (found.0, found.1, record { payloads = ps; rest = rest; day = day; first = found.2 })
 
 pub ruleset stop_laws = (stops_somewhere)

@@ -1,7 +1,6 @@
 -- What a replay has done so far, and one block more.
-use Rattle.std.proofs.Common.{◌≡◌, ℕ, ◌+◌, ◌-◌, ◌^◌, ◌<◌, ◌≤◌, ◌==◌, Bool, true, false, List, [], ◌∷◌, ◌++◌, map, length, Option, None, Some, Ok, Err, Result, refl, sym, ap, subst, ◌∙◌, arith, length-append, append-nil}
+use Rattle.std.proofs.Common.{◌≡◌, ℕ, ◌+◌, ◌-◌, ◌^◌, ◌≤◌, ◌==◌, false, List, [], ◌∷◌, ◌++◌, map, length, Option, None, Ok, Err, refl, sym, ap, subst, ◌∙◌, arith, length-append, append-nil}
 use Rattle.std.proofs.lemmas.Bool.Decides.{nat_tests}
-use Rattle.std.specs.List.{AllByRecursion}
 use Rattle.std.specs.Io.KnownBytes.{Consumes}
 use Rattle.std.proofs.KnownBytes.{Consumes-nil, Consumes-trans}
 use Rattle.itch_codec.specs.Messages.{message_of}
@@ -13,7 +12,7 @@ use Rattle.itch_market.specs.Effects.{effect}
 use Rattle.itch_market.specs.Goods.{IsGood}
 use Rattle.itch_market.specs.Runs.{after}
 use Rattle.itch_market.specs.Stops.{cause}
-use Rattle.itch_market.specs.Replays.{Fits, NoCause, TakesOne, TakesOff, Halts, Step, Takes, Replays, ReplaysFirst}
+use Rattle.itch_market.specs.Replays.{Fits, Halts, Step, Takes, Replays, ReplaysFirst}
 use Rattle.itch_market.proofs.Goods.{effect_good}
 use Rattle.itch_market.proofs.Laid.{effect-laid}
 use Rattle.itch_market.proofs.Causes.{cause-laid, halts-laid, no_reason, none_more, after_more}
@@ -55,22 +54,27 @@ going_on m old mid new count n k going (p, off, room, (clean, fits, next)) =
         fits = each-push Fits ps p going.takes.fits fits;
         left =
             next ∙ ap (λ x. laid (effect x (message_of p))) going.takes.left ∙ effect-laid so_far (message_of p) going.good
-            ∙ ap laid (sym (after_more m ps p))
+            ∙ ap laid (sym (after_more m ps p));
       };
       good = subst IsGood (sym (after_more m ps p)) (effect_good so_far (message_of p) going.good fits (no_reason so_far p taken));
       counted = length-append ps (p ∷ []) ∙ ap (λ c. c + 1) going.counted;
       few = not_last count going.few room;
     } where
-  not_last : (c : ℕ) → c ≤ 10 ^ 19 - 1 → (c == 10 ^ 19 - 1) ≡ false → c + 1 ≤ 10 ^ 19 - 1
-  not_last c few room = grind (arith, nat_tests)
+      not_last : (c : ℕ) → c ≤ 10 ^ 19 - 1 → (c == 10 ^ 19 - 1) ≡ false → c + 1 ≤ 10 ^ 19 - 1
+      not_last c few room = grind (arith, nat_tests)
 
 -- and there it stops
 pub going_halts : (m : Content) (old mid new : Option (List ℕ)) (count : ℕ) (n k : Content) (stop : Stop)
     → Going m old mid count n → Step (count == 10 ^ 19 - 1) n mid new (Err stop) k → Replays m old new count stop k
 going_halts m old mid new count n k stop going (same, halts) =
-    let so_far = after m (map message_of going.payloads) in
-    (going.payloads, mid, subst (Takes m old mid going.payloads) (sym same) going.takes, going.counted, going.few,
-    halts-laid (count == 10 ^ 19 - 1) so_far mid new stop going.good (subst (λ x. Halts (count == 10 ^ 19 - 1) x mid new stop) going.takes.left halts))
+    let so_far = after m (map message_of going.payloads) in (
+      going.payloads,
+      mid,
+      subst (Takes m old mid going.payloads) (sym same) going.takes,
+      going.counted,
+      going.few,
+      halts-laid (count == 10 ^ 19 - 1) so_far mid new stop going.good (subst (λ x. Halts (count == 10 ^ 19 - 1) x mid new stop) going.takes.left halts),
+    )
 
 -- or it was to take no more
 pub going_short : (m : Content) (old new : Option (List ℕ)) (count : ℕ) (n : Content) → Going m old new count n → ReplaysFirst count m old new count None n

@@ -1,24 +1,21 @@
 -- What a replay tells of a file whose bytes are known.
-use Rattle.std.proofs.Common.{◌≡◌, ℕ, ◌+◌, ◌-◌, ◌^◌, ◌<◌, ◌≤◌, ◌==◌, Bool, true, false, List, [], ◌∷◌, ◌++◌, map, length, take, Option, None, Some, IfSome, refl, sym, ap, subst, ◌∙◌, ◌⊎◌, inl, inr, arith, append-nil}
+use Rattle.std.proofs.Common.{◌≡◌, ℕ, ◌-◌, ◌^◌, ◌<◌, ◌≤◌, ◌==◌, false, List, [], ◌∷◌, ◌++◌, map, length, take, Option, None, Some, IfSome, refl, sym, ap, subst, ◌∙◌, inl, inr, arith}
 use Rattle.std.specs.Option.{option_map}
 use Rattle.std.proofs.lemmas.Bool.{eqb-false, eqb-true}
-use Rattle.std.specs.List.{AllByRecursion}
-use Rattle.std.specs.Io.KnownBytes.{Consumes, IsAtEnd}
 use Rattle.itch_codec.specs.declared.fault.CodecFault.{CodecFault}
 use Rattle.itch_codec.specs.Messages.{fault, message_of}
-use Rattle.itch_frame.specs.Blocks.{block, blocks, IsFull, Ends, Open, Day}
+use Rattle.itch_frame.specs.Blocks.{block, blocks, Ends, Open, Day}
 use Rattle.itch_frame.proofs.Days.{front_of_day}
 use Rattle.itch_frame.specs.declared.fault.FrameFault.TheVariants.{Read, Truncated, Write, TooLong}
 use Rattle.itch_market.specs.declared.refusal.Refusal.{Refusal}
-use Rattle.itch_market.specs.declared.refusal.Refusal.TheVariants.{OutOfMemory}
 use Rattle.itch_market.specs.declared.stop.Stop.{Stop}
 use Rattle.itch_market.specs.declared.stop.Stop.TheVariants.{End, Frame, Codec, Rule, TooManyMessages}
 use Rattle.itch_market.specs.Content.{Content, laid}
 use Rattle.itch_market.specs.Reasons.{reason}
 use Rattle.itch_market.specs.Effects.{takes_memory}
 use Rattle.itch_market.specs.Runs.{after}
-use Rattle.itch_market.specs.Stops.{cause_by, cause, end_of, Stops}
-use Rattle.itch_market.specs.Replays.{NoCause, IsRefusal, Refuses, TakesOff, Halts, Takes, Replays, IsTold}
+use Rattle.itch_market.specs.Stops.{cause_by, cause, Stops}
+use Rattle.itch_market.specs.Replays.{IsRefusal, Refuses, TakesOff, Halts, Takes, Replays, IsTold}
 use Rattle.itch_market.proofs.Stopping.{none_ends, one_stops, full_stops, ends_stop, open_stops}
 
 -- a payload with a fault is not taken for that

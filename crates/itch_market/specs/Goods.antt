@@ -1,5 +1,5 @@
 -- What is true of every market.
-use Rattle.std.specs.Prelude.{◌≡◌, ℕ, ◌<◌, IsSome}
+use Rattle.std.specs.Prelude.{ℕ, ◌<◌, IsSome}
 use Rattle.std.specs.List.{AllByRecursion}
 use Rattle.std.specs.FinMap as map
 use Rattle.itch_book.specs.declared.order.Order.{Order}

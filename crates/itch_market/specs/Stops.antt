@@ -1,5 +1,5 @@
 -- Where a replay of a day file stops, and why: a search for the first bad place.
-use Rattle.std.specs.Prelude.{◌≡◌, ℕ, ◌+◌, ◌-◌, ◌^◌, ◌==◌, nat_lt, min, if◌then◌else◌, List, [], ◌∷◌, map, length, take, Option, Some, None, slice_get, option_map, option_and_then}
+use Rattle.std.specs.Prelude.{ℕ, ◌+◌, ◌-◌, ◌^◌, ◌==◌, nat_lt, min, if◌then◌else◌, List, [], ◌∷◌, map, length, take, Option, Some, None, slice_get, option_map, option_and_then}
 use Rattle.itch_codec.specs.declared.fault.CodecFault.{CodecFault}
 use Rattle.itch_codec.specs.Messages.{fault, message_of}
 use Rattle.itch_frame.specs.Blocks.{Day}

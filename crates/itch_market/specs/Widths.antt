@@ -1,6 +1,6 @@
 -- What fits the fields of securities and orders.
-use Rattle.std.specs.Prelude.{ℕ, ◌<◌, ◌^◌, Option, Some, None}
-use Rattle.itch_codec.specs.Fields.{IsAlpha, IsBytes}
+use Rattle.std.specs.Prelude.{◌<◌, ◌^◌, Option, Some, None}
+use Rattle.itch_codec.specs.Fields.{IsBytes, IsAlpha}
 use Rattle.itch_codec.specs.Widths.{IsDirectory}
 use Rattle.itch_book.specs.declared.order.Order.{Order}
 use Rattle.itch_market.specs.declared.security.Security.{Security}

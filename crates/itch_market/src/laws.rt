@@ -17,13 +17,12 @@ ghost use Rattle.itch_market.specs.declared.stop.Stop.{Stop};
 /// A market with its orders in snapshot order refuses the same messages for the same reasons,
 /// and the others leave it with the same orders in snapshot order.
 #[tactic(auto, using(crate::proofs::LawRules::laid_laws))]
-pub fn laid_stays_alike()
+pub fn laid_acts_alike()
     ensures reason { (m : Content) → (x : Message) → IsGood m → reason (laid m) x ≡ reason m x }
     ensures effect { (m : Content) → (x : Message) → IsGood m → laid (effect (laid m) x) ≡ laid (effect m x) }
     ensures memory { (m : Content) → (x : Message) → takes_memory (laid m) x ≡ takes_memory m x }
     ensures twice { (m : Content) → laid (laid m) ≡ laid m }
-{
-}
+{}
 
 /// The market before any message is good, and every message that is not refused leaves a good market good.
 #[tactic(auto, using(crate::proofs::LawRules::good_laws))]
@@ -32,8 +31,7 @@ pub fn good_stays_good()
     ensures laid { (m : Content) → IsGood m → IsGood (laid m) }
     ensures effect { (m : Content) → (x : Message) → IsGood m → IsMessage x → reason m x ≡ None → IsGood (effect m x) }
     ensures after { (m : Content) → (ms : List Message) → IsGood m → AllByRecursion IsMessage ms → FollowsFrom m ms → IsGood (after m ms) }
-{
-}
+{}
 
 /// The same markets refuse the same messages, each for one reason, and are the same after each message that they take.
 #[tactic(auto, using(crate::proofs::LawRules::same_laws))]

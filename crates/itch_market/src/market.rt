@@ -10,6 +10,8 @@ ghost use Rattle.itch_market.specs.Goods.{IsGood};
 
 mod actions;
 mod rules;
+#[cfg(test)]
+mod tests;
 
 use crate::locates::Locates;
 use crate::refusal::Refusal;

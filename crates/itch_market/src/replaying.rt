@@ -8,6 +8,9 @@ ghost use Rattle.itch_market.specs.Runs.{after};
 ghost use Rattle.itch_market.specs.Stops.{Stops};
 ghost use Rattle.itch_market.specs.Replays.{Counts, CountsFirst, Step, TakesOne, Replays, ReplaysFirst, IsTold};
 
+#[cfg(test)]
+mod tests;
+
 use crate::market::Market;
 use crate::stop::{ReplayEnd, Stop};
 use itch_book::OrderBook;

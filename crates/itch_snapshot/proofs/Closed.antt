@@ -26,7 +26,7 @@ ended m next = snap m ++ is.End next ∷ []
 ended_spelled : (m : Content) (next : ℕ) → IsGood m → IsSequence next → AllByRecursion IsSpelled (ended m next)
 ended_spelled m next good number =
     All-append_rec IsSpelled (snap m) (is.End next ∷ []) (snap_spelled m good)
-    (record { fits = number; short = spelling_short (is.End next) (λ kept. kept) number }, tt)
+    (record { fits = number; short = spelling_short (is.End next) number (λ kept. kept) }, tt)
 
 -- its blocks are the canonical bytes and the closing block
 wire-ended : (m : Content) (next : ℕ) → blocks (map spelling (ended m next)) ≡ canon m ++ closing next

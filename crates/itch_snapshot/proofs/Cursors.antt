@@ -80,18 +80,18 @@ module _ (m : Content) (orders : List Order) (kept : book.IsBook orders) (same :
       → one is.TradingAction next_action ≡ action_part locate s.entry.stock s.action → one is.RegSho next_sho ≡ sho_part locate s.entry.stock s.sho
       → next ≡ named s.entry.stock (find (book.is_in locate) orders)
       → left m event action sho order locates
-        ≡ is.StockDirectory (record { header = header_at locate; entry = s.entry }) ∷ left m None next_action next_sho next others
+      ≡ is.StockDirectory (record { header = header_at locate; entry = s.entry }) ∷ left m None next_action next_sho next others
   locate_given event action next_action sho next_sho order next locates others locate s no_event no_action no_sho no_order here there acts restricts first =
       let entry = s.entry in
       let rest = flat_map (part_at m) others in
       let there_first : order_parts m.orders next ≡ map (order_part entry.stock) (book.sides m.orders locate) =
-        ap (order_parts m.orders) (first_there next entry.stock locate first) ∙ parts_named m.orders entry.stock (find (book.is_in locate) m.orders)
-        ∙ ap (map (order_part entry.stock)) (sym (first_left m.orders locate listed_book)) in
+      ap (order_parts m.orders) (first_there next entry.stock locate first) ∙ parts_named m.orders entry.stock (find (book.is_in locate) m.orders)
+      ∙ ap (map (order_part entry.stock)) (sym (first_left m.orders locate listed_book)) in
       rw (no_event, no_action, no_sho, no_order, here, acts, restricts, there_first)
       (ap (λ found. found_part m.orders locate found ++ rest) there
       ∙ ap (λ tail. is.StockDirectory (record { header = header_at locate; entry = entry }) ∷ tail)
-        (append_assoc (action_part locate entry.stock s.action) (sho_part locate entry.stock s.sho ++ map (order_part entry.stock) (book.sides m.orders locate)) rest
-        ∙ ap (λ tail. action_part locate entry.stock s.action ++ tail) (append_assoc (sho_part locate entry.stock s.sho) (map (order_part entry.stock) (book.sides m.orders locate)) rest)))
+      (append_assoc (action_part locate entry.stock s.action) (sho_part locate entry.stock s.sho ++ map (order_part entry.stock) (book.sides m.orders locate)) rest
+      ∙ ap (λ tail. action_part locate entry.stock s.action ++ tail) (append_assoc (sho_part locate entry.stock s.sho) (map (order_part entry.stock) (book.sides m.orders locate)) rest)))
 
   pub locate_leaves : (order next : Option NamedOrder) (locates others : List ℕ) (locate : ℕ) (stock : List ℕ)
       → IsCursor m order locates → locates ≡ locate ∷ others → next ≡ named stock (find (book.is_in locate) orders) → IsCursor m next others

@@ -24,6 +24,6 @@ module _ {X : Type 0} where
       let rest : length es + (e.0 + 1) ≤ bound =
       rise_short es (e.0 + 1) bound rising.1
       (All-weaker_rec (λ f. (e.0 < f.0) × ((first ≤ f.0) × (f.0 < bound))) (λ f. (e.0 + 1 ≤ f.0) × (f.0 < bound)) (λ f h. (omega (arith, h.0), h.1.1)) es
-        (All-both_rec (λ f. e.0 < f.0) (λ f. (first ≤ f.0) × (f.0 < bound)) es rising.0 within.1))
+      (All-both_rec (λ f. e.0 < f.0) (λ f. (first ≤ f.0) × (f.0 < bound)) es rising.0 within.1))
       (omega (arith, within.0.1)) in
       omega (arith, rest, within.0.0)

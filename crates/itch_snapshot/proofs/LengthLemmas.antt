@@ -36,14 +36,26 @@ length-locate e os =
     let acts = action_part e.0 e.1.entry.stock e.1.action in
     let restricts = sho_part e.0 e.1.entry.stock e.1.sho in
     let orders = map (order_part e.1.entry.stock) os in
-    omega (arith, length-append acts (restricts ++ orders), length-append restricts orders, length-action e.0 e.1.entry.stock e.1.action, length-sho e.0 e.1.entry.stock e.1.sho,
-      length-map os (order_part e.1.entry.stock))
+    omega (
+      arith,
+      length-append acts (restricts ++ orders),
+      length-append restricts orders,
+      length-action e.0 e.1.entry.stock e.1.action,
+      length-sho e.0 e.1.entry.stock e.1.sho,
+      length-map os (order_part e.1.entry.stock),
+    )
 
 length-locates : (orders : List Order) (es : List (ℕ × Security)) → length (flat_map (locate_part orders) es) ≡ sum_by (λ e. security_len e.1) es + length (joined orders es)
 length-locates orders [] = refl
 length-locates orders (e ∷ es) =
-    omega (arith, length-append (locate_part orders e) (flat_map (locate_part orders) es), length-locate e (book.sides orders e.0), length-locates orders es, length-append (book.sides orders e.0) (joined orders es),
-      sum_by-cons (λ (f : ℕ × Security). security_len f.1) e es)
+    omega (
+      arith,
+      length-append (locate_part orders e) (flat_map (locate_part orders) es),
+      length-locate e (book.sides orders e.0),
+      length-locates orders es,
+      length-append (book.sides orders e.0) (joined orders es),
+      sum_by-cons (λ (f : ℕ × Security). security_len f.1) e es,
+    )
 
 -- how many messages tell of the security at a locate
 abbrev pub found_len : Option Security → ℕ

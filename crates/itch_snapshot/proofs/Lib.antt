@@ -12,3 +12,6 @@ pub mod Cursors
 pub mod LengthLemmas
 pub mod Partings
 pub mod Sent
+pub mod Reading
+pub mod FileLemmas
+pub mod Told

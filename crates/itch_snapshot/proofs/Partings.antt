@@ -1,6 +1,12 @@
 -- Lists compared element by element.
-use Rattle.std.proofs.Common.{◌≡◌, ◌≢◌, ℕ, ◌+◌, ◌-◌, ◌<◌, zero, suc, List, [], ◌∷◌, ◌++◌, length, Some, None, slice_get, refl, arith}
+use Rattle.std.proofs.Common.{◌≡◌, ◌≢◌, ◌↔◌, IfSome, IfNone, IsNone, ℕ, ◌+◌, ◌-◌, ◌<◌, zero, suc, List, [], ◌∷◌, ◌++◌, length, Option, Some, None, slice_get, refl, sym, ap, ◌∙◌, arith}
+use Rattle.itch_codec.specs.declared.message.Message.{Message}
+use Rattle.itch_market.specs.Content.{Content}
+use Rattle.itch_market.specs.Goods.{IsGood}
+use Rattle.itch_market.specs.Sames.{Same}
+use Rattle.itch_snapshot.specs.Snapshot.{snap}
 use Rattle.itch_snapshot.specs.Parting.{IsParting}
+use Rattle.itch_snapshot.proofs.OneSnapshot.{snap_same, same_snap}
 
 -- both lists begin with these elements, behind which so much of each is left, and the place is the next one
 pub record AgreeSoFar {A : Type 0} (xs ys seen left right : List A) (place : ℕ) : Type 0 where
@@ -41,3 +47,10 @@ module _ {A : Type 0} where
       → (0 < place) × IsParting xs ys (place - 1)
   other_element xs ys seen left left' right right' place x y agree one other differ =
       they_part xs ys seen left right place agree (λ same. let alike : Some x ≡ Some y = rw (one, other) at same in let same_one : x ≡ y = cc in differ same_one)
+
+-- the snapshot lists of two markets part nowhere exactly if the markets are the same
+pub parts_nowhere : (m n : Content) (xs ys : List Message) → IsGood m → IsGood n → xs ≡ snap m → ys ≡ snap n
+    → (place : Option ℕ) → IfSome place (λ k. (0 < k) × IsParting xs ys (k - 1)) → IfNone place (xs ≡ ys) → IsNone place ↔ Same m n
+parts_nowhere m n xs ys good fine one other None parting equal = (λ none. same_snap m n good fine (sym one ∙ equal ∙ other), λ same. refl)
+parts_nowhere m n xs ys good fine one other (Some k) parting equal =
+    (λ none. absurd (let no_one : ⊥ = cc in no_one), λ same. absurd (parting.1.there (ap (λ zs. slice_get zs (k - 1)) (one ∙ snap_same m n same ∙ sym other))))

@@ -1,19 +1,17 @@
 -- The blocks of a snapshot, written one after another.
-use Rattle.std.proofs.Common.{◌≡◌, ℕ, ◌+◌, ◌<◌, List, [], ◌∷◌, ◌++◌, map, length, flat_map, Option, Some, None, Ok, Err, Result, refl, sym, ap, subst, ◌∙◌, append_assoc, append-nil, arith, length-append}
+use Rattle.std.proofs.Common.{◌≡◌, ℕ, ◌+◌, List, [], ◌∷◌, ◌++◌, map, length, flat_map, Option, Some, None, Ok, Err, refl, sym, ap, subst, ◌∙◌, append_assoc, append-nil, arith, length-append}
 use Rattle.std.specs.List.{AllByRecursion}
 use Rattle.std.specs.FinMap as finite
 use Rattle.std.specs.Io.KnownBytes.{Appends}
 use Rattle.std.proofs.KnownBytes.{Appends-nil}
-use Rattle.std.proofs.lemmas.List.{length-map}
 use Rattle.itch_codec.specs.declared.message.Message.{Message}
 use Rattle.itch_codec.specs.declared.message.Message.TheVariants as is
 use Rattle.itch_codec.specs.Messages.{spelling, IsKeptWhole}
 use Rattle.itch_codec.specs.Widths.{IsMessage}
 use Rattle.itch_codec.proofs.Spelling.{spelling_short}
-use Rattle.itch_frame.specs.Blocks.{IsPayload, block, blocks}
-use Rattle.itch_frame.specs.Writing.{WriteBlock, WriteBlocks}
+use Rattle.itch_frame.specs.Blocks.{IsPayload, blocks}
+use Rattle.itch_frame.specs.Writing.{WriteBlock}
 use Rattle.itch_frame.specs.declared.fault.FrameFault.{FrameFault}
-use Rattle.itch_frame.proofs.BlockLemmas.{blocks-push}
 use Rattle.itch_frame.proofs.Writes.{part_written, Appends-block, Appends-more}
 use Rattle.itch_book.specs.declared.order.Order.{Order}
 use Rattle.itch_book.specs.Orders as book
@@ -22,8 +20,8 @@ use Rattle.itch_market.specs.declared.security.Action.{Action}
 use Rattle.itch_market.specs.declared.security.Security.{Security}
 use Rattle.itch_market.specs.Content.{Content}
 use Rattle.itch_snapshot.specs.declared.fault.SnapFault.TheVariants.{Frame}
-use Rattle.itch_snapshot.specs.Snapshot.{snap, event_part, action_part, sho_part, add_of, attributed, order_part, locate_messages, locate_part}
-use Rattle.itch_snapshot.specs.Bytes.{canon, closing}
+use Rattle.itch_snapshot.specs.Snapshot.{snap, event_part, action_part, sho_part, add_of, attributed, order_part, locate_part}
+use Rattle.itch_snapshot.specs.Bytes.{closing}
 use Rattle.itch_snapshot.specs.Writes.{payloads, WritesSnapshot}
 
 -- the message is none that is kept as it was received
@@ -57,10 +55,11 @@ locates_made orders [] = tt
 locates_made orders (e ∷ es) =
     let entry = e.1.entry in
     let os = map (order_part entry.stock) (book.sides orders e.0) in
-    All-append_rec IsMade (locate_part orders e) (flat_map (locate_part orders) es)
-    (λ kept. kept,
+    All-append_rec IsMade (locate_part orders e) (flat_map (locate_part orders) es) (
+      λ kept. kept,
       All-append_rec IsMade (action_part e.0 entry.stock e.1.action) (sho_part e.0 entry.stock e.1.sho ++ os) (action_made e.0 entry.stock e.1.action)
-      (All-append_rec IsMade (sho_part e.0 entry.stock e.1.sho) os (sho_made e.0 entry.stock e.1.sho) (orders_made entry.stock (book.sides orders e.0))))
+          (All-append_rec IsMade (sho_part e.0 entry.stock e.1.sho) os (sho_made e.0 entry.stock e.1.sho) (orders_made entry.stock (book.sides orders e.0))),
+    )
     (locates_made orders es)
 
 -- no message of a snapshot list is
@@ -72,7 +71,7 @@ snap_made m =
 message_short : (m : Content) (seen left : List Message) (x : Message) → snap m ≡ seen ++ x ∷ left → IsMessage x → IsPayload (spelling x)
 message_short m seen left x messages fits =
     let rest : AllByRecursion IsMade (x ∷ left) = All-right_rec IsMade seen (x ∷ left) (subst (AllByRecursion IsMade) messages (snap_made m)) in
-    spelling_short x rest.0 fits
+    spelling_short x fits rest.0
 
 -- the payloads of what was written, of the next message, and of the others
 payloads_at : (m : Content) (next : ℕ) (seen left : List Message) (x : Message) → snap m ≡ seen ++ x ∷ left
@@ -121,14 +120,15 @@ module _ {W : Type 0} (contents : W → Option (List ℕ)) (failures : W → ℕ
       → left ≡ [] → IsMessage (is.End next) → WriteBlock contents failures mid (spelling (is.End next)) (Err fault) new → WritesSnapshot contents failures m next old (Err (Frame fault)) new
   end_failed m next old mid new seen left count fault so_far none fits wrote =
       part_written contents failures old mid new (map spelling seen) (spelling (is.End next)) [] (payloads m next)
-      (ap (λ ms. map spelling ms ++ spelling (is.End next) ∷ []) (all_seen m seen left so_far.messages none)) (spelling_short (is.End next) (λ kept. kept) fits) so_far.wrote so_far.failed fault wrote
+      (ap (λ ms. map spelling ms ++ spelling (is.End next) ∷ []) (all_seen m seen left so_far.messages none)) (spelling_short (is.End next) fits (λ kept. kept)) so_far.wrote so_far.failed fault wrote
 
   -- or all were
   pub all_written : (m : Content) (next : ℕ) (old mid new : W) (seen left : List Message) (count : ℕ) → WrittenSoFar m old seen left count mid
       → left ≡ [] → WriteBlock contents failures mid (spelling (is.End next)) (Ok tt) new → WritesSnapshot contents failures m next old (Ok (count + 1)) new
   all_written m next old mid new seen left count so_far none wrote =
-      let all = all_seen m seen left so_far.messages none in
-      (subst (λ ms. Appends (contents old) (contents new) (blocks (map spelling ms) ++ closing next)) (sym all)
-        (Appends-more (contents old) (contents mid) (contents new) (blocks (map spelling seen)) (closing next) so_far.wrote wrote.1.0),
-      wrote.1.1 ∙ so_far.failed,
-      ap (λ n. n + 1) (so_far.counted ∙ sym (ap length all)))
+      let all = all_seen m seen left so_far.messages none in (
+        subst (λ ms. Appends (contents old) (contents new) (blocks (map spelling ms) ++ closing next)) (sym all)
+            (Appends-more (contents old) (contents mid) (contents new) (blocks (map spelling seen)) (closing next) so_far.wrote wrote.1.0),
+        wrote.1.1 ∙ so_far.failed,
+        ap (λ n. n + 1) (so_far.counted ∙ sym (ap length all)),
+      )

@@ -39,26 +39,26 @@ event_spelled None fits = tt
 event_spelled (Some code) fits =
     let x = is.SystemEvent (record { header = header_at 0; code = code }) in
     let whole : IsMessage x = record { header = header_fits 0 (omega arith); code = fits } in
-    (record { fits = whole; short = spelling_short x (λ kept. kept) whole }, tt)
+    (record { fits = whole; short = spelling_short x whole (λ kept. kept) }, tt)
 
 directory_spelled : (locate : ℕ) (entry : Directory) → locate < 65536 → IsDirectory entry → IsSpelled (is.StockDirectory (record { header = header_at locate; entry = entry }))
 directory_spelled locate entry here fits =
     let whole : IsMessage (is.StockDirectory (record { header = header_at locate; entry = entry })) = record { header = header_fits locate here; entry = fits } in
-    record { fits = whole; short = spelling_short (is.StockDirectory (record { header = header_at locate; entry = entry })) (λ kept. kept) whole }
+    record { fits = whole; short = spelling_short (is.StockDirectory (record { header = header_at locate; entry = entry })) whole (λ kept. kept) }
 
 action_spelled : (locate : ℕ) (stock : List ℕ) (action : Option Action) → locate < 65536 → IsAlpha 8 stock → IsMaybe IsAction action → AllByRecursion IsSpelled (action_part locate stock action)
 action_spelled locate stock None here text fits = tt
 action_spelled locate stock (Some a) here text fits =
     let x = is.TradingAction (record { header = header_at locate; stock = stock; state = a.state; reserved = 32; reason = a.reason }) in
     let whole : IsMessage x = record { header = header_fits locate here; stock = text; state = fits.state; reserved = omega arith; reason = fits.reason } in
-    (record { fits = whole; short = spelling_short x (λ kept. kept) whole }, tt)
+    (record { fits = whole; short = spelling_short x whole (λ kept. kept) }, tt)
 
 sho_spelled : (locate : ℕ) (stock : List ℕ) (sho : Option ℕ) → locate < 65536 → IsAlpha 8 stock → IsMaybe (λ action. action < 256) sho → AllByRecursion IsSpelled (sho_part locate stock sho)
 sho_spelled locate stock None here text fits = tt
 sho_spelled locate stock (Some sho) here text fits =
     let x = is.RegSho (record { header = header_at locate; stock = stock; action = sho }) in
     let whole : IsMessage x = record { header = header_fits locate here; stock = text; action = fits } in
-    (record { fits = whole; short = spelling_short x (λ kept. kept) whole }, tt)
+    (record { fits = whole; short = spelling_short x whole (λ kept. kept) }, tt)
 
 order_spelled : (stock : List ℕ) (x : Order) → IsAlpha 8 stock → book.IsLive x → IsOrder x → IsSpelled (order_part stock x)
 order_spelled stock x text live fits = by_mpid x.mpid fits.mpid
@@ -74,11 +74,11 @@ order_spelled stock x text live fits = by_mpid x.mpid fits.mpid
 
     by_mpid : (mpid : Option (List ℕ)) → IsMaybe (IsAlpha 4) mpid → IsSpelled (attributed (add_of stock x) mpid)
     by_mpid None h =
-        record { fits = add_fits; short = spelling_short (is.AddOrder (add_of stock x)) (λ kept. kept) add_fits }
+        record { fits = add_fits; short = spelling_short (is.AddOrder (add_of stock x)) add_fits (λ kept. kept) }
     by_mpid (Some mpid) h =
         let add = is.AttributedAddOrder (record { order = add_of stock x; attribution = mpid }) in
         let whole : IsMessage add = record { order = add_fits; attribution = h } in
-        record { fits = whole; short = spelling_short add (λ kept. kept) whole }
+        record { fits = whole; short = spelling_short add whole (λ kept. kept) }
 
 -- an order that may be live, and whose fields fit
 abbrev IsSound : Order → Type 0

@@ -4,3 +4,6 @@ pub mod Cursor
 pub mod Lengths
 pub mod Parting
 pub mod Writes
+pub mod Loads
+pub mod Reads
+pub mod Files

@@ -1,5 +1,6 @@
-//! Markets compared, and the length of a snapshot.
-ghost use Rattle.std.specs.Prelude.{◌≡◌, ◌<◌, ◌-◌, ◌^◌, ◌↔◌, length, IfSome, IfNone, IsTrue};
+//! Markets compared.
+ghost use Rattle.std.specs.Prelude.{◌≡◌, ◌<◌, ◌-◌, ◌^◌, ◌↔◌, length, IfSome, IfNone, IsNone, IsTrue};
+ghost use Rattle.itch_market.specs.Sames.{Same};
 ghost use Rattle.itch_snapshot.specs.Snapshot.{snap};
 ghost use Rattle.itch_snapshot.specs.Parting.{IsParting};
 
@@ -13,32 +14,43 @@ use itch_market::Market;
 pub fn part_place<A: OrderBook, B: OrderBook>(one: &Market<A>, other: &Market<B>) -> Option<u64>
     requires { length (snap one.now) < 10 ^ 19 }
     ensures place { IfSome result (λ place. (0 < place) × IsParting (snap one.now) (snap other.now) (place - 1)) }
-    ensures none { IfNone result (snap one.now ≡ snap other.now) }
+    ensures none { IsNone result ↔ Same one.now other.now }
 {
-    let mut others = SnapshotIter::new(other);
-    let mut place = 1u64;
-    for message in SnapshotIter::new(one) {
-        let Some(other) = others.next() else {
-            return Some(place);
-        };
-        if !is_same(&message, &other) {
-            return Some(place);
-        }
-        place += 1;
-    }
-    match others.next() {
-        Some(_) => Some(place),
-        None => None,
-    }
+    // Each market is good: its book tells so.
+    let _one = one.book();
+    let _other = other.book();
+    first_difference(SnapshotIter::new(one), SnapshotIter::new(other))
 }
 
 /// Whether two markets are the same: one last event, one directory with its trading states, and one queue for each locate
 /// and side.
 pub fn same_market<A: OrderBook, B: OrderBook>(one: &Market<A>, other: &Market<B>) -> bool
     requires { length (snap one.now) < 10 ^ 19 }
-    ensures { IsTrue result ↔ snap one.now ≡ snap other.now }
+    ensures { IsTrue result ↔ Same one.now other.now }
 {
     part_place(one, other).is_none()
+}
+
+// The place of the first message, counted from 1, in which two snapshots differ, or the shorter length and 1.
+fn first_difference<A: OrderBook, B: OrderBook>(
+    one: SnapshotIter<'_, A>,
+    mut other: SnapshotIter<'_, B>,
+) -> Option<u64>
+    requires { length one < 10 ^ 19 }
+    ensures place { IfSome result (λ place. (0 < place) × IsParting one.entry other.entry (place - 1)) }
+    ensures none { IfNone result (one.entry ≡ other.entry) }
+{
+    let mut place = 1u64;
+    for message in one {
+        match other.next() {
+            Some(next) if is_same(&message, &next) => place += 1,
+            _ => return Some(place),
+        }
+    }
+    match other.next() {
+        Some(_) => Some(place),
+        None => None,
+    }
 }
 
 fn is_same(one: &Message<'_>, other: &Message<'_>) -> bool
@@ -46,4 +58,3 @@ fn is_same(one: &Message<'_>, other: &Message<'_>) -> bool
 {
     *one == *other
 }
-

@@ -33,7 +33,10 @@ impl fmt::Display for SnapFault {
             SnapFault::NoEnd => write!(f, "no end of snapshot"),
             SnapFault::Frame(fault) => write!(f, "{fault}"),
             SnapFault::Codec { place, fault } => write!(f, "message {place}: {fault}"),
-            SnapFault::Rule { place: _, reason: Refusal::OutOfMemory } => write!(f, "out of memory"),
+            SnapFault::Rule {
+                place: _,
+                reason: Refusal::OutOfMemory,
+            } => write!(f, "out of memory"),
             SnapFault::Rule { place, reason } => write!(f, "message {place}: {reason}"),
             SnapFault::AfterEnd => write!(f, "message after end of snapshot"),
             SnapFault::TooManyMessages => write!(f, "too many messages"),

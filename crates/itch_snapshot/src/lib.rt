@@ -8,10 +8,18 @@ pub mod laws;
 mod length;
 mod named;
 mod parts;
+mod read;
+mod reader;
+mod stage;
+#[cfg(test)]
+mod tests;
 mod write;
 
 pub use compare::{part_place, same_market};
 pub use fault::SnapFault;
 pub use iter::SnapshotIter;
 pub use length::snapshot_len;
+pub use read::read_snapshot;
+pub use reader::SnapshotReader;
+pub use stage::Stage;
 pub use write::write_snapshot;

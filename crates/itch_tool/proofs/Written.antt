@@ -1,12 +1,12 @@
 -- What a failed write of several blocks leaves of their joined bytes.
-use Rattle.std.proofs.Common.{◌≡◌, ℕ, ◌+◌, ◌<◌, ◌≤◌, List, [], ◌∷◌, ◌++◌, map, length, take, Option, None, Some, Err, refl, sym, ap, subst, ◌∙◌, append_assoc, append-nil, arith, length-append}
+use Rattle.std.proofs.Common.{◌≡◌, ℕ, ◌+◌, ◌<◌, ◌≤◌, List, [], ◌∷◌, ◌++◌, map, length, take, Option, Err, sym, ap, subst, ◌∙◌, append-nil, arith, length-append}
 use Rattle.std.proofs.lemmas.List.{take-append-le}
 use Rattle.std.proofs.Math.Seq.{take-append-add}
 use Rattle.std.specs.declared.io.Error.{Error}
 use Rattle.itch_codec.specs.Messages.{spelling}
 use Rattle.itch_codec.specs.declared.message.Message.TheVariants as is
 use Rattle.itch_frame.specs.Blocks.{block, blocks}
-use Rattle.itch_frame.specs.Counting.{Rises, AppendsOrForgets}
+use Rattle.itch_frame.specs.Counting.{AppendsOrForgets}
 use Rattle.itch_frame.specs.Writing.{WriteBlocks}
 use Rattle.itch_frame.specs.declared.fault.FrameFault.TheVariants.{Write}
 use Rattle.itch_frame.proofs.BlockLemmas.{blocks-append}
@@ -29,8 +29,8 @@ beginning done more payload sent within =
 within_all : (done more : List (List ℕ)) (payload : List ℕ) (sent : ℕ) → sent < length (block payload) → length (blocks done) + sent < length (blocks (done ++ payload ∷ more))
 within_all done more payload sent within =
     let whole : length (blocks (done ++ payload ∷ more)) ≡ length (blocks done) + (length (block payload) + length (blocks more)) =
-        ap length (blocks-append done (payload ∷ more)) ∙ length-append (blocks done) (block payload ++ blocks more)
-        ∙ ap (λ n. length (blocks done) + n) (length-append (block payload) (blocks more)) in
+    ap length (blocks-append done (payload ∷ more)) ∙ length-append (blocks done) (block payload ++ blocks more)
+    ∙ ap (λ n. length (blocks done) + n) (length-append (block payload) (blocks more)) in
     omega arith
 
 -- the blocks of a snapshot are its canonical bytes and its closing block
@@ -44,11 +44,11 @@ module _ {W : Type 0} (contents : W → Option (List ℕ)) (failures : W → ℕ
       → WritesOutput contents failures (canon m ++ closing after) old (Err (tool.Write error)) new
   snapshot_cut m next after sent error old new same (done, payload, more, is, within, part, rises) =
       let bytes : blocks (done ++ payload ∷ more) ≡ canon m ++ closing after =
-          ap blocks (sym is) ∙ snapshot_blocks m next ∙ ap (λ n. canon m ++ closing n) same in
+      ap blocks (sym is) ∙ snapshot_blocks m next ∙ ap (λ n. canon m ++ closing n) same in
       let n = length (blocks done) + sent in (
         n,
         subst (λ b. n < length b) bytes (within_all done more payload sent within),
         subst (λ b. AppendsOrForgets (contents old) (contents new) (take n b)) bytes
-        (subst (AppendsOrForgets (contents old) (contents new)) (sym (beginning done more payload sent within)) part),
+            (subst (AppendsOrForgets (contents old) (contents new)) (sym (beginning done more payload sent within)) part),
         rises,
       )

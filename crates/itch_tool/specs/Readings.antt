@@ -1,5 +1,5 @@
 -- How a command reads the messages of a day file into a new market.
-use Rattle.std.specs.Prelude.{◌≡◌, ◌≢◌, ℕ, ◌<◌, List, ◌++◌, length, Option, Some, None, IsSome, Result, Ok, Err}
+use Rattle.std.specs.Prelude.{◌≡◌, ◌≢◌, ℕ, List, ◌++◌, length, Option, Some, None, IsSome, Result, Ok, Err}
 use Rattle.std.specs.List.{AllByRecursion}
 use Rattle.itch_frame.specs.Blocks.{blocks, Ends, IsFull, Day}
 use Rattle.itch_market.specs.Content.{Content, empty}

@@ -47,7 +47,8 @@ fn ok_line(count: u64) -> ArrayVec<u8, 48>
     let mut digits = Buffer::new();
     let mut line = ArrayVec::new();
     line.try_extend_from_slice(b"ok ").unwrap();
-    line.try_extend_from_slice(digits.format(count).as_bytes()).unwrap();
+    line.try_extend_from_slice(digits.format(count).as_bytes())
+        .unwrap();
     line.try_extend_from_slice(b" messages\n").unwrap();
     line
 }

@@ -7,8 +7,7 @@ use itch_market::{Refusal, ReplayEnd, Stop};
 use itch_snapshot::SnapFault;
 use std::alloc::AllocError;
 use std::error::Error;
-use std::fmt;
-use std::io;
+use std::{fmt, io};
 
 /// Which of a command's files a fault is in.
 #[derive(Clone, Copy, Debug, PartialEq, Eq)]

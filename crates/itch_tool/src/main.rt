@@ -9,6 +9,8 @@ mod reading;
 mod request;
 mod run;
 mod snap;
+#[cfg(test)]
+mod tests;
 
 use crate::fault::ToolFault;
 use crate::request::read_request;

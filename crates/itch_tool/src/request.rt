@@ -16,7 +16,9 @@ pub enum Request<'a> {
         after: Option<u64>,
     },
     /// Count the messages of a file that follows the order rules.
-    Check { file: Option<&'a str> },
+    Check {
+        file: Option<&'a str>,
+    },
 }
 
 impl<'a> Request<'a> {

@@ -12,7 +12,8 @@ use super::Market;
 use crate::security::{Action, Security};
 use itch_book::{Order, OrderBook};
 use itch_codec::{
-    AddOrder, Alpha, Directory, Message, OrderReplace, RegSho, StockDirectory, SystemEvent, TradingAction,
+    AddOrder, Alpha, Directory, Message, OrderReplace, RegSho, StockDirectory, SystemEvent,
+    TradingAction,
 };
 use std::alloc::AllocError;
 
@@ -21,6 +22,7 @@ fn entered(old: Option<Security>, entry: Directory) -> Security
     ensures security { result ≡ entered old entry }
     ensures fits { IsDirectory entry }
 {
+    // A text tells by its bytes that they are printable, and so many.
     let stock = entry.stock;
     stock.bytes();
     let (action, sho) = match old {
@@ -35,6 +37,7 @@ fn order_of(x: AddOrder, mpid: Option<Alpha<4>>) -> Order
     ensures order { result ≡ order_of x mpid }
     ensures fits { IsOrder result }
 {
+    // As above.
     if let Some(text) = &mpid {
         text.bytes();
     }
@@ -57,19 +60,19 @@ impl<B: OrderBook> Market<B> {
         ensures memory { IsErr result → IsTrue (takes_memory self.old message.now) }
     {
         match *message {
-            Message::SystemEvent(event) => self.set_event(event),
-            Message::StockDirectory(entry) => return self.enter(entry),
-            Message::TradingAction(action) => self.set_action(action),
-            Message::RegSho(sho) => self.set_sho(sho),
-            Message::AddOrder(order) => return self.add(order, None),
-            Message::AttributedAddOrder(x) => return self.add(x.order, Some(x.attribution)),
+            Message::SystemEvent(x) => self.set_event(x),
+            Message::StockDirectory(x) => self.enter(x)?,
+            Message::TradingAction(x) => self.set_action(x),
+            Message::RegSho(x) => self.set_sho(x),
+            Message::AddOrder(x) => self.add(x, None)?,
+            Message::AttributedAddOrder(x) => self.add(x.order, Some(x.attribution))?,
             Message::OrderExecuted(x) => self.take(x.reference, x.shares),
             Message::OrderExecutedWithPrice(x) => {
                 self.take(x.execution.reference, x.execution.shares)
             }
             Message::OrderCancel(x) => self.take(x.reference, x.shares),
             Message::OrderDelete(x) => self.delete(x.reference),
-            Message::OrderReplace(x) => return self.replace(x),
+            Message::OrderReplace(x) => self.replace(x)?,
             Message::Trade(_)
             | Message::CrossTrade(_)
             | Message::BrokenTrade(_)
@@ -79,10 +82,11 @@ impl<B: OrderBook> Market<B> {
         Ok(())
     }
 
-    /// Changes nothing, and the orders stand in snapshot order as ever.
+    /// Changes nothing: the orders stand in snapshot order as ever.
     fn keep(&self)
         ensures { laid self.now ≡ self.now }
     {
+        // Every book tells that its orders stand so.
         let _book = &self.book;
     }
 
@@ -150,6 +154,7 @@ impl<B: OrderBook> Market<B> {
         ensures ok { OnOk result (self.new ≡ laid (effect self.old (Message.OrderReplace x))) }
         ensures err { OnErr result (self.new ≡ self.old) }
     {
-        self.book.replace(x.original, x.reference, x.shares, x.price)
+        self.book
+            .replace(x.original, x.reference, x.shares, x.price)
     }
 }

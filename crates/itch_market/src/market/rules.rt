@@ -7,7 +7,7 @@ use super::Market;
 use crate::refusal::Refusal;
 use crate::security::Security;
 use itch_book::OrderBook;
-use itch_codec::{AddOrder, Alpha, Message, OrderDelete, OrderReplace, StockDirectory};
+use itch_codec::{AddOrder, Alpha, Message, OrderDelete, OrderReplace};
 
 /// Whether the directory has another stock, by its eight bytes.
 fn is_other_stock(security: &Security, stock: Alpha<8>) -> bool
@@ -22,16 +22,17 @@ impl<B: OrderBook> Market<B> {
         ensures { result ≡ reason self.now message.now }
     {
         match *message {
-            Message::StockDirectory(entry) => self.directory_refusal(entry),
-            Message::TradingAction(action) => self.security_refusal(action.header.locate, action.stock),
-            Message::RegSho(sho) => self.security_refusal(sho.header.locate, sho.stock),
-            Message::AddOrder(order) => self.add_refusal(order),
-            Message::AttributedAddOrder(attributed) => self.add_refusal(attributed.order),
+            Message::StockDirectory(x) => self.directory_refusal(x.header.locate, x.entry.stock),
+            Message::TradingAction(x) => self.security_refusal(x.header.locate, x.stock),
+            Message::RegSho(x) => self.security_refusal(x.header.locate, x.stock),
+            Message::AddOrder(x) => self.add_refusal(x),
+            Message::AttributedAddOrder(x) => self.add_refusal(x.order),
             Message::OrderExecuted(x) => self.take_refusal(x.header.locate, x.reference, x.shares),
-            Message::OrderExecutedWithPrice(priced) => {
-                let x = priced.execution;
-                self.take_refusal(x.header.locate, x.reference, x.shares)
-            }
+            Message::OrderExecutedWithPrice(x) => self.take_refusal(
+                x.execution.header.locate,
+                x.execution.reference,
+                x.execution.shares,
+            ),
             Message::OrderCancel(x) => self.take_refusal(x.header.locate, x.reference, x.shares),
             Message::OrderDelete(x) => self.delete_refusal(x),
             Message::OrderReplace(x) => self.replace_refusal(x),
@@ -44,11 +45,11 @@ impl<B: OrderBook> Market<B> {
         }
     }
 
-    fn directory_refusal(&self, x: StockDirectory) -> Option<Refusal>
-        ensures { result ≡ directory_reason (map.get self.now.securities x.header.locate) x.entry.stock }
+    fn directory_refusal(&self, locate: u16, stock: Alpha<8>) -> Option<Refusal>
+        ensures { result ≡ directory_reason (map.get self.now.securities locate) stock }
     {
-        match self.security(x.header.locate) {
-            Some(security) if is_other_stock(security, x.entry.stock) => Some(Refusal::StockMismatch),
+        match self.security(locate) {
+            Some(security) if is_other_stock(security, stock) => Some(Refusal::StockMismatch),
             _ => None,
         }
     }

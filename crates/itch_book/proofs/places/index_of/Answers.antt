@@ -1,4 +1,4 @@
-use Rattle.std.proofs.Common.{None, Some, sym, ◌∙◌}
+use Rattle.std.proofs.Common.{◌∙◌}
 use Rattle.itch_book.proofs.PlaceLemmas.{position_there}
 use Rattle.itch_book.proofs.places.index_of.Goals as goal
 

@@ -1,4 +1,4 @@
-use Rattle.std.proofs.Common.{◌≡◌, ◌≤◌, ◌+◌, length, take, ◌∙◌, arith}
+use Rattle.std.proofs.Common.{◌≡◌, ◌≤◌, length, take, ◌∙◌, arith}
 use Rattle.std.proofs.lemmas.List.{length-take-le}
 use Rattle.itch_frame.proofs.SplitterLemmas.{front_whole}
 use Rattle.itch_frame.proofs.Filling.{filled_begun, filled_keeps, filled_front}

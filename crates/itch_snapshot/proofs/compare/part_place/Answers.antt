@@ -1,13 +1,7 @@
-use Rattle.itch_snapshot.proofs.Partings.{shorter_one, shorter_other, other_element}
+use Rattle.itch_snapshot.proofs.Partings.{parts_nowhere}
 use Rattle.itch_snapshot.proofs.compare.part_place.Goals as goal
 
-pub returns-in_default-clause-place : goal.returns-in_default-clause-place
-returns-in_default-clause-place g c = shorter_other _ _ _ _ _ _ _ _ c.loop-message.invariant c.in-Some.ensures.steps c.in_default.ensures.steps.0
-
-pub returns-then-not-is_same-clause-place : goal.returns-then-not-is_same-clause-place
-returns-then-not-is_same-clause-place g c =
-    other_element _ _ _ _ _ _ _ _ _ _ c.loop-message.invariant c.in-Some.ensures.steps c.in-Some-next.ensures.steps
-    (λ same. let no_one = c.if-not-is_same.ensures.1 same in cc)
-
-pub returns-in-Some-next-2-clause-place : goal.returns-in-Some-next-2-clause-place
-returns-in-Some-next-2-clause-place g c = shorter_one _ _ _ _ _ _ _ _ c.loop-message.invariant c.in-None.ensures.steps.0 c.in-Some-next-2.ensures.steps
+pub returns-clause-none : goal.returns-clause-none
+returns-clause-none g c =
+    parts_nowhere _ _ _ _ c.book-one.ensures.good c.book-other.ensures.good c.new.ensures c.new-2.ensures c.first_difference.result
+    c.first_difference.ensures.place c.first_difference.ensures.none

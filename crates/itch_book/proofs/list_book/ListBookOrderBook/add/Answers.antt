@@ -14,8 +14,8 @@ invariant_of-self g c =
     let there = put_there order orders c.deref.result.now c.place_of-place.result book h c.deref.ensures.value c.place_of-place.ensures.place in
     record {
       is_kept = subst IsBook (sym c.insert.ensures.items) (cond_both (is_ok c.insert.result) (insert orders c.place_of-place.result order) orders IsBook
-        (λ e. subst IsBook (sym there) (IsBook-added order orders book (c.requires.some_shares, h) c.requires.new_reference))
-        (λ e. book));
+          (λ e. subst IsBook (sym there) (IsBook-added order orders book (c.requires.some_shares, h) c.requires.new_reference))
+          (λ e. book));
     }
 
 pub returns-clause-ok : goal.returns-clause-ok

@@ -1,7 +1,6 @@
 use Rattle.std.proofs.Common.{is_ok, insert, subst, sym, ◌∙◌}
 use Rattle.std.proofs.lemmas.Bool.{cond_both}
-use Rattle.itch_book.specs.Orders.{IsBook, stands_before}
-use Rattle.itch_book.specs.Stable.{IsInOrder}
+use Rattle.itch_book.specs.Orders.{IsBook}
 use Rattle.itch_book.proofs.BookLemmas.{IsBook-without, IsBook-replaced}
 use Rattle.itch_book.proofs.PlaceLemmas.{cut_there, found_there, replaced_there}
 use Rattle.itch_book.proofs.list_book.ListBookOrderBook.replace.Goals as goal
@@ -25,8 +24,8 @@ invariant_of-self g c =
     let there = replaced_there c.args.original c.args.reference c.args.shares c.args.price orders rest c.deref-2.result.now c.place_of-place.result old book found cut c.deref-2.ensures.value c.place_of-place.ensures.place in
     record {
       is_kept = subst IsBook (sym c.insert.ensures.items) (cond_both (is_ok c.insert.result) (insert rest c.place_of-place.result (record old { reference = c.args.reference; shares = c.args.shares; price = c.args.price })) rest IsBook
-        (λ e. subst IsBook (sym there) (IsBook-replaced c.args.original c.args.reference c.args.shares c.args.price orders book c.requires.some_shares c.requires.new_reference))
-        (λ e. subst IsBook (sym cut) (IsBook-without c.args.original orders book)));
+          (λ e. subst IsBook (sym there) (IsBook-replaced c.args.original c.args.reference c.args.shares c.args.price orders book c.requires.some_shares c.requires.new_reference))
+          (λ e. subst IsBook (sym cut) (IsBook-without c.args.original orders book)));
     }
 
 pub returns-clause-ok : goal.returns-clause-ok

@@ -1,6 +1,6 @@
-use Rattle.std.proofs.Common.{◌≡◌, ◌<◌, ◌≤◌, ◌-◌, IsSome, IsSomeAnd, Option, None, Some, arith, rules, refl, subst, sym, ◌∙◌}
+use Rattle.std.proofs.Common.{◌<◌, ◌-◌, IsSome, IsSomeAnd, Option, None, Some, arith, refl, subst, sym, ◌∙◌}
 use Rattle.itch_book.specs.declared.order.Order.{Order}
-use Rattle.itch_book.specs.Orders.{IsBook, get}
+use Rattle.itch_book.specs.Orders.{IsBook}
 use Rattle.itch_book.proofs.BookLemmas.{IsBook-taken}
 use Rattle.itch_book.proofs.PlaceLemmas.{found_there, gone_there, left_there}
 use Rattle.itch_book.proofs.list_book.ListBookOrderBook.take.Goals as goal

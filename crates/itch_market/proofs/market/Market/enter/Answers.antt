@@ -1,8 +1,6 @@
 use Rattle.std.proofs.Common.{◌<◌, rules, refl, sym, ap, ◌∙◌}
-use Rattle.std.specs.FinMap as map
 use Rattle.itch_market.specs.Effects.{entered}
 use Rattle.itch_market.proofs.Maps.{get_of_tree, insert_of_tree}
-use Rattle.itch_market.proofs.Directories.{directory}
 use Rattle.itch_market.proofs.Goods.{entered_good}
 use Rattle.itch_market.proofs.Laid.{laid_already}
 use Rattle.itch_market.proofs.market.Market.enter.Goals as goal
@@ -21,10 +19,10 @@ returns-clause-ok g c =
     let locate = c.args.x.header.locate in
     let old = c.self.inside.securities in
     let security = c.entered.ensures.security ∙ ap (λ o. entered o c.args.x.entry) (c.copied-old.ensures ∙ c.get.ensures.value ∙ sym (get_of_tree old locate)) in
-    rw
-    ( insert_of_tree old c.insert.new.self locate c.entered.result c.in_ok-insert.ensures.updates,
+    rw (
+      insert_of_tree old c.insert.new.self locate c.entered.result c.in_ok-insert.ensures.updates,
       security,
-      ← c.self.view_is
+      ← c.self.view_is,
     )
     (sym (laid_already _ (g.met.B.OrderBook.is_book c.self.inside.book)))
 

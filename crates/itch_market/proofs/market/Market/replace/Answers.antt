@@ -1,6 +1,4 @@
 use Rattle.std.proofs.Common.{rules}
-use Rattle.itch_market.specs.Reasons.{reason}
-use Rattle.itch_codec.specs.declared.message.Message.TheVariants as is
 use Rattle.itch_market.proofs.Goods.{laid_or_kept, replaced_good}
 use Rattle.itch_market.proofs.market.Market.replace.Goals as goal
 

@@ -13,8 +13,8 @@ pub returns-in-Some-order-clause-steps : goal.returns-in-Some-order-clause-steps
 returns-in-Some-order-clause-steps g c =
     sym c.self.view_is
     ∙ order_given c.self.inside.market.now _ (g.met.B.OrderBook.is_book c.book-book.result.now) c.book-book.ensures.orders _ _ _ _ _ _ c.in-Some-order.next
-      c.self.invariant (sym c.take.ensures.value ∙ c.in_default.is) (sym c.take-2.ensures.value ∙ c.in_default-take.is) (sym c.take-3.ensures.value ∙ c.in_default-take-2.is)
-      c.in-Some-order.is (c.named-self-inside.ensures ∙ ap (named c.in-Some-order.next.stock) c.after.ensures)
+    c.self.invariant (sym c.take.ensures.value ∙ c.in_default.is) (sym c.take-2.ensures.value ∙ c.in_default-take.is) (sym c.take-3.ensures.value ∙ c.in_default-take-2.is)
+    c.in-Some-order.is (c.named-self-inside.ensures ∙ ap (named c.in-Some-order.next.stock) c.after.ensures)
     ∙ rw (c.order_message.ensures, c.take.ensures.after, c.take-2.ensures.after, c.take-3.ensures.after) refl
 
 pub returns-in-Some-order-clause-goes : goal.returns-in-Some-order-clause-goes
@@ -29,9 +29,9 @@ pub returns-clause-steps : goal.returns-clause-steps
 returns-clause-steps g c =
     sym c.self.view_is
     ∙ locate_given c.self.inside.market.now _ (g.met.B.OrderBook.is_book c.book-book.result.now) c.book-book.ensures.orders _ _ _ _ _ _ _ _ _ c.in_ok-locate.locate c.in_ok-security.field-0.now
-      (sym c.take.ensures.value ∙ c.in_default.is) (sym c.take-2.ensures.value ∙ c.in_default-take.is) (sym c.take-3.ensures.value ∙ c.in_default-take-2.is)
-      c.in_default-order.is c.in_ok-locate.ensures.steps (sym c.security.ensures ∙ ap option_copied c.in_ok-security.was)
-      c.action_message-self-inside.ensures c.sho_message-self-inside.ensures (c.named-self-inside-2.ensures ∙ ap (named c.in_ok-security.field-0.now.entry.stock) c.first.ensures)
+    (sym c.take.ensures.value ∙ c.in_default.is) (sym c.take-2.ensures.value ∙ c.in_default-take.is) (sym c.take-3.ensures.value ∙ c.in_default-take-2.is)
+    c.in_default-order.is c.in_ok-locate.ensures.steps (sym c.security.ensures ∙ ap option_copied c.in_ok-security.was)
+    c.action_message-self-inside.ensures c.sho_message-self-inside.ensures (c.named-self-inside-2.ensures ∙ ap (named c.in_ok-security.field-0.now.entry.stock) c.first.ensures)
     ∙ rw (c.take.ensures.after, c.header_at-header-2.ensures) refl
 
 pub returns-clause-goes : goal.returns-clause-goes

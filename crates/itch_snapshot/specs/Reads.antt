@@ -1,0 +1,78 @@
+-- What the reading of a snapshot does to its reader, step by step.
+use Rattle.std.specs.Prelude.{◌≡◌, ℕ, ◌-◌, ◌≤◌, ◌^◌, ◌⊎◌, List, [], map, length, ⊤, Option, Some, None, Result, Ok, Err, IfSome}
+use Rattle.std.specs.Io.KnownBytes.{Consumes, IsAtEnd}
+use Rattle.itch_codec.specs.Messages.{message_of}
+use Rattle.itch_frame.specs.Blocks.{block, Open}
+use Rattle.itch_frame.specs.Counting.{KeepsOrForgets, Rises}
+use Rattle.itch_frame.specs.declared.fault.FrameFault.{FrameFault}
+use Rattle.itch_frame.specs.declared.fault.FrameFault.TheVariants.{Read, Truncated, Write, TooLong}
+use Rattle.itch_market.specs.declared.stop.Stop.TheVariants as stop
+use Rattle.itch_market.specs.Content.{Content, empty}
+use Rattle.itch_market.specs.Runs.{after}
+use Rattle.itch_market.specs.Replays.{TakesOff, Takes, IsTold}
+use Rattle.itch_snapshot.specs.declared.fault.SnapFault.{SnapFault}
+use Rattle.itch_snapshot.specs.declared.fault.SnapFault.TheVariants.{NoEnd, Frame, Codec, Rule, AfterEnd, TooManyMessages}
+use Rattle.itch_snapshot.specs.Loads.{closing_number, TakesNext}
+
+-- the input is at its end, or an empty block came off the front
+abbrev pub EndsHere : Option (List ℕ) → Option (List ℕ) → Type 0
+EndsHere old new = IsAtEnd old ⊎ Consumes old new (block [])
+
+-- why no block came off the front
+abbrev pub FailsHere : FrameFault → Option (List ℕ) → Option (List ℕ) → Type 0
+FailsHere (Truncated held) old new = IfSome old (λ bytes. Open bytes × (held ≡ length bytes))
+FailsHere (Read error) old new = KeepsOrForgets old new
+FailsHere (Write sent error) old new = ⊥
+FailsHere TooLong old new = ⊥
+
+-- a payload came off the front, which is the one told of
+abbrev pub ReadsPayload : Option (List ℕ) → Option (List ℕ) → (List ℕ → Type 0) → Type 0
+ReadsPayload old new P = (payload : List ℕ) × TakesOff old new payload × P payload
+
+-- what is read behind so many messages, and what it does to the market that they left
+abbrev pub ReadsNext : ℕ → Content → Option (List ℕ) → Option (List ℕ) → Result (Option ℕ) SnapFault → Content → Type 0
+ReadsNext taken m old new (Err NoEnd) n = (n ≡ m) × EndsHere old new
+ReadsNext taken m old new (Err (Frame f)) n = (n ≡ m) × FailsHere f old new
+ReadsNext taken m old new (Err (Codec place f)) n = ReadsPayload old new (λ payload. TakesNext taken m payload (Err (Codec place f)) n)
+ReadsNext taken m old new (Err (Rule place why)) n = ReadsPayload old new (λ payload. TakesNext taken m payload (Err (Rule place why)) n)
+ReadsNext taken m old new (Err TooManyMessages) n = ReadsPayload old new (λ payload. TakesNext taken m payload (Err TooManyMessages) n)
+ReadsNext taken m old new (Err AfterEnd) n = ⊥
+ReadsNext taken m old new (Ok None) n = ReadsPayload old new (λ payload. TakesNext taken m payload (Ok None) n)
+ReadsNext taken m old new (Ok (Some next)) n = ReadsPayload old new (λ payload. TakesNext taken m payload (Ok (Some next)) n)
+
+-- what is read behind the End of Snapshot
+abbrev pub ReadsEnd : Option (List ℕ) → Option (List ℕ) → Result (Unit {0}) SnapFault → Type 0
+ReadsEnd old new (Ok done) = EndsHere old new
+ReadsEnd old new (Err AfterEnd) = ReadsPayload old new (λ payload. ⊤)
+ReadsEnd old new (Err (Frame f)) = FailsHere f old new
+ReadsEnd old new (Err NoEnd) = ⊥
+ReadsEnd old new (Err (Codec place f)) = ⊥
+ReadsEnd old new (Err (Rule place why)) = ⊥
+ReadsEnd old new (Err TooManyMessages) = ⊥
+
+-- messages were taken from a market, and then what is read next is no message
+abbrev pub ReadsAll : Content → Option (List ℕ) → Option (List ℕ) → Result ℕ SnapFault → Content → Type 0
+ReadsAll m old new (Ok next) n =
+    (payloads : List (List ℕ)) × (mid : Option (List ℕ)) × Takes m old mid payloads n × (length payloads ≤ 10 ^ 19 - 1)
+    × ReadsPayload mid new (λ payload. closing_number payload ≡ Some next)
+ReadsAll m old new (Err fault) n =
+    (payloads : List (List ℕ)) × (mid : Option (List ℕ)) × Takes m old mid payloads n × (length payloads ≤ 10 ^ 19 - 1)
+    × ReadsNext (length payloads) (after m (map message_of payloads)) mid new (Err fault) (after m (map message_of payloads))
+
+-- the messages of a snapshot up to its End of Snapshot are read, and then what follows it, unless there was a fault before
+abbrev pub ReadsSnapshot : Option (List ℕ) → Option (List ℕ) → Result (Content × ℕ) SnapFault → Type 0
+ReadsSnapshot old new (Ok done) = (mid : Option (List ℕ)) × ReadsAll empty old mid (Ok done.1) done.0 × ReadsEnd mid new (Ok tt)
+ReadsSnapshot old new (Err fault) =
+    ((n : Content) × ReadsAll empty old new (Err fault) n)
+    ⊎ ((mid : Option (List ℕ)) × (next : ℕ) × (n : Content) × ReadsAll empty old mid (Ok next) n × ReadsEnd mid new (Err fault))
+
+-- a failed read is counted, and nothing else is
+abbrev pub CountsFault : SnapFault → ℕ → ℕ → Type 0
+CountsFault (Frame (Read error)) old new = Rises old new
+CountsFault fault old new = new ≡ old
+
+-- a fault that the file alone decides: no read failed, and memory was not refused
+abbrev pub IsToldFault : SnapFault → Type 0
+IsToldFault (Frame f) = IsTold (stop.Frame f)
+IsToldFault (Rule place why) = IsTold (stop.Rule why)
+IsToldFault fault = ⊤

@@ -1,0 +1,101 @@
+//! Snapshots from a reader.
+ghost use Rattle.std.specs.Prelude.{◌≡◌, ℕ, ◌≤◌, ◌-◌, ◌^◌, List, IfSome, IfOk, IfErr, MatchResult};
+ghost use Rattle.itch_codec.specs.declared.message.Message.{Message};
+ghost use Rattle.itch_frame.specs.Reading.{bytes_left};
+ghost use Rattle.itch_market.specs.Content.{laid};
+ghost use Rattle.itch_market.specs.Runs.{run};
+ghost use Rattle.itch_snapshot.specs.Files.{IsSnapshotFile, IsMarketOf, IsFaultOf};
+ghost use Rattle.itch_snapshot.specs.Reads.{ReadsNext, ReadsEnd, ReadsAll, ReadsSnapshot, CountsFault, IsToldFault};
+
+use crate::fault::SnapFault;
+use crate::reader::take;
+use itch_book::OrderBook;
+use itch_codec::Seq;
+use itch_frame::BlockReader;
+use itch_frame::counted::CountedRead;
+use itch_market::Market;
+use std::alloc::Allocator;
+
+/// Reads a snapshot into a market of its own, with the number of the first message that it does not contain.
+///
+/// Behind the End of Snapshot the input ends, or a block of length 0 follows, behind which nothing is read. On a fault no
+/// market is handed out.
+pub fn read_snapshot<R: CountedRead, A: Allocator, B: OrderBook>(
+    alloc: B::Alloc,
+    reader: &mut BlockReader<R, A>,
+) -> Result<(Market<B>, Seq), SnapFault>
+    // The file alone decides what is answered, unless a read failed or memory was refused.
+    ensures file { IfSome (bytes_left R.remaining reader.old) (λ bytes. (ms : List Message) → (next : ℕ) → IsSnapshotFile bytes ms next
+        → MatchResult result (λ done. done ≡ (laid (run ms), next)) (λ fault. ¬ IsToldFault fault)) }
+    ensures market { IfOk result (λ done. IfSome (bytes_left R.remaining reader.old) (λ bytes. IsMarketOf bytes done)) }
+    ensures fault { IfErr result (λ fault. IfSome (bytes_left R.remaining reader.old) (λ bytes. IsToldFault fault → IsFaultOf bytes fault)) }
+    // What was read, what was not, and what each fault means.
+    ensures steps { ReadsSnapshot (bytes_left R.remaining reader.old) (bytes_left R.remaining reader.new) result }
+    ensures failures { MatchResult result (λ _. R.failures reader.new.reader ≡ R.failures reader.old.reader)
+        (λ fault. CountsFault fault (R.failures reader.old.reader) (R.failures reader.new.reader)) }
+{
+    let mut market = Market::new(alloc);
+    let next = read_messages(reader, &mut market)?;
+    read_end(reader)?;
+    Ok((market, next))
+}
+
+// Applies the messages of a snapshot, up to its End of Snapshot.
+fn read_messages<R: CountedRead, A: Allocator, B: OrderBook>(
+    reader: &mut BlockReader<R, A>,
+    market: &mut Market<B>,
+) -> Result<Seq, SnapFault>
+    ensures steps { ReadsAll market.old (bytes_left R.remaining reader.old) (bytes_left R.remaining reader.new) result market.new }
+    ensures failures { MatchResult result (λ _. R.failures reader.new.reader ≡ R.failures reader.old.reader)
+        (λ fault. CountsFault fault (R.failures reader.old.reader) (R.failures reader.new.reader)) }
+{
+    // Each market is good, and its orders stand in snapshot order: its book tells so.
+    let _book = market.book();
+    for taken in 0..u64::MAX {
+        if let Some(next) = read_message(reader, market, taken)? {
+            return Ok(next);
+        }
+    }
+    unreachable!()
+}
+
+// Applies the message of the next block, behind so many others.
+fn read_message<R: CountedRead, A: Allocator, B: OrderBook>(
+    reader: &mut BlockReader<R, A>,
+    market: &mut Market<B>,
+    taken: u64,
+) -> Result<Option<Seq>, SnapFault>
+    requires { taken ≤ 10 ^ 19 - 1 }
+    ensures step { ReadsNext taken market.old (bytes_left R.remaining reader.old) (bytes_left R.remaining reader.new) result market.new }
+    ensures failures { MatchResult result (λ _. R.failures reader.new.reader ≡ R.failures reader.old.reader)
+        (λ fault. CountsFault fault (R.failures reader.old.reader) (R.failures reader.new.reader)) }
+{
+    match reader.next_block() {
+        Ok(Some(payload)) => {
+            if payload.is_empty() {
+                return Err(SnapFault::NoEnd);
+            }
+            take(market, payload, taken)
+        }
+        Ok(None) => Err(SnapFault::NoEnd),
+        Err(fault) => Err(SnapFault::Frame(fault)),
+    }
+}
+
+// Reads what follows an End of Snapshot: nothing, or an empty block.
+fn read_end<R: CountedRead, A: Allocator>(reader: &mut BlockReader<R, A>) -> Result<(), SnapFault>
+    ensures step { ReadsEnd (bytes_left R.remaining reader.old) (bytes_left R.remaining reader.new) result }
+    ensures failures { MatchResult result (λ _. R.failures reader.new.reader ≡ R.failures reader.old.reader)
+        (λ fault. CountsFault fault (R.failures reader.old.reader) (R.failures reader.new.reader)) }
+{
+    match reader.next_block() {
+        Ok(Some(payload)) => {
+            if payload.is_empty() {
+                return Ok(());
+            }
+            Err(SnapFault::AfterEnd)
+        }
+        Ok(None) => Ok(()),
+        Err(fault) => Err(SnapFault::Frame(fault)),
+    }
+}
