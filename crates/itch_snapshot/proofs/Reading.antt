@@ -1,5 +1,5 @@
 -- What the reading of a snapshot has done so far, and one block more.
-use Rattle.std.proofs.Common.{◌≡◌, ℕ, ◌+◌, ◌-◌, ◌≤◌, ◌^◌, List, map, Option, None, Some, Ok, Err, refl, sym, subst, inl, inr}
+use Rattle.std.proofs.Common.{◌≡◌, ℕ, ◌+◌, ◌-◌, ◌≤◌, ◌^◌, List, map, Option, None, Ok, Err, refl, sym, subst, inl, inr}
 use Rattle.itch_codec.specs.Messages.{message_of}
 use Rattle.itch_market.specs.Content.{Content, empty, laid}
 use Rattle.itch_market.specs.Goods.{IsGood}
@@ -33,12 +33,7 @@ fault-laid taken m n old new AfterEnd good h = absurd h
 pub message_read : (m : Content) (old mid new : Option (List ℕ)) (taken : ℕ) (n k : Content) → Going m old mid taken n → ReadsNext taken n mid new (Ok None) k → Going m old new (taken + 1) k
 message_read m old mid new taken n k going (payload, off, (room, took)) = going_on m old mid new taken n k going (payload, off, room, took)
 
--- the End of Snapshot came
-pub end_read : (m : Content) (old mid new : Option (List ℕ)) (taken : ℕ) (n k : Content) (next : ℕ) → Going m old mid taken n → ReadsNext taken n mid new (Ok (Some next)) k → ReadsAll m old new (Ok next) k
-end_read m old mid new taken n k next going (payload, off, (same, closes)) =
-    (going.payloads, mid, subst (Takes m old mid going.payloads) (sym same) going.takes, subst (λ c. c ≤ 10 ^ 19 - 1) (sym going.counted) going.few, (payload, off, closes))
-
--- or neither
+-- or none was
 pub fault_read : (m : Content) (old mid new : Option (List ℕ)) (taken : ℕ) (n k : Content) (fault : SnapFault) → Going m old mid taken n → ReadsNext taken n mid new (Err fault) k → ReadsAll m old new (Err fault) k
 fault_read m old mid new taken n k fault going h =
     let so_far = after m (map message_of going.payloads) in (
@@ -57,6 +52,6 @@ first_fault m old new n fault begun reads = inl (n, subst (λ k. ReadsAll k old 
 pub later_fault : (m : Content) (old mid new : Option (List ℕ)) (n : Content) (next : ℕ) (fault : SnapFault) → m ≡ empty → ReadsAll m old mid (Ok next) n → ReadsEnd mid new (Err fault) → ReadsSnapshot old new (Err fault)
 later_fault m old mid new n next fault begun reads behind = inr (mid, next, n, subst (λ k. ReadsAll k old mid (Ok next) n) begun reads, behind)
 
--- or neither
+-- or there is none
 pub no_fault : (m : Content) (old mid new : Option (List ℕ)) (n : Content) (next : ℕ) → m ≡ empty → ReadsAll m old mid (Ok next) n → ReadsEnd mid new (Ok tt) → ReadsSnapshot old new (Ok (n, next))
 no_fault m old mid new n next begun reads behind = (mid, subst (λ k. ReadsAll k old mid (Ok next) n) begun reads, behind)

@@ -1,77 +1,31 @@
 -- The blocks of a snapshot, written one after another.
-use Rattle.std.proofs.Common.{◌≡◌, ℕ, ◌+◌, List, [], ◌∷◌, ◌++◌, map, length, flat_map, Option, Some, None, Ok, Err, refl, sym, ap, subst, ◌∙◌, append_assoc, append-nil, arith, length-append}
+use Rattle.std.proofs.Common.{◌≡◌, ℕ, ◌+◌, List, [], ◌∷◌, ◌++◌, map, length, Option, Ok, Err, refl, sym, ap, subst, ◌∙◌, append_assoc, append-nil, arith, length-append}
 use Rattle.std.specs.List.{AllByRecursion}
-use Rattle.std.specs.FinMap as finite
 use Rattle.std.specs.Io.KnownBytes.{Appends}
 use Rattle.std.proofs.KnownBytes.{Appends-nil}
 use Rattle.itch_codec.specs.declared.message.Message.{Message}
 use Rattle.itch_codec.specs.declared.message.Message.TheVariants as is
-use Rattle.itch_codec.specs.Messages.{spelling, IsKeptWhole}
+use Rattle.itch_codec.specs.Messages.{spelling}
 use Rattle.itch_codec.specs.Widths.{IsMessage}
 use Rattle.itch_codec.proofs.Spelling.{spelling_short}
 use Rattle.itch_frame.specs.Blocks.{IsPayload, blocks}
 use Rattle.itch_frame.specs.Writing.{WriteBlock}
 use Rattle.itch_frame.specs.declared.fault.FrameFault.{FrameFault}
 use Rattle.itch_frame.proofs.Writes.{part_written, Appends-block, Appends-more}
-use Rattle.itch_book.specs.declared.order.Order.{Order}
-use Rattle.itch_book.specs.Orders as book
-use Rattle.itch_book.proofs.Lists.{All-append_rec, All-right_rec}
-use Rattle.itch_market.specs.declared.security.Action.{Action}
-use Rattle.itch_market.specs.declared.security.Security.{Security}
+use Rattle.itch_book.proofs.Lists.{All-right_rec}
 use Rattle.itch_market.specs.Content.{Content}
+use Rattle.itch_market.specs.Goods.{IsGood}
 use Rattle.itch_snapshot.specs.declared.fault.SnapFault.TheVariants.{Frame}
-use Rattle.itch_snapshot.specs.Snapshot.{snap, event_part, action_part, sho_part, add_of, attributed, order_part, locate_part}
+use Rattle.itch_snapshot.specs.Snapshot.{snap}
 use Rattle.itch_snapshot.specs.Bytes.{closing}
 use Rattle.itch_snapshot.specs.Writes.{payloads, WritesSnapshot}
+use Rattle.itch_snapshot.proofs.Spelled.{IsSpelled, snap_spelled}
 
--- the message is none that is kept as it was received
-abbrev pub IsMade : Message → Type 0
-IsMade x = IsKeptWhole x → ⊥
-
-event_made : (event : Option ℕ) → AllByRecursion IsMade (event_part event)
-event_made None = tt
-event_made (Some code) = (λ kept. kept, tt)
-
-action_made : (locate : ℕ) (stock : List ℕ) (action : Option Action) → AllByRecursion IsMade (action_part locate stock action)
-action_made locate stock None = tt
-action_made locate stock (Some a) = (λ kept. kept, tt)
-
-sho_made : (locate : ℕ) (stock : List ℕ) (sho : Option ℕ) → AllByRecursion IsMade (sho_part locate stock sho)
-sho_made locate stock None = tt
-sho_made locate stock (Some sho) = (λ kept. kept, tt)
-
-order_made : (stock : List ℕ) (x : Order) → IsMade (order_part stock x)
-order_made stock x = by_mpid x.mpid where
-  by_mpid : (mpid : Option (List ℕ)) → IsMade (attributed (add_of stock x) mpid)
-  by_mpid None kept = kept
-  by_mpid (Some mpid) kept = kept
-
-orders_made : (stock : List ℕ) (os : List Order) → AllByRecursion IsMade (map (order_part stock) os)
-orders_made stock [] = tt
-orders_made stock (x ∷ xs) = (order_made stock x, orders_made stock xs)
-
-locates_made : (orders : List Order) (es : List (ℕ × Security)) → AllByRecursion IsMade (flat_map (locate_part orders) es)
-locates_made orders [] = tt
-locates_made orders (e ∷ es) =
-    let entry = e.1.entry in
-    let os = map (order_part entry.stock) (book.sides orders e.0) in
-    All-append_rec IsMade (locate_part orders e) (flat_map (locate_part orders) es) (
-      λ kept. kept,
-      All-append_rec IsMade (action_part e.0 entry.stock e.1.action) (sho_part e.0 entry.stock e.1.sho ++ os) (action_made e.0 entry.stock e.1.action)
-          (All-append_rec IsMade (sho_part e.0 entry.stock e.1.sho) os (sho_made e.0 entry.stock e.1.sho) (orders_made entry.stock (book.sides orders e.0))),
-    )
-    (locates_made orders es)
-
--- no message of a snapshot list is
-snap_made : (m : Content) → AllByRecursion IsMade (snap m)
-snap_made m =
-    All-append_rec IsMade (event_part m.event) (flat_map (locate_part m.orders) (finite.entries m.securities)) (event_made m.event) (locates_made m.orders (finite.entries m.securities))
-
--- so its spelling fits a block
-message_short : (m : Content) (seen left : List Message) (x : Message) → snap m ≡ seen ++ x ∷ left → IsMessage x → IsPayload (spelling x)
-message_short m seen left x messages fits =
-    let rest : AllByRecursion IsMade (x ∷ left) = All-right_rec IsMade seen (x ∷ left) (subst (AllByRecursion IsMade) messages (snap_made m)) in
-    spelling_short x fits rest.0
+-- the spelling of each message of a snapshot list fits a block
+message_short : (m : Content) (seen left : List Message) (x : Message) → IsGood m → snap m ≡ seen ++ x ∷ left → IsPayload (spelling x)
+message_short m seen left x good messages =
+    let spelled : AllByRecursion IsSpelled (x ∷ left) = All-right_rec IsSpelled seen (x ∷ left) (subst (AllByRecursion IsSpelled) messages (snap_spelled m good)) in
+    spelled.0.short
 
 -- the payloads of what was written, of the next message, and of the others
 payloads_at : (m : Content) (next : ℕ) (seen left : List Message) (x : Message) → snap m ≡ seen ++ x ∷ left
@@ -105,12 +59,12 @@ module _ {W : Type 0} (contents : W → Option (List ℕ)) (failures : W → ℕ
     spelled_push (z ∷ zs) y = ap (λ ps. spelling z ∷ ps) (spelled_push zs y)
 
   -- the next block was not written whole
-  pub message_failed : (m : Content) (next : ℕ) (old mid new : W) (seen left rest : List Message) (count : ℕ) (x : Message) (fault : FrameFault) → WrittenSoFar m old seen left count mid
-      → left ≡ x ∷ rest → IsMessage x → WriteBlock contents failures mid (spelling x) (Err fault) new → WritesSnapshot contents failures m next old (Err (Frame fault)) new
-  message_failed m next old mid new seen left rest count x fault so_far here fits wrote =
+  pub message_failed : (m : Content) (next : ℕ) (old mid new : W) (seen left rest : List Message) (count : ℕ) (x : Message) (fault : FrameFault) → IsGood m → WrittenSoFar m old seen left count mid
+      → left ≡ x ∷ rest → WriteBlock contents failures mid (spelling x) (Err fault) new → WritesSnapshot contents failures m next old (Err (Frame fault)) new
+  message_failed m next old mid new seen left rest count x fault good so_far here wrote =
       let messages = so_far.messages ∙ ap (λ ms. seen ++ ms) here in
       part_written contents failures old mid new (map spelling seen) (spelling x) (map spelling rest ++ spelling (is.End next) ∷ []) (payloads m next)
-      (payloads_at m next seen rest x messages) (message_short m seen rest x messages fits) so_far.wrote so_far.failed fault wrote
+      (payloads_at m next seen rest x messages) (message_short m seen rest x good messages) so_far.wrote so_far.failed fault wrote
 
   all_seen : (m : Content) (seen left : List Message) → snap m ≡ seen ++ left → left ≡ [] → snap m ≡ seen
   all_seen m seen left messages none = messages ∙ ap (λ ms. seen ++ ms) none ∙ append-nil seen

@@ -16,10 +16,12 @@ use itch_frame::counted::CountedRead;
 use itch_market::Market;
 use std::alloc::Allocator;
 
-/// Reads a snapshot into a market of its own, with the number of the first message that it does not contain.
+/// Reads a snapshot file (GLIMPSE 5.0) into a market of its own, with the number of the first message that it does not
+/// contain. Behind the End of Snapshot the input ends, or a block of length 0 follows, behind which nothing is read.
 ///
-/// Behind the End of Snapshot the input ends, or a block of length 0 follows, behind which nothing is read. On a fault no
-/// market is handed out.
+/// `NoEnd` where the blocks end before, `Codec` and `Rule` for the first message that is not taken, `TooManyMessages` where
+/// 10^19 - 1 messages and no End of Snapshot came, `AfterEnd` for a block behind it, and `Frame` for a failed read or an
+/// unfinished block. Want of memory is `Rule` with the reason `OutOfMemory`. On a fault no market is handed out.
 pub fn read_snapshot<R: CountedRead, A: Allocator, B: OrderBook>(
     alloc: B::Alloc,
     reader: &mut BlockReader<R, A>,

@@ -3,6 +3,7 @@ ghost use Rattle.std.specs.Prelude.{◌≤◌};
 
 mod blocks;
 mod failures;
+mod laws;
 mod refusals;
 mod words;
 

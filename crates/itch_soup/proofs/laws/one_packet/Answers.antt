@@ -1,0 +1,5 @@
+use Rattle.itch_soup.proofs.Unique.{same_packet}
+use Rattle.itch_soup.proofs.laws.one_packet.Goals as goal
+
+pub returns : goal.returns
+returns c = same_packet

@@ -1,0 +1,23 @@
+-- How the names in a login are compared.
+use Rattle.std.specs.Prelude.{ℕ, Bool, ◌||◌, List, map, reverse}
+use Rattle.std.specs.Char.{to_ascii_lowercase}
+use Rattle.std.specs.List.{list_all}
+use Rattle.std.specs.Str.{bytes_eq}
+use Rattle.itch_codec.specs.Numbers.{is_space, after_spaces}
+
+-- a field without the spaces at its end
+unfoldable pub before_spaces : List ℕ → List ℕ
+before_spaces field = reverse (after_spaces (reverse field))
+
+-- user names and passwords are compared without the spaces at their end, A to Z taken as a to z
+abbrev pub is_same_name : List ℕ → List ℕ → Bool
+is_same_name name other =
+    bytes_eq (map to_ascii_lowercase (before_spaces name)) (map to_ascii_lowercase (before_spaces other))
+
+-- a session's name is what stands between the spaces at both ends
+abbrev pub session_name : List ℕ → List ℕ
+session_name field = after_spaces (before_spaces field)
+
+-- a login asks for the session that is served by its name, or by a blank field
+abbrev pub asks_for_session : List ℕ → List ℕ → Bool
+asks_for_session served asked = list_all is_space asked || bytes_eq (session_name served) (session_name asked)

@@ -1,0 +1,173 @@
+//! The client's side of a session.
+ghost use Rattle.std.specs.Prelude.{◌≡◌, ◌≤◌, ◌^◌};
+ghost use Rattle.itch_soup.specs.Clients.{client_turn};
+
+use crate::config::Credentials;
+use crate::connection::{Connection, Stage, Tick};
+use crate::fault::SoupFault;
+use crate::origin::Origin;
+use crate::packet::{LoginRequest, Packet};
+use crate::payload::Payload;
+use itch_codec::Seq;
+use std::marker::Model;
+
+/// What a client learns from a packet.
+#[derive(Debug, Drop, PartialEq, Eq)]
+pub enum ClientAct<'a> {
+    /// The login was accepted; the first message that comes has this number.
+    Accepted { next: Seq },
+    /// The login was rejected with this code. The session is closed.
+    Rejected(u8),
+    /// A message, and its number.
+    Data { number: u64, payload: Payload<'a> },
+    Nothing,
+    /// The server has ended the session, which is closed.
+    Ended,
+    /// The server has broken the protocol, or the session was closed before. The session is closed.
+    Fault(SoupFault),
+}
+
+/// The client's side of a session: packets and moments are handed in, and it says what they mean.
+///
+/// A caller sends [`login`](ClientSession::login) first, and reports by [`sent`](ClientSession::sent) whenever it has
+/// sent something.
+#[derive(Debug, Drop)]
+pub struct ClientSession {
+    credentials: Credentials,
+    from: u64,
+    next: u64,
+    connection: Connection,
+}
+
+impl Model for ClientSession {
+    ghost use Rattle.std.specs.Prelude.{◌≤◌, ◌^◌};
+    ghost use Rattle.itch_soup.specs.Clients.{Client};
+
+    ghost Value = { Client };
+
+    ghost view = { λ c. record { credentials = c.credentials; from = c.from; next = c.next; connection = c.connection } };
+
+    ghost invariant = { λ c. c.from ≤ 10 ^ 19 };
+}
+
+impl ClientSession {
+    ghost use Rattle.itch_soup.specs.Packets.{PacketSpells, packet_spelling};
+    ghost use Rattle.itch_soup.specs.Connections.{tick_answer};
+    ghost use Rattle.itch_soup.specs.Clients.{new_client, login_of, client_answer, client_after_packet, client_after_tick, client_after_sent};
+
+    /// A session that begins at this moment, in milliseconds, which counts as heard and sent. It asks for the messages
+    /// from number `from` on; 0 asks for all of them.
+    ///
+    /// The caller keeps `from` at most 10^19.
+    pub fn new(credentials: Credentials, from: u64, now_ms: u64) -> ClientSession
+        requires { from ≤ 10 ^ 19 }
+        ensures { result ≡ new_client credentials from now_ms }
+    {
+        ClientSession {
+            credentials,
+            from,
+            next: from,
+            connection: Connection::new(now_ms),
+        }
+    }
+
+    /// The login request to send, without the length in front.
+    pub fn login(&self) -> [u8; 47]
+        ensures bytes { result ≡ packet_spelling (Packet.LoginRequest (login_of self.now)) }
+        ensures spelled { PacketSpells (Packet.LoginRequest (login_of self.now)) result Origin.Client }
+    {
+        let login = LoginRequest {
+            username: self.credentials.username,
+            password: self.credentials.password,
+            session: self.credentials.session,
+            number: self.from,
+        };
+        login.spelling()
+    }
+
+    /// What a packet means that was heard at this moment, in milliseconds.
+    ///
+    /// Debug packets, unsequenced data and heartbeats mean nothing.
+    ///
+    /// # Faults
+    ///
+    /// [`SoupFault::Early`] for sequenced data before the login was accepted, [`SoupFault::SecondLogin`] for an answer to a
+    /// login afterwards, [`SoupFault::TooManyMessages`] for data that would have a number above 10^19 - 1,
+    /// [`SoupFault::WrongSide`] for a packet that clients send, and [`SoupFault::Closed`] once the session is closed.
+    pub fn on_packet<'a>(&mut self, packet: &Packet<'a>, now_ms: u64) -> ClientAct<'a>
+        ensures answer { result ≡ client_answer self.old packet.now }
+        ensures after { self.new ≡ client_after_packet self.old packet.now now_ms }
+    {
+        let (act, stage, next) = turn(self.next, self.connection.stage, packet);
+        self.next = next;
+        self.connection.stage = stage;
+        self.connection.heard = now_ms;
+        act
+    }
+
+    /// Takes note that something was sent at this moment, in milliseconds.
+    pub fn sent(&mut self, now_ms: u64)
+        ensures { self.new ≡ client_after_sent self.old now_ms }
+    {
+        self.connection.sent = now_ms;
+    }
+
+    /// What is to be done at this moment, in milliseconds, without a packet. A heartbeat counts as sent.
+    pub fn tick(&mut self, now_ms: u64) -> Tick
+        ensures answer { result ≡ tick_answer self.old.connection now_ms }
+        ensures after { self.new ≡ client_after_tick self.old now_ms }
+    {
+        self.connection.tick(now_ms)
+    }
+}
+
+const GREATEST: u64 = 9_999_999_999_999_999_999;
+
+// The answer to a packet, the next stage, and the number of the next message.
+fn turn<'a>(next: u64, stage: Stage, packet: &Packet<'a>) -> (ClientAct<'a>, Stage, u64)
+    ensures { result ≡ client_turn next stage packet.now }
+{
+    match (stage, packet) {
+        (Stage::Closed, _) => closing(SoupFault::Closed, next),
+        (_, Packet::Debug(_) | Packet::UnsequencedData(_) | Packet::ServerHeartbeat) => {
+            (ClientAct::Nothing, stage, next)
+        }
+        (_, Packet::EndOfSession) => (ClientAct::Ended, Stage::Closed, next),
+        (Stage::Before, Packet::LoginAccepted(login)) => {
+            let next = login.next;
+            (ClientAct::Accepted { next }, Stage::Accepted, next.value())
+        }
+        (Stage::Before, Packet::LoginRejected { code }) => {
+            (ClientAct::Rejected(*code), Stage::Closed, next)
+        }
+        (Stage::Before, Packet::SequencedData(_)) => {
+            closing(SoupFault::Early(packet.kind()), next)
+        }
+        (Stage::Accepted, Packet::SequencedData(payload)) => data(next, payload),
+        (Stage::Accepted, Packet::LoginAccepted(_) | Packet::LoginRejected { .. }) => {
+            closing(SoupFault::SecondLogin, next)
+        }
+        _ => closing(SoupFault::WrongSide(packet.kind()), next),
+    }
+}
+
+fn closing<'a>(fault: SoupFault, next: u64) -> (ClientAct<'a>, Stage, u64)
+    ensures { result ≡ (ClientAct.Fault fault, Stage.Closed, next) }
+{
+    (ClientAct::Fault(fault), Stage::Closed, next)
+}
+
+// A message once the login was accepted.
+fn data<'a>(number: u64, payload: &Payload<'a>) -> (ClientAct<'a>, Stage, u64)
+    ensures { result ≡ client_turn number Stage.Accepted (Packet.SequencedData payload.now) }
+{
+    if number > GREATEST {
+        return closing(SoupFault::TooManyMessages, number);
+    }
+    let payload = Payload::new(payload.bytes());
+    (
+        ClientAct::Data { number, payload },
+        Stage::Accepted,
+        number + 1,
+    )
+}

@@ -1,0 +1,77 @@
+//! What both sides of a session keep of their connection, and what they ask for as time passes.
+ghost use Rattle.std.specs.Prelude.{◌≡◌};
+
+/// How far a session has come.
+#[derive(Clone, Copy, Debug)]
+pub(crate) enum Stage {
+    /// No login was accepted yet.
+    Before,
+    /// A login was accepted.
+    Accepted,
+    /// The session is over.
+    Closed,
+}
+
+/// What a session asks for at a moment (SoupBinTCP 3.00, "Heartbeats").
+#[derive(Clone, Copy, Debug, PartialEq, Eq)]
+pub enum Tick {
+    Nothing,
+    /// A heartbeat is to be sent: more than 1,000 ms have passed since something was.
+    Heartbeat,
+    /// The other side is gone: 15,000 ms or more have passed since something was heard. The session is closed.
+    Lost,
+}
+
+const SILENCE_MS: u64 = 15_000;
+
+const IDLE_MS: u64 = 1_000;
+
+/// The stage of a session, and when something was last heard and sent, in milliseconds.
+#[derive(Clone, Copy, Debug)]
+pub(crate) struct Connection {
+    pub(crate) stage: Stage,
+    pub(crate) heard: u64,
+    pub(crate) sent: u64,
+}
+
+impl Connection {
+    ghost use Rattle.itch_soup.specs.Connections.{opened, tick_answer, after_tick};
+
+    /// A session that begins at this moment.
+    pub(crate) fn new(now_ms: u64) -> Connection
+        ensures { result ≡ opened now_ms }
+    {
+        Connection {
+            stage: Stage::Before,
+            heard: now_ms,
+            sent: now_ms,
+        }
+    }
+
+    /// What is asked for at this moment. One that is earlier than the last counts as no time passed.
+    pub(crate) fn tick(&mut self, now_ms: u64) -> Tick
+        ensures answer { result ≡ tick_answer self.old now_ms }
+        ensures after { self.new ≡ after_tick self.old now_ms }
+    {
+        let tick = self.due(now_ms);
+        match tick {
+            Tick::Nothing => {}
+            Tick::Heartbeat => self.sent = now_ms,
+            Tick::Lost => self.stage = Stage::Closed,
+        }
+        tick
+    }
+
+    fn due(&self, now_ms: u64) -> Tick
+        ensures { result ≡ tick_answer self.now now_ms }
+    {
+        let silent = now_ms.saturating_sub(self.heard) >= SILENCE_MS;
+        let idle = now_ms.saturating_sub(self.sent) > IDLE_MS;
+        match self.stage {
+            Stage::Closed => Tick::Nothing,
+            _ if silent => Tick::Lost,
+            Stage::Accepted if idle => Tick::Heartbeat,
+            _ => Tick::Nothing,
+        }
+    }
+}

@@ -1,0 +1,71 @@
+//! Fields of a packet: one reader for each kind of field.
+ghost use Rattle.std.specs.Prelude.{◌≡◌, ◌+◌, ◌≤◌, length, IfSome};
+ghost use Rattle.itch_codec.specs.Numbers.{slice_at, SpellsNumber, read20};
+ghost use Rattle.itch_codec.specs.Layouts.{column, Text, Digits};
+ghost use Rattle.itch_codec.specs.Fields.{Number, Bytes};
+ghost use Rattle.itch_soup.specs.PacketTable.{Field, Request};
+ghost use Rattle.itch_soup.specs.Packets.{HasPart, part_fault, Reads};
+
+use crate::fault::SoupFault;
+use crate::names::is_blank;
+use itch_codec::{Alpha, AlphaFault, Seq, read_number20};
+
+// The bytes at this place, as many as the array has.
+#[tactic(auto, unfolding(itch_codec::specs::Numbers::slice_at))]
+fn bytes_at<const N: usize>(block: &[u8], offset: usize) -> [u8; N]
+    requires { offset + N ≤ length block.now }
+    ensures { result ≡ slice_at offset N block.now }
+{
+    let mut bytes = [0; N];
+    bytes.copy_from_slice(&block[offset..offset + N]);
+    bytes
+}
+
+/// The text in the bytes at this place.
+#[tactic(auto, using(crate::proofs::Reading::printing))]
+pub(crate) fn text_at<const N: usize>(block: &[u8], offset: usize) -> Result<Alpha<N>, SoupFault>
+    requires { offset + N ≤ length block.now }
+    ensures { Reads (λ text. HasPart block.now (Field (column offset N Text)) (Bytes text)) (part_fault block.now (Field (column offset N Text))) result }
+{
+    match Alpha::from_bytes(&bytes_at(block, offset)) {
+        Ok(text) => Ok(text),
+        Err(AlphaFault::NotPrintable { at }) => Err(SoupFault::BadText {
+            offset: offset + at,
+        }),
+        Err(AlphaFault::TooLong) => unreachable!(),
+    }
+}
+
+// The number that the twenty bytes at this place spell, if they spell one.
+fn number_at(block: &[u8], offset: usize) -> Option<u64>
+    requires { offset + 20 ≤ length block.now }
+    ensures value { result ≡ read20 (slice_at offset 20 block.now) }
+    ensures spelled { IfSome result (λ number. SpellsNumber (slice_at offset 20 block.now) number) }
+{
+    read_number20(&bytes_at(block, offset))
+}
+
+/// The sequence number in the twenty bytes at this place.
+pub(crate) fn seq_at(block: &[u8], offset: usize) -> Result<Seq, SoupFault>
+    requires { offset + 20 ≤ length block.now }
+    ensures { Reads (λ next. HasPart block.now (Field (column offset 20 Digits)) (Number next)) (part_fault block.now (Field (column offset 20 Digits))) result }
+{
+    let Some(value) = number_at(block, offset) else {
+        return Err(SoupFault::BadNumber { offset });
+    };
+    match Seq::new(value) {
+        Some(next) => Ok(next),
+        None => Err(SoupFault::BadNumber { offset }),
+    }
+}
+
+/// The number that the login at this place asks for: 0 where the field is blank.
+pub(crate) fn request_at(block: &[u8], offset: usize) -> Result<u64, SoupFault>
+    requires { offset + 20 ≤ length block.now }
+    ensures { Reads (λ number. HasPart block.now (Request offset) (Number number)) (part_fault block.now (Request offset)) result }
+{
+    if is_blank(&bytes_at::<20>(block, offset)) {
+        return Ok(0);
+    }
+    number_at(block, offset).ok_or(SoupFault::BadNumber { offset })
+}

@@ -1,0 +1,133 @@
+//! The packets.
+
+ghost use Rattle.std.specs.Prelude.{◌≡◌, ◌+◌, ◌≤◌, ◌++◌, take};
+
+use crate::fault::SoupFault;
+use crate::fields::{request_at, seq_at, text_at};
+use crate::origin::Origin;
+use crate::payload::Payload;
+use itch_codec::{Alpha, Seq, number20};
+
+/// Login Request, `L` (SoupBinTCP 3.00, "Login Request Packet").
+#[derive(Clone, Copy, Debug, PartialEq, Eq)]
+pub struct LoginRequest {
+    pub username: Alpha<6>,
+    pub password: Alpha<10>,
+    /// The session that is asked for; blank for the current one.
+    pub session: Alpha<10>,
+    /// The number of the first message that is asked for. 0, or a blank field, asks for all of them, as 1 does.
+    pub number: u64,
+}
+
+impl LoginRequest {
+    ghost use Rattle.std.specs.Prelude.{◌≡◌, ◌≤◌, ◌^◌, length};
+    ghost use Rattle.itch_soup.specs.PacketTable.{login_request};
+    ghost use Rattle.itch_soup.specs.Packets.{PacketSpells, packet_spelling, HasParts, parts_fault, login_request_values, Reads};
+
+    pub(crate) fn parse(block: &[u8]) -> Result<LoginRequest, SoupFault>
+        requires { length block.now ≡ 47 }
+        ensures { Reads (λ login. HasParts block.now login_request.parts (login_request_values login)) (parts_fault block.now login_request.parts) result }
+    {
+        Ok(LoginRequest {
+            username: text_at(block, 1)?,
+            password: text_at(block, 7)?,
+            session: text_at(block, 17)?,
+            number: request_at(block, 27)?,
+        })
+    }
+
+    /// The packet's bytes. The fields are padded on the right, and the number on the left.
+    pub(crate) fn spelling(&self) -> [u8; 47]
+        requires { self.now.number ≤ 10 ^ 19 }
+        ensures bytes { result ≡ packet_spelling (Packet.LoginRequest self.now) }
+        ensures spelled { PacketSpells (Packet.LoginRequest self.now) result Origin.Client }
+    {
+        let mut block = [b'L'; 47];
+        put(&mut block, 1, self.username.bytes());
+        put(&mut block, 7, self.password.bytes());
+        put(&mut block, 17, self.session.bytes());
+        put(&mut block, 27, &number20(self.number));
+        block
+    }
+}
+
+/// Login Accepted, `A` (SoupBinTCP 3.00, "Login Accepted Packet").
+#[derive(Clone, Copy, Debug, PartialEq, Eq)]
+pub struct LoginAccepted {
+    pub session: Alpha<10>,
+    /// The number of the first sequenced data packet that follows.
+    pub next: Seq,
+}
+
+impl LoginAccepted {
+    ghost use Rattle.std.specs.Prelude.{◌≡◌, length};
+    ghost use Rattle.itch_soup.specs.PacketTable.{login_accepted};
+    ghost use Rattle.itch_soup.specs.Packets.{HasParts, parts_fault, login_accepted_values, Reads};
+
+    pub(crate) fn parse(block: &[u8]) -> Result<LoginAccepted, SoupFault>
+        requires { length block.now ≡ 31 }
+        ensures { Reads (λ login. HasParts block.now login_accepted.parts (login_accepted_values login)) (parts_fault block.now login_accepted.parts) result }
+    {
+        Ok(LoginAccepted {
+            session: text_at(block, 1)?,
+            next: seq_at(block, 11)?,
+        })
+    }
+}
+
+/// A packet, one variant for each type (SoupBinTCP 3.00, "Logical Packets").
+#[derive(Debug, Drop, PartialEq, Eq)]
+pub enum Packet<'a> {
+    /// `+`, from either side: a text for people.
+    Debug(Payload<'a>),
+    /// `A`, from the server.
+    LoginAccepted(LoginAccepted),
+    /// `J`, from the server: `A` for not authorised, `S` for a session that is not available; any byte is read.
+    LoginRejected { code: u8 },
+    /// `S`, from the server: the next message.
+    SequencedData(Payload<'a>),
+    /// `H`, from the server.
+    ServerHeartbeat,
+    /// `Z`, from the server.
+    EndOfSession,
+    /// `L`, from the client.
+    LoginRequest(LoginRequest),
+    /// `U`, from the client; from a server it is read too.
+    UnsequencedData(Payload<'a>),
+    /// `R`, from the client.
+    ClientHeartbeat,
+    /// `O`, from the client.
+    LogoutRequest,
+}
+
+impl Packet<'_> {
+    ghost use Rattle.std.specs.Prelude.{◌≡◌};
+    ghost use Rattle.itch_soup.specs.Packets.{packet_type};
+
+    /// The type byte.
+    pub(crate) fn kind(&self) -> u8
+        ensures { result ≡ (packet_type self.now).kind }
+    {
+        match self {
+            Packet::Debug(_) => b'+',
+            Packet::LoginAccepted(_) => b'A',
+            Packet::LoginRejected { .. } => b'J',
+            Packet::SequencedData(_) => b'S',
+            Packet::ServerHeartbeat => b'H',
+            Packet::EndOfSession => b'Z',
+            Packet::LoginRequest(_) => b'L',
+            Packet::UnsequencedData(_) => b'U',
+            Packet::ClientHeartbeat => b'R',
+            Packet::LogoutRequest => b'O',
+        }
+    }
+}
+
+// Writes a field behind the first bytes of the block, of which there are `at`.
+#[tactic(auto, using(crate::proofs::Logins::putting))]
+fn put<const N: usize>(block: &mut [u8; 47], at: usize, field: &[u8; N])
+    requires { at + N ≤ 47 }
+    ensures { take (at + N) block.new ≡ take at block.old ++ field.now }
+{
+    block[at..at + N].copy_from_slice(field);
+}

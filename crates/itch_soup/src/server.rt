@@ -1,0 +1,151 @@
+//! The server's side of a session.
+ghost use Rattle.std.specs.Prelude.{◌≡◌, ◌<◌, ◌^◌};
+ghost use Rattle.itch_soup.specs.Servers.{server_turn, is_user, judged};
+
+use crate::config::ServerConfig;
+use crate::connection::{Connection, Stage, Tick};
+use crate::fault::SoupFault;
+use crate::names::{asks_for_session, is_same_name};
+use crate::packet::{LoginRequest, Packet};
+use itch_codec::Seq;
+use std::marker::Model;
+
+const NOT_AUTHORISED: u8 = b'A';
+
+const NOT_AVAILABLE: u8 = b'S';
+
+/// What a server does after a packet.
+#[derive(Clone, Copy, Debug, PartialEq, Eq)]
+pub enum ServerAct {
+    /// Accepts the login, and sends the messages from this number on.
+    Accept { next: Seq },
+    /// Rejects the login with this code: `A` for not authorised, `S` for a session that is not available. The session is
+    /// closed.
+    Reject(u8),
+    Nothing,
+    /// The client has logged out. The session is closed.
+    Close,
+    /// The client has broken the protocol, or the session was closed before. The session is closed.
+    Fault(SoupFault),
+}
+
+/// The server's side of a session: packets and moments are handed in, and it says what is to be done.
+///
+/// A caller reports by [`sent`](ServerSession::sent) whenever it has sent something.
+#[derive(Debug, Drop)]
+pub struct ServerSession {
+    config: ServerConfig,
+    total: u64,
+    connection: Connection,
+}
+
+impl Model for ServerSession {
+    ghost use Rattle.std.specs.Prelude.{◌<◌, ◌^◌};
+    ghost use Rattle.itch_soup.specs.Servers.{Server};
+
+    ghost Value = { Server };
+
+    ghost view = { λ s. record { config = s.config; total = s.total; connection = s.connection } };
+
+    ghost invariant = { λ s. s.total < 10 ^ 19 };
+}
+
+impl ServerSession {
+    ghost use Rattle.itch_soup.specs.Connections.{tick_answer};
+    ghost use Rattle.itch_soup.specs.Servers.{new_server, server_answer, server_after_packet, server_after_tick, server_after_sent};
+
+    /// A session of `total` messages that begins at this moment, in milliseconds, which counts as heard and sent.
+    ///
+    /// The caller keeps `total` at most 10^19 - 1.
+    pub fn new(config: ServerConfig, total: u64, now_ms: u64) -> ServerSession
+        requires { total < 10 ^ 19 }
+        ensures { result ≡ new_server config total now_ms }
+    {
+        ServerSession {
+            config,
+            total,
+            connection: Connection::new(now_ms),
+        }
+    }
+
+    /// The answer to a packet that was heard at this moment, in milliseconds.
+    ///
+    /// The first login is judged by its user name and password, then by its session, then by its number, which may be at
+    /// most the one after the last message. Debug packets, unsequenced data and heartbeats ask for nothing.
+    ///
+    /// # Faults
+    ///
+    /// [`SoupFault::SecondLogin`] once a login was accepted, [`SoupFault::WrongSide`] for a packet that servers send, and
+    /// [`SoupFault::Closed`] once the session is closed.
+    pub fn on_packet(&mut self, packet: &Packet<'_>, now_ms: u64) -> ServerAct
+        ensures answer { result ≡ server_answer self.old packet.now }
+        ensures after { self.new ≡ server_after_packet self.old packet.now now_ms }
+    {
+        let (act, stage) = turn(&self.config, self.total, self.connection.stage, packet);
+        self.connection.stage = stage;
+        self.connection.heard = now_ms;
+        act
+    }
+
+    /// Takes note that something was sent at this moment, in milliseconds.
+    pub fn sent(&mut self, now_ms: u64)
+        ensures { self.new ≡ server_after_sent self.old now_ms }
+    {
+        self.connection.sent = now_ms;
+    }
+
+    /// What is to be done at this moment, in milliseconds, without a packet. A heartbeat counts as sent.
+    pub fn tick(&mut self, now_ms: u64) -> Tick
+        ensures answer { result ≡ tick_answer self.old.connection now_ms }
+        ensures after { self.new ≡ server_after_tick self.old now_ms }
+    {
+        self.connection.tick(now_ms)
+    }
+}
+
+// The answer to a packet, and the next stage.
+fn turn(config: &ServerConfig, total: u64, stage: Stage, packet: &Packet<'_>) -> (ServerAct, Stage)
+    requires { total < 10 ^ 19 }
+    ensures { result ≡ server_turn config.now total stage packet.now }
+{
+    match (stage, packet) {
+        (Stage::Closed, _) => closing(SoupFault::Closed),
+        (_, Packet::Debug(_) | Packet::UnsequencedData(_) | Packet::ClientHeartbeat) => {
+            (ServerAct::Nothing, stage)
+        }
+        (_, Packet::LogoutRequest) => (ServerAct::Close, Stage::Closed),
+        (Stage::Before, Packet::LoginRequest(login)) => judge(config, total, login),
+        (Stage::Accepted, Packet::LoginRequest(_)) => closing(SoupFault::SecondLogin),
+        _ => closing(SoupFault::WrongSide(packet.kind())),
+    }
+}
+
+fn closing(fault: SoupFault) -> (ServerAct, Stage)
+    ensures { result ≡ (ServerAct.Fault fault, Stage.Closed) }
+{
+    (ServerAct::Fault(fault), Stage::Closed)
+}
+
+// The answer to a login, and the next stage.
+fn judge(config: &ServerConfig, total: u64, login: &LoginRequest) -> (ServerAct, Stage)
+    requires { total < 10 ^ 19 }
+    ensures { result ≡ judged config.now total login.now }
+{
+    if !is_user(config, login) {
+        return (ServerAct::Reject(NOT_AUTHORISED), Stage::Closed);
+    }
+    if !asks_for_session(&config.session, &login.session) {
+        return (ServerAct::Reject(NOT_AVAILABLE), Stage::Closed);
+    }
+    match Seq::new(login.number.max(1)) {
+        Some(next) if next.value() <= total + 1 => (ServerAct::Accept { next }, Stage::Accepted),
+        _ => (ServerAct::Reject(NOT_AVAILABLE), Stage::Closed),
+    }
+}
+
+fn is_user(config: &ServerConfig, login: &LoginRequest) -> bool
+    ensures { result ≡ is_user config.now login.now }
+{
+    is_same_name(&config.username, &login.username)
+        && is_same_name(&config.password, &login.password)
+}

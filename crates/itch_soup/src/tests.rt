@@ -1,0 +1,405 @@
+//! Packets byte by byte, and whole sessions.
+use crate::{
+    ClientAct, ClientSession, Credentials, LoginAccepted, LoginRequest, Origin, Packet, Payload,
+    ServerAct, ServerConfig, ServerSession, SoupFault, Tick, parse_packet,
+};
+use itch_codec::{Alpha, Seq};
+use std::process::Abort;
+use std::test::Fail;
+
+const LOGIN: &[u8; 47] = b"Luser  secret                                 3";
+
+fn alpha<const N: usize>(rt: &impl Abort, text: &str) -> Alpha<N> {
+    Alpha::from_text(text).expect(rt, "a text that fits")
+}
+
+fn seq(rt: &impl Abort, number: u64) -> Seq {
+    Seq::new(number).expect(rt, "a sequence number")
+}
+
+// A login of the user whom the servers below let in.
+fn login(rt: &impl Abort, session: &str, number: u64) -> LoginRequest {
+    LoginRequest {
+        username: alpha(rt, "user"),
+        password: alpha(rt, "secret"),
+        session: alpha(rt, session),
+        number,
+    }
+}
+
+fn accepted<'a>(rt: &impl Abort, next: u64) -> Packet<'a> {
+    Packet::LoginAccepted(LoginAccepted {
+        session: alpha(rt, "  ITCHSNAP"),
+        next: seq(rt, next),
+    })
+}
+
+// A server of five messages that begins at 0.
+fn server(rt: &impl Abort) -> ServerSession {
+    let config = ServerConfig {
+        username: alpha(rt, "user"),
+        password: alpha(rt, "secret"),
+        session: alpha(rt, "ITCHSNAP"),
+    };
+    ServerSession::new(config, 5, 0)
+}
+
+// A client that begins at 0, and asks for the messages from 3 on.
+fn client(rt: &impl Abort) -> ClientSession {
+    let credentials = Credentials {
+        username: alpha(rt, "user"),
+        password: alpha(rt, "secret"),
+        session: alpha(rt, ""),
+    };
+    ClientSession::new(credentials, 3, 0)
+}
+
+fn server_answers(rt: &impl Abort, session: &mut ServerSession, rows: &[(Packet<'_>, ServerAct)]) {
+    for (packet, act) in rows {
+        assert_eq!(rt; session.on_packet(packet, 0), *act);
+    }
+}
+
+fn client_answers(
+    rt: &impl Abort,
+    session: &mut ClientSession,
+    rows: &[(Packet<'_>, ClientAct<'_>)],
+) {
+    for (packet, act) in rows {
+        assert_eq!(rt; session.on_packet(packet, 0), *act);
+    }
+}
+
+#[test]
+fn packets(rt: HostRuntime) {
+    let rows: [(&[u8], Origin, Packet<'_>); 13] = [
+        (b"+", Origin::Client, Packet::Debug(Payload::new(b""))),
+        (b"+hi", Origin::Server, Packet::Debug(Payload::new(b"hi"))),
+        (
+            b"A  ITCHSNAP                   3",
+            Origin::Server,
+            accepted(&rt, 3),
+        ),
+        (b"JS", Origin::Server, Packet::LoginRejected { code: b'S' }),
+        (b"J\0", Origin::Server, Packet::LoginRejected { code: 0 }),
+        (
+            b"SGG",
+            Origin::Server,
+            Packet::SequencedData(Payload::new(b"GG")),
+        ),
+        (b"H", Origin::Server, Packet::ServerHeartbeat),
+        (b"Z", Origin::Server, Packet::EndOfSession),
+        (
+            LOGIN,
+            Origin::Client,
+            Packet::LoginRequest(login(&rt, "", 3)),
+        ),
+        (
+            b"U",
+            Origin::Client,
+            Packet::UnsequencedData(Payload::new(b"")),
+        ),
+        (
+            b"UA",
+            Origin::Server,
+            Packet::UnsequencedData(Payload::new(b"A")),
+        ),
+        (b"R", Origin::Client, Packet::ClientHeartbeat),
+        (b"O", Origin::Client, Packet::LogoutRequest),
+    ];
+    for (block, from, packet) in rows {
+        assert_eq!(rt; parse_packet(block, from), Ok(packet), "{block:?}");
+    }
+}
+
+#[test]
+fn payloads(rt: HostRuntime) {
+    for bytes in [b"GG".as_slice(), b""] {
+        assert_eq!(rt; Payload::new(bytes).bytes(), bytes);
+    }
+}
+
+#[test]
+fn numbers_of_logins(rt: HostRuntime) {
+    let rows: [(&[u8; 20], u64); 4] = [
+        (b"                    ", 0),
+        (b"0                   ", 0),
+        (b"  007               ", 7),
+        (b"10000000000000000000", 10_000_000_000_000_000_000),
+    ];
+    for (field, number) in rows {
+        let mut block = *LOGIN;
+        block[27..].copy_from_slice(field);
+        let packet = Packet::LoginRequest(login(&rt, "", number));
+        assert_eq!(rt;
+            parse_packet(&block, Origin::Client),
+            Ok(packet),
+            "{number}"
+        );
+    }
+}
+
+#[test]
+fn hostile_packets(rt: HostRuntime) {
+    let mut unprintable = *LOGIN;
+    unprintable[1] = 0;
+    let mut letter = *LOGIN;
+    letter[46] = b'x';
+    let mut nines = *LOGIN;
+    nines[27..].copy_from_slice(b"99999999999999999999");
+    let rows: [(&[u8], Origin, SoupFault); 12] = [
+        (b"", Origin::Client, SoupFault::EmptyPacket),
+        (b"*", Origin::Client, SoupFault::UnknownType(42)),
+        (b"S", Origin::Client, SoupFault::WrongSide(83)),
+        (
+            b"L",
+            Origin::Client,
+            SoupFault::WrongLength {
+                kind: b'L',
+                want: 47,
+                got: 1,
+            },
+        ),
+        (
+            b"RR",
+            Origin::Client,
+            SoupFault::WrongLength {
+                kind: b'R',
+                want: 1,
+                got: 2,
+            },
+        ),
+        (
+            &unprintable,
+            Origin::Client,
+            SoupFault::BadText { offset: 1 },
+        ),
+        (&letter, Origin::Client, SoupFault::BadNumber { offset: 27 }),
+        (&nines, Origin::Client, SoupFault::BadNumber { offset: 27 }),
+        (b"R", Origin::Server, SoupFault::WrongSide(82)),
+        (
+            b"J  ",
+            Origin::Server,
+            SoupFault::WrongLength {
+                kind: b'J',
+                want: 2,
+                got: 3,
+            },
+        ),
+        (
+            b"A  ITCHSNAP                   0",
+            Origin::Server,
+            SoupFault::BadNumber { offset: 11 },
+        ),
+        (
+            b"A\t ITCHSNAP                   x",
+            Origin::Server,
+            SoupFault::BadText { offset: 1 },
+        ),
+    ];
+    for (block, from, fault) in rows {
+        assert_eq!(rt; parse_packet(block, from), Err(fault), "{block:?}");
+    }
+}
+
+#[test]
+fn client_logs_in(rt: HostRuntime) {
+    assert_eq!(rt; client(&rt).login(), *LOGIN);
+}
+
+#[test]
+fn client_sessions(rt: HostRuntime) {
+    let data = || Packet::SequencedData(Payload::new(b"m"));
+    let heard = |number| ClientAct::Data {
+        number,
+        payload: Payload::new(b"m"),
+    };
+    let closed = || ClientAct::Fault(SoupFault::Closed);
+
+    client_answers(
+        &rt,
+        &mut client(&rt),
+        &[
+            (data(), ClientAct::Fault(SoupFault::Early(83))),
+            (data(), closed()),
+        ],
+    );
+    client_answers(
+        &rt,
+        &mut client(&rt),
+        &[
+            (accepted(&rt, 3), ClientAct::Accepted { next: seq(&rt, 3) }),
+            (data(), heard(3)),
+            (data(), heard(4)),
+            (Packet::ServerHeartbeat, ClientAct::Nothing),
+            (Packet::EndOfSession, ClientAct::Ended),
+            (Packet::EndOfSession, closed()),
+        ],
+    );
+    client_answers(
+        &rt,
+        &mut client(&rt),
+        &[
+            (accepted(&rt, 3), ClientAct::Accepted { next: seq(&rt, 3) }),
+            (
+                Packet::LoginRejected { code: b'A' },
+                ClientAct::Fault(SoupFault::SecondLogin),
+            ),
+        ],
+    );
+    let greatest = 10_000_000_000_000_000_000;
+    client_answers(
+        &rt,
+        &mut client(&rt),
+        &[
+            (
+                accepted(&rt, greatest),
+                ClientAct::Accepted {
+                    next: seq(&rt, greatest),
+                },
+            ),
+            (data(), ClientAct::Fault(SoupFault::TooManyMessages)),
+        ],
+    );
+    client_answers(
+        &rt,
+        &mut client(&rt),
+        &[
+            (
+                Packet::LoginRejected { code: b'A' },
+                ClientAct::Rejected(b'A'),
+            ),
+            (accepted(&rt, 3), closed()),
+        ],
+    );
+}
+
+#[test]
+fn server_sessions(rt: HostRuntime) {
+    server_answers(
+        &rt,
+        &mut server(&rt),
+        &[
+            (
+                Packet::UnsequencedData(Payload::new(b"")),
+                ServerAct::Nothing,
+            ),
+            (Packet::ClientHeartbeat, ServerAct::Nothing),
+            (Packet::Debug(Payload::new(b"")), ServerAct::Nothing),
+            (Packet::LogoutRequest, ServerAct::Close),
+            (Packet::ClientHeartbeat, ServerAct::Fault(SoupFault::Closed)),
+        ],
+    );
+    server_answers(
+        &rt,
+        &mut server(&rt),
+        &[
+            (
+                Packet::LoginRequest(login(&rt, "", 3)),
+                ServerAct::Accept { next: seq(&rt, 3) },
+            ),
+            (
+                Packet::LoginRequest(login(&rt, "", 3)),
+                ServerAct::Fault(SoupFault::SecondLogin),
+            ),
+            (Packet::LogoutRequest, ServerAct::Fault(SoupFault::Closed)),
+        ],
+    );
+}
+
+#[test]
+fn logins_are_judged(rt: HostRuntime) {
+    let accept = |next| ServerAct::Accept {
+        next: seq(&rt, next),
+    };
+    let other_password = LoginRequest {
+        password: alpha(&rt, "wrong"),
+        ..login(&rt, "OTHER", 3)
+    };
+    let other_user = LoginRequest {
+        username: alpha(&rt, " user"),
+        ..login(&rt, "", 3)
+    };
+    let capitals = LoginRequest {
+        username: alpha(&rt, "USER"),
+        password: alpha(&rt, "Secret"),
+        ..login(&rt, "", 3)
+    };
+    let rows = [
+        (login(&rt, "OTHER", 3), ServerAct::Reject(b'S')),
+        (login(&rt, "itchsnap", 3), ServerAct::Reject(b'S')),
+        (login(&rt, "  ITCHSNAP", 3), accept(3)),
+        (login(&rt, "", 0), accept(1)),
+        (login(&rt, "", 6), accept(6)),
+        (login(&rt, "", 7), ServerAct::Reject(b'S')),
+        (other_password, ServerAct::Reject(b'A')),
+        (other_user, ServerAct::Reject(b'A')),
+        (capitals, accept(3)),
+    ];
+    for (login, act) in rows {
+        assert_eq!(rt;
+            server(&rt).on_packet(&Packet::LoginRequest(login), 0),
+            act,
+            "{login:?}"
+        );
+    }
+}
+
+#[test]
+fn ticks(rt: HostRuntime) {
+    let rows = [
+        (1000, Tick::Nothing),
+        (1001, Tick::Heartbeat),
+        (2001, Tick::Nothing),
+        (0, Tick::Nothing),
+        (14_999, Tick::Heartbeat),
+        (15_000, Tick::Lost),
+        (15_001, Tick::Nothing),
+    ];
+    let mut server = server(&rt);
+    let accept = server.on_packet(&Packet::LoginRequest(login(&rt, "", 3)), 0);
+    assert_eq!(rt; accept, ServerAct::Accept { next: seq(&rt, 3) });
+    server.sent(0);
+    let mut client = client(&rt);
+    client.sent(0);
+    let accept = client.on_packet(&accepted(&rt, 3), 0);
+    assert_eq!(rt; accept, ClientAct::Accepted { next: seq(&rt, 3) });
+    for (now, tick) in rows {
+        assert_eq!(rt; server.tick(now), tick, "server at {now}");
+        assert_eq!(rt; client.tick(now), tick, "client at {now}");
+    }
+    let after = server.on_packet(&Packet::ClientHeartbeat, 15_002);
+    assert_eq!(rt; after, ServerAct::Fault(SoupFault::Closed));
+    let after = client.on_packet(&Packet::ServerHeartbeat, 15_002);
+    assert_eq!(rt; after, ClientAct::Fault(SoupFault::Closed));
+}
+
+#[test]
+fn texts(rt: HostRuntime) -> Result<(), Fail> {
+    let rows = [
+        (SoupFault::EmptyPacket, "empty packet"),
+        (SoupFault::UnknownType(42), "unknown packet type 0x2a"),
+        (SoupFault::WrongSide(b'S'), "packet S from the wrong side"),
+        (
+            SoupFault::WrongLength {
+                kind: b'L',
+                want: 47,
+                got: 1,
+            },
+            "wrong length for packet L: want 47, got 1",
+        ),
+        (SoupFault::BadText { offset: 1 }, "bad text at 1"),
+        (SoupFault::BadNumber { offset: 27 }, "bad number at 27"),
+        (SoupFault::SecondLogin, "second login"),
+        (
+            SoupFault::Early(b'S'),
+            "packet S before the login was accepted",
+        ),
+        (SoupFault::Closed, "the session is closed"),
+        (SoupFault::TooManyMessages, "too many messages"),
+    ];
+    for (fault, text) in rows {
+        assert_eq!(rt; fault.to_string(rt.alloc())?.as_str(), text);
+    }
+    Ok(())
+}
