@@ -8,7 +8,8 @@ use Rattle.std.proofs.lemmas.List.Elements.{filter-append}
 use Rattle.itch_book.specs.declared.order.Order.{Order}
 use Rattle.itch_book.specs.Stable.{in_order}
 use Rattle.itch_book.specs.Orders.{first, fits, AllFit, AllAt, has_reference, get, without, less, has_shares, taken, added, replaced_by, replaced, IsDistinct, IsLive}
-use Rattle.itch_book.proofs.Lists.{by_test, All-append_rec, All-filter_rec, All-map_rec, All-weaker_rec, All-both_rec, All-found_rec, passes_filter, filter_swap, filter-map, length_filter_le, length_map, absent_in_filter}
+use Rattle.std.proofs.lemmas.List.{length-map}
+use Rattle.itch_book.proofs.Lists.{by_test, All-append_rec, All-filter_rec, All-map_rec, All-weaker_rec, All-both_rec, All-found_rec, passes_filter, filter_swap, filter-map, length_filter_le, absent_in_filter}
 use Rattle.itch_book.proofs.StableLemmas.{in_order-filter, length-in_order}
 
 -- what is found is the first that is kept
@@ -70,7 +71,7 @@ IsDistinct-in_order before o xs d r =
 pub IsDistinct-map : (f : Order → Order) → ((r : ℕ) (x : Order) → has_reference r (f x) ≡ has_reference r x) → (xs : List Order) → IsDistinct xs → IsDistinct (map f xs)
 IsDistinct-map f same xs d r =
     let kept = ap length (filter-map (has_reference r) (has_reference r) f (same r) xs) in
-    let len = length_map f (filter (has_reference r) xs) in
+    let len = length-map (filter (has_reference r) xs) f in
     let one = d r in omega arith
 
 pub IsDistinct-added : (x : Order) (xs : List Order) → get xs x.reference ≡ None → IsDistinct xs → IsDistinct (added x xs)

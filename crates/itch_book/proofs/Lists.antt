@@ -84,10 +84,6 @@ length_filter_le p (x ∷ xs) =
     let rest = length_filter_le p xs in
     cond_both (p x) (x ∷ filter p xs) (filter p xs) (λ t. length t ≤ length (x ∷ xs)) (λ e. omega arith) (λ e. omega arith)
 
-pub length_map : {X Y : Type 0} (f : X → Y) (xs : List X) → length (map f xs) ≡ length xs
-length_map f [] = refl
-length_map f (x ∷ xs) = let rest = length_map f xs in omega arith
-
 -- nothing is found among what nothing of is found
 pub absent_in_filter : {X : Type 0} (p q : X → Bool) (xs : List X) → find p xs ≡ None → find p (filter q xs) ≡ None
 absent_in_filter p q [] h = refl

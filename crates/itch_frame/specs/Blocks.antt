@@ -1,4 +1,5 @@
--- A stream of blocks: each is a length in two bytes, the higher first, and then that many bytes of payload.
+-- A stream of blocks, framed as the packets of SoupBinTCP 3.00 are: each is a length in two bytes, the higher first, and then that
+-- many bytes of payload.
 use Rattle.std.specs.Prelude.{◌≡◌, ℕ, ◌<◌, ◌⊎◌, List, [], ◌++◌, length}
 use Rattle.std.specs.List.{flat_map, AllByRecursion}
 use Rattle.byteorder.specs.Endian.{big_bytes}

@@ -1,7 +1,8 @@
 -- What a replay tells of a file whose bytes are known.
-use Rattle.std.proofs.Common.{◌≡◌, ℕ, ◌-◌, ◌^◌, ◌<◌, ◌≤◌, ◌==◌, false, List, [], ◌∷◌, ◌++◌, map, length, take, Option, None, Some, IfSome, refl, sym, ap, subst, ◌∙◌, inl, inr, arith}
+use Rattle.std.proofs.Common.{◌≡◌, ℕ, ◌-◌, ◌^◌, ◌<◌, ◌≤◌, ◌==◌, false, List, ◌++◌, map, length, take, Option, None, Some, IfSome, sym, ap, subst, ◌∙◌, inl, inr, arith}
 use Rattle.std.specs.Option.{option_map}
 use Rattle.std.proofs.lemmas.Bool.{eqb-false, eqb-true}
+use Rattle.std.proofs.Math.Seq.{take-append_seam}
 use Rattle.itch_codec.specs.declared.fault.CodecFault.{CodecFault}
 use Rattle.itch_codec.specs.Messages.{fault, message_of}
 use Rattle.itch_frame.specs.Blocks.{block, blocks, Ends, Open, Day}
@@ -72,10 +73,6 @@ replays_stop m n (Some b) new count stop (ps, Some c, takes, counted, few, halts
     (told_by m n b c ps takes (subst (λ k. k ≤ 10 ^ 19 - 1) (sym counted) few) new stop
     (subst (λ k. Halts (k == 10 ^ 19 - 1) (after m (map message_of ps)) (Some c) new stop) (sym counted) halts) told)
 
-take_front : (ps more : List (List ℕ)) → take (length ps) (ps ++ more) ≡ ps
-take_front [] more = refl
-take_front (p ∷ ps) more = ap (λ t. p ∷ t) (take_front ps more)
-
 -- the market left is that of the file's first messages
 pub replays_content : (m n : Content) (old new : Option (List ℕ)) (count : ℕ) (stop : Stop) → Replays m old new count stop n
     → IfSome old (λ b. (ps : List (List ℕ)) → (rest : List ℕ) → Day b ps rest → n ≡ laid (after m (map message_of (take count ps))))
@@ -83,5 +80,5 @@ replays_content m n None new count stop replays = tt
 replays_content m n (Some b) new count stop (done, None, takes, counted, few, halts) = absurd takes.bytes
 replays_content m n (Some b) new count stop (done, Some c, takes, counted, few, halts) = λ ps rest day.
     let front = front_of_day done ps b c rest takes.full takes.bytes day in
-    let first : take count ps ≡ done = ap (λ k. take k ps) (sym counted) ∙ ap (take (length done)) front.1 ∙ take_front done front.0 in
+    let first : take count ps ≡ done = ap (λ k. take k ps) (sym counted) ∙ ap (take (length done)) front.1 ∙ take-append_seam done front.0 in
     takes.left ∙ ap (λ qs. laid (after m (map message_of qs))) (sym first)

@@ -1,4 +1,5 @@
--- What contracts see of a market.
+-- What contracts see of a market: what the messages of TotalView-ITCH 5.0 leave that are kept, the last "System Event", the "Stock
+-- Directory" with the trading states, and the orders of "Add Order" that are live.
 use Rattle.std.specs.Prelude.{ℕ, List, [], Option, None}
 use Rattle.std.specs.Ordering.{nat_cmp}
 use Rattle.std.specs.FinMap as map

@@ -1,4 +1,4 @@
--- What a message that is not refused changes in a market.
+-- What a message that is not refused changes in a market. Names in quotes are the sections of TotalView-ITCH 5.0.
 use Rattle.std.specs.Prelude.{ℕ, Bool, true, false, not, List, Option, Some, None, is_some}
 use Rattle.std.specs.FinMap as map
 use Rattle.itch_book.specs.declared.order.Order.{Order}
@@ -41,18 +41,22 @@ order_of x mpid = record { reference = x.reference; locate = x.header.locate; si
 
 -- what is left of the market after a message
 abbrev pub effect : Content → Message → Content
+-- "System Event Message", "Stock Directory", "Stock Trading Action", "Reg SHO Restriction"
 effect m (is.SystemEvent x) = record m { event = Some x.code }
 effect m (is.StockDirectory x) =
     record m { securities = map.insert m.securities x.header.locate (entered (map.get m.securities x.header.locate) x.entry) }
 effect m (is.TradingAction x) = record m { securities = changed (with_action (action_of x)) x.header.locate m.securities }
 effect m (is.RegSho x) = record m { securities = changed (with_sho x.action) x.header.locate m.securities }
+-- "Add Order Message", without and with attribution
 effect m (is.AddOrder x) = record m { orders = book.added (order_of x None) m.orders }
 effect m (is.AttributedAddOrder x) = record m { orders = book.added (order_of x.order (Some x.attribution)) m.orders }
+-- "Order Executed Message", "Order Executed With Price Message", "Order Cancel Message", "Order Delete Message", "Order Replace Message"
 effect m (is.OrderExecuted x) = record m { orders = book.taken x.reference x.shares m.orders }
 effect m (is.OrderExecutedWithPrice x) = record m { orders = book.taken x.execution.reference x.execution.shares m.orders }
 effect m (is.OrderCancel x) = record m { orders = book.taken x.reference x.shares m.orders }
 effect m (is.OrderDelete x) = record m { orders = book.without x.reference m.orders }
 effect m (is.OrderReplace x) = record m { orders = book.replaced x.original x.reference x.shares x.price m.orders }
+-- trade messages change no order
 effect m (is.Trade x) = m
 effect m (is.CrossTrade x) = m
 effect m (is.BrokenTrade x) = m

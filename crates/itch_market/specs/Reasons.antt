@@ -1,4 +1,5 @@
--- The order rules: for each message the first check that fails is the reason why it is refused.
+-- The order rules, this product's own over the messages of TotalView-ITCH 5.0: for each message the first check that fails is the
+-- reason why it is refused.
 use Rattle.std.specs.Prelude.{ℕ, ◌==◌, nat_lt, Bool, not, if◌then◌else◌, List, Option, Some, None, is_some}
 use Rattle.std.specs.Str.{bytes_eq}
 use Rattle.std.specs.FinMap as map

@@ -1,4 +1,4 @@
--- When two markets are the same.
+-- When two markets are the same: in event, directory, trading states and every book's priority.
 use Rattle.std.specs.Prelude.{◌≡◌, ℕ}
 use Rattle.itch_codec.specs.declared.side.Side.{Side}
 use Rattle.itch_book.specs.Orders as book

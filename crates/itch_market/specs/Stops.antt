@@ -1,4 +1,4 @@
--- Where a replay of a day file stops, and why: a search for the first bad place.
+-- Where a replay of a day file stops, and why: a search of the whole file for its first bad place.
 use Rattle.std.specs.Prelude.{ℕ, ◌+◌, ◌-◌, ◌^◌, ◌==◌, nat_lt, min, if◌then◌else◌, List, [], ◌∷◌, map, length, take, Option, Some, None, slice_get, option_map, option_and_then}
 use Rattle.itch_codec.specs.declared.fault.CodecFault.{CodecFault}
 use Rattle.itch_codec.specs.Messages.{fault, message_of}

@@ -11,7 +11,8 @@ use Rattle.itch_codec.specs.declared.message.Message.TheVariants as is
 use Rattle.itch_codec.specs.declared.stocks.Directory.{Directory}
 use Rattle.itch_book.specs.declared.order.Order.{Order}
 use Rattle.itch_book.specs.Orders as book
-use Rattle.itch_book.proofs.Lists.{All-weaker_rec, length_filter_le, length_map}
+use Rattle.itch_book.proofs.Lists.{All-weaker_rec, length_filter_le}
+use Rattle.std.proofs.lemmas.List.{length-map}
 use Rattle.itch_book.proofs.StableLemmas.{length-in_order}
 use Rattle.itch_market.specs.declared.security.Action.{Action}
 use Rattle.itch_market.specs.declared.security.Security.{Security}
@@ -64,7 +65,7 @@ length-locate orders e =
       length-append shos messages,
       length-action e.0 stock e.1.action,
       length-sho e.0 stock e.1.sho,
-      length_map (order_part stock) (book.sides orders e.0),
+      length-map (book.sides orders e.0) (order_part stock),
     )
 
 length-locates : (orders : List Order) (es : List (ℕ × Security)) → length (flat_map (locate_part orders) es) ≡ weights es + length (joined orders es)
@@ -139,7 +140,7 @@ replaced_length original reference shares price orders = by_order_found (book.ge
 
 taken_length : (reference shares : ℕ) (orders : List Order) → length (book.taken reference shares orders) ≤ length orders
 taken_length reference shares orders =
-    omega (arith, length_filter_le book.has_shares (map (book.less reference shares) orders), length_map (book.less reference shares) orders)
+    omega (arith, length_filter_le book.has_shares (map (book.less reference shares) orders), length-map orders (book.less reference shares))
 
 size-effect : (m : Content) (x : Message) → size (effect m x) ≤ size m + 1
 size-effect m (is.SystemEvent x) = omega arith
