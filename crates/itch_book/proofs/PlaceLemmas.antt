@@ -11,10 +11,10 @@ use Rattle.std.proofs.lemmas.Option.{slice_get_within, get_or_from_slice_get}
 use Rattle.itch_book.specs.declared.order.Order.{Order}
 use Rattle.itch_book.specs.Stable.{later_in, IsInOrder}
 use Rattle.itch_book.specs.Orders.{IsBook, fits, lay, added, stands_before, has_reference, has_shares, less, get, without, taken, replaced_by, replaced, IsDistinct, IsLive, is_in, behind, after, next_in}
-use Rattle.itch_book.proofs.Lists.{by_test, All-found_rec}
+use Rattle.itch_book.proofs.Lists.{by_test, absent_in_filter}
 use Rattle.itch_book.proofs.Distinct.{own_reference, head_distinct, tail_distinct}
 use Rattle.itch_book.proofs.OrderLemmas.{stands_order}
-use Rattle.itch_book.proofs.BookLemmas.{added-book, without-book, taken-book, lay-added_laid, IsBook-without}
+use Rattle.itch_book.proofs.BookLemmas.{added-book, without-book, taken-book, lay-added_laid}
 
 -- a later arrival is put in front of the first that it stands before
 pub later_in_there : {A : Type 0} (before : A → A → Bool) (x : A) (xs : List A) → later_in before x xs ≡ insert xs (position_or_len (before x) xs) x
@@ -190,14 +190,14 @@ left_there r n xs ys i x z b found same place here some =
     ∙ sym (taken_part r n xs x b.distinct b.live found some)
     ∙ sym (taken-book r n xs b)
 
--- an order put in place of one that was taken out
-pub replaced_there : (original reference shares price : ℕ) (xs rest zs : List Order) (j : ℕ) (x : Order) → IsBook xs → get xs original ≡ Some x → rest ≡ lay (without original xs) → zs ≡ rest
-    → j ≡ position_or_len (stands_before (record x { reference = reference; shares = shares; price = price })) zs
-    → insert rest j (record x { reference = reference; shares = shares; price = price }) ≡ lay (replaced original reference shares price xs)
-replaced_there original reference shares price xs rest zs j x b found cut same place =
-    let new = record x { reference = reference; shares = shares; price = price } in
-    let was : IsLive x = All-found_rec IsLive (has_reference original) xs x b.live found in
-    put_there new rest zs j (subst IsBook (sym cut) (IsBook-without original xs b)) was.1 same place
-    ∙ ap (λ t. lay (added new t)) cut
-    ∙ lay-added_laid new (without original xs)
-    ∙ ap (λ o. lay (replaced_by o original reference shares price xs)) (sym found)
+-- an order put into what is left without another
+pub is_replaced : (original reference shares price : ℕ) (xs rest new : List Order) (x : Order) → get xs original ≡ Some x → rest ≡ lay (without original xs)
+    → new ≡ lay (added (record x { reference = reference; shares = shares; price = price }) rest) → new ≡ lay (replaced original reference shares price xs)
+is_replaced original reference shares price xs rest new x found cut put =
+    let order = record x { reference = reference; shares = shares; price = price } in
+    put ∙ ap (λ t. lay (added order t)) cut ∙ lay-added_laid order (without original xs) ∙ ap (λ o. lay (replaced_by o original reference shares price xs)) (sym found)
+
+-- a reference that was not there is not there without another order either
+pub still_absent : (original reference : ℕ) (xs rest : List Order) → IsBook xs → get xs reference ≡ None → rest ≡ lay (without original xs) → get rest reference ≡ None
+still_absent original reference xs rest b fresh cut =
+    ap (λ t. get t reference) (cut ∙ without-book original xs b) ∙ absent_in_filter (has_reference reference) (λ x. not (has_reference original x)) xs fresh

@@ -4,6 +4,7 @@
 mod book;
 pub mod laws;
 mod list_book;
+mod moves;
 mod order;
 mod places;
 

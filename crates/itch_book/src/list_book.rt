@@ -4,8 +4,9 @@ ghost use Rattle.itch_book.specs.Orders.{IsBook};
 ghost use Rattle.itch_book.specs.Kept.{IsBook-prop};
 
 use crate::book::OrderBook;
+use crate::moves::{exchange, put_in, take_out};
 use crate::order::{Order, Taken};
-use crate::places::{first_in, first_of, index_of, next_of, place_of, price_after, total_at};
+use crate::places::{first_in, first_of, index_of, next_of, price_after, total_at};
 use itch_codec::Side;
 use std::alloc::{AllocError, Allocator, Global};
 
@@ -60,9 +61,7 @@ impl<A: Allocator + Copy> OrderBook for ListBook<A> {
     }
 
     fn add(&mut self, order: Order) -> Result<(), AllocError> {
-        let place = place_of(&self.orders, &order);
-        self.orders.insert(place, order)?;
-        Ok(())
+        put_in(&mut self.orders, order)
     }
 
     fn take(&mut self, reference: u64, shares: u32) -> Taken {
@@ -77,8 +76,7 @@ impl<A: Allocator + Copy> OrderBook for ListBook<A> {
     }
 
     fn delete(&mut self, reference: u64) -> Order {
-        let place = index_of(&self.orders, reference);
-        self.orders.remove(place)
+        take_out(&mut self.orders, reference)
     }
 
     fn replace(
@@ -88,20 +86,8 @@ impl<A: Allocator + Copy> OrderBook for ListBook<A> {
         shares: u32,
         price: u32,
     ) -> Result<(), AllocError> {
-        let index = index_of(&self.orders, original);
-        let old = self.orders.remove(index);
-        let order = Order {
-            reference,
-            shares,
-            price,
-            ..old
-        };
-        let place = place_of(&self.orders, &order);
-        match self.orders.insert(place, order) {
-            Ok(()) => Ok(()),
-            // The order that was removed left room.
-            Err(_) => unreachable!(),
-        }
+        exchange(&mut self.orders, original, reference, shares, price);
+        Ok(())
     }
 
     ghost is_book = { λ b. b.is_kept };

@@ -1,5 +1,5 @@
 -- What contracts see of a reader of blocks.
-use Rattle.std.specs.Prelude.{◌≡◌, ℕ, List, [], ◌++◌, length, Option, None, Some, Result, Ok, Err, IfSome}
+use Rattle.std.specs.Prelude.{◌≡◌, ℕ, List, [], ◌++◌, length, drop, Option, option_map, None, Some, Result, Ok, Err, IfSome}
 use Rattle.std.specs.Borrow.{Bor}
 use Rattle.std.specs.Io.KnownBytes.{prepend_known, Consumes, IsAtEnd}
 use Rattle.itch_frame.specs.Blocks.{IsPayload, block, Open}
@@ -9,10 +9,12 @@ use Rattle.itch_frame.specs.declared.stage.Stage.TheVariants.{Going, Given, Ende
 use Rattle.itch_frame.specs.declared.fault.FrameFault.{FrameFault}
 use Rattle.itch_frame.specs.declared.fault.FrameFault.TheVariants.{Read, Truncated, Write, TooLong}
 
--- the reader below, the bytes held of an unfinished block, and how far the reading is
+-- the reader below, the bytes held of an unfinished block, how many bytes of the block given the reader below has still
+-- in its buffer, and how far the reading is
 pub record Reading (R : Type 0) : Type 0 where
   pub reader : R
   pub held : List ℕ
+  pub lent : ℕ
   pub stage : Stage
 
 -- the bytes held of an unfinished block: a block that was given is no more held
@@ -22,9 +24,13 @@ held_of Given bytes = []
 held_of Ended bytes = bytes
 held_of Cut bytes = bytes
 
--- the bytes held of an unfinished block, and then those unread, where they are told
+-- the told bytes behind the first n
+abbrev pub drop_known : ℕ → Option (List ℕ) → Option (List ℕ)
+drop_known n known = option_map (drop n) known
+
+-- the bytes held of an unfinished block, and then those unread, where they are told: none of the block given
 abbrev pub bytes_left : {R : Type 0} → (R → Option (List ℕ)) → Reading R → Option (List ℕ)
-bytes_left remaining r = prepend_known r.held (remaining r.reader)
+bytes_left remaining r = prepend_known r.held (drop_known r.lent (remaining r.reader))
 
 module _ {R : Type 0} (remaining : R → Option (List ℕ)) (failures : R → ℕ) where
   -- what a call that asks for the next block may answer, and leave

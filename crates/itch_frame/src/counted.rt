@@ -1,16 +1,22 @@
 //! Readers and writers that count their failures.
 //!
 //! Contracts see the bytes that a reader has left or a writer took, where they are told, and how many calls failed.
-ghost use Rattle.std.specs.Prelude.{◌≡◌, ℕ, ◌+◌, ◌-◌, ◌^◌, min, List, Option};
-ghost use Rattle.std.specs.Io.{ReadsAtMost, WritesAtMost};
+ghost use Rattle.std.specs.Prelude.{◌≡◌, ℕ, ◌+◌, ◌-◌, ◌^◌, min, List, [], take, drop, Option, IfSome};
+ghost use Rattle.std.specs.Io.{ReadsAtMost, WritesAtMost, StartsWith};
+ghost use Rattle.std.specs.Io.Buffered.{reader_buffer, reader_remaining};
+ghost use Rattle.std.specs.Io.KnownBytes.{Consumes};
 ghost use Rattle.itch_frame.specs.Counting.{CountsErr, Gives, Takes, told_until};
 
-use std::io::{self, Read, Write};
+use std::alloc::{Allocator, Global};
+use std::io::{self, BufRead, BufReader, Read, Write};
 
 /// A reader that counts its failures.
 pub trait CountedRead {
     // The bytes that reads will give from here on, where they are told.
     ghost remaining: { Self → Option (List ℕ) };
+
+    // The bytes among them that lie in a buffer of its own: the next reads give them.
+    ghost buffered: { Self → List ℕ };
 
     // How many reads failed. It stays at its last value, 2^64 - 1.
     ghost failures: { Self → ℕ };
@@ -22,6 +28,17 @@ pub trait CountedRead {
         ensures bound { ReadsAtMost result buf.new }
         ensures bytes { Gives (remaining self.old) (remaining self.new) result buf.new }
         ensures count { CountsErr result (failures self.old) (failures self.new) };
+
+    /// The bytes that it has read ahead, in a buffer of its own: none where it has no buffer. It reads nothing.
+    fn buffer(&self) -> &[u8]
+        ensures bytes { result.now ≡ buffered self.now }
+        ensures front { IfSome (remaining self.now) (λ bytes. StartsWith bytes result.now) };
+
+    /// Passes over the first `count` bytes of that buffer, or over all where it has fewer.
+    fn consume(&mut self, count: usize)
+        ensures bytes { Consumes (remaining self.old) (remaining self.new) (take count (buffered self.old)) }
+        ensures buffer { buffered self.new ≡ drop count (buffered self.old) }
+        ensures failures { failures self.new ≡ failures self.old };
 }
 
 /// A writer that counts its failures.
@@ -41,7 +58,7 @@ pub trait CountedWrite {
         ensures count { CountsErr result (failures self.old) (failures self.new) };
 }
 
-/// Counts the failures of any standard reader or writer. After one it tells no bytes.
+/// Counts the failures of any standard reader or writer. After one it tells no bytes. It has no buffer.
 ///
 /// A write that takes none of some bytes is a failure, `WriteZero`. A flush of the writer inside is not counted.
 #[derive(Drop)]
@@ -86,6 +103,8 @@ impl<T> Counted<T> {
 impl<T: Read> CountedRead for Counted<T> {
     ghost remaining = { λ c. told_until c.failures (T.remaining c.inner) };
 
+    ghost buffered = { λ c. [] };
+
     ghost failures = { λ c. c.failures };
 
     fn read_some(&mut self, buf: &mut [u8]) -> io::Result<usize> {
@@ -94,6 +113,12 @@ impl<T: Read> CountedRead for Counted<T> {
             Err(error) => Err(self.failed(error)),
         }
     }
+
+    fn buffer(&self) -> &[u8] {
+        &[]
+    }
+
+    fn consume(&mut self, _count: usize) {}
 }
 
 impl<T: Write> CountedWrite for Counted<T> {
@@ -107,5 +132,45 @@ impl<T: Write> CountedWrite for Counted<T> {
             Ok(_) => Err(self.failed(io::Error::from(io::ErrorKind::WriteZero))),
             Err(error) => Err(self.failed(error)),
         }
+    }
+}
+
+/// Counts the failures of a standard reader behind a standard buffer, and lets the bytes in that buffer be looked at.
+/// So a block that lies in it whole is not copied.
+#[derive(Drop)]
+pub struct Buffered<T, A: Allocator = Global> {
+    counted: Counted<BufReader<T, A>>,
+}
+
+impl<T: Read, A: Allocator> Buffered<T, A> {
+    /// Counts from 0.
+    pub fn new(reader: BufReader<T, A>) -> Buffered<T, A>
+        ensures inner { result.counted.inner ≡ reader }
+        ensures failures { result.counted.failures ≡ 0 }
+    {
+        Buffered {
+            counted: Counted::new(reader),
+        }
+    }
+}
+
+impl<T: Read, A: Allocator> CountedRead for Buffered<T, A> {
+    ghost remaining = { λ b. told_until b.counted.failures (reader_remaining T.remaining b.counted.inner) };
+
+    ghost buffered = { λ b. reader_buffer b.counted.inner };
+
+    ghost failures = { λ b. b.counted.failures };
+
+    fn read_some(&mut self, buf: &mut [u8]) -> io::Result<usize> {
+        self.counted.read_some(buf)
+    }
+
+    fn buffer(&self) -> &[u8] {
+        self.counted.inner.buffer()
+    }
+
+    #[tactic(auto, using(crate::proofs::Ahead::passed_over))]
+    fn consume(&mut self, count: usize) {
+        self.counted.inner.consume(count);
     }
 }

@@ -14,6 +14,7 @@
 pub mod counted;
 mod fault;
 pub mod laws;
+mod lender;
 mod reader;
 mod splitter;
 mod stage;

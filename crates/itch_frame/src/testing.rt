@@ -1,11 +1,12 @@
 //! For tests: a reader and a writer over memory, each of which fails once where a test asks for it.
-ghost use Rattle.std.specs.Prelude.{◌≡◌, ◌≢◌, ℕ, ◌+◌, ◌-◌, ◌^◌, ◌≤◌, min, List, [], ◌++◌, length, take, Option, Some, MatchResult};
+ghost use Rattle.std.specs.Prelude.{◌≡◌, ◌≢◌, ℕ, ◌+◌, ◌-◌, ◌^◌, ◌≤◌, min, List, [], ◌++◌, length, take, drop, Option, Some, MatchResult};
 ghost use Rattle.std.specs.Io.{ReadsAtMost, WritesAtMost};
+ghost use Rattle.std.specs.Io.KnownBytes.{Consumes};
 ghost use Rattle.itch_frame.specs.Counting.{CountsErr, Gives, Takes};
 
 use crate::counted::{CountedRead, CountedWrite};
 use std::alloc::{Allocator, Global};
-use std::io;
+use std::io::{self, Read};
 
 /// Gives at most `piece` bytes a read. Read number `fail_at`, counted from 1, fails and consumes nothing.
 #[derive(Drop)]
@@ -39,6 +40,8 @@ impl<'a> PieceReader<'a> {
 impl CountedRead for PieceReader<'_> {
     ghost remaining = { λ r. Some r.bytes.now };
 
+    ghost buffered = { λ r. [] };
+
     ghost failures = { λ r. r.failures };
 
     fn read_some(&mut self, buf: &mut [u8]) -> io::Result<usize>
@@ -62,6 +65,26 @@ impl CountedRead for PieceReader<'_> {
         buf[..count].copy_from_slice(given);
         self.bytes = rest;
         Ok(count)
+    }
+
+    fn buffer(&self) -> &[u8] {
+        &[]
+    }
+
+    fn consume(&mut self, _count: usize)
+        ensures bytes { Consumes (Some self.old.bytes.now) (Some self.new.bytes.now) (take _count []) }
+        ensures buffer { ◌≡◌ {A = List ℕ} [] (drop _count []) }
+        ensures failures { self.new.failures ≡ self.old.failures }
+        ensures same { self.new ≡ self.old }
+    {}
+}
+
+/// The same for standard code, as for a buffer in front.
+impl Read for PieceReader<'_> {
+    ghost remaining = { λ r. Some r.bytes.now };
+
+    fn read(&mut self, buf: &mut [u8]) -> io::Result<usize> {
+        self.read_some(buf)
     }
 }
 

@@ -1,10 +1,11 @@
 //! Worked cases, each failure in turn, and the calls that take no memory.
-use crate::counted::{Counted, CountedRead, CountedWrite};
+use crate::counted::{Buffered, Counted, CountedRead, CountedWrite};
 use crate::testing::{FuseWriter, PieceReader};
 use crate::{BlockReader, FrameFault, Splitter, laws, write_block};
 use refusing::Refusing;
 use std::alloc::Allocator;
 use std::fs::File;
+use std::io::BufReader;
 use std::test::Fail;
 
 // Five blocks, one of them empty.
@@ -133,6 +134,64 @@ fn loses_nothing_whichever_read_fails(rt: HostRuntime) -> Result<(), Fail> {
                 "read {fail_at}, in pieces of {piece}"
             );
         }
+    }
+    Ok(())
+}
+
+#[test]
+fn blocks_are_the_same_behind_any_buffer(rt: HostRuntime) -> Result<(), Fail> {
+    for capacity in 1..=STREAM.len() + 1 {
+        for fail_at in 1..=24 {
+            let source = PieceReader::new(STREAM, 5, Some(fail_at));
+            let source = Buffered::new(BufReader::with_capacity(rt.alloc(), capacity, source)?);
+            let mut reader = BlockReader::new(rt.alloc(), source)?;
+            let mut writer = FuseWriter::new(rt.alloc(), 64, None);
+            copy_blocks(&mut reader, &mut writer)?;
+            assert_eq!(rt;
+                writer.written(),
+                STREAM,
+                "read {fail_at} failed, behind a buffer of {capacity}"
+            );
+        }
+    }
+    Ok(())
+}
+
+#[test]
+fn lends_blocks_that_lie_in_the_buffer(rt: HostRuntime) -> Result<(), Fail> {
+    let mut source = Buffered::new(BufReader::with_capacity(rt.alloc(), 7, STREAM)?);
+    assert!(rt; source.buffer().is_empty());
+    let mut first = [0; 3];
+    assert_eq!(rt; source.read_some(&mut first)?, 3);
+    assert_eq!(rt; source.buffer(), b"\x00\x02RR".as_slice());
+    source.consume(2);
+    assert_eq!(rt; source.buffer(), b"RR".as_slice());
+    source.consume(9);
+    assert!(rt; source.buffer().is_empty());
+    assert_eq!(rt; source.read_some(&mut first)?, 3);
+    assert_eq!(rt; first, *b"\x00\x00\x00");
+
+    let mut unbuffered = Counted::new(STREAM);
+    assert!(rt; unbuffered.buffer().is_empty());
+    unbuffered.consume(3);
+    let mut pieces = PieceReader::new(STREAM, 7, None);
+    assert!(rt; pieces.buffer().is_empty());
+    pieces.consume(3);
+    assert_eq!(rt; unbuffered.read_some(&mut first)?, 3);
+    assert_eq!(rt; pieces.read_some(&mut first)?, 3);
+    assert_eq!(rt; first, *b"\x00\x01S");
+    Ok(())
+}
+
+#[test]
+fn a_failed_read_behind_a_buffer_is_counted(rt: HostRuntime) -> Result<(), Fail> {
+    let source = PieceReader::new(b"\x00\x01z\x00", 4, Some(2));
+    let source = Buffered::new(BufReader::with_capacity(rt.alloc(), 8, source)?);
+    let mut reader = BlockReader::new(rt.alloc(), source)?;
+    assert_eq!(rt; reader.next_block()?, Some(b"z".as_slice()));
+    assert!(rt; matches!(reader.next_block(), Err(FrameFault::Read(_))));
+    for _ in 0..2 {
+        assert!(rt; matches!(reader.next_block(), Err(FrameFault::Truncated { held: 1 })));
     }
     Ok(())
 }

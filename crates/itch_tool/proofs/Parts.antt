@@ -4,7 +4,7 @@ use Rattle.std.specs.List.{AllByRecursion}
 use Rattle.std.specs.Io.KnownBytes.{prepend_known}
 use Rattle.itch_codec.specs.Messages.{message_of}
 use Rattle.itch_frame.specs.Blocks.{Ends}
-use Rattle.itch_frame.specs.Reading.{Reading, bytes_left}
+use Rattle.itch_frame.specs.Reading.{Reading, bytes_left, drop_known}
 use Rattle.itch_market.specs.Content.{Content, empty, laid}
 use Rattle.itch_market.specs.Runs.{run}
 use Rattle.itch_market.specs.declared.stop.Stop.{Stop}
@@ -17,14 +17,15 @@ use Rattle.itch_tool.specs.declared.fault.ToolFault.TheVariants as tool
 use Rattle.itch_tool.specs.Readings.{IsWhole, IsPart, HaltsPart, ReadsMarket}
 use Rattle.itch_tool.specs.Outputs.{IsShort, WritesOutput, Outputs}
 
-none_before : (bytes : Option (List ℕ)) → prepend_known [] bytes ≡ bytes
+none_before : (bytes : Option (List ℕ)) → prepend_known [] (drop_known 0 bytes) ≡ bytes
 none_before None = refl
 none_before (Some bytes) = refl
 
 -- a new reader of blocks has the bytes of the reader below
-pub new_bytes : {R : Type 0} (remaining : R → Option (List ℕ)) (r : Reading R) (reader : R) → r.reader ≡ reader → r.held ≡ [] → bytes_left remaining r ≡ remaining reader
-new_bytes remaining r reader is none =
-    (λ i. prepend_known (none i) (remaining (is i))) ∙ none_before (remaining reader)
+pub new_bytes : {R : Type 0} (remaining : R → Option (List ℕ)) (r : Reading R) (reader : R) → r.reader ≡ reader → r.held ≡ [] → r.lent ≡ 0
+    → bytes_left remaining r ≡ remaining reader
+new_bytes remaining r reader is none unlent =
+    (λ i. prepend_known (none i) (drop_known (unlent i) (remaining (is i)))) ∙ none_before (remaining reader)
 
 -- the messages that were applied
 pub record Applied (after : Option ℕ) (bytes : Option (List ℕ)) (count : ℕ) (n : Content) : Type 0 where
@@ -90,9 +91,9 @@ halts_early (Some most) bytes new count stop n some (early, halts) = early
 
 -- what was read through a new reader into a new market
 pub read_anew : {R : Type 0} (remaining : R → Option (List ℕ)) (r : Reading R) (reader : R) (m : Content) (after : Option ℕ) (new : Option (List ℕ)) (result : Result ℕ ToolFault) (n : Content)
-    → r.reader ≡ reader → r.held ≡ [] → m ≡ empty → ReadsMarket after m (bytes_left remaining r) new result n → ReadsMarket after empty (remaining reader) new result n
-read_anew remaining r reader m after new result n is none first reads =
-    subst (λ bytes. ReadsMarket after empty bytes new result n) (new_bytes remaining r reader is none)
+    → r.reader ≡ reader → r.held ≡ [] → r.lent ≡ 0 → m ≡ empty → ReadsMarket after m (bytes_left remaining r) new result n → ReadsMarket after empty (remaining reader) new result n
+read_anew remaining r reader m after new result n is none unlent first reads =
+    subst (λ bytes. ReadsMarket after empty bytes new result n) (new_bytes remaining r reader is none unlent)
     (subst (λ start. ReadsMarket after start (bytes_left remaining r) new result n) first reads)
 
 module _ {W : Type 0} (contents : W → Option (List ℕ)) (failures : W → ℕ) (output : List (List ℕ) → List ℕ) (out : W) where

@@ -4,7 +4,7 @@ use crate::check::check;
 use crate::fault::ToolFault;
 use crate::request::Request;
 use crate::snap::snap;
-use itch_frame::counted::{Counted, CountedWrite};
+use itch_frame::counted::{Buffered, Counted, CountedWrite};
 use std::alloc::Allocator;
 use std::fs;
 use std::io::{self, BufReader, BufWriter, Read, Write};
@@ -47,7 +47,7 @@ fn perform<A: Allocator + Copy, R: Read + Drop, W: CountedWrite>(
     let Ok(buffered) = BufReader::with_capacity(alloc, PIECE, reader) else {
         return Err(ToolFault::OutOfMemory);
     };
-    let reader = Counted::new(buffered);
+    let reader = Buffered::new(buffered);
     match request {
         Request::Snap { after, .. } => snap(alloc, reader, after, out),
         Request::Check { .. } => check(alloc, reader, out),

@@ -8,20 +8,20 @@ pub returns-in-Err : goal.returns-in-Err
 returns-in-Err g c =
     read_fails g.W.CountedWrite.contents g.W.CountedWrite.failures snapshot_of c.args.out.now c.args.after (g.R.CountedRead.remaining c.args.reader) _ c.in-Err.fault _
     (read_anew g.R.CountedRead.remaining c.in_ok-reader.reader c.args.reader c.new-market.result c.args.after _ (Err c.in-Err.fault) _
-    c.in_ok-reader.ensures.0 c.in_ok-reader.ensures.1 c.new-market.ensures c.in-Err.ensures)
+    c.in_ok-reader.ensures.0 c.in_ok-reader.ensures.1 c.in_ok-reader.ensures.2 c.new-market.ensures c.in-Err.ensures)
 
 pub write_market-requires-clause-short : goal.write_market-requires-clause-short
 write_market-requires-clause-short g c =
     applied_short c.args.after (g.R.CountedRead.remaining c.args.reader) c.in-Ok.count c.read_market.new.market
     (read_done c.args.after (g.R.CountedRead.remaining c.args.reader) _ c.in-Ok.count c.read_market.new.market
     (read_anew g.R.CountedRead.remaining c.in_ok-reader.reader c.args.reader c.new-market.result c.args.after _ (Ok c.in-Ok.count) c.read_market.new.market
-    c.in_ok-reader.ensures.0 c.in_ok-reader.ensures.1 c.new-market.ensures c.in-Ok.ensures))
+    c.in_ok-reader.ensures.0 c.in_ok-reader.ensures.1 c.in_ok-reader.ensures.2 c.new-market.ensures c.in-Ok.ensures))
 
 pub returns : goal.returns
 returns g c =
     let applied = read_done c.args.after (g.R.CountedRead.remaining c.args.reader) _ c.in-Ok.count c.read_market.new.market
     (read_anew g.R.CountedRead.remaining c.in_ok-reader.reader c.args.reader c.new-market.result c.args.after _ (Ok c.in-Ok.count) c.read_market.new.market
-    c.in_ok-reader.ensures.0 c.in_ok-reader.ensures.1 c.new-market.ensures c.in-Ok.ensures) in
+    c.in_ok-reader.ensures.0 c.in_ok-reader.ensures.1 c.in_ok-reader.ensures.2 c.new-market.ensures c.in-Ok.ensures) in
     read_writes g.W.CountedWrite.contents g.W.CountedWrite.failures snapshot_of c.args.out.now c.write_market.new.out c.args.after (g.R.CountedRead.remaining c.args.reader)
     c.in-Ok.count c.read_market.new.market _ applied
     (applied_snapshot c.args.after (g.R.CountedRead.remaining c.args.reader) c.in-Ok.count c.read_market.new.market applied)
