@@ -14,7 +14,7 @@ use Rattle.itch_book.specs.Orders.{IsBook, fits, lay, added, stands_before, has_
 use Rattle.itch_book.proofs.Lists.{by_test, absent_in_filter}
 use Rattle.itch_book.proofs.Distinct.{own_reference, head_distinct, tail_distinct}
 use Rattle.itch_book.proofs.OrderLemmas.{stands_order}
-use Rattle.itch_book.proofs.BookLemmas.{added-book, without-book, taken-book, lay-added_laid}
+use Rattle.itch_book.proofs.BookLemmas.{added-book, without-book, taken-book, lay-added_laid, IsBook-without}
 
 -- a later arrival is put in front of the first that it stands before
 pub later_in_there : {A : Type 0} (before : A → A → Bool) (x : A) (xs : List A) → later_in before x xs ≡ insert xs (position_or_len (before x) xs) x
@@ -201,3 +201,11 @@ is_replaced original reference shares price xs rest new x found cut put =
 pub still_absent : (original reference : ℕ) (xs rest : List Order) → IsBook xs → get xs reference ≡ None → rest ≡ lay (without original xs) → get rest reference ≡ None
 still_absent original reference xs rest b fresh cut =
     ap (λ t. get t reference) (cut ∙ without-book original xs b) ∙ absent_in_filter (has_reference reference) (λ x. not (has_reference original x)) xs fresh
+
+-- what is left where an order was taken out at its place
+pub is_cut : (r : ℕ) (xs view new : List Order) (i : ℕ) → IsBook xs → view ≡ xs → i ≡ position_or_len (has_reference r) view → new ≡ remove xs i → new ≡ lay (without r xs)
+is_cut r xs view new i book same place is = is ∙ cut_there r xs view i book same place
+
+-- and it is a book
+pub is_cut_book : (r : ℕ) (xs view new : List Order) (i : ℕ) → IsBook xs → view ≡ xs → i ≡ position_or_len (has_reference r) view → new ≡ remove xs i → IsBook new
+is_cut_book r xs view new i book same place is = subst IsBook (sym (is_cut r xs view new i book same place is)) (IsBook-without r xs book)

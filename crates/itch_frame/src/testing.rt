@@ -1,7 +1,7 @@
 //! For tests: a reader and a writer over memory, each of which fails once where a test asks for it.
 ghost use Rattle.std.specs.Prelude.{◌≡◌, ◌≢◌, ℕ, ◌+◌, ◌-◌, ◌^◌, ◌≤◌, min, List, [], ◌++◌, length, take, drop, Option, Some, MatchResult};
 ghost use Rattle.std.specs.Io.{ReadsAtMost, WritesAtMost};
-ghost use Rattle.std.specs.Io.KnownBytes.{Consumes};
+ghost use Rattle.std.specs.Io.KnownBytes.{Consumes, ReadConsumes};
 ghost use Rattle.itch_frame.specs.Counting.{CountsErr, Gives, Takes};
 
 use crate::counted::{CountedRead, CountedWrite};
@@ -83,7 +83,15 @@ impl CountedRead for PieceReader<'_> {
 impl Read for PieceReader<'_> {
     ghost remaining = { λ r. Some r.bytes.now };
 
-    fn read(&mut self, buf: &mut [u8]) -> io::Result<usize> {
+    fn read(&mut self, buf: &mut [u8]) -> io::Result<usize>
+        ensures bound { ReadsAtMost result buf.new }
+        ensures bytes { ReadConsumes (Some self.old.bytes.now) (Some self.new.bytes.now) result buf.new }
+        ensures answer { MatchResult result
+            (λ count. (self.old.fail_at ≢ Some self.new.reads) × (count ≡ min (min self.old.piece (length buf.new)) (length self.old.bytes.now)))
+            (λ _. self.old.fail_at ≡ Some self.new.reads) }
+        ensures reads { self.new.reads ≡ min (self.old.reads + 1) (2 ^ 64 - 1) }
+        ensures plan { (self.new.piece ≡ self.old.piece) × (self.new.fail_at ≡ self.old.fail_at) }
+    {
         self.read_some(buf)
     }
 }

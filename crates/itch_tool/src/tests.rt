@@ -11,8 +11,10 @@ use crate::check::check;
 use crate::fault::ToolFault;
 use crate::snap::snap;
 use blocks::*;
+use itch_frame::counted::Buffered;
 use itch_frame::testing::{FuseWriter, PieceReader};
 use std::alloc::{AllocError, Global};
+use std::io::BufReader;
 use std::test::Fail;
 
 // The bytes of these blocks.
@@ -101,6 +103,24 @@ fn snap_writes_the_canonical_snapshot(rt: HostRuntime) -> Result<(), Fail> {
                 "case {case} in pieces of {piece}"
             );
         }
+    }
+    Ok(())
+}
+
+#[test]
+fn snap_reads_through_any_buffer(rt: HostRuntime) -> Result<(), Fail> {
+    let alloc = rt.alloc();
+    let input = file(
+        alloc,
+        &[MSFT, START, AAPL, UNRESTRICTED, TRADING, "0000", "ff"],
+    )?;
+    let wanted = file(alloc, &[START, AAPL, TRADING, UNRESTRICTED, MSFT, END_6])?;
+    for capacity in 1..=150 {
+        let reader = BufReader::with_capacity(alloc, capacity, input.as_slice())?;
+        let mut out = FuseWriter::new(alloc, 4096, None);
+        let answer = snap(alloc, Buffered::new(reader), None, &mut out);
+        assert!(rt; matches!(answer, Ok(true)), "behind {capacity} bytes");
+        assert_eq!(rt; out.written(), wanted.as_slice(), "behind {capacity} bytes");
     }
     Ok(())
 }

@@ -4,22 +4,10 @@ use super::tests::{add, order, reference, replace};
 use crate::book::OrderBook;
 use crate::order::Order;
 use itch_codec::Side;
-use linked_list_allocator::LocalHeap;
+use refusing::Refusing;
 use std::alloc::{AllocError, Global};
 use std::process::Abort;
 use std::test::Fail;
-
-// Holds all the memory that a heap has left.
-fn fill(alloc: Global, heap: &LocalHeap) -> Result<Vec<Vec<u8, &LocalHeap>>, AllocError> {
-    let mut held = Vec::new(alloc);
-    for _ in 0..heap.size() / 16 {
-        match Vec::with_capacity(heap, 1) {
-            Ok(block) => held.push(block)?,
-            Err(_) => return Ok(held),
-        }
-    }
-    Ok(held)
-}
 
 // The references of the orders of locate 1, in order.
 fn listed<B: OrderBook>(rt: &impl Abort, alloc: Global, book: &B) -> Result<Vec<u64>, AllocError> {
@@ -33,86 +21,81 @@ fn listed<B: OrderBook>(rt: &impl Abort, alloc: Global, book: &B) -> Result<Vec<
     Ok(references)
 }
 
-// Adds an order at a new best price, first with no memory, and answers whether that was refused.
-fn add_without_memory<B: OrderBook>(
+// Adds an order at a new best price, with each allocation refused in turn, and answers how many were refused.
+fn add_refused<B: OrderBook>(
     rt: &impl Abort,
     alloc: Global,
-    heap: &LocalHeap,
+    refusing: &Refusing<Global>,
     book: &mut B,
     order: Order,
-) -> Result<bool, AllocError> {
+) -> Result<u64, AllocError> {
     let before = listed(rt, alloc, book)?;
     let best = book.next_price(1, Side::Buy, None);
-    let held = fill(alloc, heap)?;
-    let refused = add(rt, book, order).is_err();
-    drop(held);
-    if refused {
+    for nth in 0..8 {
+        refusing.arm(nth);
+        let answer = add(rt, book, order);
+        if !refusing.has_refused() {
+            answer?;
+            assert_eq!(rt; book.get(order.reference).copied(), Some(order));
+            assert_eq!(rt; book.next_price(1, Side::Buy, None), Some(order.price));
+            return Ok(nth);
+        }
+        assert!(rt; answer.is_err());
         assert_eq!(rt; listed(rt, alloc, book)?, before);
         assert!(rt; book.get(order.reference).is_none());
         assert_eq!(rt; book.next_price(1, Side::Buy, None), best);
-        add(rt, book, order)?;
     }
-    assert_eq!(rt; book.get(order.reference).copied(), Some(order));
-    assert_eq!(rt; book.next_price(1, Side::Buy, None), Some(order.price));
-    Ok(refused)
+    panic!(rt; "more than 8 allocations")
 }
 
-// Puts an order at a new best price in place of another one, first with no memory.
-fn replace_without_memory<B: OrderBook>(
+// Puts an order at a new best price in place of another one, with each allocation refused in turn.
+fn replace_refused<B: OrderBook>(
     rt: &impl Abort,
     alloc: Global,
-    heap: &LocalHeap,
+    refusing: &Refusing<Global>,
     book: &mut B,
     original: u64,
     order: Order,
-) -> Result<(), AllocError> {
+) -> Result<u64, AllocError> {
     let before = listed(rt, alloc, book)?;
     let best = book.next_price(1, Side::Buy, None);
-    let held = fill(alloc, heap)?;
-    let result = replace(
-        rt,
-        book,
-        original,
-        order.reference,
-        order.shares,
-        order.price,
-    );
-    drop(held);
-    if result.is_err() {
+    for nth in 0..8 {
+        refusing.arm(nth);
+        let (reference, shares, price) = (order.reference, order.shares, order.price);
+        let answer = replace(rt, book, original, reference, shares, price);
+        if !refusing.has_refused() {
+            answer?;
+            assert!(rt; book.get(original).is_none());
+            assert_eq!(rt; book.get(reference).copied(), Some(order));
+            assert_eq!(rt; book.next_price(1, Side::Buy, None), Some(price));
+            return Ok(nth);
+        }
+        assert!(rt; answer.is_err());
         assert_eq!(rt; listed(rt, alloc, book)?, before);
-        assert!(rt; book.get(order.reference).is_none());
+        assert!(rt; book.get(reference).is_none());
         assert_eq!(rt; book.next_price(1, Side::Buy, None), best);
-        replace(
-            rt,
-            book,
-            original,
-            order.reference,
-            order.shares,
-            order.price,
-        )?;
     }
-    assert!(rt; book.get(original).is_none());
-    assert_eq!(rt; book.get(order.reference).copied(), Some(order));
-    assert_eq!(rt; book.next_price(1, Side::Buy, None), Some(order.price));
-    Ok(())
+    panic!(rt; "more than 8 allocations")
 }
 
 // Each growth of a book is refused once.
 #[test]
 fn stays_as_it_was(rt: HostRuntime) -> Result<(), Fail> {
-    let heap = LocalHeap::new(rt.alloc(), 8192)?;
-    let mut book: ListBook<&LocalHeap> = ListBook::new(&heap);
-    let mut refused = Vec::new(rt.alloc());
+    let refusing = Refusing::new(rt.alloc(), 0);
+    let mut book: ListBook<&Refusing<Global>> = ListBook::new(&refusing);
+    let mut refused = 0u64;
     for number in 1..41 {
         let new = order(number, Side::Buy, 10, 1500000 + number as u32);
-        if add_without_memory(&rt, rt.alloc(), &heap, &mut book, new)? {
-            refused.push(number)?;
-        }
+        refused = refused.saturating_add(add_refused(&rt, rt.alloc(), &refusing, &mut book, new)?);
     }
-    assert!(rt; refused.len() > 1);
+    assert!(rt; refused > 1);
     for number in 1..41 {
         let new = order(100 + number, Side::Buy, 20, 1600000 + number as u32);
-        replace_without_memory(&rt, rt.alloc(), &heap, &mut book, number, new)?;
+        // The order that is replaced leaves room.
+        assert_eq!(rt;
+            replace_refused(&rt, rt.alloc(), &refusing, &mut book, number, new)?,
+            0
+        );
     }
     assert_eq!(rt; book.len(), 40);
     Ok(())

@@ -6,9 +6,11 @@ use crate::check::check;
 use crate::fault::ToolFault;
 use crate::snap::snap;
 use itch_frame::FrameFault;
+use itch_frame::counted::Buffered;
 use itch_frame::testing::{FuseWriter, PieceReader};
 use itch_market::{ReplayEnd, Stop};
 use refusing::Refusing;
+use std::io::BufReader;
 use std::test::Fail;
 
 #[test]
@@ -36,6 +38,45 @@ fn a_failed_read_stops_the_replay(rt: HostRuntime) -> Result<(), Fail> {
         };
         assert_eq!(rt; stopped, whole as u64, "byte {at}");
         assert!(rt; out.written().is_empty(), "byte {at}");
+    }
+    Ok(())
+}
+
+#[test]
+fn a_failed_read_behind_a_buffer_stops_the_replay(rt: HostRuntime) -> Result<(), Fail> {
+    let alloc = rt.alloc();
+    let input = file(alloc, &[MSFT, START, AAPL, UNRESTRICTED, TRADING])?;
+    let wanted = file(alloc, &[START, AAPL, TRADING, UNRESTRICTED, MSFT, END_6])?;
+    let ends = [41u64, 55, 96, 118, 145];
+    // Each read fills the buffer with 50 bytes, and the fourth tells the end.
+    for fail_at in 1..=5u64 {
+        let whole = ends
+            .iter()
+            .filter(|end| **end <= 50 * (fail_at - 1))
+            .count();
+        let source = PieceReader::new(input.as_slice(), 50, Some(fail_at));
+        let reader = Buffered::new(BufReader::with_capacity(alloc, 50, source)?);
+        let mut out = FuseWriter::new(alloc, 4096, None);
+        match snap(alloc, reader, None, &mut out) {
+            Ok(is_whole) => {
+                assert_eq!(rt; fail_at, 5);
+                assert!(rt; is_whole);
+                assert_eq!(rt; out.written(), wanted.as_slice());
+            }
+            Err(
+                ToolFault::Stopped {
+                    end: ReplayEnd {
+                        count,
+                        stop: Stop::Frame(FrameFault::Read(_)),
+                    },
+                    ..
+                },
+            ) => {
+                assert_eq!(rt; count, whole as u64, "read {fail_at}");
+                assert!(rt; out.written().is_empty(), "read {fail_at}");
+            }
+            Err(fault) => return Err(fault.into()),
+        }
     }
     Ok(())
 }

@@ -5,57 +5,44 @@ use super::messages::{add, attributed, directory, replace};
 use crate::refusal::Refusal;
 use itch_book::{ListBook, OrderBook};
 use itch_codec::{Message, Side};
-use linked_list_allocator::LocalHeap;
-use std::alloc::{AllocError, Global};
+use refusing::Refusing;
+use std::alloc::Global;
 use std::process::Abort;
 use std::test::Fail;
 
-// Holds all the memory that a heap has left.
-fn fill(alloc: Global, heap: &LocalHeap) -> Result<Vec<Vec<u8, &LocalHeap>>, AllocError> {
-    let mut held = Vec::new(alloc);
-    for _ in 0..heap.size() / 16 {
-        match Vec::with_capacity(heap, 1) {
-            Ok(block) => held.push(block)?,
-            Err(_) => return Ok(held),
-        }
-    }
-    Ok(held)
-}
-
-// Applies a message, first with no memory, and answers whether that was refused.
-fn apply_without_memory<B: OrderBook>(
+// Applies a message with each of its allocations refused in turn, then with none, and answers how many were refused.
+fn apply_refused<B: OrderBook>(
     rt: &impl Abort,
     alloc: Global,
-    heap: &LocalHeap,
+    refusing: &Refusing<Global>,
     market: &mut Market<B>,
     message: &Message<'_>,
-) -> Result<bool, Fail> {
+) -> Result<u64, Fail> {
     let before = content_of(rt, alloc, market)?;
-    let held = fill(alloc, heap)?;
-    let answer = market.apply(message);
-    drop(held);
-    if let Err(why) = answer {
-        assert_eq!(rt; why, Refusal::OutOfMemory);
+    for nth in 0..8 {
+        refusing.arm(nth);
+        let answer = market.apply(message);
+        if !refusing.has_refused() {
+            answer?;
+            return Ok(nth);
+        }
+        assert_eq!(rt; answer, Err(Refusal::OutOfMemory));
         assert_eq!(rt; content_of(rt, alloc, market)?, before);
-        market.apply(message)?;
-        return Ok(true);
     }
-    Ok(false)
+    panic!(rt; "more than 8 allocations")
 }
 
-// Applies each message, first with no memory, and answers how many were refused.
+// The same for each message, one behind the other.
 fn refusals<B: OrderBook>(
     rt: &impl Abort,
     alloc: Global,
-    heap: &LocalHeap,
+    refusing: &Refusing<Global>,
     market: &mut Market<B>,
     messages: &[Message<'_>],
 ) -> Result<u64, Fail> {
-    let mut count = 0;
+    let mut count = 0u64;
     for message in messages {
-        if apply_without_memory(rt, alloc, heap, market, message)? {
-            count = u64::saturating_add(count, 1);
-        }
+        count = count.saturating_add(apply_refused(rt, alloc, refusing, market, message)?);
     }
     Ok(count)
 }
@@ -64,8 +51,8 @@ fn refusals<B: OrderBook>(
 #[test]
 fn stays_as_it_was(rt: HostRuntime) -> Result<(), Fail> {
     let alloc = rt.alloc();
-    let heap = LocalHeap::new(alloc, 65536)?;
-    let mut market: Market<ListBook<&LocalHeap>> = Market::new(&heap);
+    let refusing = Refusing::new(alloc, 0);
+    let mut market: Market<ListBook<&Refusing<Global>>> = Market::new(&refusing);
     let mut directories = Vec::new(alloc);
     let mut adds = Vec::new(alloc);
     let mut replacements = Vec::new(alloc);
@@ -77,10 +64,14 @@ fn stays_as_it_was(rt: HostRuntime) -> Result<(), Fail> {
         replacements.push(replace(1, reference, 100 + reference, 20, 1500100)?)?;
         attributions.push(attributed(200 + reference, 30, 1500000)?)?;
     }
-    assert!(rt; refusals(&rt, alloc, &heap, &mut market, &directories)? > 0);
-    assert!(rt; refusals(&rt, alloc, &heap, &mut market, &adds)? > 0);
-    let _ = refusals(&rt, alloc, &heap, &mut market, &replacements)?;
-    assert!(rt; refusals(&rt, alloc, &heap, &mut market, &attributions)? > 0);
+    assert!(rt; refusals(&rt, alloc, &refusing, &mut market, &directories)? > 0);
+    assert!(rt; refusals(&rt, alloc, &refusing, &mut market, &adds)? > 0);
+    // The order that is replaced leaves room.
+    assert_eq!(rt;
+        refusals(&rt, alloc, &refusing, &mut market, &replacements)?,
+        0
+    );
+    assert!(rt; refusals(&rt, alloc, &refusing, &mut market, &attributions)? > 0);
     assert_eq!(rt; market.book().len(), 60);
     assert_eq!(rt;
         market.best(1, Side::Buy).map(|order| order.reference),
