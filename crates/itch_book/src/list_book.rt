@@ -4,9 +4,9 @@ ghost use Rattle.itch_book.specs.Orders.{IsBook};
 ghost use Rattle.itch_book.specs.Kept.{IsBook-prop};
 
 use crate::book::OrderBook;
-use crate::moves::{exchange, put_in, take_out};
+use crate::moves::{exchange, put_in, take_from, take_out};
 use crate::order::{Order, Taken};
-use crate::places::{first_in, first_of, index_of, next_of, price_after, total_at};
+use crate::places::{first_in, first_of, next_of, price_after, total_at};
 use itch_codec::Side;
 use std::alloc::{AllocError, Allocator, Global};
 
@@ -65,14 +65,7 @@ impl<A: Allocator + Copy> OrderBook for ListBook<A> {
     }
 
     fn take(&mut self, reference: u64, shares: u32) -> Taken {
-        let index = index_of(&self.orders, reference);
-        let left = self.orders[index].shares - shares;
-        if left == 0 {
-            self.orders.remove(index);
-            return Taken::Gone;
-        }
-        self.orders[index].shares = left;
-        Taken::Left(left)
+        take_from(&mut self.orders, reference, shares)
     }
 
     fn delete(&mut self, reference: u64) -> Order {

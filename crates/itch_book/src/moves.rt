@@ -1,8 +1,9 @@
-//! Orders taken out of a list in snapshot order, and put into it.
-ghost use Rattle.std.specs.Prelude.{◌≡◌, ◌<◌, List, None, Some, IsOk, IsSome, OnOk, OnErr, vec_len, vec_capacity};
-ghost use Rattle.itch_book.specs.Orders.{IsBook, get, lay, added, without, replaced};
+//! Changes of a list in snapshot order: orders put in, lessened and taken out.
+ghost use Rattle.std.specs.Prelude.{◌≡◌, ◌-◌, ◌<◌, ◌≤◌, List, None, Some, IsOk, IsSome, IsSomeAnd, IfSome, OnOk, OnErr, vec_len, vec_capacity};
+ghost use Rattle.itch_book.specs.Orders.{IsBook, get, lay, added, taken, without, replaced};
+ghost use Rattle.itch_book.specs.Taken.{IsLeft};
 
-use crate::order::Order;
+use crate::order::{Order, Taken};
 use crate::places::{index_of, place_of};
 use std::alloc::{AllocError, Allocator};
 
@@ -18,6 +19,28 @@ pub(crate) fn take_out<A: Allocator>(orders: &mut Vec<Order, A>, reference: u64)
 {
     let place = index_of(orders, reference);
     orders.remove(place)
+}
+
+// Takes shares from the order of a reference, which goes where none is left.
+pub(crate) fn take_from<A: Allocator>(
+    orders: &mut Vec<Order, A>,
+    reference: u64,
+    shares: u32,
+) -> Taken
+    requires book { IsBook orders.old.items }
+    requires enough { IsSomeAnd (get orders.old.items reference) (λ x. shares ≤ x.shares) }
+    ensures book { IsBook orders.new.items }
+    ensures orders { orders.new.items ≡ lay (taken reference shares orders.old.items) }
+    ensures left { IfSome (get orders.old.items reference) (λ x. IsLeft (x.shares - shares) result) }
+{
+    let index = index_of(orders, reference);
+    let left = orders[index].shares - shares;
+    if left == 0 {
+        orders.remove(index);
+        return Taken::Gone;
+    }
+    orders[index].shares = left;
+    Taken::Left(left)
 }
 
 // Puts an order in, last at its price. With room it is never refused.
