@@ -16,6 +16,9 @@ use std::io;
 use std::marker::Model;
 
 /// Gives the blocks of a reader one by one, and never asks for more than the block at hand lacks.
+///
+/// A block that lies whole in the reader's buffer is given out of it. Another one is read into a buffer of the block
+/// reader's own.
 #[derive(Drop)]
 pub struct BlockReader<R: CountedRead, A: Allocator = Global> {
     lender: Lender<R>,
