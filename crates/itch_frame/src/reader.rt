@@ -87,11 +87,7 @@ impl<R: CountedRead, A: Allocator> BlockReader<R, A> {
         ensures bytes { result ≡ true → Consumes (bytes_left R.remaining self.old) (bytes_left R.remaining self.new) (take self.new.lent (R.buffered self.new.reader)) }
         ensures failures { R.failures self.new.reader ≡ R.failures self.old.reader }
     {
-        let lends = self.stage == Stage::Given && self.lender.lend();
-        if lends {
-            self.len = 0;
-        }
-        lends
+        self.stage == Stage::Given && self.lender.lend()
     }
 
     // Reads the next block into the buffer.
