@@ -159,10 +159,14 @@ put_there x xs ys i b h same place =
     ∙ sym (later_in_there stands_before x xs)
     ∙ sym (added-book x xs b h)
 
--- an order taken out of a book's list
-pub cut_there : (r : ℕ) (xs ys : List Order) (i : ℕ) → IsBook xs → ys ≡ xs → i ≡ position_or_len (has_reference r) ys → remove xs i ≡ lay (without r xs)
-cut_there r xs ys i b same place =
-    ap (remove xs) (place ∙ ap (position_or_len (has_reference r)) same) ∙ sym (without_there r xs b.distinct) ∙ sym (without-book r xs b)
+-- what is left where an order was taken out at its place
+pub is_cut : (r : ℕ) (xs view new : List Order) (i : ℕ) → IsBook xs → view ≡ xs → i ≡ position_or_len (has_reference r) view → new ≡ remove xs i → new ≡ lay (without r xs)
+is_cut r xs view new i book same place is =
+    is ∙ ap (remove xs) (place ∙ ap (position_or_len (has_reference r)) same) ∙ sym (without_there r xs book.distinct) ∙ sym (without-book r xs book)
+
+-- and it is a book
+pub is_cut_book : (r : ℕ) (xs view new : List Order) (i : ℕ) → IsBook xs → view ≡ xs → i ≡ position_or_len (has_reference r) view → new ≡ remove xs i → IsBook new
+is_cut_book r xs view new i book same place is = subst IsBook (sym (is_cut r xs view new i book same place is)) (IsBook-without r xs book)
 
 -- the order that stands there
 pub found_there : (r : ℕ) (xs ys : List Order) (i : ℕ) (x : Order) → IsSome (get xs r) → ys ≡ xs → i ≡ position_or_len (has_reference r) ys → x ≡ get_or xs i x → get xs r ≡ Some x
@@ -201,11 +205,3 @@ is_replaced original reference shares price xs rest new x found cut put =
 pub still_absent : (original reference : ℕ) (xs rest : List Order) → IsBook xs → get xs reference ≡ None → rest ≡ lay (without original xs) → get rest reference ≡ None
 still_absent original reference xs rest b fresh cut =
     ap (λ t. get t reference) (cut ∙ without-book original xs b) ∙ absent_in_filter (has_reference reference) (λ x. not (has_reference original x)) xs fresh
-
--- what is left where an order was taken out at its place
-pub is_cut : (r : ℕ) (xs view new : List Order) (i : ℕ) → IsBook xs → view ≡ xs → i ≡ position_or_len (has_reference r) view → new ≡ remove xs i → new ≡ lay (without r xs)
-is_cut r xs view new i book same place is = is ∙ cut_there r xs view i book same place
-
--- and it is a book
-pub is_cut_book : (r : ℕ) (xs view new : List Order) (i : ℕ) → IsBook xs → view ≡ xs → i ≡ position_or_len (has_reference r) view → new ≡ remove xs i → IsBook new
-is_cut_book r xs view new i book same place is = subst IsBook (sym (is_cut r xs view new i book same place is)) (IsBook-without r xs book)

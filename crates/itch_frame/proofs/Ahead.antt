@@ -9,7 +9,7 @@ use Rattle.std.proofs.lemmas.List.{take-append-drop, take-take, drop-take, drop_
 use Rattle.itch_frame.specs.Counting.{told_until}
 use Rattle.itch_frame.specs.Reading.{drop_known}
 
--- the first n of them go, where the others are told or not
+-- the first n bytes ahead go, if any are told: none are after a failure, nor by a buffer of no size
 passed : (is_told is_none : Bool) (ahead : List ℕ) (behind : Option (List ℕ)) (n : ℕ)
     → Consumes (if is_told then (if is_none then None else prepend_known ahead behind) else None)
     (if is_told then (if is_none then None else prepend_known (drop n ahead) behind) else None) (take n ahead)
