@@ -1,4 +1,3 @@
-pub mod Ahead
 pub mod BlockLemmas
 pub mod Days
 pub mod Filling

@@ -72,26 +72,18 @@ impl<A: Allocator> Splitter<A> {
     }
 }
 
-/// How long the block at the front of `bytes` is, as far as they tell: both length bytes come first.
-pub(crate) fn needed(bytes: &[u8]) -> usize
-    ensures length { result ≡ need bytes.now }
-    ensures bound { (2 ≤ result) × (result ≤ 65537) }
-    ensures bytes { (k : ℕ) → slice_index bytes.now k < 256 }
-{
-    if bytes.len() < 2 {
-        2
-    } else {
-        2 + usize::from(BigEndian::read_u16(bytes))
-    }
-}
-
-/// How many bytes the block at hand lacks, as far as its bytes tell.
+/// How many bytes the block at hand lacks, as far as its bytes tell: both length bytes come first.
 pub(crate) fn lacking(held: &[u8]) -> usize
     ensures count { result ≡ need held.now - length held.now }
     ensures bound { need held.now ≤ 65537 }
     ensures bytes { (k : ℕ) → slice_index held.now k < 256 }
 {
-    needed(held).saturating_sub(held.len())
+    let len = held.len();
+    if len < 2 {
+        2 - len
+    } else {
+        (2 + usize::from(BigEndian::read_u16(held))).saturating_sub(len)
+    }
 }
 
 /// Moves as much of the piece as the block at hand lacks, and answers how much.

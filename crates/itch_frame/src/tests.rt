@@ -1,11 +1,11 @@
 //! Worked cases, each failure in turn, and the calls that take no memory.
-use crate::counted::{Buffered, Counted, CountedRead, CountedWrite};
+use crate::counted::{Counted, CountedRead, CountedWrite};
 use crate::testing::{FuseWriter, PieceReader};
 use crate::{BlockReader, FrameFault, Splitter, laws, write_block};
 use refusing::Refusing;
 use std::alloc::Allocator;
 use std::fs::File;
-use std::io::BufReader;
+use std::io::{BufReader, ErrorKind};
 use std::test::Fail;
 
 // Five blocks, one of them empty.
@@ -143,7 +143,7 @@ fn blocks_are_the_same_behind_any_buffer(rt: HostRuntime) -> Result<(), Fail> {
     for capacity in 1..=STREAM.len() + 1 {
         for fail_at in 1..=24 {
             let source = PieceReader::new(STREAM, 5, Some(fail_at));
-            let source = Buffered::new(BufReader::with_capacity(rt.alloc(), capacity, source)?);
+            let source = Counted::new(BufReader::with_capacity(rt.alloc(), capacity, source)?);
             let mut reader = BlockReader::new(rt.alloc(), source)?;
             let mut writer = FuseWriter::new(rt.alloc(), 64, None);
             copy_blocks(&mut reader, &mut writer)?;
@@ -158,41 +158,31 @@ fn blocks_are_the_same_behind_any_buffer(rt: HostRuntime) -> Result<(), Fail> {
 }
 
 #[test]
-fn lends_blocks_that_lie_in_the_buffer(rt: HostRuntime) -> Result<(), Fail> {
-    let mut source = Buffered::new(BufReader::with_capacity(rt.alloc(), 7, STREAM)?);
-    assert!(rt; source.buffer().is_empty());
-    let mut first = [0; 3];
-    assert_eq!(rt; source.read_some(&mut first)?, 3);
-    assert_eq!(rt; source.buffer(), b"\x00\x02RR".as_slice());
-    source.consume(2);
-    assert_eq!(rt; source.buffer(), b"RR".as_slice());
-    source.consume(9);
-    assert!(rt; source.buffer().is_empty());
-    assert_eq!(rt; source.read_some(&mut first)?, 3);
-    assert_eq!(rt; first, *b"\x00\x00\x00");
-
-    let mut unbuffered = Counted::new(STREAM);
-    assert!(rt; unbuffered.buffer().is_empty());
-    unbuffered.consume(3);
-    let mut pieces = PieceReader::new(STREAM, 7, None);
-    assert!(rt; pieces.buffer().is_empty());
-    pieces.consume(3);
-    assert_eq!(rt; unbuffered.read_some(&mut first)?, 3);
-    assert_eq!(rt; pieces.read_some(&mut first)?, 3);
-    assert_eq!(rt; first, *b"\x00\x01S");
-    Ok(())
-}
-
-#[test]
 fn a_failed_read_behind_a_buffer_is_counted(rt: HostRuntime) -> Result<(), Fail> {
     let source = PieceReader::new(b"\x00\x01z\x00", 4, Some(2));
-    let source = Buffered::new(BufReader::with_capacity(rt.alloc(), 8, source)?);
+    let source = Counted::new(BufReader::with_capacity(rt.alloc(), 8, source)?);
     let mut reader = BlockReader::new(rt.alloc(), source)?;
     assert_eq!(rt; reader.next_block()?, Some(b"z".as_slice()));
     assert!(rt; matches!(reader.next_block(), Err(FrameFault::Read(_))));
     for _ in 0..2 {
         assert!(rt; matches!(reader.next_block(), Err(FrameFault::Truncated { held: 1 })));
     }
+    Ok(())
+}
+
+// What no clause can say: a standard reader's failure is not tried again, and its error is passed on.
+#[test]
+fn a_failed_read_is_returned_at_once(rt: HostRuntime) -> Result<(), Fail> {
+    let mut reader = Counted::new(PieceReader::new(b"z", 1, Some(1)));
+    let mut byte = [0];
+    let error = reader.read_some(&mut byte).err().ok_or("an error")?;
+    assert_eq!(rt; error.kind(), ErrorKind::Other);
+    assert_eq!(rt; reader.failures().count(), 1);
+    let last = reader.failures().last().ok_or("an error")?;
+    assert_eq!(rt; last.kind(), ErrorKind::Other);
+    assert_eq!(rt; reader.read_some(&mut byte)?, 1);
+    assert_eq!(rt; reader.failures().count(), 1);
+    assert_eq!(rt; byte, *b"z");
     Ok(())
 }
 
