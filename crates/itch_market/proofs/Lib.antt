@@ -14,3 +14,4 @@ pub mod Searches
 pub mod OneStop
 pub mod Runs
 pub mod Sames
+pub mod Standing
