@@ -1,4 +1,5 @@
 pub mod BlockLemmas
+pub mod Fronts
 pub mod Days
 pub mod Filling
 pub mod SplitterLemmas
