@@ -1,5 +1,5 @@
--- A day file whose replay ends follows the order rules.
-use Rattle.std.proofs.Common.{◌≡◌, ℕ, ◌-◌, ◌^◌, ◌<◌, ◌≤◌, ◌==◌, min, Bool, true, false, List, [], ◌∷◌, ◌++◌, map, length, suc, Option, Some, None, refl, sym, ap, subst, ◌∙◌, append_assoc, arith}
+-- A replay of a day file ends exactly if the file has an end, and its payloads spell messages that follow the order rules.
+use Rattle.std.proofs.Common.{◌≡◌, ℕ, ◌-◌, ◌^◌, ◌<◌, ◌≤◌, ◌==◌, min, Bool, true, false, List, [], ◌∷◌, ◌++◌, map, length, suc, Option, Some, None, refl, sym, ap, subst, ◌∙◌, ◌⊎◌, inl, inr, append_assoc, arith}
 use Rattle.std.proofs.lemmas.Bool.Decides.{nat_tests}
 use Rattle.std.specs.Prelude.{if◌then◌else◌, nat_lt, slice_get, option_map, option_and_then}
 use Rattle.std.specs.List.{AllByRecursion}
@@ -10,11 +10,12 @@ use Rattle.itch_codec.specs.Fields.{AreBytes}
 use Rattle.itch_codec.specs.Messages.{fault, message_of}
 use Rattle.itch_codec.proofs.Spelling.{IsMessage-Spells, Spells-message_of}
 use Rattle.itch_book.proofs.Lists.{All-left_rec, All-right_rec}
-use Rattle.itch_frame.specs.Blocks.{block, blocks, Day}
+use Rattle.itch_frame.specs.Blocks.{block, blocks, Ends, Open, Day}
 use Rattle.itch_frame.proofs.Days.{day_one}
+use Rattle.itch_frame.specs.declared.fault.FrameFault.TheVariants.{Truncated}
 use Rattle.itch_market.specs.declared.refusal.Refusal.{Refusal}
 use Rattle.itch_market.specs.declared.stop.Stop.{Stop}
-use Rattle.itch_market.specs.declared.stop.Stop.TheVariants.{End, TooManyMessages, Rule, Codec}
+use Rattle.itch_market.specs.declared.stop.Stop.TheVariants.{End, Frame, TooManyMessages, Rule, Codec}
 use Rattle.itch_market.specs.Content.{Content, empty}
 use Rattle.itch_market.specs.Reasons.{reason}
 use Rattle.itch_market.specs.Effects.{effect}
@@ -22,11 +23,11 @@ use Rattle.itch_market.specs.Runs.{AreMessages, after, FollowsFrom}
 use Rattle.itch_market.specs.Firsts.{IsFirst}
 use Rattle.itch_market.specs.Stops.{cause_by, cause, cause_at, end_of, stop_at, Stops}
 use Rattle.itch_market.specs.Replays.{NoCause}
-use Rattle.itch_market.proofs.Causes.{no_fault, none_follows}
-use Rattle.itch_market.proofs.Stopping.{stop_before}
+use Rattle.itch_market.proofs.Causes.{no_fault, none_clean, none_follows, follows_none}
+use Rattle.itch_market.proofs.Stopping.{stop_before, none_ends, ends_stop, open_stops}
 
 -- the payloads of bytes are bytes
-payload_bytes : (ps : List (List ℕ)) (rest : List ℕ) → AreBytes (blocks ps ++ rest) → AllByRecursion AreBytes ps
+pub payload_bytes : (ps : List (List ℕ)) (rest : List ℕ) → AreBytes (blocks ps ++ rest) → AllByRecursion AreBytes ps
 payload_bytes [] rest h = tt
 payload_bytes (p ∷ ps) rest h =
     let front : AreBytes (block p ++ (blocks ps ++ rest)) = subst AreBytes (append_assoc (block p) (blocks ps) rest) h in (
@@ -53,21 +54,26 @@ no_end_at m None h = let no : ⊥ = cc in no
 no_end_at m (Some p) h = no_end (fault p) (reason m (message_of p)) m p refl h
 
 -- a search that finds the end has passed over all payloads
-pub record AllTaken (m : Content) (ps : List (List ℕ)) (k : ℕ) : Type 0 where
-  pub count : k ≡ length ps
-  pub few : length ps ≤ 10 ^ 19 - 1
+record AllTaken (ps : List (List ℕ)) (rest : List ℕ) (k : ℕ) : Type 0 where
+  count : k ≡ length ps
+  few : length ps ≤ 10 ^ 19 - 1
+  ended : end_of rest ≡ End
+
+ends_there : (rest : List ℕ) → Ends rest ⊎ Open rest → end_of rest ≡ End → Ends rest
+ends_there rest (inl ends) h = ends
+ends_there rest (inr part) h = let clash : Frame (Truncated (length rest)) ≡ End = sym (open_stops rest part) ∙ h in let no : ⊥ = cc in absurd no
 
 module _ (m : Content) (ps : List (List ℕ)) (rest : List ℕ) (k : ℕ) where
   at_end : (last many : Bool) → (k == min (10 ^ 19 - 1) (length ps)) ≡ last → nat_lt (10 ^ 19 - 1) (length ps) ≡ many
-      → (if last then Some (if many then TooManyMessages else end_of rest) else cause_at m ps k) ≡ Some End → AllTaken m ps k
+      → (if last then Some (if many then TooManyMessages else end_of rest) else cause_at m ps k) ≡ Some End → AllTaken ps rest k
   at_end true true l f h = absurd (let no : ⊥ = cc in no)
   at_end true false l f h =
       let here : k ≡ min (10 ^ 19 - 1) (length ps) = eqb-true k (min (10 ^ 19 - 1) (length ps)) l in
       let few : length ps ≤ 10 ^ 19 - 1 = grind (arith, nat_tests) in
-      record { count = omega arith; few = few }
+      record { count = omega arith; few = few; ended = cc }
   at_end false many l f h = absurd (no_end_at _ (slice_get ps k) h)
 
-  all_taken : IsFirst (stop_at (10 ^ 19 - 1) m ps rest) k End → AllTaken m ps k
+  all_taken : IsFirst (stop_at (10 ^ 19 - 1) m ps rest) k End → AllTaken ps rest k
   all_taken first = at_end (k == min (10 ^ 19 - 1) (length ps)) (nat_lt (10 ^ 19 - 1) (length ps)) refl refl first.here
 
   none_refused : IsFirst (stop_at (10 ^ 19 - 1) m ps rest) k End → NoCause m ps
@@ -87,9 +93,20 @@ module _ (m : Content) (bytes : List ℕ) (ps : List (List ℕ)) (rest : List �
   pub day_count : k ≡ length ps
   day_count = let all = all_taken m ps rest k search in all.count
 
+  pub day_ends : Ends rest
+  day_ends = let all = all_taken m ps rest k search in ends_there rest day.last all.ended
+
+  pub day_clean : AllByRecursion (λ payload. fault payload ≡ None) ps
+  day_clean = none_clean m ps (none_refused m ps rest k search)
+
   pub day_follows : FollowsFrom m (map message_of ps)
   day_follows = none_follows m ps (none_refused m ps rest k search)
 
   pub day_messages : AreBytes bytes → AreMessages (map message_of ps)
   day_messages b = messages_fit m ps (none_refused m ps rest k search) (payload_bytes ps rest (subst AreBytes day.whole b))
 
+-- a day file with an end, whose payloads have no fault and whose messages follow the order rules, is taken to its end
+pub clean_stops : (m : Content) → (bytes : List ℕ) → (ps : List (List ℕ)) → (rest : List ℕ) → Day bytes ps rest → Ends rest → length ps < 10 ^ 19
+    → AllByRecursion (λ payload. fault payload ≡ None) ps → FollowsFrom m (map message_of ps) → Stops m bytes (length ps) End
+clean_stops m bytes ps rest day ends few clean follows =
+    subst (Stops m bytes (length ps)) (ends_stop rest ends) (none_ends m bytes ps rest day (omega arith) (follows_none m ps clean follows))

@@ -17,7 +17,7 @@ use Rattle.itch_market.specs.declared.stop.Stop.{Stop}
 use Rattle.itch_market.specs.declared.stop.Stop.TheVariants as stop
 use Rattle.itch_market.specs.Stops.{Stops}
 use Rattle.itch_market.specs.Replays.{NoCause, TakesOff, Takes}
-use Rattle.itch_market.proofs.Causes.{no_fault, none_follows}
+use Rattle.itch_market.proofs.Causes.{none_clean, none_follows}
 use Rattle.itch_market.proofs.Told.{replays_stop}
 use Rattle.itch_snapshot.specs.declared.fault.SnapFault.{SnapFault}
 use Rattle.itch_snapshot.specs.declared.fault.SnapFault.TheVariants.{NoEnd, Frame, Codec, Rule, AfterEnd, TooManyMessages}
@@ -26,12 +26,8 @@ use Rattle.itch_snapshot.specs.Reads.{EndsHere, ReadsPayload, ReadsNext, ReadsEn
 use Rattle.itch_snapshot.specs.Files.{AreSpelled, ClosesBefore, IsSnapshotFile, StopsAt, IsFaultOf, IsMarketOf}
 use Rattle.itch_snapshot.proofs.FileLemmas.{Spells-number, at_place, closes_once, file_no_fault}
 
--- payloads that are taken spell messages
-none_clean : (m : Content) (ps : List (List ℕ)) → NoCause m ps → AllByRecursion (λ p. fault p ≡ None) ps
-none_clean m [] none = tt
-none_clean m (p ∷ ps) none = (no_fault m p (none 0 (omega arith)), none_clean (effect m (message_of p)) ps (λ k within. none (suc k) (omega arith)))
-
-clean_spelled : (ps : List (List ℕ)) → AllByRecursion (λ p. fault p ≡ None) ps → AreSpelled (map message_of ps) ps
+-- payloads without a fault spell messages
+pub clean_spelled : (ps : List (List ℕ)) → AllByRecursion (λ p. fault p ≡ None) ps → AreSpelled (map message_of ps) ps
 clean_spelled [] clean = tt
 clean_spelled (p ∷ ps) clean = (Spells-message_of p clean.0, clean_spelled ps clean.1)
 
