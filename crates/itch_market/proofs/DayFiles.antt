@@ -93,6 +93,9 @@ module _ (m : Content) (bytes : List ℕ) (ps : List (List ℕ)) (rest : List �
   pub day_count : k ≡ length ps
   day_count = let all = all_taken m ps rest k search in all.count
 
+  pub day_few : length ps < 10 ^ 19
+  day_few = let all = all_taken m ps rest k search in let few : length ps ≤ 10 ^ 19 - 1 = all.few in omega arith
+
   pub day_ends : Ends rest
   day_ends = let all = all_taken m ps rest k search in ends_there rest day.last all.ended
 

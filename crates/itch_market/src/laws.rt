@@ -52,10 +52,11 @@ pub fn one_stop()
     ensures somewhere { (m : Content) → (bytes : List ℕ) → (k : ℕ) × (s : Stop) × Stops m bytes k s }
 {}
 
-/// A replay of a day file ends exactly if the file has an end, none of its payloads has a fault, and its messages follow
-/// the order rules. It has then counted all of them.
+/// A replay of a day file ends exactly if the file has an end, none of its payloads has a fault, its messages follow the
+/// order rules, and there are at most 10^19 - 1 of them. Then it has counted all of them.
 pub fn day_files()
     ensures count { (m : Content) → (bytes : List ℕ) → (ps : List (List ℕ)) → (rest : List ℕ) → (k : ℕ) → Day bytes ps rest → Stops m bytes k End → k ≡ length ps }
+    ensures few { (m : Content) → (bytes : List ℕ) → (ps : List (List ℕ)) → (rest : List ℕ) → (k : ℕ) → Day bytes ps rest → Stops m bytes k End → length ps < 10 ^ 19 }
     ensures ends { (m : Content) → (bytes : List ℕ) → (ps : List (List ℕ)) → (rest : List ℕ) → (k : ℕ) → Day bytes ps rest → Stops m bytes k End → Ends rest }
     ensures clean { (m : Content) → (bytes : List ℕ) → (ps : List (List ℕ)) → (rest : List ℕ) → (k : ℕ) → Day bytes ps rest → Stops m bytes k End
         → AllByRecursion (λ payload. fault payload ≡ None) ps }

@@ -1,8 +1,11 @@
-use Rattle.itch_market.proofs.DayFiles.{day_count, day_ends, day_clean, day_messages, day_follows, clean_stops}
+use Rattle.itch_market.proofs.DayFiles.{day_count, day_few, day_ends, day_clean, day_messages, day_follows, clean_stops}
 use Rattle.itch_market.proofs.laws.day_files.Goals as goal
 
 pub returns-clause-count : goal.returns-clause-count
 returns-clause-count c = day_count
+
+pub returns-clause-few : goal.returns-clause-few
+returns-clause-few c = day_few
 
 pub returns-clause-ends : goal.returns-clause-ends
 returns-clause-ends c = day_ends
