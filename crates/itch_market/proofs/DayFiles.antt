@@ -14,12 +14,11 @@ use Rattle.itch_frame.specs.Blocks.{block, blocks, Ends, Open, Day}
 use Rattle.itch_frame.proofs.Days.{day_one}
 use Rattle.itch_frame.specs.declared.fault.FrameFault.TheVariants.{Truncated}
 use Rattle.itch_market.specs.declared.refusal.Refusal.{Refusal}
-use Rattle.itch_market.specs.declared.stop.Stop.{Stop}
-use Rattle.itch_market.specs.declared.stop.Stop.TheVariants.{End, Frame, TooManyMessages, Rule, Codec}
-use Rattle.itch_market.specs.Content.{Content, empty}
+use Rattle.itch_market.specs.declared.stop.Stop.TheVariants.{End, Frame, TooManyMessages, Rule}
+use Rattle.itch_market.specs.Content.{Content}
 use Rattle.itch_market.specs.Reasons.{reason}
 use Rattle.itch_market.specs.Effects.{effect}
-use Rattle.itch_market.specs.Runs.{AreMessages, after, FollowsFrom}
+use Rattle.itch_market.specs.Runs.{AreMessages, FollowsFrom}
 use Rattle.itch_market.specs.Firsts.{IsFirst}
 use Rattle.itch_market.specs.Stops.{cause_by, cause, cause_at, end_of, stop_at, Stops}
 use Rattle.itch_market.specs.Replays.{NoCause}

@@ -1,5 +1,5 @@
 -- Every file is a snapshot file, or has a fault.
-use Rattle.std.proofs.Common.{◌≡◌, ℕ, ◌+◌, ◌-◌, ◌<◌, ◌≤◌, ◌^◌, ◌⊎◌, zero, suc, List, [], ◌∷◌, ◌++◌, map, length, slice_get, Option, None, Some, IfSome, refl, sym, ap, subst, ◌∙◌, inl, inr, append_assoc, arith, length-append}
+use Rattle.std.proofs.Common.{◌≡◌, ℕ, ◌+◌, ◌-◌, ◌<◌, ◌≤◌, ◌^◌, ◌⊎◌, zero, suc, List, [], ◌∷◌, ◌++◌, map, length, slice_get, Option, None, Some, IfSome, refl, sym, ap, subst, ◌∙◌, inl, inr, append_assoc, arith}
 use Rattle.std.specs.Option.{option_map}
 use Rattle.std.specs.List.{AllByRecursion}
 use Rattle.std.proofs.lemmas.List.{length-map}
@@ -24,7 +24,7 @@ use Rattle.itch_market.proofs.Places.{none_before, place}
 use Rattle.itch_market.proofs.Stopping.{ends_stop, open_stops}
 use Rattle.itch_snapshot.specs.declared.fault.SnapFault.{SnapFault}
 use Rattle.itch_snapshot.specs.declared.fault.SnapFault.TheVariants.{NoEnd, Frame, Codec, Rule, AfterEnd, TooManyMessages}
-use Rattle.itch_snapshot.specs.Loads.{number_by, closing_number}
+use Rattle.itch_snapshot.specs.Loads.{closing_number}
 use Rattle.itch_snapshot.specs.Files.{ClosesBefore, IsSnapshotFile, StopsAt, IsFaultOf}
 use Rattle.itch_snapshot.proofs.FileLemmas.{Spells-number}
 use Rattle.itch_snapshot.proofs.Told.{clean_spelled}

@@ -1,5 +1,5 @@
 -- What the reading of a snapshot tells of a file whose bytes are known.
-use Rattle.std.proofs.Common.{◌≡◌, ℕ, suc, ◌+◌, ◌-◌, ◌≤◌, ◌^◌, List, [], ◌∷◌, ◌++◌, map, length, slice_get, Option, None, Some, IfSome, IfOk, IfErr, MatchResult, Result, Ok, Err, refl, sym, ap, subst, ◌∙◌, inl, inr, arith}
+use Rattle.std.proofs.Common.{◌≡◌, ℕ, ◌+◌, ◌-◌, ◌≤◌, ◌^◌, List, [], ◌∷◌, ◌++◌, map, length, slice_get, Option, None, Some, IfSome, IfOk, IfErr, MatchResult, Result, Ok, Err, refl, sym, ap, subst, ◌∙◌, inl, inr, arith}
 use Rattle.std.specs.List.{AllByRecursion}
 use Rattle.std.proofs.lemmas.List.{length-map}
 use Rattle.std.proofs.lemmas.Bool.{eqb-true}
@@ -11,12 +11,11 @@ use Rattle.itch_frame.specs.Blocks.{IsPayload, IsFull, blocks, Ends}
 use Rattle.itch_frame.specs.declared.fault.FrameFault.TheVariants.{Read, Truncated, Write, TooLong}
 use Rattle.itch_book.proofs.Lists.{All-weaker_rec, All-map_rec}
 use Rattle.itch_market.specs.Content.{Content, empty, laid}
-use Rattle.itch_market.specs.Effects.{effect}
 use Rattle.itch_market.specs.Runs.{after, run}
 use Rattle.itch_market.specs.declared.stop.Stop.{Stop}
 use Rattle.itch_market.specs.declared.stop.Stop.TheVariants as stop
 use Rattle.itch_market.specs.Stops.{Stops}
-use Rattle.itch_market.specs.Replays.{NoCause, TakesOff, Takes}
+use Rattle.itch_market.specs.Replays.{TakesOff, Takes}
 use Rattle.itch_market.proofs.Causes.{none_clean, none_follows}
 use Rattle.itch_market.proofs.Told.{replays_stop}
 use Rattle.itch_snapshot.specs.declared.fault.SnapFault.{SnapFault}
