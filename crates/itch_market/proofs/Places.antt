@@ -16,7 +16,8 @@ module _ (m : Content) (ps : List (List ℕ)) (rest : List ℕ) (k : ℕ) (why :
       sym (first.before (min (10 ^ 19 - 1) (length ps)) later) ∙ stop_behind (10 ^ 19 - 1) m ps rest (min (10 ^ 19 - 1) (length ps)) refl in
       let no : ⊥ = cc in no
 
-  no_later : k ≤ min (10 ^ 19 - 1) (length ps)
+  -- it is no later than the last one
+  pub no_later : k ≤ min (10 ^ 19 - 1) (length ps)
   no_later = elim (cases_lt (min (10 ^ 19 - 1) (length ps)) k) [
     | inl later ↦ absurd (not_later later)
     | inr early ↦ early

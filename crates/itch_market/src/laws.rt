@@ -1,7 +1,7 @@
 //! What holds of all good markets and messages, of whatever size.
 //!
 //! Each function does nothing: its clauses are the laws.
-ghost use Rattle.std.specs.Prelude.{◌≡◌, ℕ, ◌<◌, ◌^◌, List, None, map, length};
+ghost use Rattle.std.specs.Prelude.{◌≡◌, ℕ, ◌≤◌, ◌<◌, ◌^◌, List, None, map, length, take};
 ghost use Rattle.std.specs.List.{AllByRecursion};
 ghost use Rattle.itch_codec.specs.declared.message.Message.{Message};
 ghost use Rattle.itch_codec.specs.Fields.{AreBytes};
@@ -50,6 +50,16 @@ pub fn one_stop()
     ensures place { (m : Content) → (bytes : List ℕ) → (k j : ℕ) → (s t : Stop) → Stops m bytes k s → Stops m bytes j t → k ≡ j }
     ensures reason { (m : Content) → (bytes : List ℕ) → (k j : ℕ) → (s t : Stop) → Stops m bytes k s → Stops m bytes j t → s ≡ t }
     ensures somewhere { (m : Content) → (bytes : List ℕ) → (k : ℕ) × (s : Stop) × Stops m bytes k s }
+{}
+
+/// The messages before the place where a replay stops follow the order rules; there are at most 10^19 - 1 of them.
+pub fn stopped_files()
+    ensures within { (m : Content) → (bytes : List ℕ) → (ps : List (List ℕ)) → (rest : List ℕ) → (k : ℕ) → (why : Stop) → Day bytes ps rest → Stops m bytes k why → k ≤ length ps }
+    ensures few { (m : Content) → (bytes : List ℕ) → (ps : List (List ℕ)) → (rest : List ℕ) → (k : ℕ) → (why : Stop) → Day bytes ps rest → Stops m bytes k why → k < 10 ^ 19 }
+    ensures messages { (m : Content) → (bytes : List ℕ) → (ps : List (List ℕ)) → (rest : List ℕ) → (k : ℕ) → (why : Stop) → Day bytes ps rest → Stops m bytes k why
+        → AreBytes bytes → AreMessages (map message_of (take k ps)) }
+    ensures follows { (m : Content) → (bytes : List ℕ) → (ps : List (List ℕ)) → (rest : List ℕ) → (k : ℕ) → (why : Stop) → Day bytes ps rest → Stops m bytes k why
+        → FollowsFrom m (map message_of (take k ps)) }
 {}
 
 /// A replay of a day file ends exactly if the file has an end, none of its payloads has a fault, its messages follow the
