@@ -100,6 +100,14 @@ impl<const N: usize> Alpha<N> {
     {
         &self.bytes
     }
+
+    /// No effect at run time: recalls for a proof that there are `N` characters, and all are printable.
+    pub fn recall_invariant(&self)
+        ensures printable { IsPrintable self.now }
+        ensures width { length self.now ≡ N }
+    {
+        let _bytes = &self.bytes;
+    }
 }
 
 // The place of the first byte that is not printable.

@@ -1,10 +1,10 @@
 -- Each stream is a day in one way, and what follows for one that is read from its front.
-use Rattle.std.proofs.Common.{◌≡◌, ℕ, ◌+◌, ◌*◌, ◌/◌, ◌%◌, ◌<◌, ◌≤◌, ◌⊎◌, zero, suc, List, [], ◌∷◌, ◌++◌, length, take, drop, refl, sym, ap, ◌∙◌, inl, inr, append_assoc, arith, length-append}
+use Rattle.std.proofs.Common.{◌≡◌, ℕ, ◌+◌, ◌<◌, ◌≤◌, ◌⊎◌, List, [], ◌∷◌, ◌++◌, length, refl, sym, ap, ◌∙◌, inl, inr, append_assoc, arith}
 use Rattle.std.specs.List.{AllByRecursion}
-use Rattle.std.proofs.lemmas.List.{take-append-drop, length-take-le, length-drop}
 use Rattle.std.proofs.lemmas.Bool.{cases_lt}
-use Rattle.itch_frame.specs.Blocks.{block, blocks, HasNoBlock, Ends, Open, IsFull, Day}
+use Rattle.itch_frame.specs.Blocks.{IsPayload, block, blocks, HasNoBlock, Ends, Open, IsFull, Day}
 use Rattle.itch_frame.proofs.BlockLemmas.{same_block, HasNone, one_way, each-append, blocks-append}
+use Rattle.itch_frame.proofs.Fronts.{by_blocks}
 
 -- what may end a day begins with no block that is not empty
 no_full : (rest : List ℕ) → Ends rest ⊎ Open rest → HasNone IsFull rest
@@ -39,76 +39,25 @@ day_behind done bytes ps rest full day = record {
   last = day.last;
 }
 
--- no block begins where fewer bytes follow than the length bytes tell
-too_short : (x y : ℕ) (rest : List ℕ) → length rest < x * 256 + y → HasNoBlock (x ∷ y ∷ rest)
-too_short x y rest short payload more fits same =
-    let high : x ≡ length payload / 256 % 256 = cc in
-    let low : y ≡ length payload % 256 = cc in
-    let behind : rest ≡ payload ++ more = cc in
-    absurd (omega (arith, ap length behind, length-append payload more))
-
--- no block begins with a number that is no byte
-no_byte : (x y : ℕ) (rest : List ℕ) → (256 ≤ x) ⊎ (256 ≤ y) → HasNoBlock (x ∷ y ∷ rest)
-no_byte x y rest (inl wide) payload more fits same = let high : x ≡ length payload / 256 % 256 = cc in absurd (omega arith)
-no_byte x y rest (inr wide) payload more fits same = let low : y ≡ length payload % 256 = cc in absurd (omega arith)
-
--- no block has one byte
-one_byte : (x : ℕ) → HasNoBlock (x ∷ [])
-one_byte x payload more fits same = cc
-
--- the bytes behind two length bytes, where enough follow, are a payload and what stands behind it
-front_block : (x y : ℕ) (rest : List ℕ) → x < 256 → y < 256 → x * 256 + y ≤ length rest → x ∷ y ∷ rest ≡ block (take (x * 256 + y) rest) ++ drop (x * 256 + y) rest
-front_block x y rest x_fits y_fits enough =
-    let n : length (take (x * 256 + y) rest) ≡ x * 256 + y = length-take-le (x * 256 + y) rest enough in
-    let high : x ≡ length (take (x * 256 + y) rest) / 256 % 256 = omega arith in
-    let low : y ≡ length (take (x * 256 + y) rest) % 256 = omega arith in
-    let behind : rest ≡ take (x * 256 + y) rest ++ drop (x * 256 + y) rest = sym (take-append-drop (x * 256 + y) rest) in
-    λ i. high i ∷ low i ∷ behind i
-
 abbrev SomeDay : List ℕ → Type 0
 SomeDay bytes = (ps : List (List ℕ)) × (rest : List ℕ) × Day bytes ps rest
-
-open_day : (bytes : List ℕ) → Open bytes → SomeDay bytes
-open_day bytes part = ([], bytes, day_last bytes (inr part))
-
-ended_day : (bytes : List ℕ) → Ends bytes → SomeDay bytes
-ended_day bytes end = ([], bytes, day_last bytes (inl end))
 
 longer_day : (p bytes all : List ℕ) → IsFull p → all ≡ block p ++ bytes → SomeDay bytes → SomeDay all
 longer_day p bytes all full front (ps, rest, day) = (p ∷ ps, rest, let longer : Day (block p ++ bytes) (p ∷ ps) rest = day_on p bytes ps rest full day in record { whole = front ∙ longer.whole; each = longer.each; last = longer.last })
 
--- the day of two length bytes and what follows, where shorter streams are days
-day_from : (x y : ℕ) (rest : List ℕ) → ((k : ℕ) → SomeDay (drop k rest)) → SomeDay (x ∷ y ∷ rest)
-day_from x y rest later = enough (cases_lt (length rest) (x * 256 + y)) where
-  full : x < 256 → y < 256 → x * 256 + y ≤ length rest → (0 < x * 256 + y) ⊎ (x * 256 + y ≤ 0) → SomeDay (x ∷ y ∷ rest)
-  full x_fits y_fits within (inl some) =
-      let n : length (take (x * 256 + y) rest) ≡ x * 256 + y = length-take-le (x * 256 + y) rest within in
-      longer_day (take (x * 256 + y) rest) (drop (x * 256 + y) rest) (x ∷ y ∷ rest) (omega arith, omega arith) (front_block x y rest x_fits y_fits within) (later (x * 256 + y))
-  full x_fits y_fits within (inr none) =
-      let high : x ≡ 0 = omega arith in let low : y ≡ 0 = omega arith in
-      ended_day (x ∷ y ∷ rest) (inr (rest, λ i. high i ∷ low i ∷ rest))
+-- where no block stands in front, the bytes are the end of a day, or an unfinished block
+last_day : (bytes : List ℕ) → HasNoBlock bytes → SomeDay bytes
+last_day [] none = ([], [], day_last [] (inl (inl refl)))
+last_day (x ∷ bytes) none = ([], x ∷ bytes, day_last (x ∷ bytes) (inr (omega arith, none)))
 
-  low_fits : x < 256 → x * 256 + y ≤ length rest → (y < 256) ⊎ (256 ≤ y) → SomeDay (x ∷ y ∷ rest)
-  low_fits x_fits within (inl y_fits) = full x_fits y_fits within (cases_lt 0 (x * 256 + y))
-  low_fits x_fits within (inr wide) = open_day (x ∷ y ∷ rest) (omega arith, no_byte x y rest (inr wide))
-
-  high_fits : x * 256 + y ≤ length rest → (x < 256) ⊎ (256 ≤ x) → SomeDay (x ∷ y ∷ rest)
-  high_fits within (inl x_fits) = low_fits x_fits within (cases_lt y 256)
-  high_fits within (inr wide) = open_day (x ∷ y ∷ rest) (omega arith, no_byte x y rest (inl wide))
-
-  enough : (length rest < x * 256 + y) ⊎ (x * 256 + y ≤ length rest) → SomeDay (x ∷ y ∷ rest)
-  enough (inl short) = open_day (x ∷ y ∷ rest) (omega arith, too_short x y rest short)
-  enough (inr within) = high_fits within (cases_lt x 256)
-
-day_within : (n : ℕ) (bytes : List ℕ) → length bytes ≤ n → SomeDay bytes
-day_within n [] within = ended_day [] (inl refl)
-day_within zero (x ∷ bytes) within = absurd (omega arith)
-day_within (suc n) (x ∷ []) within = open_day (x ∷ []) (omega arith, one_byte x)
-day_within (suc n) (x ∷ y ∷ rest) within = day_from x y rest (λ k. day_within n (drop k rest) (omega (arith, length-drop k rest)))
+-- an empty block in front ends a day, and another one is its first
+first_day : (p more bytes : List ℕ) → IsPayload p → bytes ≡ block p ++ more → SomeDay more → SomeDay bytes
+first_day [] more bytes fits front later = ([], bytes, day_last bytes (inl (inr (more, front))))
+first_day (x ∷ p) more bytes fits front later = longer_day (x ∷ p) more bytes (omega arith, fits) front later
 
 -- every list of numbers is some day
 pub day_some : (bytes : List ℕ) → (ps : List (List ℕ)) × (rest : List ℕ) × Day bytes ps rest
-day_some bytes = day_within (length bytes) bytes (omega arith)
+day_some = by_blocks SomeDay last_day first_day
 
 -- the blocks that stand in front of a day's bytes are its first ones, and what is left is a day with the others
 pub front_of_day : (done ps : List (List ℕ)) (bytes left rest : List ℕ) → AllByRecursion IsFull done → bytes ≡ blocks done ++ left → Day bytes ps rest

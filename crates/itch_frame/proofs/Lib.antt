@@ -1,5 +1,6 @@
 pub mod Ahead
 pub mod BlockLemmas
+pub mod Fronts
 pub mod Days
 pub mod Filling
 pub mod SplitterLemmas

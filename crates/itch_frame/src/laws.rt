@@ -17,9 +17,11 @@ pub fn one_block()
     ensures several { (ps qs : List (List ℕ)) → AllByRecursion IsPayload ps → AllByRecursion IsPayload qs → blocks ps ≡ blocks qs → ps ≡ qs }
 {}
 
-/// A stream has one reading as blocks and a rest.
+/// A stream has one reading as blocks and a rest, whatever its bytes.
+#[tactic(auto, using(crate::proofs::Fronts::reading_some))]
 pub fn one_reading()
-    ensures { (bytes : List ℕ) → (ps qs : List (List ℕ)) → (r s : List ℕ) → Blocks bytes ps r → Blocks bytes qs s → (ps ≡ qs) × (r ≡ s) }
+    ensures one { (bytes : List ℕ) → (ps qs : List (List ℕ)) → (r s : List ℕ) → Blocks bytes ps r → Blocks bytes qs s → (ps ≡ qs) × (r ≡ s) }
+    ensures some { (bytes : List ℕ) → (ps : List (List ℕ)) × (r : List ℕ) × Blocks bytes ps r }
 {}
 
 /// A stream has one reading as a day, whatever its bytes.

@@ -1,6 +1,7 @@
 -- Why a payload is not taken: in a laid market, and behind other payloads.
 use Rattle.std.proofs.Common.{◌≡◌, ℕ, ◌<◌, zero, suc, Bool, List, [], ◌∷◌, ◌++◌, map, length, Option, None, Some, refl, ap, subst, ◌∙◌, inl, inr, arith, length-append}
 use Rattle.std.specs.Option.{option_map}
+use Rattle.std.specs.List.{AllByRecursion}
 use Rattle.std.proofs.lemmas.Bool.{cases_lt}
 use Rattle.itch_codec.specs.declared.fault.CodecFault.{CodecFault}
 use Rattle.itch_codec.specs.Messages.{fault, message_of}
@@ -83,3 +84,14 @@ pub none_follows : (m : Content) (ps : List (List ℕ)) → NoCause m ps → Fol
 none_follows m [] none = tt
 none_follows m (p ∷ ps) none =
     (no_reason m p (none 0 (omega arith)), none_follows (effect m (message_of p)) ps (λ k within. none (suc k) (omega arith)))
+
+-- and have no fault
+pub none_clean : (m : Content) (ps : List (List ℕ)) → NoCause m ps → AllByRecursion (λ payload. fault payload ≡ None) ps
+none_clean m [] none = tt
+none_clean m (p ∷ ps) none = (no_fault m p (none 0 (omega arith)), none_clean (effect m (message_of p)) ps (λ k within. none (suc k) (omega arith)))
+
+-- payloads without a fault, whose messages follow the order rules, are all taken
+pub follows_none : (m : Content) (ps : List (List ℕ)) → AllByRecursion (λ payload. fault payload ≡ None) ps → FollowsFrom m (map message_of ps) → NoCause m ps
+follows_none m [] clean follows k within = absurd (omega arith)
+follows_none m (p ∷ ps) clean follows zero within = ap (λ f. cause_by f m p) clean.0 ∙ ap (option_map Rule) follows.0
+follows_none m (p ∷ ps) clean follows (suc k) within = follows_none (effect m (message_of p)) ps clean.1 follows.1 k (omega arith)

@@ -9,6 +9,7 @@ pub mod Causes
 pub mod DayFiles
 pub mod Taking
 pub mod Stopping
+pub mod Places
 pub mod Told
 pub mod Searches
 pub mod OneStop

@@ -15,10 +15,10 @@ use Rattle.itch_market.specs.Stops.{cause, cause_at, end_of, last_stop, stop_at,
 use Rattle.itch_market.specs.Replays.{NoCause}
 use Rattle.itch_market.proofs.Causes.{cause_behind, cause_before}
 
-chosen : {A : Type 0} (b : Bool) (x y : A) → b ≡ true → cond b x y ≡ x
+pub chosen : {A : Type 0} (b : Bool) (x y : A) → b ≡ true → cond b x y ≡ x
 chosen b x y yes_it_is = ap (λ t. cond t x y) yes_it_is
 
-passed_over : {A : Type 0} (b : Bool) (x y : A) → b ≡ false → cond b x y ≡ y
+pub passed_over : {A : Type 0} (b : Bool) (x y : A) → b ≡ false → cond b x y ≡ y
 passed_over b x y not_it = ap (λ t. cond t x y) not_it
 
 -- the last place of a search

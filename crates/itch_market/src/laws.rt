@@ -1,12 +1,12 @@
 //! What holds of all good markets and messages, of whatever size.
 //!
 //! Each function does nothing: its clauses are the laws.
-ghost use Rattle.std.specs.Prelude.{◌≡◌, ℕ, List, None, map, length};
+ghost use Rattle.std.specs.Prelude.{◌≡◌, ℕ, ◌≤◌, ◌<◌, ◌^◌, List, None, map, length, take};
 ghost use Rattle.std.specs.List.{AllByRecursion};
 ghost use Rattle.itch_codec.specs.declared.message.Message.{Message};
 ghost use Rattle.itch_codec.specs.Fields.{AreBytes};
-ghost use Rattle.itch_codec.specs.Messages.{message_of};
-ghost use Rattle.itch_frame.specs.Blocks.{Day};
+ghost use Rattle.itch_codec.specs.Messages.{fault, message_of};
+ghost use Rattle.itch_frame.specs.Blocks.{Ends, Day};
 ghost use Rattle.itch_market.specs.Content.{Content, empty, laid};
 ghost use Rattle.itch_market.specs.Reasons.{reason};
 ghost use Rattle.itch_market.specs.Effects.{effect, takes_memory};
@@ -52,9 +52,28 @@ pub fn one_stop()
     ensures somewhere { (m : Content) → (bytes : List ℕ) → (k : ℕ) × (s : Stop) × Stops m bytes k s }
 {}
 
-/// A day file whose replay ends is messages, as many as were counted, that follow the order rules.
+/// The messages before the place where a replay stops follow the order rules; there are at most 10^19 - 1 of them.
+pub fn stopped_files()
+    ensures within { (m : Content) → (bytes : List ℕ) → (ps : List (List ℕ)) → (rest : List ℕ) → (k : ℕ) → (why : Stop) → Day bytes ps rest → Stops m bytes k why → k ≤ length ps }
+    ensures few { (m : Content) → (bytes : List ℕ) → (ps : List (List ℕ)) → (rest : List ℕ) → (k : ℕ) → (why : Stop) → Day bytes ps rest → Stops m bytes k why → k < 10 ^ 19 }
+    ensures messages { (m : Content) → (bytes : List ℕ) → (ps : List (List ℕ)) → (rest : List ℕ) → (k : ℕ) → (why : Stop) → Day bytes ps rest → Stops m bytes k why
+        → AreBytes bytes → AreMessages (map message_of (take k ps)) }
+    ensures follows { (m : Content) → (bytes : List ℕ) → (ps : List (List ℕ)) → (rest : List ℕ) → (k : ℕ) → (why : Stop) → Day bytes ps rest → Stops m bytes k why
+        → FollowsFrom m (map message_of (take k ps)) }
+{}
+
+/// A replay of a day file ends exactly if the file has an end, none of its payloads has a fault, its messages follow the
+/// order rules, and there are at most 10^19 - 1 of them. Then it has counted all of them.
 pub fn day_files()
     ensures count { (m : Content) → (bytes : List ℕ) → (ps : List (List ℕ)) → (rest : List ℕ) → (k : ℕ) → Day bytes ps rest → Stops m bytes k End → k ≡ length ps }
-    ensures follows { (m : Content) → (bytes : List ℕ) → (ps : List (List ℕ)) → (rest : List ℕ) → (k : ℕ) → Day bytes ps rest → Stops m bytes k End → FollowsFrom m (map message_of ps) }
-    ensures messages { (m : Content) → (bytes : List ℕ) → (ps : List (List ℕ)) → (rest : List ℕ) → (k : ℕ) → Day bytes ps rest → Stops m bytes k End → AreBytes bytes → AreMessages (map message_of ps) }
+    ensures few { (m : Content) → (bytes : List ℕ) → (ps : List (List ℕ)) → (rest : List ℕ) → (k : ℕ) → Day bytes ps rest → Stops m bytes k End → length ps < 10 ^ 19 }
+    ensures ends { (m : Content) → (bytes : List ℕ) → (ps : List (List ℕ)) → (rest : List ℕ) → (k : ℕ) → Day bytes ps rest → Stops m bytes k End → Ends rest }
+    ensures clean { (m : Content) → (bytes : List ℕ) → (ps : List (List ℕ)) → (rest : List ℕ) → (k : ℕ) → Day bytes ps rest → Stops m bytes k End
+        → AllByRecursion (λ payload. fault payload ≡ None) ps }
+    ensures messages { (m : Content) → (bytes : List ℕ) → (ps : List (List ℕ)) → (rest : List ℕ) → (k : ℕ) → Day bytes ps rest → Stops m bytes k End
+        → AreBytes bytes → AreMessages (map message_of ps) }
+    ensures follows { (m : Content) → (bytes : List ℕ) → (ps : List (List ℕ)) → (rest : List ℕ) → (k : ℕ) → Day bytes ps rest → Stops m bytes k End
+        → FollowsFrom m (map message_of ps) }
+    ensures stops { (m : Content) → (bytes : List ℕ) → (ps : List (List ℕ)) → (rest : List ℕ) → Day bytes ps rest → Ends rest → length ps < 10 ^ 19
+        → AllByRecursion (λ payload. fault payload ≡ None) ps → FollowsFrom m (map message_of ps) → Stops m bytes (length ps) End }
 {}

@@ -112,4 +112,12 @@ impl<B: OrderBook> Market<B> {
     {
         &self.book
     }
+
+    /// No effect at run time: recalls for a proof that the market is good, and that its orders stand in snapshot order.
+    pub fn recall_invariant(&self)
+        ensures good { IsGood self.now }
+        ensures in_order { laid self.now ≡ self.now }
+    {
+        let _book = &self.book;
+    }
 }

@@ -58,8 +58,7 @@ pub fn replay_first<R: CountedRead, A: Allocator, B: OrderBook>(
     ensures failures { CountsFirst result.1 (R.failures reader.old.reader) (R.failures reader.new.reader) }
     ensures reader { LeavesReaderFirst reader.old result.0 result.1 reader.new }
 {
-    // Each market is good, and its orders stand in snapshot order: its book tells so.
-    let _book = market.book();
+    market.recall_invariant();
     for count in 0..most {
         if let Err(stop) = step(reader, market, count == MOST) {
             return (count, Some(stop));

@@ -212,7 +212,7 @@ module _ (bytes rest : List ℕ) (ms : List Message) (next : ℕ) (file : Closes
   same_place k why stops (inr here) = stops_place empty bytes (length file.payloads) k stop.TooManyMessages why here stops
 
   -- where it stops at a message, this is no End of Snapshot
-  not_refused : (place : ℕ) (why : Stop) → StopsAt bytes place why → ⊥
+  pub not_refused : (place : ℕ) (why : Stop) → StopsAt bytes place why → ⊥
   not_refused place why at =
       let here : slice_get at.stops.payloads (length file.payloads) ≡ Some file.last =
       at_place bytes rest file.payloads file.last at.stops.payloads at.stops.rest file.whole full_before (end_full next file.last file.closes) at.stops.day in
@@ -221,13 +221,13 @@ module _ (bytes rest : List ℕ) (ms : List Message) (next : ℕ) (file : Closes
       let clash : Some next ≡ None = sym number_there ∙ no_end in
       let no_one : ⊥ = cc in no_one
 
-  not_ended : (k : ℕ) → Stops empty bytes k stop.End → ⊥
+  pub not_ended : (k : ℕ) → Stops empty bytes k stop.End → ⊥
   not_ended k stops = elim stops_there [
     | inl here ↦ let clash = stops_reason empty bytes (length file.payloads) k (stop.Rule UnexpectedEnd) stop.End here stops in let no_one : ⊥ = cc in no_one
     | inr here ↦ let clash = stops_reason empty bytes (length file.payloads) k stop.TooManyMessages stop.End here stops in let no_one : ⊥ = cc in no_one
   ]
 
-  not_cut : (k held : ℕ) → Stops empty bytes k (stop.Frame (Truncated held)) → ⊥
+  pub not_cut : (k held : ℕ) → Stops empty bytes k (stop.Frame (Truncated held)) → ⊥
   not_cut k held stops = elim stops_there [
     | inl here ↦ let clash = stops_reason empty bytes (length file.payloads) k (stop.Rule UnexpectedEnd) (stop.Frame (Truncated held)) here stops in let no_one : ⊥ = cc in no_one
     | inr here ↦ let clash = stops_reason empty bytes (length file.payloads) k stop.TooManyMessages (stop.Frame (Truncated held)) here stops in let no_one : ⊥ = cc in no_one

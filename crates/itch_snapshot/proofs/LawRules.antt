@@ -1,8 +1,8 @@
 -- The lemmas that the laws are, in the laws' own words.
 use Rattle.itch_market.proofs.Sames.{laid_same, same_laid}
-use Rattle.itch_snapshot.proofs.OneSnapshot.{snap_follows, run-snap, replayed_same, snap_same, same_snap}
+use Rattle.itch_snapshot.proofs.OneSnapshot.{snap_follows, run-snap, replayed_same, snap_same, snap-laid, same_snap}
 use Rattle.itch_snapshot.proofs.LateStart.{late_follows, late_same}
-use Rattle.itch_snapshot.proofs.Sizes.{short_snap}
+use Rattle.itch_snapshot.proofs.Sizes.{snap_step, short_snap}
 use Rattle.itch_snapshot.proofs.Spelled.{snap_messages}
 use Rattle.itch_snapshot.proofs.Wires.{canon_same, same_canon, canon_again, canon-laid, runs_same}
 use Rattle.itch_snapshot.proofs.Closed.{closed_market, closed_number}
@@ -11,9 +11,9 @@ pub ruleset replay_laws = (snap_messages, snap_follows, run-snap, replayed_same)
 
 pub ruleset late_laws = (late_follows, late_same)
 
-pub ruleset one_laws = (snap_same, same_snap, laid_same, same_laid)
+pub ruleset one_laws = (snap_same, same_snap, snap-laid, laid_same, same_laid)
 
-pub ruleset size_laws = (short_snap)
+pub ruleset size_laws = (snap_step, short_snap)
 
 pub ruleset canon_laws = (canon_same, same_canon, canon_again, canon-laid)
 

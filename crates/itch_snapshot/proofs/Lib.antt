@@ -8,6 +8,7 @@ pub mod Wires
 pub mod Closed
 pub mod WrittenFiles
 pub mod TwoFiles
+pub mod CutFiles
 pub mod LawRules
 pub mod Keys
 pub mod Cursors
@@ -16,4 +17,6 @@ pub mod Partings
 pub mod Sent
 pub mod Reading
 pub mod FileLemmas
+pub mod OneFile
 pub mod Told
+pub mod SomeFile

@@ -79,7 +79,7 @@ module _ {X : Type 0} where
   abbrev pub joined : List Order → List (ℕ × X) → List Order
   joined orders es = flat_map (λ e. sides orders e.0) es
 
-  joined_is : (orders : List Order) (es : List (ℕ × X)) → Rise es → joined orders es ≡ in_order stands_before (filter (λ x. has_key es x.locate) orders)
+  pub joined_is : (orders : List Order) (es : List (ℕ × X)) → Rise es → joined orders es ≡ in_order stands_before (filter (λ x. has_key es x.locate) orders)
   joined_is orders [] rising = sym (ap (in_order stands_before) (none orders))
     where
       none : (xs : List Order) → filter (λ x. has_key [] x.locate) xs ≡ []

@@ -34,6 +34,10 @@ snap_same m n same =
     ap₂ ◌++◌ (ap event_part same.event)
     (ap (λ securities. flat_map (locate_part m.orders) (finite.entries securities)) same.securities ∙ parts_same m.orders n.orders same.queues (finite.entries n.securities))
 
+-- a market has one snapshot list in whichever order its orders stand
+pub snap-laid : (m : Content) → IsGood m → snap (laid m) ≡ snap m
+snap-laid m good = snap_same (laid m) m (laid_is_same m good)
+
 pub same_snap : (m n : Content) → IsGood m → IsGood n → snap m ≡ snap n → Same m n
 same_snap m n good fine e = same_laid m n good fine (sym (run-snap m good) ∙ ap run e ∙ run-snap n fine)
 

@@ -1,5 +1,5 @@
 -- No message adds more than one message to the snapshot list.
-use Rattle.std.proofs.Common.{◌≡◌, ℕ, ◌+◌, ◌≤◌, ◌<◌, cond, not, List, [], ◌∷◌, ◌++◌, map, length, flat_map, Option, Some, None, Ordering, Less, Equal, Greater, is_eq, refl, sym, ap, ap₂, ◌∙◌, arith, length-append}
+use Rattle.std.proofs.Common.{◌≡◌, ℕ, ◌+◌, ◌≤◌, ◌<◌, cond, not, List, [], ◌∷◌, ◌++◌, map, filter, length, flat_map, Option, Some, None, Ordering, Less, Equal, Greater, is_eq, refl, sym, ap, ap₂, ◌∙◌, arith, length-append}
 use Rattle.std.specs.Cmp.{nat_cmp_total}
 use Rattle.std.specs.Ordering.{nat_cmp}
 use Rattle.std.specs.FinMap as finite
@@ -22,7 +22,7 @@ use Rattle.itch_market.specs.Goods.{IsGood}
 use Rattle.itch_market.specs.Runs.{AreMessages, after, run, Follows}
 use Rattle.itch_market.proofs.Goods.{run_good}
 use Rattle.itch_snapshot.specs.Snapshot.{snap, event_part, action_part, sho_part, order_part, locate_part}
-use Rattle.itch_snapshot.proofs.Locates.{Rise, rise, joined, joined_all, below_absent}
+use Rattle.itch_snapshot.proofs.Locates.{Rise, rise, has_key, joined, joined_is, joined_all, below_absent}
 
 -- 1 where there is a value
 abbrev pub count : {A : Type 0} → Option A → ℕ
@@ -85,6 +85,21 @@ snap_length m good =
     let es = finite.entries m.securities in
     let all = ap length (joined_all m.orders m.securities good.listed) ∙ length-in_order book.stands_before m.orders in
     omega (arith, length-append (event_part m.event) (flat_map (locate_part m.orders) es), length-event m.event, length-locates m.orders es, all)
+
+-- and no more, wherever the orders are
+snap_at_most : (m : Content) → length (snap m) ≤ size m
+snap_at_most m =
+    let es = finite.entries m.securities in
+    let all =
+    ap length (joined_is m.orders es (rise m.securities)) ∙ length-in_order book.stands_before (filter (λ (x : Order). has_key es x.locate) m.orders) in
+    omega (
+      arith,
+      length-append (event_part m.event) (flat_map (locate_part m.orders) es),
+      length-event m.event,
+      length-locates m.orders es,
+      all,
+      length_filter_le (λ (x : Order). has_key es x.locate) m.orders,
+    )
 
 -- what a security that is replaced had
 abbrev weight_at : Option Security → ℕ
@@ -161,6 +176,10 @@ size-effect m (is.CrossTrade x) = omega arith
 size-effect m (is.BrokenTrade x) = omega arith
 size-effect m (is.End next) = omega arith
 size-effect m (is.Other payload) = omega arith
+
+-- one message makes the snapshot list longer by one at most
+pub snap_step : (m : Content) → (x : Message) → IsGood m → length (snap (effect m x)) ≤ length (snap m) + 1
+snap_step m x good = omega (arith, snap_at_most (effect m x), size-effect m x, snap_length m good)
 
 size-after : (m : Content) (ms : List Message) → size (after m ms) ≤ size m + length ms
 size-after m [] = omega arith

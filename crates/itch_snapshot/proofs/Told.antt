@@ -1,5 +1,5 @@
 -- What the reading of a snapshot tells of a file whose bytes are known.
-use Rattle.std.proofs.Common.{◌≡◌, ℕ, suc, ◌+◌, ◌-◌, ◌≤◌, ◌^◌, List, [], ◌∷◌, ◌++◌, map, length, slice_get, Option, None, Some, IfSome, IfOk, IfErr, MatchResult, Result, Ok, Err, refl, sym, ap, subst, ◌∙◌, inl, inr, arith}
+use Rattle.std.proofs.Common.{◌≡◌, ℕ, ◌+◌, ◌-◌, ◌≤◌, ◌^◌, List, [], ◌∷◌, ◌++◌, map, length, slice_get, Option, None, Some, IfSome, IfOk, IfErr, MatchResult, Result, Ok, Err, refl, sym, ap, subst, ◌∙◌, inl, inr, arith}
 use Rattle.std.specs.List.{AllByRecursion}
 use Rattle.std.proofs.lemmas.List.{length-map}
 use Rattle.std.proofs.lemmas.Bool.{eqb-true}
@@ -11,13 +11,12 @@ use Rattle.itch_frame.specs.Blocks.{IsPayload, IsFull, blocks, Ends}
 use Rattle.itch_frame.specs.declared.fault.FrameFault.TheVariants.{Read, Truncated, Write, TooLong}
 use Rattle.itch_book.proofs.Lists.{All-weaker_rec, All-map_rec}
 use Rattle.itch_market.specs.Content.{Content, empty, laid}
-use Rattle.itch_market.specs.Effects.{effect}
 use Rattle.itch_market.specs.Runs.{after, run}
 use Rattle.itch_market.specs.declared.stop.Stop.{Stop}
 use Rattle.itch_market.specs.declared.stop.Stop.TheVariants as stop
 use Rattle.itch_market.specs.Stops.{Stops}
-use Rattle.itch_market.specs.Replays.{NoCause, TakesOff, Takes}
-use Rattle.itch_market.proofs.Causes.{no_fault, none_follows}
+use Rattle.itch_market.specs.Replays.{TakesOff, Takes}
+use Rattle.itch_market.proofs.Causes.{none_clean, none_follows}
 use Rattle.itch_market.proofs.Told.{replays_stop}
 use Rattle.itch_snapshot.specs.declared.fault.SnapFault.{SnapFault}
 use Rattle.itch_snapshot.specs.declared.fault.SnapFault.TheVariants.{NoEnd, Frame, Codec, Rule, AfterEnd, TooManyMessages}
@@ -26,12 +25,8 @@ use Rattle.itch_snapshot.specs.Reads.{EndsHere, ReadsPayload, ReadsNext, ReadsEn
 use Rattle.itch_snapshot.specs.Files.{AreSpelled, ClosesBefore, IsSnapshotFile, StopsAt, IsFaultOf, IsMarketOf}
 use Rattle.itch_snapshot.proofs.FileLemmas.{Spells-number, at_place, closes_once, file_no_fault}
 
--- payloads that are taken spell messages
-none_clean : (m : Content) (ps : List (List ℕ)) → NoCause m ps → AllByRecursion (λ p. fault p ≡ None) ps
-none_clean m [] none = tt
-none_clean m (p ∷ ps) none = (no_fault m p (none 0 (omega arith)), none_clean (effect m (message_of p)) ps (λ k within. none (suc k) (omega arith)))
-
-clean_spelled : (ps : List (List ℕ)) → AllByRecursion (λ p. fault p ≡ None) ps → AreSpelled (map message_of ps) ps
+-- payloads without a fault spell messages
+pub clean_spelled : (ps : List (List ℕ)) → AllByRecursion (λ p. fault p ≡ None) ps → AreSpelled (map message_of ps) ps
 clean_spelled [] clean = tt
 clean_spelled (p ∷ ps) clean = (Spells-message_of p clean.0, clean_spelled ps clean.1)
 

@@ -1,20 +1,28 @@
--- What is written of a market is a snapshot file.
-use Rattle.std.proofs.Common.{◌≡◌, ℕ, ◌<◌, ◌^◌, List, [], ◌∷◌, ◌++◌, map, length, refl, sym, ap, inl, append-nil, arith}
+-- What is written of a market is a snapshot file, and reading it gives that market.
+use Rattle.std.proofs.Common.{◌≡◌, ℕ, ◌<◌, ◌^◌, List, [], ◌∷◌, ◌++◌, map, length, refl, sym, ap, subst, ◌∙◌, inl, append-nil, arith}
 use Rattle.std.specs.List.{AllByRecursion}
 use Rattle.itch_book.proofs.Lists.{All-map_rec, All-weaker_rec}
 use Rattle.itch_codec.specs.declared.message.Message.{Message}
 use Rattle.itch_codec.specs.declared.message.Message.TheVariants as is
-use Rattle.itch_codec.specs.Messages.{spelling}
+use Rattle.itch_codec.specs.Fields.{Number, HasAll}
+use Rattle.itch_codec.specs.Layouts.{end_of_snapshot}
+use Rattle.itch_codec.specs.Messages.{Spells, spelling}
 use Rattle.itch_codec.specs.Widths.{IsSequence}
 use Rattle.itch_codec.proofs.Spelling.{Spells-spelling}
 use Rattle.itch_frame.specs.Blocks.{IsPayload}
-use Rattle.itch_market.specs.Content.{Content}
+use Rattle.itch_market.specs.Content.{Content, laid}
 use Rattle.itch_market.specs.Goods.{IsGood}
+use Rattle.itch_market.specs.Runs.{run}
+use Rattle.itch_market.proofs.Goods.{run_good, laid_good}
+use Rattle.itch_market.proofs.Laid.{laid_twice}
 use Rattle.itch_snapshot.specs.Snapshot.{snap}
 use Rattle.itch_snapshot.specs.Bytes.{canon, closing}
-use Rattle.itch_snapshot.specs.Files.{AreSpelled, IsSnapshotFile}
-use Rattle.itch_snapshot.proofs.Spelled.{IsSpelled, snap_spelled}
-use Rattle.itch_snapshot.proofs.OneSnapshot.{snap_follows}
+use Rattle.itch_snapshot.specs.Files.{AreSpelled, IsSnapshotFile, IsMarketOf}
+use Rattle.itch_snapshot.proofs.OneFile.{file_messages, file_number}
+use Rattle.itch_snapshot.proofs.OneSnapshot.{snap_follows, run-snap, snap-laid}
+use Rattle.itch_snapshot.proofs.Sizes.{short_snap}
+use Rattle.itch_snapshot.proofs.Spelled.{IsSpelled, snap_spelled, snap_messages}
+use Rattle.itch_snapshot.proofs.Wires.{canon-laid}
 
 each_spelled : (ms : List Message) → AllByRecursion IsSpelled ms → AreSpelled ms (map spelling ms)
 each_spelled [] fit = tt
@@ -35,3 +43,47 @@ written_file m next good number few = (
   },
   inl refl,
 )
+
+-- it is read as the market with its orders in snapshot order, and the same number
+pub written_market : (m : Content) → (next : ℕ) → IsGood m → IsSequence next → length (snap m) < 10 ^ 19 → IsMarketOf (canon m ++ closing next) (laid m, next)
+written_market m next good number few =
+    (snap m, written_file m next good number few, snap_messages m good, sym (ap laid (run-snap m good) ∙ laid_twice m))
+
+-- and as nothing else
+pub written_once : (m : Content) → (next : ℕ) → (done : Content × ℕ) → IsGood m → IsSequence next → length (snap m) < 10 ^ 19
+    → IsMarketOf (canon m ++ closing next) done → done ≡ (laid m, next)
+written_once m next done good number few (ms, file, fit, left) =
+    let written = written_file m next good number few in
+    let messages = file_messages (canon m ++ closing next) ms (snap m) done.1 next file written in
+    let numbers = file_number (canon m ++ closing next) ms (snap m) done.1 next file written in
+    let market : done.0 ≡ laid m = left ∙ ap (λ xs. laid (run xs)) messages ∙ ap laid (run-snap m good) ∙ laid_twice m in
+    λ i. (market i, numbers i)
+
+-- written again, all bytes are equal
+pub written_again : (m : Content) → (next : ℕ) → (done : Content × ℕ) → IsGood m → IsSequence next → length (snap m) < 10 ^ 19
+    → IsMarketOf (canon m ++ closing next) done → canon done.0 ++ closing done.1 ≡ canon m ++ closing next
+written_again m next done good number few read =
+    ap (λ (d : Content × ℕ). canon d.0 ++ closing d.1) (written_once m next done good number few read) ∙ ap (λ b. b ++ closing next) (canon-laid m good)
+
+-- the number in a snapshot file is a sequence number
+end_sequence : (next : ℕ) (payload : List ℕ) → Spells (is.End next) payload → IsSequence next
+end_sequence next payload spells = by_field spells.fields where
+  by_field : HasAll payload end_of_snapshot.columns (Number next ∷ []) → IsSequence next
+  by_field (((left, digits, right, field), some), none) = record { low = some; high = field.bounded }
+
+-- the market of a snapshot file is good, and its snapshot list is no longer than the file's messages
+pub read_short : (bytes : List ℕ) → (done : Content × ℕ) → IsMarketOf bytes done → length (snap done.0) < 10 ^ 19
+read_short bytes done (ms, (rest, file, ends), fit, left) =
+    let good = run_good ms fit file.follows in
+    let count : length (snap done.0) ≡ length (snap (run ms)) = ap length (ap snap left ∙ snap-laid (run ms) good) in
+    omega (arith, count, short_snap ms fit file.follows, file.few)
+
+-- a snapshot file in any order, read and written, is read as before
+pub read_again : (bytes : List ℕ) → (done : Content × ℕ) → IsMarketOf bytes done → IsMarketOf (canon done.0 ++ closing done.1) done
+read_again bytes done read = found read where
+  found : IsMarketOf bytes done → IsMarketOf (canon done.0 ++ closing done.1) done
+  found (ms, (rest, file, ends), fit, left) =
+      let good : IsGood done.0 = subst IsGood (sym left) (laid_good (run ms) (run_good ms fit file.follows)) in
+      let in_order : laid done.0 ≡ done.0 = ap laid left ∙ laid_twice (run ms) ∙ sym left in
+      subst (λ n. IsMarketOf (canon done.0 ++ closing done.1) (n, done.1)) in_order
+      (written_market done.0 done.1 good (end_sequence done.1 file.last file.closes) (read_short bytes done read))

@@ -16,9 +16,8 @@ pub fn part_place<A: OrderBook, B: OrderBook>(one: &Market<A>, other: &Market<B>
     ensures place { IfSome result (λ place. (0 < place) × IsParting (snap one.now) (snap other.now) (place - 1)) }
     ensures none { IsNone result ↔ Same one.now other.now }
 {
-    // Each market is good: its book tells so.
-    let _one = one.book();
-    let _other = other.book();
+    one.recall_invariant();
+    other.recall_invariant();
     first_difference(SnapshotIter::new(one), SnapshotIter::new(other))
 }
 

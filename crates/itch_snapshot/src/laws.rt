@@ -1,7 +1,7 @@
 //! What holds of markets and their snapshots, of whatever size.
 //!
 //! Each function here does nothing: its clauses are the laws.
-ghost use Rattle.std.specs.Prelude.{◌≡◌, ℕ, ◌≤◌, ◌<◌, ◌^◌, ◌↔◌, List, ◌++◌, length, map};
+ghost use Rattle.std.specs.Prelude.{◌≡◌, ℕ, ◌+◌, ◌≤◌, ◌<◌, ◌^◌, ◌⊎◌, ◌↔◌, List, ◌++◌, length, map};
 ghost use Rattle.itch_codec.specs.declared.message.Message.{Message};
 ghost use Rattle.itch_codec.specs.Widths.{IsSequence};
 ghost use Rattle.itch_codec.specs.Fields.{AreBytes};
@@ -10,12 +10,14 @@ ghost use Rattle.itch_frame.specs.Blocks.{Day};
 ghost use Rattle.itch_market.specs.Stops.{Stops};
 ghost use Rattle.itch_market.specs.declared.stop.Stop.TheVariants.{End};
 ghost use Rattle.itch_market.specs.Content.{Content, empty, laid};
+ghost use Rattle.itch_market.specs.Effects.{effect};
 ghost use Rattle.itch_market.specs.Goods.{IsGood};
 ghost use Rattle.itch_market.specs.Runs.{AreMessages, after, run, Follows, FollowsFrom};
 ghost use Rattle.itch_market.specs.Sames.{Same};
 ghost use Rattle.itch_snapshot.specs.Bytes.{canon, closing};
 ghost use Rattle.itch_snapshot.specs.Snapshot.{snap};
-ghost use Rattle.itch_snapshot.specs.Files.{IsSnapshotFile};
+ghost use Rattle.itch_snapshot.specs.Files.{IsSnapshotFile, IsFaultOf, IsMarketOf};
+ghost use Rattle.itch_snapshot.specs.declared.fault.SnapFault.{SnapFault};
 
 /// The snapshot list of a market is messages whose fields fit, follows the order rules, and leaves the same market:
 /// that market with its orders in snapshot order.
@@ -41,12 +43,16 @@ pub fn late_start()
 pub fn one_snapshot()
     ensures list { (m n : Content) → IsGood m → IsGood n → Same m n ↔ (snap m ≡ snap n) }
     ensures laid { (m n : Content) → IsGood m → IsGood n → Same m n ↔ (laid m ≡ laid n) }
+    ensures laid_list { (m : Content) → IsGood m → snap (laid m) ≡ snap m }
 {}
 
-/// No message adds more than one message to the snapshot list.
+/// No message makes the snapshot list longer by more than one. So the market that messages leave has no longer a list than
+/// they are, and that of a snapshot file has one that can be written.
 #[tactic(auto, using(crate::proofs::LawRules::size_laws))]
 pub fn short_snapshot()
-    ensures { (ms : List Message) → AreMessages ms → Follows ms → length (snap (run ms)) ≤ length ms }
+    ensures step { (m : Content) → (x : Message) → IsGood m → length (snap (effect m x)) ≤ length (snap m) + 1 }
+    ensures total { (ms : List Message) → AreMessages ms → Follows ms → length (snap (run ms)) ≤ length ms }
+    ensures read { (bytes : List ℕ) → (done : Content × ℕ) → IsMarketOf bytes done → length (snap done.0) < 10 ^ 19 }
 {}
 
 /// Two markets are the same exactly if their canonical bytes are equal,
@@ -72,14 +78,46 @@ pub fn headline()
     ensures { (ms ns : List Message) → AreMessages ms → AreMessages ns → Follows ms → Follows ns → Same (run ms) (run ns) ↔ (canon (run ms) ≡ canon (run ns)) }
 {}
 
-/// What is written of a market is a snapshot file.
-pub fn written_snapshot()
-    ensures { (m : Content) → (next : ℕ) → IsGood m → IsSequence next → length (snap m) < 10 ^ 19 → IsSnapshotFile (canon m ++ closing next) (snap m) next }
-{}
-
 /// Two day files whose replays end leave the same market exactly if the canonical bytes of what they leave are equal.
 pub fn two_day_files()
     ensures { (b c : List ℕ) → (ps qs : List (List ℕ)) → (r s : List ℕ) → (j k : ℕ) → AreBytes b → AreBytes c → Day b ps r → Day c qs s
         → Stops empty b j End → Stops empty c k End
         → Same (run (map message_of ps)) (run (map message_of qs)) ↔ (canon (run (map message_of ps)) ≡ canon (run (map message_of qs))) }
+{}
+
+/// A day file whose replay ends may be cut at any message. From the snapshot of what the messages before the cut leave,
+/// those after it follow the order rules, and leave the same market as the whole file; a replay of the rest of the file ends.
+pub fn cut_day_file()
+    ensures follows { (b : List ℕ) → (ps qs : List (List ℕ)) → (rest : List ℕ) → (k : ℕ) → AreBytes b → Day b (ps ++ qs) rest → Stops empty b k End
+        → FollowsFrom (run (snap (run (map message_of ps)))) (map message_of qs) }
+    ensures same { (b : List ℕ) → (ps qs : List (List ℕ)) → (rest : List ℕ) → (k : ℕ) → AreBytes b → Day b (ps ++ qs) rest → Stops empty b k End
+        → Same (after (run (snap (run (map message_of ps)))) (map message_of qs)) (run (map message_of (ps ++ qs))) }
+    ensures stops { (b : List ℕ) → (ps qs : List (List ℕ)) → (rest : List ℕ) → (k : ℕ) → AreBytes b → Day b (ps ++ qs) rest → Stops empty b k End
+        → (c : List ℕ) → Day c qs rest → Stops (run (snap (run (map message_of ps)))) c (length qs) End }
+{}
+
+/// What is written of a market is a snapshot file with its snapshot list. It is read as that market, with its orders in
+/// snapshot order, and the same number, and as nothing else; written again, all bytes are equal.
+pub fn written_snapshot()
+    ensures file { (m : Content) → (next : ℕ) → IsGood m → IsSequence next → length (snap m) < 10 ^ 19 → IsSnapshotFile (canon m ++ closing next) (snap m) next }
+    ensures market { (m : Content) → (next : ℕ) → IsGood m → IsSequence next → length (snap m) < 10 ^ 19 → IsMarketOf (canon m ++ closing next) (laid m, next) }
+    ensures once { (m : Content) → (next : ℕ) → (done : Content × ℕ) → IsGood m → IsSequence next → length (snap m) < 10 ^ 19
+        → IsMarketOf (canon m ++ closing next) done → done ≡ (laid m, next) }
+    ensures again { (m : Content) → (next : ℕ) → (done : Content × ℕ) → IsGood m → IsSequence next → length (snap m) < 10 ^ 19
+        → IsMarketOf (canon m ++ closing next) done → canon done.0 ++ closing done.1 ≡ canon m ++ closing next }
+{}
+
+/// A snapshot file whose messages stand in any order, read and written, is read again as the same market and number.
+pub fn rewritten_snapshot()
+    ensures { (bytes : List ℕ) → (done : Content × ℕ) → IsMarketOf bytes done → IsMarketOf (canon done.0 ++ closing done.1) done }
+{}
+
+/// Each file, whatever its bytes, is a snapshot file with one list of messages and one number, or it has one fault;
+/// it is never both.
+pub fn one_file()
+    ensures messages { (bytes : List ℕ) → (ms ns : List Message) → (j k : ℕ) → IsSnapshotFile bytes ms j → IsSnapshotFile bytes ns k → ms ≡ ns }
+    ensures number { (bytes : List ℕ) → (ms ns : List Message) → (j k : ℕ) → IsSnapshotFile bytes ms j → IsSnapshotFile bytes ns k → j ≡ k }
+    ensures fault { (bytes : List ℕ) → (f g : SnapFault) → IsFaultOf bytes f → IsFaultOf bytes g → f ≡ g }
+    ensures never_both { (bytes : List ℕ) → (ms : List Message) → (next : ℕ) → (fault : SnapFault) → IsSnapshotFile bytes ms next → ¬ IsFaultOf bytes fault }
+    ensures some { (bytes : List ℕ) → ((ms : List Message) × (next : ℕ) × IsSnapshotFile bytes ms next) ⊎ ((fault : SnapFault) × IsFaultOf bytes fault) }
 {}

@@ -51,8 +51,7 @@ fn read_messages<R: CountedRead, A: Allocator, B: OrderBook>(
     ensures failures { MatchResult result (λ _. R.failures reader.new.reader ≡ R.failures reader.old.reader)
         (λ fault. CountsFault fault (R.failures reader.old.reader) (R.failures reader.new.reader)) }
 {
-    // Each market is good, and its orders stand in snapshot order: its book tells so.
-    let _book = market.book();
+    market.recall_invariant();
     for taken in 0..u64::MAX {
         if let Some(next) = read_message(reader, market, taken)? {
             return Ok(next);

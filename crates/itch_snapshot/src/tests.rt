@@ -12,6 +12,8 @@ use refusing::Refusing;
 use std::alloc::{Allocator, Global};
 use std::test::Fail;
 
+mod again;
+
 const EVENT: &[u8] = b"S\0\0\0\0\0\0\0\0\0\0O";
 
 const AAPL: &[u8] = b"R\0\x01\0\0\0\0\0\0\0\0AAPL    QN\0\0\0dNCZ PNN1N\0\0\0\0N";

@@ -26,8 +26,7 @@ pub fn write_snapshot<W: CountedWrite, B: OrderBook>(
     requires { length (snap market.now) < 10 ^ 19 }
     ensures { WritesSnapshot W.contents W.failures market.now next writer.old result writer.new }
 {
-    // Each market is good, so that each message fits a block: its book tells so.
-    let _book = market.book();
+    market.recall_invariant();
     let mut count = 0u64;
     for message in SnapshotIter::new(market) {
         write_message(writer, &message)?;

@@ -22,9 +22,7 @@ fn entered(old: Option<Security>, entry: Directory) -> Security
     ensures security { result ≡ entered old entry }
     ensures fits { IsDirectory entry }
 {
-    // A text tells by its bytes that they are printable, and so many.
-    let stock = entry.stock;
-    stock.bytes();
+    entry.stock.recall_invariant();
     let (action, sho) = match old {
         Some(security) => (security.action, security.sho),
         None => (None, None),
@@ -37,9 +35,8 @@ fn order_of(x: AddOrder, mpid: Option<Alpha<4>>) -> Order
     ensures order { result ≡ order_of x mpid }
     ensures fits { IsOrder result }
 {
-    // As above.
     if let Some(text) = &mpid {
-        text.bytes();
+        text.recall_invariant();
     }
     Order {
         reference: x.reference,
@@ -77,17 +74,9 @@ impl<B: OrderBook> Market<B> {
             | Message::CrossTrade(_)
             | Message::BrokenTrade(_)
             | Message::End { .. }
-            | Message::Other(_) => self.keep(),
+            | Message::Other(_) => self.recall_invariant(),
         }
         Ok(())
-    }
-
-    /// Changes nothing: the orders stand in snapshot order as ever.
-    fn keep(&self)
-        ensures { laid self.now ≡ self.now }
-    {
-        // Every book tells that its orders stand so.
-        let _book = &self.book;
     }
 
     fn set_event(&mut self, x: SystemEvent)

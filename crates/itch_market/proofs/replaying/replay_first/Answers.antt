@@ -5,7 +5,7 @@ use Rattle.itch_market.proofs.replaying.replay_first.Goals as goal
 
 pub loop-count-init : goal.loop-count-init
 loop-count-init g c = record {
-  going = going_first _ _ c.book-book.ensures.good c.book-book.ensures.in_order;
+  going = going_first _ _ c.recall_invariant.ensures.good c.recall_invariant.ensures.in_order;
   uncounted = refl;
   standing = standing_first _;
 }

@@ -5,7 +5,7 @@ use Rattle.itch_snapshot.proofs.Reading.{message_read, fault_read}
 use Rattle.itch_snapshot.proofs.read.read_messages.Goals as goal
 
 pub loop-taken-init : goal.loop-taken-init
-loop-taken-init g c = record { going = going_first _ _ c.book-book.ensures.good c.book-book.ensures.in_order; uncounted = refl }
+loop-taken-init g c = record { going = going_first _ _ c.recall_invariant.ensures.good c.recall_invariant.ensures.in_order; uncounted = refl }
 
 pub returns-in_err-next-clause-steps : goal.returns-in_err-next-clause-steps
 returns-in_err-next-clause-steps g c =

@@ -12,7 +12,7 @@ loop-message-preserved g c =
 pub returns-in_err-write_message : goal.returns-in_err-write_message
 returns-in_err-write_message g c =
     let p = err_from_is_err_and c.from_residual.result c.from_residual.ensures.1 in
-    rw (p.1, p.2) (message_failed _ _ _ _ _ _ _ _ _ _ _ _ _ c.book-book.ensures.good c.loop-message.invariant c.in-Some.ensures.steps c.in_err-write_message.ensures.block)
+    rw (p.1, p.2) (message_failed _ _ _ _ _ _ _ _ _ _ _ _ _ c.recall_invariant.ensures.good c.loop-message.invariant c.in-Some.ensures.steps c.in_err-write_message.ensures.block)
 
 pub returns-in_err-write_message-2 : goal.returns-in_err-write_message-2
 returns-in_err-write_message-2 g c =

@@ -5,7 +5,7 @@ use Rattle.itch_market.proofs.market.actions.entered.Goals as goal
 pub returns-clause-fits : goal.returns-clause-fits
 returns-clause-fits c =
     record {
-      stock = (c.bytes.ensures.width, c.bytes.ensures.printable);
+      stock = (c.recall_invariant.ensures.width, c.recall_invariant.ensures.printable);
       market_category = search rules;
       financial_status = search rules;
       round_lot_size = search rules;
