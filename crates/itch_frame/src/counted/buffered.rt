@@ -60,6 +60,12 @@ fn copy_front(from: &[u8], to: &mut [u8]) -> usize
     ensures bytes { take result to.new ≡ take result from.now }
 {
     let count = from.len().min(to.len());
-    to[..count].copy_from_slice(&from[..count]);
+    // The two length bytes of a block: a call would cost more than they do.
+    if count == 2 {
+        to[0] = from[0];
+        to[1] = from[1];
+    } else {
+        to[..count].copy_from_slice(&from[..count]);
+    }
     count
 }
