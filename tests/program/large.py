@@ -1,0 +1,51 @@
+"""Large day files, and the snapshots that they must give, made without the program."""
+import random
+import struct
+
+ENTRY = bytes.fromhex("514e000000644e435a20504e4e314e000000004e")
+
+
+def block(kind, locate, fields):
+    message = kind + struct.pack(">HH", locate, 0) + bytes(6) + fields
+    return struct.pack(">H", len(message)) + message
+
+
+def entry(locate):
+    return block(b"R", locate, stock(locate) + ENTRY)
+
+
+def stock(locate):
+    return b"S%07d" % locate
+
+
+def closing(number):
+    return struct.pack(">H", 21) + b"G" + b"%20d" % number
+
+
+def locates(count, seed=1):
+    """Directory entries at so many locates, in any order, and their snapshot."""
+    order = list(range(count))
+    random.Random(seed).shuffle(order)
+    return b"".join(map(entry, order)), b"".join(map(entry, range(count))) + closing(count + 1)
+
+
+def orders(count, symbols=8000, seed=1):
+    """So many orders, all of which stay live, and their snapshot: by locate, bids from the highest price and then asks from
+    the lowest, each price in order of arrival."""
+    rng = random.Random(seed)
+    entries = [entry(locate) for locate in range(1, symbols + 1)]
+    day = list(entries)
+    queues = {}
+    for reference in range(1, count + 1):
+        locate, side = rng.randint(1, symbols), rng.choice("BS")
+        shares, price = rng.randint(1, 20) * 100, 1000000 + 100 * rng.randint(-50, 50)
+        fields = struct.pack(">Q1sI8sI", reference, side.encode(), shares, stock(locate), price)
+        added = block(b"A", locate, fields)
+        day.append(added)
+        queues.setdefault((locate, side), []).append((-price if side == "B" else price, reference, added))
+    snapshot = []
+    for locate in range(1, symbols + 1):
+        snapshot.append(entries[locate - 1])
+        for side in "BS":
+            snapshot += [added for _, _, added in sorted(queues.get((locate, side), []))]
+    return b"".join(day), b"".join(snapshot) + closing(symbols + count + 1)
