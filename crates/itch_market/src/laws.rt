@@ -52,7 +52,8 @@ pub fn one_stop()
     ensures somewhere { (m : Content) → (bytes : List ℕ) → (k : ℕ) × (s : Stop) × Stops m bytes k s }
 {}
 
-/// The messages before the place where a replay stops follow the order rules; there are at most 10^19 - 1 of them.
+/// The messages before the place where a replay stops follow the order rules, and their fields fit.
+/// There are at most 10^19 - 1 of them.
 pub fn stopped_files()
     ensures within { (m : Content) → (bytes : List ℕ) → (ps : List (List ℕ)) → (rest : List ℕ) → (k : ℕ) → (why : Stop) → Day bytes ps rest → Stops m bytes k why → k ≤ length ps }
     ensures few { (m : Content) → (bytes : List ℕ) → (ps : List (List ℕ)) → (rest : List ℕ) → (k : ℕ) → (why : Stop) → Day bytes ps rest → Stops m bytes k why → k < 10 ^ 19 }

@@ -6,6 +6,7 @@ pub mod Sizes
 pub mod Spelled
 pub mod Wires
 pub mod Closed
+pub mod Bounds
 pub mod WrittenFiles
 pub mod TwoFiles
 pub mod CutFiles

@@ -19,8 +19,8 @@ use Rattle.itch_snapshot.specs.Snapshot.{snap}
 use Rattle.itch_snapshot.specs.Bytes.{canon, closing}
 use Rattle.itch_snapshot.specs.Files.{AreSpelled, IsSnapshotFile, IsMarketOf}
 use Rattle.itch_snapshot.proofs.OneFile.{file_messages, file_number}
-use Rattle.itch_snapshot.proofs.OneSnapshot.{snap_follows, run-snap, snap-laid}
-use Rattle.itch_snapshot.proofs.Sizes.{short_snap}
+use Rattle.itch_snapshot.proofs.OneSnapshot.{snap_follows, run-snap}
+use Rattle.itch_snapshot.proofs.Bounds.{read_short}
 use Rattle.itch_snapshot.proofs.Spelled.{IsSpelled, snap_spelled, snap_messages}
 use Rattle.itch_snapshot.proofs.Wires.{canon-laid}
 
@@ -70,13 +70,6 @@ end_sequence : (next : ℕ) (payload : List ℕ) → Spells (is.End next) payloa
 end_sequence next payload spells = by_field spells.fields where
   by_field : HasAll payload end_of_snapshot.columns (Number next ∷ []) → IsSequence next
   by_field (((left, digits, right, field), some), none) = record { low = some; high = field.bounded }
-
--- the market of a snapshot file is good, and its snapshot list is no longer than the file's messages
-pub read_short : (bytes : List ℕ) → (done : Content × ℕ) → IsMarketOf bytes done → length (snap done.0) < 10 ^ 19
-read_short bytes done (ms, (rest, file, ends), fit, left) =
-    let good = run_good ms fit file.follows in
-    let count : length (snap done.0) ≡ length (snap (run ms)) = ap length (ap snap left ∙ snap-laid (run ms) good) in
-    omega (arith, count, short_snap ms fit file.follows, file.few)
 
 -- a snapshot file in any order, read and written, is read as before
 pub read_again : (bytes : List ℕ) → (done : Content × ℕ) → IsMarketOf bytes done → IsMarketOf (canon done.0 ++ closing done.1) done

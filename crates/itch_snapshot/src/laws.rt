@@ -1,13 +1,14 @@
 //! What holds of markets and their snapshots, of whatever size.
 //!
 //! Each function here does nothing: its clauses are the laws.
-ghost use Rattle.std.specs.Prelude.{◌≡◌, ℕ, ◌+◌, ◌≤◌, ◌<◌, ◌^◌, ◌⊎◌, ◌↔◌, List, ◌++◌, length, map};
+ghost use Rattle.std.specs.Prelude.{◌≡◌, ℕ, ◌+◌, ◌≤◌, ◌<◌, ◌^◌, ◌⊎◌, ◌↔◌, List, ◌++◌, length, map, take};
 ghost use Rattle.itch_codec.specs.declared.message.Message.{Message};
 ghost use Rattle.itch_codec.specs.Widths.{IsSequence};
 ghost use Rattle.itch_codec.specs.Fields.{AreBytes};
 ghost use Rattle.itch_codec.specs.Messages.{message_of};
 ghost use Rattle.itch_frame.specs.Blocks.{Day};
 ghost use Rattle.itch_market.specs.Stops.{Stops};
+ghost use Rattle.itch_market.specs.declared.stop.Stop.{Stop};
 ghost use Rattle.itch_market.specs.declared.stop.Stop.TheVariants.{End};
 ghost use Rattle.itch_market.specs.Content.{Content, empty, laid};
 ghost use Rattle.itch_market.specs.Effects.{effect};
@@ -46,12 +47,14 @@ pub fn one_snapshot()
     ensures laid_list { (m : Content) → IsGood m → snap (laid m) ≡ snap m }
 {}
 
-/// No message makes the snapshot list longer by more than one. So the market that messages leave has no longer a list than
-/// they are, and that of a snapshot file has one that can be written.
+/// No message makes the snapshot list longer by more than one. So messages leave a market whose list is no longer than they
+/// are, and what a replay leaves of the empty market, or a snapshot file holds, has a list that is short enough to be written.
 #[tactic(auto, using(crate::proofs::LawRules::size_laws))]
 pub fn short_snapshot()
     ensures step { (m : Content) → (x : Message) → IsGood m → length (snap (effect m x)) ≤ length (snap m) + 1 }
     ensures total { (ms : List Message) → AreMessages ms → Follows ms → length (snap (run ms)) ≤ length ms }
+    ensures replayed { (bytes : List ℕ) → (ps : List (List ℕ)) → (rest : List ℕ) → (k : ℕ) → (why : Stop) → AreBytes bytes → Day bytes ps rest → Stops empty bytes k why
+        → length (snap (run (map message_of (take k ps)))) < 10 ^ 19 }
     ensures read { (bytes : List ℕ) → (done : Content × ℕ) → IsMarketOf bytes done → length (snap done.0) < 10 ^ 19 }
 {}
 
@@ -112,8 +115,8 @@ pub fn rewritten_snapshot()
     ensures { (bytes : List ℕ) → (done : Content × ℕ) → IsMarketOf bytes done → IsMarketOf (canon done.0 ++ closing done.1) done }
 {}
 
-/// Each file, whatever its bytes, is a snapshot file with one list of messages and one number, or it has one fault;
-/// it is never both.
+/// A file, whatever its bytes, either is a snapshot file, with exactly one list of messages and one number, or has exactly
+/// one fault.
 pub fn one_file()
     ensures messages { (bytes : List ℕ) → (ms ns : List Message) → (j k : ℕ) → IsSnapshotFile bytes ms j → IsSnapshotFile bytes ns k → ms ≡ ns }
     ensures number { (bytes : List ℕ) → (ms ns : List Message) → (j k : ℕ) → IsSnapshotFile bytes ms j → IsSnapshotFile bytes ns k → j ≡ k }
