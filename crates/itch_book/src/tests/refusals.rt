@@ -1,7 +1,8 @@
 //! Books whose memory is refused: the call leaves the book as it was, and succeeds once there is memory.
-use super::ListBook;
-use super::tests::{add, order, reference, replace};
+use super::{add, order, reference, replace};
 use crate::book::OrderBook;
+use crate::indexed_book::IndexedBook;
+use crate::list_book::ListBook;
 use crate::order::Order;
 use itch_codec::Side;
 use refusing::Refusing;
@@ -31,7 +32,7 @@ fn add_refused<B: OrderBook>(
 ) -> Result<u64, AllocError> {
     let before = listed(rt, alloc, book)?;
     let best = book.next_price(1, Side::Buy, None);
-    for nth in 0..8 {
+    for nth in 0..16 {
         refusing.arm(nth);
         let answer = add(rt, book, order);
         if !refusing.has_refused() {
@@ -45,7 +46,7 @@ fn add_refused<B: OrderBook>(
         assert!(rt; book.get(order.reference).is_none());
         assert_eq!(rt; book.next_price(1, Side::Buy, None), best);
     }
-    panic!(rt; "more than 8 allocations")
+    panic!(rt; "more than 16 allocations")
 }
 
 // Puts an order at a new best price in place of another one, with each allocation refused in turn.
@@ -59,7 +60,7 @@ fn replace_refused<B: OrderBook>(
 ) -> Result<u64, AllocError> {
     let before = listed(rt, alloc, book)?;
     let best = book.next_price(1, Side::Buy, None);
-    for nth in 0..8 {
+    for nth in 0..16 {
         refusing.arm(nth);
         let (reference, shares, price) = (order.reference, order.shares, order.price);
         let answer = replace(rt, book, original, reference, shares, price);
@@ -75,12 +76,12 @@ fn replace_refused<B: OrderBook>(
         assert!(rt; book.get(reference).is_none());
         assert_eq!(rt; book.next_price(1, Side::Buy, None), best);
     }
-    panic!(rt; "more than 8 allocations")
+    panic!(rt; "more than 16 allocations")
 }
 
 // Each growth of a book is refused once.
 #[test]
-fn stays_as_it_was(rt: HostRuntime) -> Result<(), Fail> {
+fn list_stays_as_it_was(rt: HostRuntime) -> Result<(), Fail> {
     let refusing = Refusing::new(rt.alloc(), 0);
     let mut book: ListBook<&Refusing<Global>> = ListBook::new(&refusing);
     let mut refused = 0u64;
@@ -96,6 +97,24 @@ fn stays_as_it_was(rt: HostRuntime) -> Result<(), Fail> {
             replace_refused(&rt, rt.alloc(), &refusing, &mut book, number, new)?,
             0
         );
+    }
+    assert_eq!(rt; book.len(), 40);
+    Ok(())
+}
+
+#[test]
+fn index_stays_as_it_was(rt: HostRuntime) -> Result<(), Fail> {
+    let refusing = Refusing::new(rt.alloc(), 0);
+    let mut book: IndexedBook<&Refusing<Global>> = IndexedBook::new(&refusing);
+    let mut refused = 0u64;
+    for number in 1..41 {
+        let new = order(number, Side::Buy, 10, 1500000 + number as u32);
+        refused = refused.saturating_add(add_refused(&rt, rt.alloc(), &refusing, &mut book, new)?);
+    }
+    assert!(rt; refused > 4);
+    for number in 1..41 {
+        let new = order(100 + number, Side::Buy, 20, 1600000 + number as u32);
+        replace_refused(&rt, rt.alloc(), &refusing, &mut book, number, new)?;
     }
     assert_eq!(rt; book.len(), 40);
     Ok(())

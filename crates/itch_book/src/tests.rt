@@ -1,6 +1,7 @@
 //! Books by what their calls answer. The helpers take any book.
-use super::ListBook;
 use crate::book::OrderBook;
+use crate::indexed_book::IndexedBook;
+use crate::list_book::ListBook;
 use crate::order::{Order, Taken};
 use itch_codec::Side;
 use std::alloc::AllocError;
@@ -150,27 +151,48 @@ fn check_changes<B: OrderBook>(rt: &impl Abort, book: &mut B) -> Result<(), Allo
     Ok(())
 }
 
+// Checks a level of a thousand orders, of which three change.
+fn check_priority<B: OrderBook>(rt: &impl Abort, book: &mut B) -> Result<(), AllocError> {
+    for number in 1..1001 {
+        add(rt, book, order(number, Side::Buy, 10, 1500000))?;
+    }
+    delete(rt, book, 500);
+    assert_eq!(rt; take(rt, book, 1, 10), Taken::Gone);
+    replace(rt, book, 1000, 2000, 5, 1500000)?;
+    assert_eq!(rt; book.level_total(1, Side::Buy, 1500000), (9975, 998));
+    assert_eq!(rt; reference(book.front(1, Side::Buy)), 2);
+    assert_eq!(rt; next(rt, book, 499), 501);
+    assert_eq!(rt; next(rt, book, 999), 2000);
+    assert_eq!(rt; next(rt, book, 2000), 0);
+    Ok(())
+}
+
 #[test]
-fn answers_each_call(rt: HostRuntime) -> Result<(), Fail> {
+fn list_answers_each_call(rt: HostRuntime) -> Result<(), Fail> {
     let mut book: ListBook = ListBook::new(rt.alloc());
     check_calls(&rt, &mut book)?;
     Ok(())
 }
 
-// A level of a thousand orders, of which three change.
 #[test]
-fn keeps_priority(rt: HostRuntime) -> Result<(), Fail> {
-    let mut book: ListBook = ListBook::new(rt.alloc());
-    for number in 1..1001 {
-        add(&rt, &mut book, order(number, Side::Buy, 10, 1500000))?;
-    }
-    delete(&rt, &mut book, 500);
-    assert_eq!(rt; take(&rt, &mut book, 1, 10), Taken::Gone);
-    replace(&rt, &mut book, 1000, 2000, 5, 1500000)?;
-    assert_eq!(rt; book.level_total(1, Side::Buy, 1500000), (9975, 998));
-    assert_eq!(rt; reference(book.front(1, Side::Buy)), 2);
-    assert_eq!(rt; next(&rt, &book, 499), 501);
-    assert_eq!(rt; next(&rt, &book, 999), 2000);
-    assert_eq!(rt; next(&rt, &book, 2000), 0);
+fn index_answers_each_call(rt: HostRuntime) -> Result<(), Fail> {
+    let mut book: IndexedBook = IndexedBook::new(rt.alloc());
+    check_calls(&rt, &mut book)?;
     Ok(())
 }
+
+#[test]
+fn list_keeps_priority(rt: HostRuntime) -> Result<(), Fail> {
+    let mut book: ListBook = ListBook::new(rt.alloc());
+    check_priority(&rt, &mut book)?;
+    Ok(())
+}
+
+#[test]
+fn index_keeps_priority(rt: HostRuntime) -> Result<(), Fail> {
+    let mut book: IndexedBook = IndexedBook::new(rt.alloc());
+    check_priority(&rt, &mut book)?;
+    Ok(())
+}
+
+mod refusals;
