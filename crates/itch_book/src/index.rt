@@ -15,20 +15,19 @@ ghost use Rattle.itch_book.specs.Taken.{IsLeft};
 ghost use Rattle.itch_book.specs.Indexed.{node_of, queue_at as on_side, queue_of_side, is_there, place_cmp, Place, indexed, IsIndexed, IsBusy, IsBusyBut, IsWhole, IsNextOr, level_entry};
 
 use crate::order::{Order, Taken};
+use crate::prices::Prices;
 use crate::queues::Queues;
 use itch_codec::Side;
 use std::alloc::{AllocError, Allocator, Global};
-use std::collections::{BTreeMap, HashMap};
+use std::collections::HashMap;
 use std::hash::{BuildHasherDefault, FoldHasher};
 use std::marker::Model;
-use std::ops::Bound;
 
 /// The live orders as queues of one price each, seen as the list in snapshot order.
 #[derive(Drop)]
 pub(crate) struct Index<A: Allocator = Global> {
     references: References<A>,
-    bids: Places<A>,
-    asks: Places<A>,
+    prices: Prices<A>,
     queues: Queues<A>,
 }
 
@@ -40,9 +39,9 @@ impl<A: Allocator> Model for Index<A> {
 
     ghost Value = { List Order };
 
-    ghost view = { λ b. indexed (seen b.queues) b.bids.entries b.asks.entries };
+    ghost view = { λ b. indexed (seen b.queues) b.prices.bids.entries b.prices.asks.entries };
 
-    ghost invariant = { λ b. IsWhole b.references.entries b.bids.entries b.asks.entries (seen b.queues) };
+    ghost invariant = { λ b. IsWhole b.references.entries b.prices.bids.entries b.prices.asks.entries (seen b.queues) };
 }
 
 impl<A: Allocator + Copy> Index<A> {
@@ -52,9 +51,8 @@ impl<A: Allocator + Copy> Index<A> {
     {
         Index {
             references: HashMap::new(alloc),
-            bids: BTreeMap::new(alloc),
-            asks: BTreeMap::new(alloc),
-            queues: Queues::new(alloc, alloc),
+            prices: Prices::new(alloc),
+            queues: Queues::new(alloc),
         }
     }
 
@@ -86,8 +84,7 @@ impl<A: Allocator + Copy> Index<A> {
         self.queues.reserve()?;
         self.references.reserve(1)?;
         let queue = level_for(
-            &mut self.bids,
-            &mut self.asks,
+            &mut self.prices,
             &mut self.queues,
             order.locate,
             order.side,
@@ -108,8 +105,7 @@ impl<A: Allocator + Copy> Index<A> {
         if left == 0 {
             take_out(
                 &mut self.references,
-                &mut self.bids,
-                &mut self.asks,
+                &mut self.prices,
                 &mut self.queues,
                 reference,
             );
@@ -127,8 +123,7 @@ impl<A: Allocator + Copy> Index<A> {
     {
         take_out(
             &mut self.references,
-            &mut self.bids,
-            &mut self.asks,
+            &mut self.prices,
             &mut self.queues,
             reference,
         )
@@ -174,13 +169,9 @@ impl<A: Allocator + Copy> Index<A> {
             return Some(self.queues.order(next));
         }
         let order = self.queues.order(key);
-        let level = next_level(
-            &self.bids,
-            &self.asks,
-            order.locate,
-            order.side,
-            Some(order.price),
-        );
+        let level = self
+            .prices
+            .next_level(order.locate, order.side, Some(order.price));
         if let Some((_, queue)) = level {
             return head_of(&self.queues, queue);
         }
@@ -205,7 +196,7 @@ impl<A: Allocator + Copy> Index<A> {
         ensures front { option_copied result ≡ find (is_of locate side) self.now }
         ensures book { IsBook self.now }
     {
-        match next_level(&self.bids, &self.asks, locate, side, None) {
+        match self.prices.next_level(locate, side, None) {
             Some((_, queue)) => head_of(&self.queues, queue),
             None => None,
         }
@@ -215,7 +206,7 @@ impl<A: Allocator + Copy> Index<A> {
     pub(crate) fn next_price(&self, locate: u16, side: Side, last: Option<u32>) -> Option<u32>
         ensures { result ≡ next_price self.now locate side last }
     {
-        match next_level(&self.bids, &self.asks, locate, side, last) {
+        match self.prices.next_level(locate, side, last) {
             Some((price, _)) => Some(price),
             None => None,
         }
@@ -225,76 +216,14 @@ impl<A: Allocator + Copy> Index<A> {
     pub(crate) fn level_total(&self, locate: u16, side: Side, price: u32) -> (u128, u64)
         ensures { result ≡ level_total self.now locate side price }
     {
-        match queue_at(&self.bids, &self.asks, locate, side, price) {
+        match self.prices.queue_at(locate, side, price) {
             Some(queue) => self.queues.totals(queue),
             None => (0, 0),
         }
     }
 }
 
-// The price of an entry, and its queue.
-fn level_of(entry: Option<(&(u16, u32), &usize)>) -> Option<(u32, usize)>
-    ensures { result ≡ option_map level_entry (option_map deref_pair entry.entry) }
-{
-    match entry {
-        Some((place, queue)) => Some((place.1, *queue)),
-        None => None,
-    }
-}
-
-// The highest price of a locate below the last, and its queue.
-fn highest<A: Allocator>(places: &Places<A>, locate: u16, last: Option<u32>) -> Option<(u32, usize)>
-    ensures { IsNextOr (on_side places.now.entries locate) Buy last result }
-{
-    let lowest = Bound::Included((locate, 0));
-    match last {
-        None => level_of(
-            places
-                .range((lowest, Bound::Included((locate, u32::MAX))))
-                .next_back(),
-        ),
-        Some(last) => level_of(
-            places
-                .range((lowest, Bound::Excluded((locate, last))))
-                .next_back(),
-        ),
-    }
-}
-
-// The lowest price of a locate above the last, and its queue.
-fn lowest<A: Allocator>(places: &Places<A>, locate: u16, last: Option<u32>) -> Option<(u32, usize)>
-    ensures { IsNextOr (on_side places.now.entries locate) Sell last result }
-{
-    let highest = Bound::Included((locate, u32::MAX));
-    match last {
-        None => level_of(places.range((Bound::Included((locate, 0)), highest)).next()),
-        Some(last) => level_of(
-            places
-                .range((Bound::Excluded((locate, last)), highest))
-                .next(),
-        ),
-    }
-}
-
-// The best price of a side, or the best one worse than the last, and its queue.
-fn next_level<A: Allocator>(
-    bids: &Places<A>,
-    asks: &Places<A>,
-    locate: u16,
-    side: Side,
-    last: Option<u32>,
-) -> Option<(u32, usize)>
-    ensures { IsNextOr (queue_of_side side bids.now.entries asks.now.entries locate) side last result }
-{
-    match side {
-        Side::Buy => highest(bids, locate, last),
-        Side::Sell => lowest(asks, locate, last),
-    }
-}
-
 type References<A> = HashMap<u64, usize, BuildHasherDefault<FoldHasher>, A>;
-
-type Places<A> = BTreeMap<(u16, u32), usize, A>;
 
 // The node of a reference.
 fn node_at<A: Allocator>(references: &References<A>, reference: u64) -> Option<usize>
@@ -314,82 +243,27 @@ fn known_node<A: Allocator>(references: &References<A>, reference: u64) -> usize
     }
 }
 
-// The queue at a price of a side.
-fn queue_at<A: Allocator>(
-    bids: &Places<A>,
-    asks: &Places<A>,
-    locate: u16,
-    side: Side,
-    price: u32,
-) -> Option<usize>
-    ensures { result ≡ queue_of_side side bids.now.entries asks.now.entries locate price }
-{
-    match side {
-        Side::Buy => bids.get(&(locate, price)).copied(),
-        Side::Sell => asks.get(&(locate, price)).copied(),
-    }
-}
-
-// Puts a queue at a price of a side that has none. Where memory is refused, nothing changes.
-fn place_level<A: Allocator + Copy>(
-    bids: &mut Places<A>,
-    asks: &mut Places<A>,
-    locate: u16,
-    side: Side,
-    price: u32,
-    queue: usize,
-) -> Result<(), AllocError>
-    ensures placed { OnOk result ((s : Side) → (l p : ℕ) → queue_of_side s bids.new.entries asks.new.entries l p ≡ cond (is_there side locate price s l p) (Some queue) (queue_of_side s bids.old.entries asks.old.entries l p)) }
-    ensures bids_sorted { IsStrictlySortedBy place_cmp (keys_of bids.old.entries) → IsStrictlySortedBy place_cmp (keys_of bids.new.entries) }
-    ensures asks_sorted { IsStrictlySortedBy place_cmp (keys_of asks.old.entries) → IsStrictlySortedBy place_cmp (keys_of asks.new.entries) }
-    ensures bids_kept { OnErr result (bids.new.entries ≡ bids.old.entries) }
-    ensures asks_kept { OnErr result (asks.new.entries ≡ asks.old.entries) }
-{
-    match side {
-        Side::Buy => place_on(bids, locate, price, queue),
-        Side::Sell => place_on(asks, locate, price, queue),
-    }
-}
-
-// Puts a queue at a place. Where memory is refused, nothing changes.
-fn place_on<A: Allocator + Copy>(
-    places: &mut Places<A>,
-    locate: u16,
-    price: u32,
-    queue: usize,
-) -> Result<(), AllocError>
-    ensures placed { OnOk result ((l p : ℕ) → on_side places.new.entries l p ≡ cond (is_at (place_cmp (locate, price)) (l, p)) (Some queue) (on_side places.old.entries l p)) }
-    ensures sorted { IsStrictlySortedBy place_cmp (keys_of places.old.entries) → IsStrictlySortedBy place_cmp (keys_of places.new.entries) }
-    ensures kept { OnErr result (places.new.entries ≡ places.old.entries) }
-{
-    match places.insert((locate, price), queue) {
-        Ok(_) => Ok(()),
-        Err(_) => Err(AllocError),
-    }
-}
-
 // The queue at a price of a side, opened where there is none. Where memory is refused, nothing changes.
 fn level_for<A: Allocator + Copy>(
-    bids: &mut Places<A>,
-    asks: &mut Places<A>,
+    prices: &mut Prices<A>,
     queues: &mut Queues<A>,
     locate: u16,
     side: Side,
     price: u32,
 ) -> Result<usize, AllocError>
     requires { 0 < queues.old.queue_room }
-    ensures index { (references : List (ℕ × ℕ)) → IsIndexed references bids.old.entries asks.old.entries (seen queues.old) → IsIndexed references bids.new.entries asks.new.entries (seen queues.new) }
-    ensures view { (references : List (ℕ × ℕ)) → IsIndexed references bids.old.entries asks.old.entries (seen queues.old) → indexed (seen queues.new) bids.new.entries asks.new.entries ≡ indexed (seen queues.old) bids.old.entries asks.old.entries }
-    ensures queue { IfOk result (λ q. queue_of_side side bids.new.entries asks.new.entries locate price ≡ Some q) }
+    ensures index { (references : List (ℕ × ℕ)) → IsIndexed references prices.old.bids.entries prices.old.asks.entries (seen queues.old) → IsIndexed references prices.new.bids.entries prices.new.asks.entries (seen queues.new) }
+    ensures view { (references : List (ℕ × ℕ)) → IsIndexed references prices.old.bids.entries prices.old.asks.entries (seen queues.old) → indexed (seen queues.new) prices.new.bids.entries prices.new.asks.entries ≡ indexed (seen queues.old) prices.old.bids.entries prices.old.asks.entries }
+    ensures queue { IfOk result (λ q. queue_of_side side prices.new.bids.entries prices.new.asks.entries locate price ≡ Some q) }
     ensures room { queues.new.node_room ≡ queues.old.node_room }
-    ensures busy { IfOk result (λ q. (references : List (ℕ × ℕ)) → IsIndexed references bids.old.entries asks.old.entries (seen queues.old) → IsBusy (seen queues.old) bids.old.entries asks.old.entries → IsBusyBut (seen queues.new) bids.new.entries asks.new.entries q) }
-    ensures kept { OnErr result (IsBusy (seen queues.old) bids.old.entries asks.old.entries → IsBusy (seen queues.new) bids.new.entries asks.new.entries) }
+    ensures busy { IfOk result (λ q. (references : List (ℕ × ℕ)) → IsIndexed references prices.old.bids.entries prices.old.asks.entries (seen queues.old) → IsBusy (seen queues.old) prices.old.bids.entries prices.old.asks.entries → IsBusyBut (seen queues.new) prices.new.bids.entries prices.new.asks.entries q) }
+    ensures kept { OnErr result (IsBusy (seen queues.old) prices.old.bids.entries prices.old.asks.entries → IsBusy (seen queues.new) prices.new.bids.entries prices.new.asks.entries) }
 {
-    if let Some(queue) = queue_at(bids, asks, locate, side, price) {
+    if let Some(queue) = prices.queue_at(locate, side, price) {
         return Ok(queue);
     }
     let queue = queues.open();
-    match place_level(bids, asks, locate, side, price, queue) {
+    match prices.add_level(locate, side, price, queue) {
         Ok(()) => Ok(queue),
         Err(error) => {
             queues.close(queue);
@@ -398,36 +272,9 @@ fn level_for<A: Allocator + Copy>(
     }
 }
 
-// Takes the queue from a price of a side.
-fn remove_level<A: Allocator + Copy>(
-    bids: &mut Places<A>,
-    asks: &mut Places<A>,
-    locate: u16,
-    side: Side,
-    price: u32,
-)
-    ensures placed { (s : Side) → (l p : ℕ) → queue_of_side s bids.new.entries asks.new.entries l p ≡ cond (is_there side locate price s l p) None (queue_of_side s bids.old.entries asks.old.entries l p) }
-    ensures bids_sorted { IsStrictlySortedBy place_cmp (keys_of bids.old.entries) → IsStrictlySortedBy place_cmp (keys_of bids.new.entries) }
-    ensures asks_sorted { IsStrictlySortedBy place_cmp (keys_of asks.old.entries) → IsStrictlySortedBy place_cmp (keys_of asks.new.entries) }
-{
-    match side {
-        Side::Buy => remove_on(bids, locate, price),
-        Side::Sell => remove_on(asks, locate, price),
-    }
-}
-
-// Takes the queue from a place.
-fn remove_on<A: Allocator + Copy>(places: &mut Places<A>, locate: u16, price: u32)
-    ensures placed { (l p : ℕ) → on_side places.new.entries l p ≡ cond (is_at (place_cmp (locate, price)) (l, p)) None (on_side places.old.entries l p) }
-    ensures sorted { IsStrictlySortedBy place_cmp (keys_of places.old.entries) → IsStrictlySortedBy place_cmp (keys_of places.new.entries) }
-{
-    places.remove(&(locate, price));
-}
-
 // Closes the queue at a price, if it is empty.
 fn close_empty<A: Allocator + Copy>(
-    bids: &mut Places<A>,
-    asks: &mut Places<A>,
+    prices: &mut Prices<A>,
     queues: &mut Queues<A>,
     queue: usize,
     locate: u16,
@@ -435,43 +282,34 @@ fn close_empty<A: Allocator + Copy>(
     price: u32,
 )
     requires { IsSome (keys_at queues.old queue) }
-    ensures index { (references : List (ℕ × ℕ)) → IsIndexed references bids.old.entries asks.old.entries (seen queues.old) → queue_of_side side bids.old.entries asks.old.entries locate price ≡ Some queue → IsIndexed references bids.new.entries asks.new.entries (seen queues.new) }
-    ensures view { (references : List (ℕ × ℕ)) → IsIndexed references bids.old.entries asks.old.entries (seen queues.old) → queue_of_side side bids.old.entries asks.old.entries locate price ≡ Some queue → indexed (seen queues.new) bids.new.entries asks.new.entries ≡ indexed (seen queues.old) bids.old.entries asks.old.entries }
-    ensures busy { (references : List (ℕ × ℕ)) → IsIndexed references bids.old.entries asks.old.entries (seen queues.old) → queue_of_side side bids.old.entries asks.old.entries locate price ≡ Some queue → IsBusyBut (seen queues.old) bids.old.entries asks.old.entries queue → IsBusy (seen queues.new) bids.new.entries asks.new.entries }
+    ensures index { (references : List (ℕ × ℕ)) → IsIndexed references prices.old.bids.entries prices.old.asks.entries (seen queues.old) → queue_of_side side prices.old.bids.entries prices.old.asks.entries locate price ≡ Some queue → IsIndexed references prices.new.bids.entries prices.new.asks.entries (seen queues.new) }
+    ensures view { (references : List (ℕ × ℕ)) → IsIndexed references prices.old.bids.entries prices.old.asks.entries (seen queues.old) → queue_of_side side prices.old.bids.entries prices.old.asks.entries locate price ≡ Some queue → indexed (seen queues.new) prices.new.bids.entries prices.new.asks.entries ≡ indexed (seen queues.old) prices.old.bids.entries prices.old.asks.entries }
+    ensures busy { (references : List (ℕ × ℕ)) → IsIndexed references prices.old.bids.entries prices.old.asks.entries (seen queues.old) → queue_of_side side prices.old.bids.entries prices.old.asks.entries locate price ≡ Some queue → IsBusyBut (seen queues.old) prices.old.bids.entries prices.old.asks.entries queue → IsBusy (seen queues.new) prices.new.bids.entries prices.new.asks.entries }
 {
     if queues.first(queue).is_some() {
         return;
     }
     queues.close(queue);
-    remove_level(bids, asks, locate, side, price);
+    prices.remove_level(locate, side, price);
 }
 
 // Takes out the order of a reference, and its queue with the last of it.
 fn take_out<A: Allocator + Copy>(
     references: &mut References<A>,
-    bids: &mut Places<A>,
-    asks: &mut Places<A>,
+    prices: &mut Prices<A>,
     queues: &mut Queues<A>,
     reference: u64,
 ) -> Order
     requires { IsSomeAnd (node_of references.old.entries reference) (λ k. IsSome (order_at queues.old k)) }
     ensures order { IfSome (node_of references.old.entries reference) (λ k. order_at queues.old k ≡ Some result) }
-    ensures whole { IsWhole references.old.entries bids.old.entries asks.old.entries (seen queues.old) → IsWhole references.new.entries bids.new.entries asks.new.entries (seen queues.new) }
-    ensures view { IsWhole references.old.entries bids.old.entries asks.old.entries (seen queues.old) → indexed (seen queues.new) bids.new.entries asks.new.entries ≡ lay (without reference (indexed (seen queues.old) bids.old.entries asks.old.entries)) }
+    ensures whole { IsWhole references.old.entries prices.old.bids.entries prices.old.asks.entries (seen queues.old) → IsWhole references.new.entries prices.new.bids.entries prices.new.asks.entries (seen queues.new) }
+    ensures view { IsWhole references.old.entries prices.old.bids.entries prices.old.asks.entries (seen queues.old) → indexed (seen queues.new) prices.new.bids.entries prices.new.asks.entries ≡ lay (without reference (indexed (seen queues.old) prices.old.bids.entries prices.old.asks.entries)) }
 {
     match references.remove(&reference) {
         Some(key) => {
             let queue = queues.queue_of(key);
             let order = queues.unlink(key);
-            close_empty(
-                bids,
-                asks,
-                queues,
-                queue,
-                order.locate,
-                order.side,
-                order.price,
-            );
+            close_empty(prices, queues, queue, order.locate, order.side, order.price);
             order
         }
         None => unreachable!(),

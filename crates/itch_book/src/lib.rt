@@ -10,6 +10,7 @@ mod list_book;
 mod moves;
 mod order;
 mod places;
+mod prices;
 mod queues;
 
 pub use book::OrderBook;

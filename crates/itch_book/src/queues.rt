@@ -51,18 +51,20 @@ impl<A: Allocator> Model for Queues<A> {
     ghost invariant = { λ s. IsSound (get s.nodes) (get s.heads) };
 }
 
-impl<A: Allocator> Queues<A> {
+impl<A: Allocator + Copy> Queues<A> {
     /// No queues.
-    pub(crate) fn new(nodes: A, heads: A) -> Self
+    pub(crate) fn new(alloc: A) -> Self
         ensures queues { result.queues ≡ [] }
         ensures orders { result.orders ≡ [] }
     {
         Queues {
-            nodes: Slab::new(nodes),
-            heads: Slab::new(heads),
+            nodes: Slab::new(alloc),
+            heads: Slab::new(alloc),
         }
     }
+}
 
+impl<A: Allocator> Queues<A> {
     /// Makes room for one more order, and for one more queue.
     pub(crate) fn reserve(&mut self) -> Result<(), AllocError>
         ensures room { OnOk result ((0 < self.new.node_room) × (0 < self.new.queue_room)) }
@@ -79,7 +81,8 @@ impl<A: Allocator> Queues<A> {
         ensures vacant { keys_at self.old result ≡ None }
         ensures keys { (q : ℕ) → keys_at self.new q ≡ at_key result (Some []) (keys_at self.old) q }
         ensures orders { self.new.orders ≡ self.old.orders }
-        ensures room { self.new.node_room ≡ self.old.node_room }
+        ensures node_room { self.new.node_room ≡ self.old.node_room }
+        ensures queue_room { self.new.queue_room + 1 ≡ self.old.queue_room }
     {
         self.heads.insert_reserved(Head {
             first: Link::none(),
@@ -107,6 +110,7 @@ impl<A: Allocator> Queues<A> {
         ensures vacant { order_at self.old result ≡ None }
         ensures orders { (k : ℕ) → order_at self.new k ≡ at_key result (Some order) (order_at self.old) k }
         ensures keys { (q : ℕ) → keys_at self.new q ≡ at_key queue (option_map (λ ks. ks ++ result ∷ []) (keys_at self.old queue)) (keys_at self.old) q }
+        ensures node_room { self.new.node_room + 1 ≡ self.old.node_room }
         ensures queue_room { self.new.queue_room ≡ self.old.queue_room }
     {
         let shares = order.shares;
@@ -128,6 +132,7 @@ impl<A: Allocator> Queues<A> {
         ensures order { order_at self.old key ≡ Some result }
         ensures orders { (k : ℕ) → order_at self.new k ≡ at_key key None (order_at self.old) k }
         ensures keys { (q : ℕ) → keys_at self.new q ≡ option_map (without_key key) (keys_at self.old q) }
+        ensures node_room { 0 < self.new.node_room }
         ensures queue_room { self.new.queue_room ≡ self.old.queue_room }
     {
         let node = self.nodes.remove(key);
@@ -178,7 +183,7 @@ impl<A: Allocator> Queues<A> {
         self.nodes[key].queue
     }
 
-    /// The node behind another one in its queue.
+    /// The node after another one in its queue.
     pub(crate) fn next(&self, key: usize) -> Option<usize>
         requires { IsSome (order_at self.now key) }
         ensures { (q : ℕ) (before after : List ℕ) → keys_at self.now q ≡ Some (before ++ key ∷ after) → result ≡ first_or after None }
@@ -204,7 +209,7 @@ impl<A: Allocator> Queues<A> {
     }
 }
 
-// A node at the end of a queue, behind another one.
+// A node at the end of a queue, after another one.
 fn last_node(order: Order, queue: usize, before: Link) -> Node
     ensures order { result.order ≡ order }
     ensures queue { result.queue ≡ queue }
@@ -229,7 +234,7 @@ fn either(link: Link, there: Link, other: Link) -> Link
     }
 }
 
-// The head of a queue with one more node at its end, so many shares behind that of a key.
+// The head of a queue with one more node at its end, with so many shares, after the node of a link.
 fn head_with(head: Head, link: Link, before: Link, shares: u32) -> Head
     requires orders { head.orders + 1 < 2 ^ 64 }
     requires shares { head.shares + shares < 2 ^ 128 }

@@ -1,4 +1,4 @@
-//! Books by what their calls answer. The helpers take any book.
+//! Books by what their calls return. The helpers take any book.
 use crate::book::OrderBook;
 use crate::indexed_book::IndexedBook;
 use crate::list_book::ListBook;
@@ -30,7 +30,12 @@ pub(super) fn add<B: OrderBook>(
     book.add(order)
 }
 
-fn take<B: OrderBook>(rt: &impl Abort, book: &mut B, reference: u64, shares: u32) -> Taken {
+pub(super) fn take<B: OrderBook>(
+    rt: &impl Abort,
+    book: &mut B,
+    reference: u64,
+    shares: u32,
+) -> Taken {
     let Some(order) = book.get(reference).copied() else {
         panic!(rt; "{reference} is not live");
     };
@@ -38,7 +43,7 @@ fn take<B: OrderBook>(rt: &impl Abort, book: &mut B, reference: u64, shares: u32
     book.take(reference, shares)
 }
 
-fn delete<B: OrderBook>(rt: &impl Abort, book: &mut B, reference: u64) -> Order {
+pub(super) fn delete<B: OrderBook>(rt: &impl Abort, book: &mut B, reference: u64) -> Order {
     assert!(rt; book.get(reference).is_some());
     book.delete(reference)
 }
@@ -103,7 +108,7 @@ fn check_calls<B: OrderBook>(rt: &impl Abort, book: &mut B) -> Result<(), AllocE
         (5, 0),
         (u64::MAX, 0),
     ] {
-        assert_eq!(rt; next(rt, book, number), want, "behind {number}");
+        assert_eq!(rt; next(rt, book, number), want, "after {number}");
     }
     assert_eq!(rt; reference(book.first(2)), 0);
     assert_eq!(rt; reference(book.front(1, Side::Buy)), 2);
@@ -117,7 +122,7 @@ fn check_calls<B: OrderBook>(rt: &impl Abort, book: &mut B) -> Result<(), AllocE
         (Side::Sell, Some(1500200), Some(1500300)),
         (Side::Sell, Some(1500300), None),
     ] {
-        assert_eq!(rt; book.next_price(1, side, last), want, "behind {last:?}");
+        assert_eq!(rt; book.next_price(1, side, last), want, "after {last:?}");
     }
     assert_eq!(rt; book.level_total(1, Side::Buy, 1500100), (600, 2));
     assert_eq!(rt; book.level_total(1, Side::Buy, 1500000), (400, 2));
@@ -168,31 +173,32 @@ fn check_priority<B: OrderBook>(rt: &impl Abort, book: &mut B) -> Result<(), All
 }
 
 #[test]
-fn list_answers_each_call(rt: HostRuntime) -> Result<(), Fail> {
+fn list_book_calls(rt: HostRuntime) -> Result<(), Fail> {
     let mut book: ListBook = ListBook::new(rt.alloc());
     check_calls(&rt, &mut book)?;
     Ok(())
 }
 
 #[test]
-fn index_answers_each_call(rt: HostRuntime) -> Result<(), Fail> {
+fn indexed_book_calls(rt: HostRuntime) -> Result<(), Fail> {
     let mut book: IndexedBook = IndexedBook::new(rt.alloc());
     check_calls(&rt, &mut book)?;
     Ok(())
 }
 
 #[test]
-fn list_keeps_priority(rt: HostRuntime) -> Result<(), Fail> {
+fn list_book_keeps_priority(rt: HostRuntime) -> Result<(), Fail> {
     let mut book: ListBook = ListBook::new(rt.alloc());
     check_priority(&rt, &mut book)?;
     Ok(())
 }
 
 #[test]
-fn index_keeps_priority(rt: HostRuntime) -> Result<(), Fail> {
+fn indexed_book_keeps_priority(rt: HostRuntime) -> Result<(), Fail> {
     let mut book: IndexedBook = IndexedBook::new(rt.alloc());
     check_priority(&rt, &mut book)?;
     Ok(())
 }
 
 mod refusals;
+mod side_by_side;

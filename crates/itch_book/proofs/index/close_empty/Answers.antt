@@ -37,8 +37,8 @@ returns-then-is_some-clause-busy g c references is at busy s l p q h =
 
 pub returns-clause-index : goal.returns-clause-index
 returns-clause-index g c references is at =
-    let bids = c.args.bids.now.entries in let asks = c.args.asks.now.entries in
-    let bids' = c.remove_level.new.bids.entries in let asks' = c.remove_level.new.asks.entries in
+    let bids = c.args.prices.now.bids.entries in let asks = c.args.prices.now.asks.entries in
+    let bids' = c.remove_level.new.self.bids.entries in let asks' = c.remove_level.new.self.asks.entries in
     let w : Seen = seen c.args.queues.now in let q = c.args.queue in
     let keys = some_of (keys_at c.args.queues.now q) c.requires in
     let none : is_some c.first.result ≡ false = search rules in
@@ -49,8 +49,8 @@ returns-clause-index g c references is at =
 
 pub returns-clause-view : goal.returns-clause-view
 returns-clause-view g c references is at =
-    let bids = c.args.bids.now.entries in let asks = c.args.asks.now.entries in
-    let bids' = c.remove_level.new.bids.entries in let asks' = c.remove_level.new.asks.entries in
+    let bids = c.args.prices.now.bids.entries in let asks = c.args.prices.now.asks.entries in
+    let bids' = c.remove_level.new.self.bids.entries in let asks' = c.remove_level.new.self.asks.entries in
     let w : Seen = seen c.args.queues.now in let q = c.args.queue in
     let keys = some_of (keys_at c.args.queues.now q) c.requires in
     let none : is_some c.first.result ≡ false = search rules in
@@ -61,8 +61,8 @@ returns-clause-view g c references is at =
 
 pub returns-clause-busy : goal.returns-clause-busy
 returns-clause-busy g c references is at busy =
-    let bids = c.args.bids.now.entries in let asks = c.args.asks.now.entries in
-    let bids' = c.remove_level.new.bids.entries in let asks' = c.remove_level.new.asks.entries in
+    let bids = c.args.prices.now.bids.entries in let asks = c.args.prices.now.asks.entries in
+    let bids' = c.remove_level.new.self.bids.entries in let asks' = c.remove_level.new.self.asks.entries in
     let w : Seen = seen c.args.queues.now in let q = c.args.queue in
     let keys = some_of (keys_at c.args.queues.now q) c.requires in
     let none : is_some c.first.result ≡ false = search rules in

@@ -11,8 +11,8 @@ orders_same v v' same k = ap (λ (v'' : Queued). order_at v'' k) (λ i. record v
 
 pub returns-in-Ok-clause-index : goal.returns-in-Ok-clause-index
 returns-in-Ok-clause-index g c references is =
-    let bids = c.args.bids.now.entries in let asks = c.args.asks.now.entries in
-    let bids' = c.place_level.new.bids.entries in let asks' = c.place_level.new.asks.entries in
+    let bids = c.args.prices.now.bids.entries in let asks = c.args.prices.now.asks.entries in
+    let bids' = c.add_level.new.self.bids.entries in let asks' = c.add_level.new.self.asks.entries in
     let w : Seen = seen c.args.queues.now in
     let absent : queue_of_side c.args.side bids asks c.args.locate c.args.price ≡ None = sym c.queue_at.ensures ∙ c.in_default.is in
     let v : Seen = record { keys = at_key c.open-queue.result (Some []) w.keys; orders = w.orders } in
@@ -21,8 +21,8 @@ returns-in-Ok-clause-index g c references is =
 
 pub returns-in-Ok-clause-view : goal.returns-in-Ok-clause-view
 returns-in-Ok-clause-view g c references is =
-    let bids = c.args.bids.now.entries in let asks = c.args.asks.now.entries in
-    let bids' = c.place_level.new.bids.entries in let asks' = c.place_level.new.asks.entries in
+    let bids = c.args.prices.now.bids.entries in let asks = c.args.prices.now.asks.entries in
+    let bids' = c.add_level.new.self.bids.entries in let asks' = c.add_level.new.self.asks.entries in
     let w : Seen = seen c.args.queues.now in
     let absent : queue_of_side c.args.side bids asks c.args.locate c.args.price ≡ None = sym c.queue_at.ensures ∙ c.in_default.is in
     let v : Seen = record { keys = at_key c.open-queue.result (Some []) w.keys; orders = w.orders } in
@@ -31,8 +31,8 @@ returns-in-Ok-clause-view g c references is =
 
 pub returns-in-Err-clause-index : goal.returns-in-Err-clause-index
 returns-in-Err-clause-index g c references is =
-    let bids = c.args.bids.now.entries in let asks = c.args.asks.now.entries in
-    let bids' = c.place_level.new.bids.entries in let asks' = c.place_level.new.asks.entries in
+    let bids = c.args.prices.now.bids.entries in let asks = c.args.prices.now.asks.entries in
+    let bids' = c.add_level.new.self.bids.entries in let asks' = c.add_level.new.self.asks.entries in
     let w : Seen = seen c.args.queues.now in
     let same : seen c.close.new.self ≡ w = seen_same w (seen c.close.new.self)
     (closed_again w.keys (keys_at c.open-queue.new.self) (keys_at c.close.new.self) c.open-queue.result c.open-queue.ensures.vacant c.open-queue.ensures.keys c.close.ensures.keys)
@@ -43,8 +43,8 @@ returns-in-Err-clause-index g c references is =
 
 pub returns-in-Err-clause-view : goal.returns-in-Err-clause-view
 returns-in-Err-clause-view g c references is =
-    let bids = c.args.bids.now.entries in let asks = c.args.asks.now.entries in
-    let bids' = c.place_level.new.bids.entries in let asks' = c.place_level.new.asks.entries in
+    let bids = c.args.prices.now.bids.entries in let asks = c.args.prices.now.asks.entries in
+    let bids' = c.add_level.new.self.bids.entries in let asks' = c.add_level.new.self.asks.entries in
     let w : Seen = seen c.args.queues.now in
     let same : seen c.close.new.self ≡ w = seen_same w (seen c.close.new.self)
     (closed_again w.keys (keys_at c.open-queue.new.self) (keys_at c.close.new.self) c.open-queue.result c.open-queue.ensures.vacant c.open-queue.ensures.keys c.close.ensures.keys)
@@ -53,8 +53,8 @@ returns-in-Err-clause-view g c references is =
 
 pub returns-in-Ok-clause-busy : goal.returns-in-Ok-clause-busy
 returns-in-Ok-clause-busy g c references is busy =
-    let bids = c.args.bids.now.entries in let asks = c.args.asks.now.entries in
-    let bids' = c.place_level.new.bids.entries in let asks' = c.place_level.new.asks.entries in
+    let bids = c.args.prices.now.bids.entries in let asks = c.args.prices.now.asks.entries in
+    let bids' = c.add_level.new.self.bids.entries in let asks' = c.add_level.new.self.asks.entries in
     let w : Seen = seen c.args.queues.now in
     let absent : queue_of_side c.args.side bids asks c.args.locate c.args.price ≡ None = sym c.queue_at.ensures ∙ c.in_default.is in
     let v : Seen = record { keys = at_key c.open-queue.result (Some []) w.keys; orders = w.orders } in
@@ -63,8 +63,8 @@ returns-in-Ok-clause-busy g c references is busy =
 
 pub returns-in-Err-clause-kept : goal.returns-in-Err-clause-kept
 returns-in-Err-clause-kept g c busy =
-    let bids = c.args.bids.now.entries in let asks = c.args.asks.now.entries in
-    let bids' = c.place_level.new.bids.entries in let asks' = c.place_level.new.asks.entries in
+    let bids = c.args.prices.now.bids.entries in let asks = c.args.prices.now.asks.entries in
+    let bids' = c.add_level.new.self.bids.entries in let asks' = c.add_level.new.self.asks.entries in
     let w : Seen = seen c.args.queues.now in
     let same : seen c.close.new.self ≡ w = seen_same w (seen c.close.new.self)
     (closed_again w.keys (keys_at c.open-queue.new.self) (keys_at c.close.new.self) c.open-queue.result c.open-queue.ensures.vacant c.open-queue.ensures.keys c.close.ensures.keys)

@@ -10,7 +10,7 @@ use Rattle.itch_book.proofs.index.take_out.Goals as goal
 pub returns-clause-whole : goal.returns-clause-whole
 returns-clause-whole g c whole =
     let refs = c.args.references.now.entries in let refs' = c.remove.new.self.entries in
-    let bids = c.args.bids.now.entries in let asks = c.args.asks.now.entries in
+    let bids = c.args.prices.now.bids.entries in let asks = c.args.prices.now.asks.entries in
     let w : Seen = seen c.args.queues.now in let is = whole.index in
     let r = c.args.reference in let k = c.in-Some.key in let x = c.unlink-order.result in let q = c.queue_of-queue.result in
     let node : node_of refs r ≡ Some k = sym c.in-Some.ensures.value in
@@ -30,7 +30,7 @@ returns-clause-whole g c whole =
 pub returns-clause-view : goal.returns-clause-view
 returns-clause-view g c whole =
     let refs = c.args.references.now.entries in let refs' = c.remove.new.self.entries in
-    let bids = c.args.bids.now.entries in let asks = c.args.asks.now.entries in
+    let bids = c.args.prices.now.bids.entries in let asks = c.args.prices.now.asks.entries in
     let w : Seen = seen c.args.queues.now in let is = whole.index in
     let r = c.args.reference in let k = c.in-Some.key in let x = c.unlink-order.result in let q = c.queue_of-queue.result in
     let node : node_of refs r ≡ Some k = sym c.in-Some.ensures.value in

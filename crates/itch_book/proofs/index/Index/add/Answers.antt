@@ -8,7 +8,7 @@ use Rattle.itch_book.proofs.index.Index.add.Goals as goal
 
 pub invariant_of-self : goal.invariant_of-self
 invariant_of-self g c =
-    let refs = c.self.inside.references.entries in let bids = c.self.inside.bids.entries in let asks = c.self.inside.asks.entries in
+    let refs = c.self.inside.references.entries in let bids = c.self.inside.prices.bids.entries in let asks = c.self.inside.prices.asks.entries in
     let same : seen c.reserve.new.self ≡ seen c.self.inside.queues = seen_slots c.self.inside.queues c.reserve.new.self c.reserve.ensures.queues c.reserve.ensures.orders in
     let view1 : indexed (seen c.reserve.new.self) bids asks ≡ c.args.self.now = ap (λ (u : Seen). indexed u bids asks) same ∙ c.self.view_is in
     let one : IsIndexed refs bids asks (seen c.reserve.new.self) = subst (IsIndexed refs bids asks) (sym same) c.self.invariant.index in
@@ -16,7 +16,7 @@ invariant_of-self g c =
 
 pub returns-in_err-reserve-clause-err : goal.returns-in_err-reserve-clause-err
 returns-in_err-reserve-clause-err g c =
-    let refs = c.self.inside.references.entries in let bids = c.self.inside.bids.entries in let asks = c.self.inside.asks.entries in
+    let refs = c.self.inside.references.entries in let bids = c.self.inside.prices.bids.entries in let asks = c.self.inside.prices.asks.entries in
     let same : seen c.reserve.new.self ≡ seen c.self.inside.queues = seen_slots c.self.inside.queues c.reserve.new.self c.reserve.ensures.queues c.reserve.ensures.orders in
     let view1 : indexed (seen c.reserve.new.self) bids asks ≡ c.args.self.now = ap (λ (u : Seen). indexed u bids asks) same ∙ c.self.view_is in
     let one : IsIndexed refs bids asks (seen c.reserve.new.self) = subst (IsIndexed refs bids asks) (sym same) c.self.invariant.index in
@@ -24,7 +24,7 @@ returns-in_err-reserve-clause-err g c =
 
 pub invariant_of-self-in_err-reserve-2 : goal.invariant_of-self-in_err-reserve-2
 invariant_of-self-in_err-reserve-2 g c =
-    let refs = c.self.inside.references.entries in let bids = c.self.inside.bids.entries in let asks = c.self.inside.asks.entries in
+    let refs = c.self.inside.references.entries in let bids = c.self.inside.prices.bids.entries in let asks = c.self.inside.prices.asks.entries in
     let same : seen c.reserve.new.self ≡ seen c.self.inside.queues = seen_slots c.self.inside.queues c.reserve.new.self c.reserve.ensures.queues c.reserve.ensures.orders in
     let view1 : indexed (seen c.reserve.new.self) bids asks ≡ c.args.self.now = ap (λ (u : Seen). indexed u bids asks) same ∙ c.self.view_is in
     let one : IsIndexed refs bids asks (seen c.reserve.new.self) = subst (IsIndexed refs bids asks) (sym same) c.self.invariant.index in
@@ -34,7 +34,7 @@ invariant_of-self-in_err-reserve-2 g c =
 
 pub returns-in_err-reserve-2-clause-err : goal.returns-in_err-reserve-2-clause-err
 returns-in_err-reserve-2-clause-err g c =
-    let refs = c.self.inside.references.entries in let bids = c.self.inside.bids.entries in let asks = c.self.inside.asks.entries in
+    let refs = c.self.inside.references.entries in let bids = c.self.inside.prices.bids.entries in let asks = c.self.inside.prices.asks.entries in
     let same : seen c.reserve.new.self ≡ seen c.self.inside.queues = seen_slots c.self.inside.queues c.reserve.new.self c.reserve.ensures.queues c.reserve.ensures.orders in
     let view1 : indexed (seen c.reserve.new.self) bids asks ≡ c.args.self.now = ap (λ (u : Seen). indexed u bids asks) same ∙ c.self.view_is in
     let one : IsIndexed refs bids asks (seen c.reserve.new.self) = subst (IsIndexed refs bids asks) (sym same) c.self.invariant.index in
@@ -44,39 +44,39 @@ returns-in_err-reserve-2-clause-err g c =
 
 pub invariant_of-self-in_err-queue : goal.invariant_of-self-in_err-queue
 invariant_of-self-in_err-queue g c =
-    let refs = c.self.inside.references.entries in let bids = c.self.inside.bids.entries in let asks = c.self.inside.asks.entries in
+    let refs = c.self.inside.references.entries in let bids = c.self.inside.prices.bids.entries in let asks = c.self.inside.prices.asks.entries in
     let same : seen c.reserve.new.self ≡ seen c.self.inside.queues = seen_slots c.self.inside.queues c.reserve.new.self c.reserve.ensures.queues c.reserve.ensures.orders in
     let view1 : indexed (seen c.reserve.new.self) bids asks ≡ c.args.self.now = ap (λ (u : Seen). indexed u bids asks) same ∙ c.self.view_is in
     let one : IsIndexed refs bids asks (seen c.reserve.new.self) = subst (IsIndexed refs bids asks) (sym same) c.self.invariant.index in
     let refs' = c.reserve-2.new.self.entries in
     let two : IsIndexed refs' bids asks (seen c.reserve.new.self) = reordered refs refs' bids asks (seen c.reserve.new.self) c.reserve-2.ensures.entries.2 c.reserve-2.ensures.entries.1 one in
-    let bids' = c.level_for.new.bids.entries in let asks' = c.level_for.new.asks.entries in
+    let bids' = c.level_for.new.prices.bids.entries in let asks' = c.level_for.new.prices.asks.entries in
     let three : IsIndexed refs' bids' asks' (seen c.level_for.new.queues) = c.level_for.ensures.index refs' two in
     let view3 : indexed (seen c.level_for.new.queues) bids' asks' ≡ c.args.self.now = c.level_for.ensures.view refs' two ∙ view1 in
     record { index = three; busy = c.in_err-queue.ensures.kept (subst (λ (u : Seen). IsBusy u bids asks) (sym same) c.self.invariant.busy) }
 
 pub returns-in_err-queue-clause-err : goal.returns-in_err-queue-clause-err
 returns-in_err-queue-clause-err g c =
-    let refs = c.self.inside.references.entries in let bids = c.self.inside.bids.entries in let asks = c.self.inside.asks.entries in
+    let refs = c.self.inside.references.entries in let bids = c.self.inside.prices.bids.entries in let asks = c.self.inside.prices.asks.entries in
     let same : seen c.reserve.new.self ≡ seen c.self.inside.queues = seen_slots c.self.inside.queues c.reserve.new.self c.reserve.ensures.queues c.reserve.ensures.orders in
     let view1 : indexed (seen c.reserve.new.self) bids asks ≡ c.args.self.now = ap (λ (u : Seen). indexed u bids asks) same ∙ c.self.view_is in
     let one : IsIndexed refs bids asks (seen c.reserve.new.self) = subst (IsIndexed refs bids asks) (sym same) c.self.invariant.index in
     let refs' = c.reserve-2.new.self.entries in
     let two : IsIndexed refs' bids asks (seen c.reserve.new.self) = reordered refs refs' bids asks (seen c.reserve.new.self) c.reserve-2.ensures.entries.2 c.reserve-2.ensures.entries.1 one in
-    let bids' = c.level_for.new.bids.entries in let asks' = c.level_for.new.asks.entries in
+    let bids' = c.level_for.new.prices.bids.entries in let asks' = c.level_for.new.prices.asks.entries in
     let three : IsIndexed refs' bids' asks' (seen c.level_for.new.queues) = c.level_for.ensures.index refs' two in
     let view3 : indexed (seen c.level_for.new.queues) bids' asks' ≡ c.args.self.now = c.level_for.ensures.view refs' two ∙ view1 in
     any_err c.from_residual-in_err-queue.result view3
 
 pub put_last-requires-clause-there : goal.put_last-requires-clause-there
 put_last-requires-clause-there g c =
-    let refs = c.self.inside.references.entries in let bids = c.self.inside.bids.entries in let asks = c.self.inside.asks.entries in
+    let refs = c.self.inside.references.entries in let bids = c.self.inside.prices.bids.entries in let asks = c.self.inside.prices.asks.entries in
     let same : seen c.reserve.new.self ≡ seen c.self.inside.queues = seen_slots c.self.inside.queues c.reserve.new.self c.reserve.ensures.queues c.reserve.ensures.orders in
     let view1 : indexed (seen c.reserve.new.self) bids asks ≡ c.args.self.now = ap (λ (u : Seen). indexed u bids asks) same ∙ c.self.view_is in
     let one : IsIndexed refs bids asks (seen c.reserve.new.self) = subst (IsIndexed refs bids asks) (sym same) c.self.invariant.index in
     let refs' = c.reserve-2.new.self.entries in
     let two : IsIndexed refs' bids asks (seen c.reserve.new.self) = reordered refs refs' bids asks (seen c.reserve.new.self) c.reserve-2.ensures.entries.2 c.reserve-2.ensures.entries.1 one in
-    let bids' = c.level_for.new.bids.entries in let asks' = c.level_for.new.asks.entries in
+    let bids' = c.level_for.new.prices.bids.entries in let asks' = c.level_for.new.prices.asks.entries in
     let three : IsIndexed refs' bids' asks' (seen c.level_for.new.queues) = c.level_for.ensures.index refs' two in
     let view3 : indexed (seen c.level_for.new.queues) bids' asks' ≡ c.args.self.now = c.level_for.ensures.view refs' two ∙ view1 in
     let at : queue_of_side c.args.order.side bids' asks' c.args.order.locate c.args.order.price ≡ Some c.in_ok-queue.queue = c.in_ok-queue.ensures.queue in
@@ -85,13 +85,13 @@ put_last-requires-clause-there g c =
 
 pub invariant_of-self-2 : goal.invariant_of-self-2
 invariant_of-self-2 g c =
-    let refs = c.self.inside.references.entries in let bids = c.self.inside.bids.entries in let asks = c.self.inside.asks.entries in
+    let refs = c.self.inside.references.entries in let bids = c.self.inside.prices.bids.entries in let asks = c.self.inside.prices.asks.entries in
     let same : seen c.reserve.new.self ≡ seen c.self.inside.queues = seen_slots c.self.inside.queues c.reserve.new.self c.reserve.ensures.queues c.reserve.ensures.orders in
     let view1 : indexed (seen c.reserve.new.self) bids asks ≡ c.args.self.now = ap (λ (u : Seen). indexed u bids asks) same ∙ c.self.view_is in
     let one : IsIndexed refs bids asks (seen c.reserve.new.self) = subst (IsIndexed refs bids asks) (sym same) c.self.invariant.index in
     let refs' = c.reserve-2.new.self.entries in
     let two : IsIndexed refs' bids asks (seen c.reserve.new.self) = reordered refs refs' bids asks (seen c.reserve.new.self) c.reserve-2.ensures.entries.2 c.reserve-2.ensures.entries.1 one in
-    let bids' = c.level_for.new.bids.entries in let asks' = c.level_for.new.asks.entries in
+    let bids' = c.level_for.new.prices.bids.entries in let asks' = c.level_for.new.prices.asks.entries in
     let three : IsIndexed refs' bids' asks' (seen c.level_for.new.queues) = c.level_for.ensures.index refs' two in
     let view3 : indexed (seen c.level_for.new.queues) bids' asks' ≡ c.args.self.now = c.level_for.ensures.view refs' two ∙ view1 in
     let at : queue_of_side c.args.order.side bids' asks' c.args.order.locate c.args.order.price ≡ Some c.in_ok-queue.queue = c.in_ok-queue.ensures.queue in
@@ -100,13 +100,13 @@ invariant_of-self-2 g c =
 
 pub returns-clause-ok : goal.returns-clause-ok
 returns-clause-ok g c =
-    let refs = c.self.inside.references.entries in let bids = c.self.inside.bids.entries in let asks = c.self.inside.asks.entries in
+    let refs = c.self.inside.references.entries in let bids = c.self.inside.prices.bids.entries in let asks = c.self.inside.prices.asks.entries in
     let same : seen c.reserve.new.self ≡ seen c.self.inside.queues = seen_slots c.self.inside.queues c.reserve.new.self c.reserve.ensures.queues c.reserve.ensures.orders in
     let view1 : indexed (seen c.reserve.new.self) bids asks ≡ c.args.self.now = ap (λ (u : Seen). indexed u bids asks) same ∙ c.self.view_is in
     let one : IsIndexed refs bids asks (seen c.reserve.new.self) = subst (IsIndexed refs bids asks) (sym same) c.self.invariant.index in
     let refs' = c.reserve-2.new.self.entries in
     let two : IsIndexed refs' bids asks (seen c.reserve.new.self) = reordered refs refs' bids asks (seen c.reserve.new.self) c.reserve-2.ensures.entries.2 c.reserve-2.ensures.entries.1 one in
-    let bids' = c.level_for.new.bids.entries in let asks' = c.level_for.new.asks.entries in
+    let bids' = c.level_for.new.prices.bids.entries in let asks' = c.level_for.new.prices.asks.entries in
     let three : IsIndexed refs' bids' asks' (seen c.level_for.new.queues) = c.level_for.ensures.index refs' two in
     let view3 : indexed (seen c.level_for.new.queues) bids' asks' ≡ c.args.self.now = c.level_for.ensures.view refs' two ∙ view1 in
     let at : queue_of_side c.args.order.side bids' asks' c.args.order.locate c.args.order.price ≡ Some c.in_ok-queue.queue = c.in_ok-queue.ensures.queue in

@@ -8,14 +8,14 @@ use Rattle.itch_book.proofs.index.Index.new.Goals as goal
 
 pub invariant_of-result : goal.invariant_of-result
 invariant_of-result g c = record {
-  index = subst (λ (refs : List (ℕ × ℕ)). IsIndexed refs c.new-2.result.entries c.new-3.result.entries (seen c.new-4.result)) (sym c.new.ensures.empty)
-      (subst (λ (bids : List (Place × ℕ)). IsIndexed [] bids c.new-3.result.entries (seen c.new-4.result)) (sym c.new-2.ensures.empty)
-      (subst (λ (asks : List (Place × ℕ)). IsIndexed [] [] asks (seen c.new-4.result)) (sym c.new-3.ensures.empty) (empty_index (seen c.new-4.result) (no_slots c.new-4.result.orders c.new-4.ensures.orders) (no_slots c.new-4.result.queues c.new-4.ensures.queues))));
-  busy = subst (λ (bids : List (Place × ℕ)). IsBusy (seen c.new-4.result) bids c.new-3.result.entries) (sym c.new-2.ensures.empty)
-      (subst (λ (asks : List (Place × ℕ)). IsBusy (seen c.new-4.result) [] asks) (sym c.new-3.ensures.empty) (empty_busy (seen c.new-4.result)));
+  index = subst (λ (refs : List (ℕ × ℕ)). IsIndexed refs c.new-2.result.bids.entries c.new-2.result.asks.entries (seen c.new-3.result)) (sym c.new.ensures.empty)
+      (subst (λ (bids : List (Place × ℕ)). IsIndexed [] bids c.new-2.result.asks.entries (seen c.new-3.result)) (sym c.new-2.ensures.bids)
+      (subst (λ (asks : List (Place × ℕ)). IsIndexed [] [] asks (seen c.new-3.result)) (sym c.new-2.ensures.asks) (empty_index (seen c.new-3.result) (no_slots c.new-3.result.orders c.new-3.ensures.orders) (no_slots c.new-3.result.queues c.new-3.ensures.queues))));
+  busy = subst (λ (bids : List (Place × ℕ)). IsBusy (seen c.new-3.result) bids c.new-2.result.asks.entries) (sym c.new-2.ensures.bids)
+      (subst (λ (asks : List (Place × ℕ)). IsBusy (seen c.new-3.result) [] asks) (sym c.new-2.ensures.asks) (empty_busy (seen c.new-3.result)));
 }
 
 pub returns : goal.returns
 returns g c =
-    ap (λ (bids : List (Place × ℕ)). indexed (seen c.new-4.result) bids c.new-3.result.entries) c.new-2.ensures.empty
-    ∙ ap (λ (asks : List (Place × ℕ)). indexed (seen c.new-4.result) [] asks) c.new-3.ensures.empty ∙ lay_fit [] tt
+    ap (λ (bids : List (Place × ℕ)). indexed (seen c.new-3.result) bids c.new-2.result.asks.entries) c.new-2.ensures.bids
+    ∙ ap (λ (asks : List (Place × ℕ)). indexed (seen c.new-3.result) [] asks) c.new-2.ensures.asks ∙ lay_fit [] tt

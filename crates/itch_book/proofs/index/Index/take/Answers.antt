@@ -67,7 +67,7 @@ returns-clause-left g c =
 
 pub invariant_of-self-2 : goal.invariant_of-self-2
 invariant_of-self-2 g c =
-    let refs = c.self.inside.references.entries in let bids = c.self.inside.bids.entries in let asks = c.self.inside.asks.entries in
+    let refs = c.self.inside.references.entries in let bids = c.self.inside.prices.bids.entries in let asks = c.self.inside.prices.asks.entries in
     let w : Seen = seen c.self.inside.queues in
     let k = c.known_node-key.result in let x = c.order.result.now in let m = x.shares - c.args.shares in
     let some : 0 < m = omega (arith, c.if-left-eq0.false) in
@@ -81,7 +81,7 @@ invariant_of-self-2 g c =
 
 pub returns-clause-orders : goal.returns-clause-orders
 returns-clause-orders g c =
-    let refs = c.self.inside.references.entries in let bids = c.self.inside.bids.entries in let asks = c.self.inside.asks.entries in
+    let refs = c.self.inside.references.entries in let bids = c.self.inside.prices.bids.entries in let asks = c.self.inside.prices.asks.entries in
     let w : Seen = seen c.self.inside.queues in
     let k = c.known_node-key.result in let x = c.order.result.now in let m = x.shares - c.args.shares in
     let some : 0 < m = omega (arith, c.if-left-eq0.false) in

@@ -2,7 +2,7 @@ use Rattle.std.proofs.Common.{◌≡◌, Some, None, sym, ap, subst}
 use Rattle.itch_codec.specs.declared.side.Side.TheVariants.{Buy, Sell}
 use Rattle.itch_book.specs.Indexed.{queue_at, IsNextOr}
 use Rattle.itch_book.proofs.RangeLemmas.{span_all, span_below, last_of_range}
-use Rattle.itch_book.proofs.index.highest.Goals as goal
+use Rattle.itch_book.proofs.prices.highest.Goals as goal
 
 pub returns-in-None : goal.returns-in-None
 returns-in-None g c =
