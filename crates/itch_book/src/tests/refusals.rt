@@ -41,9 +41,10 @@ fn listed<B: OrderBook>(
     let mut next = book.first(1).copied();
     for _ in 0..book.len() {
         let Some(order) = next else { break };
+        let reference = order.reference;
         orders.push(order)?;
-        assert!(rt; book.get(order.reference).is_some());
-        next = book.after(order.reference).copied();
+        assert!(rt; book.get(reference).is_some());
+        next = book.after(reference).copied();
     }
     Ok(orders)
 }

@@ -55,6 +55,11 @@ impl Random {
     }
 }
 
+// Adds a copy of an order.
+fn add_copy<B: OrderBook>(rt: &impl Abort, book: &mut B, order: &Order) -> Result<(), AllocError> {
+    add(rt, book, *order)
+}
+
 // Makes one random call of both books.
 fn call<B: OrderBook, C: OrderBook>(
     rt: &impl Abort,
@@ -65,8 +70,8 @@ fn call<B: OrderBook, C: OrderBook>(
     let reference = u64::from(random.below(40));
     let Some(order) = one.get(reference).copied() else {
         let order = random.order(reference);
-        add(rt, one, order)?;
-        return add(rt, other, order);
+        add_copy(rt, one, &order)?;
+        return add_copy(rt, other, &order);
     };
     let new = u64::from(random.below(40));
     match random.below(4) {
