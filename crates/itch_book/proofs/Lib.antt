@@ -9,4 +9,23 @@ pub mod QueueLemmas
 pub mod PriceLemmas
 pub mod Walks
 pub mod LawRules
+pub mod LinkLemmas
+pub mod UnlinkLemmas
+pub mod QueueSteps
+pub mod SoundSteps
+pub mod ViewLemmas
+pub mod ReadLemmas
+pub mod IndexLemmas
+pub mod IndexSteps
+pub mod PutLemmas
+pub mod OpenLemmas
+pub mod RangeLemmas
+pub mod FrontLemmas
+pub mod LiveLemmas
+pub mod ChangeLemmas
+pub mod AfterLemmas
+pub mod ReplaceLemmas
+pub mod KeptLemmas
+pub mod CutLemmas
+pub mod CloseLemmas
 mod PlaceLemmas

@@ -3,3 +3,7 @@ pub mod Orders
 pub mod Kept
 pub mod Priority
 pub mod Taken
+pub mod Link
+pub mod Links
+pub mod Queued
+pub mod Indexed

@@ -2,12 +2,21 @@
 #![tactic(auto)]
 
 mod book;
+mod index;
+mod indexed_book;
 pub mod laws;
+mod link;
 mod list_book;
 mod moves;
 mod order;
 mod places;
+mod prices;
+mod queues;
 
 pub use book::OrderBook;
+pub use indexed_book::IndexedBook;
 pub use list_book::ListBook;
 pub use order::{Order, Taken};
+
+#[cfg(test)]
+mod tests;

@@ -85,8 +85,3 @@ impl<A: Allocator + Copy> OrderBook for ListBook<A> {
 
     ghost is_book = { λ b. b.is_kept };
 }
-
-#[cfg(test)]
-mod refusals;
-#[cfg(test)]
-mod tests;

@@ -7,13 +7,13 @@ use itch_codec::{Alpha, Side};
 pub struct Order {
     /// The order reference number, which no other live order has.
     pub reference: u64,
-    /// The locate of the security.
-    pub locate: u16,
-    pub side: Side,
     /// The shares that remain, 1 and up.
     pub shares: u32,
     /// The price with four implied decimals.
     pub price: u32,
+    /// The locate of the security.
+    pub locate: u16,
+    pub side: Side,
     /// The market participant that the order is attributed to, if it came with one.
     pub mpid: Option<Alpha<4>>,
 }

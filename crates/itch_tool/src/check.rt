@@ -5,10 +5,10 @@ ghost use Rattle.itch_tool.specs.Outputs.{Outputs, WritesOutput, ok_line, ok_lin
 ghost use Rattle.itch_tool.specs.Readings.{ReadsDay, FromReader};
 ghost use Rattle.itch_tool.specs.declared.fault.Source.TheVariants.{Only};
 
+use crate::book::Book;
 use crate::fault::{Source, ToolFault};
 use crate::reading::read_market;
 use arrayvec::ArrayVec;
-use itch_book::ListBook;
 use itch_frame::counted::{CountedRead, CountedWrite};
 use itch_frame::{BlockReader, FrameFault, write_part};
 use itch_market::Market;
@@ -35,7 +35,7 @@ pub fn check_blocks<R: CountedRead, B: Allocator, A: Allocator + Copy, W: Counte
 ) -> Result<bool, ToolFault>
     ensures { Outputs W.contents W.failures (ReadsDay R.remaining R.failures Only None reader.old reader.new) ok_line_of (λ _. true) out.old result out.new }
 {
-    let mut market: Market<ListBook<A>> = Market::new(alloc);
+    let mut market: Market<Book<A>> = Market::new(alloc);
     let count = match read_market(reader, &mut market, None, Source::Only) {
         Ok(count) => count,
         Err(fault) => return Err(fault),

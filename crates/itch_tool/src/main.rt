@@ -3,6 +3,7 @@
 //! Each command is one public function over readers and writers; `run` opens files and standard streams for them.
 #![tactic(auto)]
 
+mod book;
 mod check;
 mod fault;
 mod reading;

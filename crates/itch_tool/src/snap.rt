@@ -6,9 +6,10 @@ ghost use Rattle.itch_tool.specs.Outputs.{Outputs, WritesOutput, snapshot_of};
 ghost use Rattle.itch_tool.specs.Readings.{ReadsDay, FromReader};
 ghost use Rattle.itch_tool.specs.declared.fault.Source.TheVariants.{Only};
 
+use crate::book::Book;
 use crate::fault::{Source, ToolFault};
 use crate::reading::read_market;
-use itch_book::{ListBook, OrderBook};
+use itch_book::OrderBook;
 use itch_codec::Seq;
 use itch_frame::counted::{CountedRead, CountedWrite};
 use itch_frame::{BlockReader, FrameFault};
@@ -41,7 +42,7 @@ pub fn snap_blocks<R: CountedRead, B: Allocator, A: Allocator + Copy, W: Counted
 ) -> Result<bool, ToolFault>
     ensures { Outputs W.contents W.failures (ReadsDay R.remaining R.failures Only after reader.old reader.new) snapshot_of (λ _. true) out.old result out.new }
 {
-    let mut market: Market<ListBook<A>> = Market::new(alloc);
+    let mut market: Market<Book<A>> = Market::new(alloc);
     let count = match read_market(reader, &mut market, after, Source::Only) {
         Ok(count) => count,
         Err(fault) => return Err(fault),

@@ -1,6 +1,7 @@
-//! Books by what their calls answer. The helpers take any book.
-use super::ListBook;
+//! Books by what their calls return. The helpers take any book.
 use crate::book::OrderBook;
+use crate::indexed_book::IndexedBook;
+use crate::list_book::ListBook;
 use crate::order::{Order, Taken};
 use itch_codec::Side;
 use std::alloc::AllocError;
@@ -29,7 +30,12 @@ pub(super) fn add<B: OrderBook>(
     book.add(order)
 }
 
-fn take<B: OrderBook>(rt: &impl Abort, book: &mut B, reference: u64, shares: u32) -> Taken {
+pub(super) fn take<B: OrderBook>(
+    rt: &impl Abort,
+    book: &mut B,
+    reference: u64,
+    shares: u32,
+) -> Taken {
     let Some(order) = book.get(reference).copied() else {
         panic!(rt; "{reference} is not live");
     };
@@ -37,7 +43,7 @@ fn take<B: OrderBook>(rt: &impl Abort, book: &mut B, reference: u64, shares: u32
     book.take(reference, shares)
 }
 
-fn delete<B: OrderBook>(rt: &impl Abort, book: &mut B, reference: u64) -> Order {
+pub(super) fn delete<B: OrderBook>(rt: &impl Abort, book: &mut B, reference: u64) -> Order {
     assert!(rt; book.get(reference).is_some());
     book.delete(reference)
 }
@@ -102,7 +108,7 @@ fn check_calls<B: OrderBook>(rt: &impl Abort, book: &mut B) -> Result<(), AllocE
         (5, 0),
         (u64::MAX, 0),
     ] {
-        assert_eq!(rt; next(rt, book, number), want, "behind {number}");
+        assert_eq!(rt; next(rt, book, number), want, "after {number}");
     }
     assert_eq!(rt; reference(book.first(2)), 0);
     assert_eq!(rt; reference(book.front(1, Side::Buy)), 2);
@@ -116,7 +122,7 @@ fn check_calls<B: OrderBook>(rt: &impl Abort, book: &mut B) -> Result<(), AllocE
         (Side::Sell, Some(1500200), Some(1500300)),
         (Side::Sell, Some(1500300), None),
     ] {
-        assert_eq!(rt; book.next_price(1, side, last), want, "behind {last:?}");
+        assert_eq!(rt; book.next_price(1, side, last), want, "after {last:?}");
     }
     assert_eq!(rt; book.level_total(1, Side::Buy, 1500100), (600, 2));
     assert_eq!(rt; book.level_total(1, Side::Buy, 1500000), (400, 2));
@@ -150,27 +156,49 @@ fn check_changes<B: OrderBook>(rt: &impl Abort, book: &mut B) -> Result<(), Allo
     Ok(())
 }
 
+// Checks a level of a thousand orders, of which three change.
+fn check_priority<B: OrderBook>(rt: &impl Abort, book: &mut B) -> Result<(), AllocError> {
+    for number in 1..1001 {
+        add(rt, book, order(number, Side::Buy, 10, 1500000))?;
+    }
+    delete(rt, book, 500);
+    assert_eq!(rt; take(rt, book, 1, 10), Taken::Gone);
+    replace(rt, book, 1000, 2000, 5, 1500000)?;
+    assert_eq!(rt; book.level_total(1, Side::Buy, 1500000), (9975, 998));
+    assert_eq!(rt; reference(book.front(1, Side::Buy)), 2);
+    assert_eq!(rt; next(rt, book, 499), 501);
+    assert_eq!(rt; next(rt, book, 999), 2000);
+    assert_eq!(rt; next(rt, book, 2000), 0);
+    Ok(())
+}
+
 #[test]
-fn answers_each_call(rt: HostRuntime) -> Result<(), Fail> {
+fn list_book_calls(rt: HostRuntime) -> Result<(), Fail> {
     let mut book: ListBook = ListBook::new(rt.alloc());
     check_calls(&rt, &mut book)?;
     Ok(())
 }
 
-// A level of a thousand orders, of which three change.
 #[test]
-fn keeps_priority(rt: HostRuntime) -> Result<(), Fail> {
-    let mut book: ListBook = ListBook::new(rt.alloc());
-    for number in 1..1001 {
-        add(&rt, &mut book, order(number, Side::Buy, 10, 1500000))?;
-    }
-    delete(&rt, &mut book, 500);
-    assert_eq!(rt; take(&rt, &mut book, 1, 10), Taken::Gone);
-    replace(&rt, &mut book, 1000, 2000, 5, 1500000)?;
-    assert_eq!(rt; book.level_total(1, Side::Buy, 1500000), (9975, 998));
-    assert_eq!(rt; reference(book.front(1, Side::Buy)), 2);
-    assert_eq!(rt; next(&rt, &book, 499), 501);
-    assert_eq!(rt; next(&rt, &book, 999), 2000);
-    assert_eq!(rt; next(&rt, &book, 2000), 0);
+fn indexed_book_calls(rt: HostRuntime) -> Result<(), Fail> {
+    let mut book: IndexedBook = IndexedBook::new(rt.alloc());
+    check_calls(&rt, &mut book)?;
     Ok(())
 }
+
+#[test]
+fn list_book_keeps_priority(rt: HostRuntime) -> Result<(), Fail> {
+    let mut book: ListBook = ListBook::new(rt.alloc());
+    check_priority(&rt, &mut book)?;
+    Ok(())
+}
+
+#[test]
+fn indexed_book_keeps_priority(rt: HostRuntime) -> Result<(), Fail> {
+    let mut book: IndexedBook = IndexedBook::new(rt.alloc());
+    check_priority(&rt, &mut book)?;
+    Ok(())
+}
+
+mod refusals;
+mod side_by_side;

@@ -1,0 +1,138 @@
+-- The orders at a price are those of its queue.
+use Rattle.std.proofs.Common.{◌≡◌, ℕ, ◌+◌, ◌<◌, ◌==◌, ◌&&◌, Bool, true, false, cond, not, List, [], ◌∷◌, ◌++◌, length, filter, Option, Some, None, IsSome, refl, sym, ap, ◌∙◌, subst, arith}
+use Rattle.std.specs.declared.cmp.Ordering.{Ordering}
+use Rattle.std.specs.Ordering.{nat_cmp, ordering_then, is_eq}
+use Rattle.std.specs.declared.cmp.Ordering.TheVariants.{Less, Equal, Greater}
+use Rattle.std.specs.List.{AllByRecursion}
+use Rattle.std.specs.Map.{lookup, keys_of}
+use Rattle.std.specs.BTreeMap.{is_at}
+use Rattle.std.specs.List.Sorted.{IsStrictlySortedBy}
+use Rattle.std.proofs.lemmas.Bool.{false≢true}
+use Rattle.std.proofs.lemmas.Bool.Decides.{nat_tests}
+use Rattle.std.proofs.lemmas.Map.Lookups.{CmpEqualImpliesEq, exact_unsigned, exact_pairs}
+use Rattle.std.proofs.lemmas.Map.Keys.{sorted_head, sorted_tail}
+use Rattle.std.proofs.lemmas.List.Elements.{filter-append}
+use Rattle.itch_codec.specs.declared.side.Side.{Side}
+use Rattle.itch_codec.specs.declared.side.Side.TheVariants.{Buy, Sell}
+use Rattle.itch_book.specs.declared.order.Order.{Order}
+use Rattle.itch_book.specs.Orders.{is_level, is_of, same_side, lay, level}
+use Rattle.itch_book.specs.Queued.{Queued, Seen, seen, keys_at, order_at, found}
+use Rattle.itch_book.specs.Indexed.{Place, place_cmp, queue_at, orders_in, line, line_at, joined, IsAt, indexed, queue_of_side}
+use Rattle.itch_book.proofs.Lists.{by_test, filter_none, filter_all, All-weaker_rec}
+use Rattle.itch_book.proofs.OrderLemmas.{same_side_is}
+
+-- a query for a place finds that place alone
+pub place_is : (a b : Place) → is_at (place_cmp a) b ≡ true → a ≡ b
+place_is a b h = exact_pairs nat_cmp nat_cmp exact_unsigned exact_unsigned a b (equal (place_cmp a b) h)
+  where
+    equal : (o : Ordering) → is_eq o ≡ true → o ≡ Equal
+    equal Less h = absurd (false≢true h)
+    equal Equal h = refl
+    equal Greater h = absurd (false≢true h)
+
+pub less_apart : (a b : Place) → place_cmp a b ≡ Less → is_at (place_cmp a) b ≡ false
+less_apart a b h = ap is_eq h
+
+-- what an order at a place tells of its place
+pub level_place : (l : ℕ) (s : Side) (p m : ℕ) (q : ℕ) (x : Order) → is_level l s p x ≡ true → is_level m s q x ≡ true → ◌≡◌ {A = ℕ × ℕ} (l, p) (m, q)
+level_place l s p m q x h k = let a : l ≡ m = grind (arith, nat_tests) in let b : p ≡ q = grind (arith, nat_tests) in λ i. (a i, b i)
+
+pub place_self : (a : Place) → is_at (place_cmp a) a ≡ true
+place_self a = eq_self (ordering_then (nat_cmp a.0 a.0) (nat_cmp a.1 a.1)) (both a.0 a.1)
+  where
+    itself : (m : ℕ) → nat_cmp m m ≡ Equal
+    itself m = grind (arith, nat_tests)
+
+    both : (m n : ℕ) → ordering_then (nat_cmp m m) (nat_cmp n n) ≡ Equal
+    both m n = let a = itself m in let b = itself n in simp (a, b) refl
+
+    eq_self : (o : Ordering) → o ≡ Equal → is_eq o ≡ true
+    eq_self o h = ap is_eq h
+
+-- the other side has no orders at a price
+pub other_side : (l : ℕ) (s t : Side) (p m q : ℕ) (x : Order) → same_side s t ≡ false → is_level l s p x ≡ true → is_level m t q x ≡ true → ⊥
+other_side l s t p m q x apart h k = by_sides s t apart x.side (side_of l s p x h) (side_of m t q x k)
+  where
+    side_of : (l : ℕ) (s : Side) (p : ℕ) (x : Order) → is_level l s p x ≡ true → same_side x.side s ≡ true
+    side_of l s p x h = grind (arith, nat_tests)
+
+    by_sides : (s t : Side) → same_side s t ≡ false → (u : Side) → same_side u s ≡ true → same_side u t ≡ true → ⊥
+    by_sides s t apart u a b =
+        let e = same_side_is u s a in let f = same_side_is u t b in
+        false≢true (sym apart ∙ subst (λ v. same_side v t ≡ true) e b)
+
+-- nothing is found past what is greater
+past_none : (a : Place) (es : List (Place × ℕ)) → AllByRecursion (λ (k : Place). place_cmp a k ≡ Less) (keys_of es) → lookup (is_at (place_cmp a)) es ≡ None
+past_none a [] h = refl
+past_none a (e ∷ es) h = let f = less_apart a e.0 h.0 in simp f (past_none a es h.1)
+
+module _ (v : Seen) where
+  -- the orders of another level than the queue's
+  none_here : (l : ℕ) (s : Side) (p : ℕ) (e : Place × ℕ) → is_at (place_cmp (l, p)) e.0 ≡ false → IsAt v s e → filter (is_level l s p) (line v e.1) ≡ []
+  none_here l s p e apart at = filter_none (is_level l s p) (line v e.1) (All-weaker_rec (λ x. is_level e.0.0 s e.0.1 x ≡ true) (λ x. is_level l s p x ≡ false)
+      (λ x h. by_test (is_level l s p x)
+      (λ k. absurd (false≢true (sym apart ∙ subst (λ (a : Place). is_at (place_cmp (l, p)) a ≡ true) (level_place l s p e.0.0 e.0.1 x k h) (place_self (l, p)))))
+      (λ n. n)) (line v e.1) at)
+
+  none_left : (l : ℕ) (s : Side) (p : ℕ) (es : List (Place × ℕ)) → AllByRecursion (λ (k : Place). place_cmp (l, p) k ≡ Less) (keys_of es) → AllByRecursion (IsAt v s) es → filter (is_level l s p) (joined v es) ≡ []
+  none_left l s p [] less at = refl
+  none_left l s p (e ∷ es) less at =
+      filter-append (is_level l s p) (line v e.1) (joined v es)
+      ∙ ap (λ t. t ++ filter (is_level l s p) (joined v es)) (none_here l s p e (less_apart (l, p) e.0 less.0) at.0)
+      ∙ none_left l s p es less.1 at.1
+
+  -- the orders at a price of a side are those of the queue there
+  pub level_joined : (l : ℕ) (s : Side) (p : ℕ) (es : List (Place × ℕ)) → IsStrictlySortedBy place_cmp (keys_of es) → AllByRecursion (IsAt v s) es → filter (is_level l s p) (joined v es) ≡ line_at v (queue_at es l p)
+  level_joined l s p [] sorted at = refl
+  level_joined l s p (e ∷ es) sorted at =
+      filter-append (is_level l s p) (line v e.1) (joined v es) ∙
+      by_test (is_at (place_cmp (l, p)) e.0)
+      (λ h. let is : e.0 ≡ (l, p) = sym (place_is (l, p) e.0 h) in
+      let all : AllByRecursion (λ x. is_level l s p x ≡ true) (line v e.1) = subst (λ (a : Place). AllByRecursion (λ x. is_level a.0 s a.1 x ≡ true) (line v e.1)) is at.0 in
+      let rest = none_left l s p es (subst (λ (a : Place). AllByRecursion (λ (k : Place). place_cmp a k ≡ Less) (keys_of es)) is (sorted_head place_cmp e.0 (keys_of es) sorted)) at.1 in
+      simp h (ap (λ t. filter (is_level l s p) (line v e.1) ++ t) rest ∙ append_nil (filter (is_level l s p) (line v e.1)) ∙ filter_all (is_level l s p) (line v e.1) all))
+      (λ h. simp h (ap (λ t. t ++ filter (is_level l s p) (joined v es)) (none_here l s p e h at.0) ∙ level_joined l s p es (sorted_tail place_cmp e.0 (keys_of es) sorted) at.1))
+    where
+      append_nil : (xs : List Order) → xs ++ [] ≡ xs
+      append_nil [] = refl
+      append_nil (x ∷ xs) = ap (λ t. x ∷ t) (append_nil xs)
+
+  -- and none of them is on the other side
+  pub level_other : (l : ℕ) (s t : Side) (p : ℕ) (es : List (Place × ℕ)) → same_side s t ≡ false → AllByRecursion (IsAt v t) es → filter (is_level l s p) (joined v es) ≡ []
+  level_other l s t p [] apart at = refl
+  level_other l s t p (e ∷ es) apart at =
+      filter-append (is_level l s p) (line v e.1) (joined v es)
+      ∙ ap (λ r. r ++ filter (is_level l s p) (joined v es)) (filter_none (is_level l s p) (line v e.1) (All-weaker_rec (λ x. is_level e.0.0 t e.0.1 x ≡ true) (λ x. is_level l s p x ≡ false)
+      (λ x h. by_test (is_level l s p x) (λ k. absurd (other_side l s t p e.0.0 e.0.1 x apart k h)) (λ n. n)) (line v e.1) at.0))
+      ∙ level_other l s t p es apart at.1
+
+  -- a fact of each place that is found is one of each entry
+  by_entries : (P : Place × ℕ → Type 0) (es : List (Place × ℕ)) → IsStrictlySortedBy place_cmp (keys_of es) → ((l p q : ℕ) → queue_at es l p ≡ Some q → P ((l, p), q)) → AllByRecursion P es
+  by_entries P [] sorted h = tt
+  by_entries P (e ∷ es) sorted h = (
+    h e.0.0 e.0.1 e.1 (let own = place_self e.0 in simp own refl),
+    by_entries P es (sorted_tail place_cmp e.0 (keys_of es) sorted) (λ l p q it. h l p q (later l p q it)),
+  )
+    where
+      later : (l p q : ℕ) → queue_at es l p ≡ Some q → queue_at (e ∷ es) l p ≡ Some q
+      later l p q it =
+          by_test (is_at (place_cmp (l, p)) e.0)
+          (λ f. let is : (l, p) ≡ e.0 = place_is (l, p) e.0 f in
+          let none : queue_at es l p ≡ None = subst (λ (a : Place). lookup (is_at (place_cmp a)) es ≡ None) (sym is) (past_none e.0 es (sorted_head place_cmp e.0 (keys_of es) sorted)) in
+          let no : Some q ≡ None = sym it ∙ none in absurd (let no_one : ⊥ = cc in no_one))
+          (λ f. simp f it)
+
+  -- over both sides
+  pub level_both : (l : ℕ) (s : Side) (p : ℕ) (bids asks : List (Place × ℕ)) → IsStrictlySortedBy place_cmp (keys_of bids) → IsStrictlySortedBy place_cmp (keys_of asks)
+      → ((t : Side) (m n q : ℕ) → queue_of_side t bids asks m n ≡ Some q → AllByRecursion (λ x. is_level m t n x ≡ true) (line v q))
+      → level (joined v bids ++ joined v asks) l s p ≡ line_at v (queue_of_side s bids asks l p)
+  level_both l Buy p bids asks b a at =
+      filter-append (is_level l Buy p) (joined v bids) (joined v asks) ∙ ap (λ t. filter (is_level l Buy p) (joined v bids) ++ t) (level_other l Buy Sell p asks refl (by_entries (IsAt v Sell) asks a (at Sell)))
+      ∙ append_nil (filter (is_level l Buy p) (joined v bids)) ∙ level_joined l Buy p bids b (by_entries (IsAt v Buy) bids b (at Buy))
+    where
+      append_nil : (xs : List Order) → xs ++ [] ≡ xs
+      append_nil [] = refl
+      append_nil (x ∷ xs) = ap (λ t. x ∷ t) (append_nil xs)
+  level_both l Sell p bids asks b a at =
+      filter-append (is_level l Sell p) (joined v bids) (joined v asks) ∙ ap (λ t. t ++ filter (is_level l Sell p) (joined v asks)) (level_other l Sell Buy p bids refl (by_entries (IsAt v Buy) bids b (at Buy)))
+      ∙ level_joined l Sell p asks a (by_entries (IsAt v Sell) asks a (at Sell))

@@ -1,0 +1,171 @@
+-- An empty queue put at a price that had none.
+use Rattle.std.proofs.Common.{◌≡◌, ℕ, ◌+◌, ◌<◌, ◌==◌, ◌&&◌, Bool, true, false, cond, eqb, not, List, [], ◌∷◌, ◌++◌, length, filter, find, Option, Some, None, IsSome, refl, sym, ap, ◌∙◌, subst, arith}
+use Rattle.std.specs.List.{AllByRecursion, list_any}
+use Rattle.std.specs.Map.{keys_of}
+use Rattle.std.specs.BTreeMap.{is_at}
+use Rattle.std.specs.List.Sorted.{IsStrictlySortedBy}
+use Rattle.std.proofs.lemmas.Bool.{false≢true}
+use Rattle.itch_codec.specs.declared.side.Side.{Side}
+use Rattle.itch_book.specs.declared.order.Order.{Order}
+use Rattle.itch_book.specs.Orders.{is_level, same_side, lay, level, IsBook}
+use Rattle.itch_book.specs.Links.{at_key}
+use Rattle.std.specs.Prelude.{Result, Ok, Err, OnErr}
+use Rattle.std.proofs.Common.{get_or}
+use Rattle.itch_book.specs.Queued.{Queued, Seen, seen, found}
+use Rattle.itch_book.specs.Indexed.{Place, place_cmp, orders_in, line, line_at, joined, indexed, queue_of_side, is_there, node_of, has_keys, IsListed, IsKnown, IsPlace, IsIndexed, IsBusy, IsBusyBut}
+use Rattle.itch_book.proofs.Lists.{by_test}
+use Rattle.itch_book.proofs.OrderLemmas.{lay_same_levels, same_side_is}
+use Rattle.itch_book.proofs.LinkLemmas.{eqb_itself, eqb_is}
+use Rattle.itch_book.proofs.QueueSteps.{none_some, same_some, inj}
+use Rattle.itch_book.proofs.SoundSteps.{at_apart, at_same}
+use Rattle.itch_book.proofs.IndexLemmas.{level_both, place_is}
+
+pub there_is : (s0 : Side) (l0 p0 : ℕ) (s : Side) (l p : ℕ) → is_there s0 l0 p0 s l p ≡ true → IsPlace s0 l0 p0 s l p
+there_is s0 l0 p0 s l p h =
+    by_test (same_side s0 s)
+    (λ e. let it : is_at (place_cmp (l0, p0)) (l, p) ≡ true = simp e at h in
+    let is = place_is (l0, p0) (l, p) it in
+    (same_side_is s0 s e, ap (λ (a : Place). a.0) is, ap (λ (a : Place). a.1) is))
+    (λ e. let no : false ≡ true = simp e at h in absurd (false≢true no))
+
+module _ (references : List (ℕ × ℕ)) (bids asks bids' asks' : List (Place × ℕ)) (w : Seen) (is : IsIndexed references bids asks w) (s0 : Side) (l0 p0 q : ℕ)
+    (bids_sorted : IsStrictlySortedBy place_cmp (keys_of bids')) (asks_sorted : IsStrictlySortedBy place_cmp (keys_of asks'))
+    (vacant : w.keys q ≡ None) (absent : queue_of_side s0 bids asks l0 p0 ≡ None)
+    (placed : (s : Side) (l p : ℕ) → queue_of_side s bids' asks' l p ≡ cond (is_there s0 l0 p0 s l p) (Some q) (queue_of_side s bids asks l p)) where
+  -- what is seen then
+  abbrev pub opened : Seen
+  opened = record { keys = at_key q (Some []) w.keys; orders = w.orders }
+
+  none_there : (s : Side) (l p : ℕ) → is_there s0 l0 p0 s l p ≡ true → queue_of_side s bids asks l p ≡ None
+  none_there s l p h =
+      let t = there_is s0 l0 p0 s l p h in
+      subst (λ u. queue_of_side u bids asks l p ≡ None) t.0 (subst (λ m. queue_of_side s0 bids asks m p ≡ None) t.1 (subst (λ n. queue_of_side s0 bids asks l0 n ≡ None) t.2 absent))
+
+  placed_here : (s : Side) (l p : ℕ) → is_there s0 l0 p0 s l p ≡ true → queue_of_side s bids' asks' l p ≡ Some q
+  placed_here s l p h = placed s l p ∙ simp h refl
+
+  placed_else : (s : Side) (l p : ℕ) → is_there s0 l0 p0 s l p ≡ false → queue_of_side s bids' asks' l p ≡ queue_of_side s bids asks l p
+  placed_else s l p h = placed s l p ∙ simp h refl
+
+  -- the new key is none that was there
+  other_key : (q0 : ℕ) → IsSome (w.keys q0) → eqb q q0 ≡ false
+  other_key q0 h = by_test (eqb q q0) (λ e. absurd (false≢true (subst IsSome (ap w.keys (sym (eqb_is q q0 e)) ∙ vacant) h))) (λ n. n)
+
+  line_kept : (q0 : ℕ) → IsSome (w.keys q0) → line opened q0 ≡ line w q0
+  line_kept q0 h = ap (orders_in w.orders) (at_apart q (Some []) w.keys q0 (other_key q0 h))
+
+  line_new : line opened q ≡ []
+  line_new = ap (orders_in w.orders) (at_same q (Some []) w.keys q (eqb_itself q))
+
+  by_place : {P : Type 0} (s : Side) (l p q0 : ℕ) → queue_of_side s bids' asks' l p ≡ Some q0 → (q ≡ q0 → is_there s0 l0 p0 s l p ≡ true → P) → (queue_of_side s bids asks l p ≡ Some q0 → is_there s0 l0 p0 s l p ≡ false → P) → P
+  by_place s l p q0 h new old =
+      by_test (is_there s0 l0 p0 s l p)
+      (λ e. new (same_some (placed_here s l p e) h) e)
+      (λ e. old (sym (placed_else s l p e) ∙ h) e)
+
+  open_levels : (s : Side) (l p q0 : ℕ) → queue_of_side s bids' asks' l p ≡ Some q0 → AllByRecursion (λ y. is_level l s p y ≡ true) (line opened q0)
+  open_levels s l p q0 h =
+      by_place s l p q0 h
+      (λ same e. subst (λ t. AllByRecursion (λ y. is_level l s p y ≡ true) (line opened t)) same (subst (AllByRecursion (λ y. is_level l s p y ≡ true)) (sym line_new) tt))
+      (λ was e. subst (AllByRecursion (λ y. is_level l s p y ≡ true)) (sym (line_kept q0 (is.there s l p q0 was))) (is.levels s l p q0 was))
+
+  level_open : (l : ℕ) (s : Side) (p : ℕ) → level (joined opened bids' ++ joined opened asks') l s p ≡ level (joined w bids ++ joined w asks) l s p
+  level_open l s p =
+      level_both opened l s p bids' asks' bids_sorted asks_sorted open_levels
+      ∙ by_test (is_there s0 l0 p0 s l p)
+      (λ e. ap (line_at opened) (placed_here s l p e) ∙ line_new ∙ sym (ap (line_at w) (none_there s l p e)))
+      (λ e. ap (line_at opened) (placed_else s l p e) ∙ by_queue (queue_of_side s bids asks l p) refl)
+      ∙ sym (level_both w l s p bids asks is.bids_sorted is.asks_sorted is.levels)
+    where
+      by_queue : (o : Option ℕ) → queue_of_side s bids asks l p ≡ o → line_at opened o ≡ line_at w o
+      by_queue None h = refl
+      by_queue (Some q0) h = line_kept q0 (is.there s l p q0 h)
+
+  pub open_view : indexed opened bids' asks' ≡ indexed w bids asks
+  open_view = lay_same_levels (joined opened bids' ++ joined opened asks') (joined w bids ++ joined w asks) level_open
+
+  pub open_index : IsIndexed references bids' asks' opened
+  open_index = record {
+    book = subst IsBook (sym open_view) is.book;
+    live = is.live;
+    priced = is.priced;
+    bids_sorted = bids_sorted;
+    asks_sorted = asks_sorted;
+    levels = open_levels;
+    there = λ s l p q0 h. by_place s l p q0 h
+        (λ same e. subst IsSome (sym (at_same q (Some []) w.keys q0 (subst (λ t. eqb q t ≡ true) same (eqb_itself q)))) refl)
+        (λ was e. let old = is.there s l p q0 was in subst IsSome (sym (at_apart q (Some []) w.keys q0 (other_key q0 old))) old);
+    apart = λ s t l p m n q0 h k. by_place s l p q0 h
+        (λ same e. by_place t m n q0 k
+        (λ same2 e2. let a = there_is s0 l0 p0 s l p e in let b = there_is s0 l0 p0 t m n e2 in (sym a.0 ∙ b.0, sym a.1 ∙ b.1, sym a.2 ∙ b.2))
+        (λ was e2. clash_at q0 same (is.there t m n q0 was)))
+        (λ was e. by_place t m n q0 k
+        (λ same e2. clash_at q0 same (is.there s l p q0 was))
+        (λ was2 e2. is.apart s t l p m n q0 was was2));
+    named = is.named;
+    known = λ r j h. let was = is.known r j h in record { order = was.order; there = was.there; reference = was.reference };
+    listed = λ j y h. let was = is.listed j y h in
+        let some : IsSome (w.keys was.queue) = subst IsSome (sym was.keys_are) refl in
+        record {
+          queue = was.queue;
+          keys = was.keys;
+          at_price = by_test (is_there s0 l0 p0 y.side y.locate y.price)
+              (λ e. none_some (none_there y.side y.locate y.price e) was.at_price)
+              (λ e. placed_else y.side y.locate y.price e ∙ was.at_price);
+          keys_are = at_apart q (Some []) w.keys was.queue (other_key was.queue some) ∙ was.keys_are;
+          member = was.member;
+        };
+    full = λ q0 js j h i. by_test (eqb q q0)
+        (λ e. let none : [] ≡ js = same_some (at_same q (Some []) w.keys q0 e) h in absurd (false≢true (subst (λ t. list_any (eqb j) t ≡ true) (sym none) i)))
+        (λ e. is.full q0 js j (sym (at_apart q (Some []) w.keys q0 e) ∙ h) i);
+    count = is.count ∙ sym (ap length open_view);
+  }
+    where
+      clash_at : {P : Type 0} (q0 : ℕ) → q ≡ q0 → IsSome (w.keys q0) → P
+      clash_at q0 same some = absurd (false≢true (sym (other_key q0 some) ∙ subst (λ t. eqb q t ≡ true) same (eqb_itself q)))
+
+  -- each other queue has nodes as before
+  pub open_busy : IsBusy w bids asks → IsBusyBut opened bids' asks' q
+  open_busy busy s l p q0 h n = by_place s l p q0 h
+      (λ same e. absurd (false≢true (sym n ∙ subst (λ t. eqb q t ≡ true) same (eqb_itself q))))
+      (λ was e. ap has_keys (at_apart q (Some []) w.keys q0 n) ∙ busy s l p q0 was)
+
+-- no queue opened and closed again
+pub seen_same : (v v' : Seen) → ((q : ℕ) → v'.keys q ≡ v.keys q) → ((k : ℕ) → v'.orders k ≡ v.orders k) → v' ≡ v
+seen_same v v' keys orders = λ i. record { keys = λ q. keys q i; orders = λ k. orders k i }
+
+pub closed_again : (keys keys1 keys2 : ℕ → Option (List ℕ)) (q : ℕ) → keys q ≡ None → ((p : ℕ) → keys1 p ≡ at_key q (Some []) keys p) → ((p : ℕ) → keys2 p ≡ at_key q None keys1 p) → (p : ℕ) → keys2 p ≡ keys p
+closed_again keys keys1 keys2 q vacant one two p =
+    two p ∙ by_test (eqb q p)
+    (λ e. at_same q None keys1 p e ∙ sym (ap keys (sym (eqb_is q p e)) ∙ vacant))
+    (λ e. at_apart q None keys1 p e ∙ one p ∙ at_apart q (Some []) keys p e)
+
+-- references in another order
+pub reordered : (references references' : List (ℕ × ℕ)) (bids asks : List (Place × ℕ)) (w : Seen) → ((r : ℕ) → node_of references' r ≡ node_of references r) → length references' ≡ length references
+    → IsIndexed references bids asks w → IsIndexed references' bids asks w
+reordered references references' bids asks w same len is = record {
+  book = is.book;
+  live = is.live;
+  priced = is.priced;
+  bids_sorted = is.bids_sorted;
+  asks_sorted = is.asks_sorted;
+  levels = is.levels;
+  there = is.there;
+  apart = is.apart;
+  named = λ k x h. same x.reference ∙ is.named k x h;
+  known = λ r k h. is.known r k (sym (same r) ∙ h);
+  listed = is.listed;
+  full = is.full;
+  count = len ∙ is.count;
+}
+
+pub seen_slots : (v v' : Queued) → v'.queues ≡ v.queues → v'.orders ≡ v.orders → seen v' ≡ seen v
+seen_slots v v' queues orders = λ i. record { keys = λ q. get_or (queues i) q None; orders = λ k. get_or (orders i) k None }
+
+pub any_err : {T E P : Type 0} (r : Result T E) → P → OnErr r P
+any_err (Ok x) p = tt
+any_err (Err e) p = p
+
+-- queues with the same orders
+pub same_orders : (v v' : Queued) → v'.orders ≡ v.orders → (k : ℕ) → get_or v'.orders k None ≡ get_or v.orders k None
+same_orders v v' same k = ap (λ (os : List (Option Order)). get_or os k None) same

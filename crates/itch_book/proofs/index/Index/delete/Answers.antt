@@ -1,0 +1,17 @@
+use Rattle.std.proofs.Common.{◌≡◌, ℕ, List, Option, Some, None, IsSome, IsSomeAnd, IfSome, refl, sym, ap, ◌∙◌, subst}
+use Rattle.std.proofs.lemmas.Bool.{false≢true}
+use Rattle.itch_book.specs.declared.order.Order.{Order}
+use Rattle.itch_book.specs.Orders.{get}
+use Rattle.itch_book.specs.Queued.{Seen, seen, order_at}
+use Rattle.itch_book.specs.Indexed.{Place, node_of, indexed, IsIndexed}
+use Rattle.itch_book.proofs.LiveLemmas.{live_node, live_order}
+use Rattle.itch_book.proofs.index.Index.delete.Goals as goal
+
+pub take_out-requires : goal.take_out-requires
+take_out-requires g c =
+    live_node _ _ _ _ c.self.invariant.index c.args.reference (subst (λ (os : List Order). IsSome (get os c.args.reference)) (sym c.self.view_is) c.requires)
+
+pub returns-clause-order : goal.returns-clause-order
+returns-clause-order g c =
+    ap (λ (os : List Order). get os c.args.reference) (sym c.self.view_is)
+    ∙ live_order _ _ _ _ c.self.invariant.index c.args.reference c.take_out.result (subst (λ (os : List Order). IsSome (get os c.args.reference)) (sym c.self.view_is) c.requires) c.take_out.ensures.order

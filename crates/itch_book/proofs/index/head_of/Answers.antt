@@ -1,0 +1,31 @@
+use Rattle.std.proofs.Common.{◌≡◌, ℕ, true, eqb, List, [], ◌∷◌, Option, Some, None, IsSome, refl, sym, ap, ◌∙◌, subst}
+use Rattle.std.specs.List.{list_any}
+use Rattle.itch_book.specs.declared.order.Order.{Order}
+use Rattle.itch_book.specs.Links.{first_or}
+use Rattle.itch_book.specs.Orders.{first}
+use Rattle.itch_book.specs.Queued.{keys_at, order_at, shown, found}
+use Rattle.itch_book.proofs.QueueSteps.{first_in, none_some, inj}
+use Rattle.itch_book.proofs.index.head_of.Goals as goal
+
+some_of : (o : Option (List ℕ)) → IsSome o → (ks : List ℕ) × (o ≡ Some ks)
+some_of None h = absurd (let no_one : ⊥ = cc in no_one)
+some_of (Some ks) h = (ks, refl)
+
+first_found : (orders : ℕ → Option Order) (key : ℕ) (x : Order) (ks : List ℕ) → first_or ks None ≡ Some key → orders key ≡ Some x → Some x ≡ first (found orders ks)
+first_found orders key x [] h there = none_some refl h
+first_found orders key x (k ∷ ks) h there = sym (ap (λ o. first (shown o (found orders ks))) (ap orders (inj h) ∙ there))
+
+none_found : (orders : ℕ → Option Order) (ks : List ℕ) → first_or ks None ≡ None → ◌≡◌ {A = Option Order} None (first (found orders ks))
+none_found orders [] h = refl
+none_found orders (k ∷ ks) h = none_some h refl
+
+pub order-requires : goal.order-requires
+order-requires g c =
+    let keys = some_of (keys_at c.args.queues.now c.args.queue) c.requires.there in
+    c.requires.live keys.0 c.in-Some.key keys.1 (first_in c.in-Some.key keys.0 (sym (c.in-Some.ensures keys.0 keys.1)))
+
+pub returns-in-Some : goal.returns-in-Some
+returns-in-Some g c ks keys = first_found (order_at c.args.queues.now) c.in-Some.key c.order.result.now ks (sym (c.in-Some.ensures ks keys)) c.order.ensures
+
+pub returns-in-None : goal.returns-in-None
+returns-in-None g c ks keys = none_found (order_at c.args.queues.now) ks (sym (c.in-None.ensures ks keys))

@@ -1,0 +1,45 @@
+use Rattle.std.proofs.Common.{◌≡◌, ℕ, ◌+◌, List, length, Option, Some, None, IsSome, option_map, refl, sym, ap, ◌∙◌, subst}
+use Rattle.itch_book.specs.declared.order.Order.{Order}
+use Rattle.itch_book.specs.Links.{at_key}
+use Rattle.itch_book.specs.Queued.{Queued, Seen, seen, keys_at, order_at, without_key}
+use Rattle.itch_book.specs.Indexed.{Place, queue_of_side, indexed, node_of, IsIndexed, IsBusy, IsBusyBut}
+use Rattle.itch_book.proofs.OpenLemmas.{seen_same}
+use Rattle.itch_book.proofs.CutLemmas.{cut_view, cut_index, cut_busy}
+use Rattle.itch_book.proofs.index.take_out.Goals as goal
+
+pub returns-clause-whole : goal.returns-clause-whole
+returns-clause-whole g c whole =
+    let refs = c.args.references.now.entries in let refs' = c.remove.new.self.entries in
+    let bids = c.args.prices.now.bids.entries in let asks = c.args.prices.now.asks.entries in
+    let w : Seen = seen c.args.queues.now in let is = whole.index in
+    let r = c.args.reference in let k = c.in-Some.key in let x = c.unlink-order.result in let q = c.queue_of-queue.result in
+    let node : node_of refs r ≡ Some k = sym c.in-Some.ensures.value in
+    let here : order_at c.args.queues.now k ≡ Some x = c.unlink-order.ensures.order in
+    let names : (j : ℕ) → node_of refs' j ≡ at_key r None (node_of refs) j = λ j. c.in-Some.ensures.updates.0 j in
+    let len : length refs' + 1 ≡ length refs = c.in-Some.ensures.len in
+    let v : Seen = record { keys = λ p. option_map (without_key k) (w.keys p); orders = at_key k None w.orders } in
+    let same : seen c.unlink-order.new.self ≡ v = seen_same v (seen c.unlink-order.new.self) c.unlink-order.ensures.keys c.unlink-order.ensures.orders in
+    let place = is.listed k x here in
+    let at : queue_of_side x.side bids asks x.locate x.price ≡ Some q = place.at_price ∙ ap Some (sym (c.queue_of-queue.ensures.only place.queue place.keys place.keys_are place.member)) in
+    let two : IsIndexed refs' bids asks (seen c.unlink-order.new.self) = subst (IsIndexed refs' bids asks) (sym same) (cut_index refs refs' bids asks w is r k x node here names len) in
+    record {
+      index = c.close_empty.ensures.index refs' two at;
+      busy = c.close_empty.ensures.busy refs' two at (subst (λ (u : Seen). IsBusyBut u bids asks q) (sym same) (cut_busy refs refs' bids asks w is r k x node here names len q at whole.busy));
+    }
+
+pub returns-clause-view : goal.returns-clause-view
+returns-clause-view g c whole =
+    let refs = c.args.references.now.entries in let refs' = c.remove.new.self.entries in
+    let bids = c.args.prices.now.bids.entries in let asks = c.args.prices.now.asks.entries in
+    let w : Seen = seen c.args.queues.now in let is = whole.index in
+    let r = c.args.reference in let k = c.in-Some.key in let x = c.unlink-order.result in let q = c.queue_of-queue.result in
+    let node : node_of refs r ≡ Some k = sym c.in-Some.ensures.value in
+    let here : order_at c.args.queues.now k ≡ Some x = c.unlink-order.ensures.order in
+    let names : (j : ℕ) → node_of refs' j ≡ at_key r None (node_of refs) j = λ j. c.in-Some.ensures.updates.0 j in
+    let len : length refs' + 1 ≡ length refs = c.in-Some.ensures.len in
+    let v : Seen = record { keys = λ p. option_map (without_key k) (w.keys p); orders = at_key k None w.orders } in
+    let same : seen c.unlink-order.new.self ≡ v = seen_same v (seen c.unlink-order.new.self) c.unlink-order.ensures.keys c.unlink-order.ensures.orders in
+    let place = is.listed k x here in
+    let at : queue_of_side x.side bids asks x.locate x.price ≡ Some q = place.at_price ∙ ap Some (sym (c.queue_of-queue.ensures.only place.queue place.keys place.keys_are place.member)) in
+    let two : IsIndexed refs' bids asks (seen c.unlink-order.new.self) = subst (IsIndexed refs' bids asks) (sym same) (cut_index refs refs' bids asks w is r k x node here names len) in
+    c.close_empty.ensures.view refs' two at ∙ ap (λ (u : Seen). indexed u bids asks) same ∙ cut_view refs refs' bids asks w is r k x node here names len

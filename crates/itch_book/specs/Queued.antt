@@ -1,0 +1,66 @@
+-- What contracts see of queues of orders: the keys of each queue in order, and the order of each node.
+use Rattle.std.specs.Prelude.{◌≡◌, ℕ, ◌+◌, ◌-◌, ◌<◌, nat_lt, cond, Bool, not, eqb, List, [], ◌∷◌, map, length, Option, Some, None, option_map, slice_index_or, refl}
+use Rattle.std.specs.List.{filter, sum_by}
+use Rattle.slab.specs.Slab.{Slab, get, slab_len}
+use Rattle.itch_book.specs.declared.order.Order.{Order}
+use Rattle.itch_book.specs.declared.queues.Node.{Node}
+use Rattle.itch_book.specs.declared.queues.Head.{Head}
+use Rattle.itch_book.specs.Links.{order_of, walked, shares_of}
+
+-- the keys of a queue's nodes, or nothing, at each queue key; the order, or nothing, at each node key;
+-- and how many more nodes and queues fit
+pub record Queued : Type 0 where
+  pub queues : List (Option (List ℕ))
+  pub orders : List (Option Order)
+  pub node_room : ℕ
+  pub queue_room : ℕ
+
+-- the keys of the nodes of a queue, in order
+abbrev pub keys_at : Queued → ℕ → Option (List ℕ)
+keys_at v q = slice_index_or v.queues q None
+
+-- the order of a node
+abbrev pub order_at : Queued → ℕ → Option Order
+order_at v k = slice_index_or v.orders k None
+
+-- the keys without one
+abbrev pub without_key : ℕ → List ℕ → List ℕ
+without_key key ks = filter (λ k. not (eqb key k)) ks
+
+-- how many more values a slab takes
+abbrev pub room : {T : Type 0} → Slab T → ℕ
+room s = s.capacity - slab_len s
+
+-- what contracts see of the slabs
+abbrev pub queued : Slab Node → Slab Head → Queued
+queued nodes heads = record {
+  queues = map (option_map (walked (get nodes))) heads.slots;
+  orders = map order_of nodes.slots;
+  node_room = room nodes;
+  queue_room = room heads;
+}
+
+abbrev pub shown : Option Order → List Order → List Order
+shown None rest = rest
+shown (Some x) rest = x ∷ rest
+
+-- the orders of these nodes
+abbrev pub found : (ℕ → Option Order) → List ℕ → List Order
+found orders [] = []
+found orders (k ∷ ks) = shown (orders k) (found orders ks)
+
+-- all shares of some orders, and their number
+abbrev pub totals_of : List Order → ℕ × ℕ
+totals_of orders = (sum_by (λ x. x.shares) orders, length orders)
+
+-- an order with so many shares left
+abbrev pub left_with : ℕ → Order → Order
+left_with shares x = record x { shares = shares }
+
+-- what an index reads off queues: the keys of each, and the order of each node
+pub record Seen : Type 0 where
+  pub keys : ℕ → Option (List ℕ)
+  pub orders : ℕ → Option Order
+
+abbrev pub seen : Queued → Seen
+seen v = record { keys = keys_at v; orders = order_at v }

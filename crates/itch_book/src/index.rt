@@ -1,0 +1,353 @@
+//! An index of orders: hashed references, and queues under ordered prices.
+ghost use Rattle.std.specs.Prelude.{◌≡◌, ℕ, ◌<◌, ◌≤◌, ◌-◌, List, [], length, Some, None, cond, option_map, eqb, true, find, OnOk, OnErr, IfOk, IsSome, IsSomeAnd, IfSome};
+ghost use Rattle.std.specs.HashMap.{spare};
+ghost use Rattle.std.specs.List.Sorted.{IsStrictlySortedBy};
+ghost use Rattle.std.specs.Map.{keys_of};
+ghost use Rattle.std.specs.List.{list_any};
+ghost use Rattle.std.specs.BTreeMap.{is_at};
+ghost use Rattle.std.specs.Map.Iter.{deref_pair};
+ghost use Rattle.itch_codec.specs.declared.side.Side.{Side};
+ghost use Rattle.itch_codec.specs.declared.side.Side.TheVariants.{Buy, Sell};
+ghost use Rattle.itch_book.specs.Queued.{seen, keys_at, order_at, found};
+ghost use Rattle.std.specs.Option.{option_copied};
+ghost use Rattle.itch_book.specs.Orders.{get, is_in, is_of, first, after, next_price, level_total, lay, added, taken, without, replaced, IsBook};
+ghost use Rattle.itch_book.specs.Taken.{IsLeft};
+ghost use Rattle.itch_book.specs.Indexed.{node_of, queue_at as on_side, queue_of_side, is_there, place_cmp, Place, indexed, IsIndexed, IsBusy, IsBusyBut, IsWhole, IsNextOr, level_entry};
+
+use crate::order::{Order, Taken};
+use crate::prices::Prices;
+use crate::queues::Queues;
+use itch_codec::Side;
+use std::alloc::{AllocError, Allocator, Global};
+use std::collections::HashMap;
+use std::hash::{BuildHasherDefault, FoldHasher};
+use std::marker::Model;
+
+/// The live orders as queues of one price each, seen as the list in snapshot order.
+#[derive(Drop)]
+pub(crate) struct Index<A: Allocator = Global> {
+    references: References<A>,
+    prices: Prices<A>,
+    queues: Queues<A>,
+}
+
+impl<A: Allocator> Model for Index<A> {
+    ghost use Rattle.std.specs.Prelude.{List};
+    ghost use Rattle.itch_book.specs.declared.order.Order.{Order};
+    ghost use Rattle.itch_book.specs.Queued.{seen};
+    ghost use Rattle.itch_book.specs.Indexed.{indexed, IsWhole};
+
+    ghost Value = { List Order };
+
+    ghost view = { λ b. indexed (seen b.queues) b.prices.bids.entries b.prices.asks.entries };
+
+    ghost invariant = { λ b. IsWhole b.references.entries b.prices.bids.entries b.prices.asks.entries (seen b.queues) };
+}
+
+impl<A: Allocator + Copy> Index<A> {
+    /// No orders.
+    pub(crate) fn new(alloc: A) -> Self
+        ensures { result ≡ [] }
+    {
+        Index {
+            references: HashMap::new(alloc),
+            prices: Prices::new(alloc),
+            queues: Queues::new(alloc),
+        }
+    }
+
+    /// The number of orders.
+    pub(crate) fn len(&self) -> usize
+        ensures { result ≡ length self.now }
+    {
+        self.references.len()
+    }
+
+    /// The order of a reference.
+    pub(crate) fn get(&self, reference: u64) -> Option<&Order>
+        ensures order { option_copied result ≡ get self.now reference }
+        ensures book { IsBook self.now }
+    {
+        match node_at(&self.references, reference) {
+            Some(key) => Some(self.queues.order(key)),
+            None => None,
+        }
+    }
+
+    /// Adds an order, last at its price. Where memory is refused, nothing changes.
+    pub(crate) fn add(&mut self, order: Order) -> Result<(), AllocError>
+        requires some_shares { 0 < order.shares }
+        requires new_reference { get self.old order.reference ≡ None }
+        ensures ok { OnOk result (self.new ≡ lay (added order self.old)) }
+        ensures err { OnErr result (self.new ≡ self.old) }
+    {
+        self.queues.reserve()?;
+        self.references.reserve(1)?;
+        let queue = level_for(
+            &mut self.prices,
+            &mut self.queues,
+            order.locate,
+            order.side,
+            order.price,
+        )?;
+        put_last(&mut self.references, &mut self.queues, queue, order);
+        Ok(())
+    }
+
+    /// Takes shares from an order, which keeps its place, and is gone where nothing remains.
+    pub(crate) fn take(&mut self, reference: u64, shares: u32) -> Taken
+        requires { IsSomeAnd (get self.old reference) (λ x. shares ≤ x.shares) }
+        ensures orders { self.new ≡ lay (taken reference shares self.old) }
+        ensures left { IfSome (get self.old reference) (λ x. IsLeft (x.shares - shares) result) }
+    {
+        let key = known_node(&self.references, reference);
+        let left = self.queues.order(key).shares - shares;
+        if left == 0 {
+            take_out(
+                &mut self.references,
+                &mut self.prices,
+                &mut self.queues,
+                reference,
+            );
+            return Taken::Gone;
+        }
+        self.queues.set_shares(key, left);
+        Taken::Left(left)
+    }
+
+    /// Removes an order, and answers it.
+    pub(crate) fn delete(&mut self, reference: u64) -> Order
+        requires { IsSome (get self.old reference) }
+        ensures orders { self.new ≡ lay (without reference self.old) }
+        ensures order { get self.old reference ≡ Some result }
+    {
+        take_out(
+            &mut self.references,
+            &mut self.prices,
+            &mut self.queues,
+            reference,
+        )
+    }
+
+    /// Puts a new order in place of another one, last at its price, with the side, locate and attribution of the original.
+    /// Where memory is refused, nothing changes.
+    pub(crate) fn replace(
+        &mut self,
+        original: u64,
+        reference: u64,
+        shares: u32,
+        price: u32,
+    ) -> Result<(), AllocError>
+        requires live { IsSome (get self.old original) }
+        requires some_shares { 0 < shares }
+        requires new_reference { get self.old reference ≡ None }
+        ensures ok { OnOk result (self.new ≡ lay (replaced original reference shares price self.old)) }
+        ensures err { OnErr result (self.new ≡ self.old) }
+    {
+        let old = match self.get(original) {
+            Some(order) => *order,
+            None => unreachable!(),
+        };
+        let order = Order {
+            reference,
+            shares,
+            price,
+            ..old
+        };
+        self.add(order)?;
+        self.delete(original);
+        Ok(())
+    }
+
+    /// The order of the same locate behind that of a reference.
+    pub(crate) fn after(&self, reference: u64) -> Option<&Order>
+        requires { IsSome (get self.now reference) }
+        ensures { option_copied result ≡ after self.now reference }
+    {
+        let key = known_node(&self.references, reference);
+        if let Some(next) = self.queues.next(key) {
+            return Some(self.queues.order(next));
+        }
+        let order = self.queues.order(key);
+        let level = self
+            .prices
+            .next_level(order.locate, order.side, Some(order.price));
+        if let Some((_, queue)) = level {
+            return head_of(&self.queues, queue);
+        }
+        match order.side {
+            Side::Buy => self.front(order.locate, Side::Sell),
+            Side::Sell => None,
+        }
+    }
+
+    /// The first order of a locate.
+    pub(crate) fn first(&self, locate: u16) -> Option<&Order>
+        ensures { option_copied result ≡ find (is_in locate) self.now }
+    {
+        match self.front(locate, Side::Buy) {
+            Some(order) => Some(order),
+            None => self.front(locate, Side::Sell),
+        }
+    }
+
+    /// The order of a locate and side that has priority over all others there.
+    pub(crate) fn front(&self, locate: u16, side: Side) -> Option<&Order>
+        ensures front { option_copied result ≡ find (is_of locate side) self.now }
+        ensures book { IsBook self.now }
+    {
+        match self.prices.next_level(locate, side, None) {
+            Some((_, queue)) => head_of(&self.queues, queue),
+            None => None,
+        }
+    }
+
+    /// The best price of a side, or the best one worse than the last.
+    pub(crate) fn next_price(&self, locate: u16, side: Side, last: Option<u32>) -> Option<u32>
+        ensures { result ≡ next_price self.now locate side last }
+    {
+        match self.prices.next_level(locate, side, last) {
+            Some((price, _)) => Some(price),
+            None => None,
+        }
+    }
+
+    /// The shares at a price, and the number of orders.
+    pub(crate) fn level_total(&self, locate: u16, side: Side, price: u32) -> (u128, u64)
+        ensures { result ≡ level_total self.now locate side price }
+    {
+        match self.prices.queue_at(locate, side, price) {
+            Some(queue) => self.queues.totals(queue),
+            None => (0, 0),
+        }
+    }
+}
+
+type References<A> = HashMap<u64, usize, BuildHasherDefault<FoldHasher>, A>;
+
+// The node of a reference.
+fn node_at<A: Allocator>(references: &References<A>, reference: u64) -> Option<usize>
+    ensures { result ≡ node_of references.now.entries reference }
+{
+    references.get(&reference).copied()
+}
+
+// The node of a reference that is there.
+fn known_node<A: Allocator>(references: &References<A>, reference: u64) -> usize
+    requires { IsSome (node_of references.now.entries reference) }
+    ensures { node_of references.now.entries reference ≡ Some result }
+{
+    match node_at(references, reference) {
+        Some(key) => key,
+        None => unreachable!(),
+    }
+}
+
+// The queue at a price of a side, opened where there is none. Where memory is refused, nothing changes.
+fn level_for<A: Allocator + Copy>(
+    prices: &mut Prices<A>,
+    queues: &mut Queues<A>,
+    locate: u16,
+    side: Side,
+    price: u32,
+) -> Result<usize, AllocError>
+    requires { 0 < queues.old.queue_room }
+    ensures index { (references : List (ℕ × ℕ)) → IsIndexed references prices.old.bids.entries prices.old.asks.entries (seen queues.old) → IsIndexed references prices.new.bids.entries prices.new.asks.entries (seen queues.new) }
+    ensures view { (references : List (ℕ × ℕ)) → IsIndexed references prices.old.bids.entries prices.old.asks.entries (seen queues.old) → indexed (seen queues.new) prices.new.bids.entries prices.new.asks.entries ≡ indexed (seen queues.old) prices.old.bids.entries prices.old.asks.entries }
+    ensures queue { IfOk result (λ q. queue_of_side side prices.new.bids.entries prices.new.asks.entries locate price ≡ Some q) }
+    ensures room { queues.new.node_room ≡ queues.old.node_room }
+    ensures busy { IfOk result (λ q. (references : List (ℕ × ℕ)) → IsIndexed references prices.old.bids.entries prices.old.asks.entries (seen queues.old) → IsBusy (seen queues.old) prices.old.bids.entries prices.old.asks.entries → IsBusyBut (seen queues.new) prices.new.bids.entries prices.new.asks.entries q) }
+    ensures kept { OnErr result (IsBusy (seen queues.old) prices.old.bids.entries prices.old.asks.entries → IsBusy (seen queues.new) prices.new.bids.entries prices.new.asks.entries) }
+{
+    if let Some(queue) = prices.queue_at(locate, side, price) {
+        return Ok(queue);
+    }
+    let queue = queues.open();
+    match prices.add_level(locate, side, price, queue) {
+        Ok(()) => Ok(queue),
+        Err(error) => {
+            queues.close(queue);
+            Err(error)
+        }
+    }
+}
+
+// Closes the queue at a price, if it is empty.
+fn close_empty<A: Allocator + Copy>(
+    prices: &mut Prices<A>,
+    queues: &mut Queues<A>,
+    queue: usize,
+    locate: u16,
+    side: Side,
+    price: u32,
+)
+    requires { IsSome (keys_at queues.old queue) }
+    ensures index { (references : List (ℕ × ℕ)) → IsIndexed references prices.old.bids.entries prices.old.asks.entries (seen queues.old) → queue_of_side side prices.old.bids.entries prices.old.asks.entries locate price ≡ Some queue → IsIndexed references prices.new.bids.entries prices.new.asks.entries (seen queues.new) }
+    ensures view { (references : List (ℕ × ℕ)) → IsIndexed references prices.old.bids.entries prices.old.asks.entries (seen queues.old) → queue_of_side side prices.old.bids.entries prices.old.asks.entries locate price ≡ Some queue → indexed (seen queues.new) prices.new.bids.entries prices.new.asks.entries ≡ indexed (seen queues.old) prices.old.bids.entries prices.old.asks.entries }
+    ensures busy { (references : List (ℕ × ℕ)) → IsIndexed references prices.old.bids.entries prices.old.asks.entries (seen queues.old) → queue_of_side side prices.old.bids.entries prices.old.asks.entries locate price ≡ Some queue → IsBusyBut (seen queues.old) prices.old.bids.entries prices.old.asks.entries queue → IsBusy (seen queues.new) prices.new.bids.entries prices.new.asks.entries }
+{
+    if queues.first(queue).is_some() {
+        return;
+    }
+    queues.close(queue);
+    prices.remove_level(locate, side, price);
+}
+
+// Takes out the order of a reference, and its queue with the last of it.
+fn take_out<A: Allocator + Copy>(
+    references: &mut References<A>,
+    prices: &mut Prices<A>,
+    queues: &mut Queues<A>,
+    reference: u64,
+) -> Order
+    requires { IsSomeAnd (node_of references.old.entries reference) (λ k. IsSome (order_at queues.old k)) }
+    ensures order { IfSome (node_of references.old.entries reference) (λ k. order_at queues.old k ≡ Some result) }
+    ensures whole { IsWhole references.old.entries prices.old.bids.entries prices.old.asks.entries (seen queues.old) → IsWhole references.new.entries prices.new.bids.entries prices.new.asks.entries (seen queues.new) }
+    ensures view { IsWhole references.old.entries prices.old.bids.entries prices.old.asks.entries (seen queues.old) → indexed (seen queues.new) prices.new.bids.entries prices.new.asks.entries ≡ lay (without reference (indexed (seen queues.old) prices.old.bids.entries prices.old.asks.entries)) }
+{
+    match references.remove(&reference) {
+        Some(key) => {
+            let queue = queues.queue_of(key);
+            let order = queues.unlink(key);
+            close_empty(prices, queues, queue, order.locate, order.side, order.price);
+            order
+        }
+        None => unreachable!(),
+    }
+}
+
+// The first order of a queue.
+fn head_of<A: Allocator>(queues: &Queues<A>, queue: usize) -> Option<&Order>
+    requires there { IsSome (keys_at queues.now queue) }
+    requires live { (ks : List ℕ) → (k : ℕ) → keys_at queues.now queue ≡ Some ks → list_any (eqb k) ks ≡ true → IsSome (order_at queues.now k) }
+    ensures { (ks : List ℕ) → keys_at queues.now queue ≡ Some ks → option_copied result ≡ first (found (order_at queues.now) ks) }
+{
+    match queues.first(queue) {
+        Some(key) => Some(queues.order(key)),
+        None => None,
+    }
+}
+
+// Puts an order last in the queue of its price, under its reference. There is room for both.
+fn put_last<A: Allocator + Copy>(
+    references: &mut References<A>,
+    queues: &mut Queues<A>,
+    queue: usize,
+    order: Order,
+)
+    requires spare { 0 < spare references.old }
+    requires there { IsSome (keys_at queues.old queue) }
+    requires room { 0 < queues.old.node_room }
+    requires some_shares { 0 < order.shares }
+    ensures index { (bids asks : List (Place × ℕ)) → IsIndexed references.old.entries bids asks (seen queues.old) → queue_of_side order.side bids asks order.locate order.price ≡ Some queue → get (indexed (seen queues.old) bids asks) order.reference ≡ None → IsIndexed references.new.entries bids asks (seen queues.new) }
+    ensures view { (bids asks : List (Place × ℕ)) → IsIndexed references.old.entries bids asks (seen queues.old) → queue_of_side order.side bids asks order.locate order.price ≡ Some queue → get (indexed (seen queues.old) bids asks) order.reference ≡ None → indexed (seen queues.new) bids asks ≡ lay (added order (indexed (seen queues.old) bids asks)) }
+    ensures busy { (bids asks : List (Place × ℕ)) → IsBusyBut (seen queues.old) bids asks queue → IsBusy (seen queues.new) bids asks }
+{
+    let reference = order.reference;
+    let key = queues.push_last(queue, order);
+    match references.insert(reference, key) {
+        Ok(_) => {}
+        // There is room for it.
+        Err(_) => unreachable!(),
+    }
+}
