@@ -4,7 +4,7 @@
 
 use itch_codec::decode;
 use itch_frame::BlockReader;
-use itch_frame::counted::{Counted, CountedRead};
+use itch_frame::counted::{Buffered, CountedRead};
 use std::io::{self, BufReader};
 use std::process::ExitCode;
 
@@ -14,7 +14,7 @@ const PIECE: usize = 1 << 16;
 fn main(rt: HostRuntime) -> io::Result<ExitCode> {
     let alloc = rt.alloc();
     let words: Vec<String> = std::env::args(&rt)?.collect(alloc)?;
-    let mut reader = Counted::new(BufReader::with_capacity(alloc, PIECE, rt.reader())?);
+    let mut reader = Buffered::new(BufReader::with_capacity(alloc, PIECE, rt.reader())?);
     match words.get(1) {
         Some(word) if word.as_str() == "copy" => {
             let bytes = count_bytes(&mut reader)?;

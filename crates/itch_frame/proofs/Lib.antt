@@ -1,3 +1,4 @@
+pub mod Ahead
 pub mod BlockLemmas
 pub mod Fronts
 pub mod Days

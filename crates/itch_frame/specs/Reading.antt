@@ -30,9 +30,10 @@ bytes_left remaining r = prepend_known r.held (remaining r.reader)
 module _ {R : Type 0} (remaining : R → Option (List ℕ)) (failures : R → Failures) where
   -- what a call that asks for the next block may answer, and leave
   abbrev pub NextBlock : Reading R → Result (Option (Bor (List ℕ))) FrameFault → Reading R → Type 0
-  -- a block came off the front, and nothing behind it was read
+  -- a block came off the front, and nothing after it was read
   NextBlock old (Ok (Some p)) new =
       IsPayload p.now × Consumes (bytes_left remaining old) (bytes_left remaining new) (block p.now) × (new.held ≡ []) × (failures new.reader ≡ failures old.reader)
+      × (new.stage ≡ Given)
   -- no byte was left
   NextBlock old (Ok None) new =
       IsAtEnd (bytes_left remaining old) × (new.stage ≡ Ended) × (new.held ≡ []) × (failures new.reader ≡ failures old.reader)

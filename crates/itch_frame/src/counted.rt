@@ -7,7 +7,10 @@ ghost use Rattle.std.specs.Io.{ReadsAtMost, WritesAtMost};
 ghost use Rattle.std.specs.Io.KnownBytes.{ReadConsumes};
 ghost use Rattle.itch_frame.specs.Counting.{failed, CountsErr, Takes};
 
+mod buffered;
+
 use crate::tally::Failures;
+pub use buffered::Buffered;
 use std::io::{self, Read, Write};
 
 /// A reader that counts its failures.

@@ -26,13 +26,11 @@ impl<A: Allocator> Model for Splitter<A> {
 }
 
 impl<A: Allocator> Splitter<A> {
-    /// Holds nothing. It takes all its memory here, 65,537 bytes.
+    /// Holds nothing. It takes all its memory here, 65,537 bytes and no more.
     pub fn new(alloc: A) -> Result<Splitter<A>, AllocError>
         ensures { IfOk result (λ s. s ≡ []) }
     {
-        Ok(Splitter {
-            held: Vec::with_capacity(alloc, LONGEST)?,
-        })
+        Ok(Splitter { held: room(alloc)? })
     }
 
     /// Takes bytes from the front of `piece` up to the end of the block at hand, and answers how many: 0 while a block is ready.
@@ -70,6 +68,13 @@ impl<A: Allocator> Splitter<A> {
     {
         self.held.len()
     }
+}
+
+// Room for the longest block, and no more.
+fn room<A: Allocator>(alloc: A) -> Result<Vec<u8, A>, AllocError>
+    ensures { IfOk result (λ held. (held.items ≡ []) × (vec_capacity held ≡ 65537)) }
+{
+    Vec::with_capacity(alloc, LONGEST)
 }
 
 /// How many bytes the block at hand lacks, as far as its bytes tell: both length bytes come first.

@@ -135,7 +135,7 @@ impl<A: Allocator> CountedWrite for FuseWriter<A> {
         ensures answer { MatchResult result
             (λ count. (self.old.fail_at ≢ Some self.new.writes) × (count ≡ min self.old.piece (length buf.now)))
             (λ error. (self.new.written.items ≡ self.old.written.items)
-                × (((self.old.fail_at ≡ Some self.new.writes) × (error_kind error ≡ Other)) ⊎ ((self.old.fail_at ≢ Some self.new.writes) × (error_kind error ≡ OutOfMemory)))) }
+            × (((self.old.fail_at ≡ Some self.new.writes) × (error_kind error ≡ Other)) ⊎ ((self.old.fail_at ≢ Some self.new.writes) × (error_kind error ≡ OutOfMemory)))) }
         ensures writes { self.new.writes ≡ min (self.old.writes + 1) (2 ^ 64 - 1) }
         ensures plan { (self.new.piece ≡ self.old.piece) × (self.new.fail_at ≡ self.old.fail_at) }
     {
@@ -146,7 +146,13 @@ impl<A: Allocator> CountedWrite for FuseWriter<A> {
         let count = self.piece.min(buf.len());
         match self.written.extend_from_slice(&buf[..count]) {
             Ok(()) => Ok(count),
-            Err(_) => Err(self.failures.add(io::Error::from(io::ErrorKind::OutOfMemory))),
+            Err(_) => Err(self.failures.add(out_of_memory())),
         }
     }
+}
+
+fn out_of_memory() -> io::Error
+    ensures { error_kind result ≡ OutOfMemory }
+{
+    io::Error::from(io::ErrorKind::OutOfMemory)
 }

@@ -15,3 +15,4 @@ pub mod Searches
 pub mod OneStop
 pub mod Runs
 pub mod Sames
+pub mod Standing

@@ -23,7 +23,7 @@ module _ (after : Option ℕ) (bytes new : Option (List ℕ)) (count : ℕ) (n :
   fit = All-map_rec IsMessage message_of applied.payloads applied.fits
 
   follow : Follows (map message_of applied.payloads)
-  follow = none_follows empty applied.payloads applied.none
+  follow = none_follows empty applied.payloads applied.taken.taken
 
   good : IsGood (run (map message_of applied.payloads))
   good = run_good (map message_of applied.payloads) fit follow

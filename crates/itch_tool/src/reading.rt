@@ -1,6 +1,6 @@
 //! A day file read into a market.
 ghost use Rattle.itch_frame.specs.Reading.{bytes_left};
-ghost use Rattle.itch_tool.specs.Readings.{ReadsMarket, CountsRead};
+ghost use Rattle.itch_tool.specs.Readings.{ReadsMarket, CountsRead, LeavesDay};
 
 use crate::fault::{Source, ToolFault};
 use itch_book::OrderBook;
@@ -9,7 +9,7 @@ use itch_frame::counted::CountedRead;
 use itch_market::{Market, ReplayEnd, Stop, replay, replay_first};
 use std::alloc::Allocator;
 
-/// Applies the messages of a day file to a market, all of them or the first ones, and tells how many.
+/// Applies the messages of a day file to a market, all of them or the first ones, and returns how many.
 pub fn read_market<R: CountedRead, A: Allocator, B: OrderBook>(
     reader: &mut BlockReader<R, A>,
     market: &mut Market<B>,
@@ -18,6 +18,7 @@ pub fn read_market<R: CountedRead, A: Allocator, B: OrderBook>(
 ) -> Result<u64, ToolFault>
     ensures reads { ReadsMarket file after market.old (bytes_left R.remaining reader.old) (bytes_left R.remaining reader.new) result market.new }
     ensures failures { CountsRead result (R.failures reader.old.reader) (R.failures reader.new.reader) }
+    ensures reader { LeavesDay result after reader.old reader.new }
 {
     let Some(most) = after else {
         return read_whole(reader, market, file);
@@ -39,6 +40,7 @@ fn read_whole<R: CountedRead, A: Allocator, B: OrderBook>(
 ) -> Result<u64, ToolFault>
     ensures reads { ReadsMarket file None market.old (bytes_left R.remaining reader.old) (bytes_left R.remaining reader.new) result market.new }
     ensures failures { CountsRead result (R.failures reader.old.reader) (R.failures reader.new.reader) }
+    ensures reader { LeavesDay result None reader.old reader.new }
 {
     let end = replay(reader, market);
     match end.stop {

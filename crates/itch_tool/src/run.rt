@@ -2,11 +2,11 @@
 ghost use Rattle.itch_tool.specs.Requests.{Performs};
 
 use crate::check::check_blocks;
-use crate::fault::ToolFault;
+use crate::fault::{ToolFault, system_fault};
 use crate::request::Request;
 use crate::snap::snap_blocks;
 use itch_frame::BlockReader;
-use itch_frame::counted::{Counted, CountedRead, CountedWrite};
+use itch_frame::counted::{Buffered, Counted, CountedRead, CountedWrite};
 use std::alloc::Allocator;
 use std::fs;
 use std::io::{self, BufReader, BufWriter, Read, Write};
@@ -27,8 +27,9 @@ pub fn run<R: Files + Input + Print + AllocGlobal>(
     let mut out = Counted::new(buffered);
     let answer = match request.file() {
         Some(path) => {
-            let Ok(file) = fs::open(rt, path) else {
-                return Err(ToolFault::Open);
+            let file = match fs::open(rt, path) {
+                Ok(file) => file,
+                Err(error) => return Err(system_fault(error, ToolFault::Open)),
             };
             perform_over(alloc, request, file, &mut out)?
         }
@@ -50,7 +51,7 @@ fn perform_over<A: Allocator + Copy, R: Read + Drop, W: CountedWrite>(
     let Ok(buffered) = BufReader::with_capacity(alloc, PIECE, reader) else {
         return Err(ToolFault::OutOfMemory);
     };
-    let mut reader = BlockReader::new(alloc, Counted::new(buffered))?;
+    let mut reader = BlockReader::new(alloc, Buffered::new(buffered))?;
     perform(alloc, request, &mut reader, out)
 }
 

@@ -11,7 +11,7 @@ returns-in-Err g c = inl (
   c.in-Err.fault,
   refl,
   day_fails g.R.CountedRead.remaining g.R.CountedRead.failures Only None c.args.reader.now c.read_market.new.reader c.in-Err.fault c.new-market.result c.read_market.new.market
-      c.new-market.ensures c.in-Err.ensures.reads c.in-Err.ensures.failures,
+      c.new-market.ensures c.in-Err.ensures.reads c.in-Err.ensures.failures c.in-Err.ensures.reader,
   refl,
 )
 
@@ -23,5 +23,5 @@ returns g c =
     c.new-market.ensures c.in-Ok.ensures.reads in
     read_writes g.W.CountedWrite.contents g.W.CountedWrite.failures (ReadsDay g.R.CountedRead.remaining g.R.CountedRead.failures Only None old new) ok_line_of (λ _. true)
     applied.payloads (ok_line c.in-Ok.count) c.args.out.now c.write_count.new.out c.write_count.result
-    (day_done g.R.CountedRead.remaining g.R.CountedRead.failures Only None old new c.in-Ok.count c.read_market.new.market applied c.in-Ok.ensures.failures)
+    (day_done g.R.CountedRead.remaining g.R.CountedRead.failures Only None old new c.in-Ok.count c.read_market.new.market applied c.in-Ok.ensures.failures c.in-Ok.ensures.reader)
     (ap ok_line (sym applied.counted)) c.write_count.ensures

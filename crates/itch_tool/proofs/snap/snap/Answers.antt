@@ -10,5 +10,5 @@ returns g c =
     let reads = ReadsDay g.R.CountedRead.remaining g.R.CountedRead.failures Only c.args.after in
     Outputs-weaker g.W.CountedWrite.contents g.W.CountedWrite.failures (reads c.in_ok-reader.reader c.snap_blocks.new.reader) (FromReader c.args.reader reads) snapshot_of (λ _. true)
     c.args.out.now c.snap_blocks.new.out c.snap_blocks.result
-    (λ r read. inr (c.in_ok-reader.reader, c.snap_blocks.new.reader, c.in_ok-reader.ensures.0, c.in_ok-reader.ensures.1, read))
+    (λ r read. inr (c.in_ok-reader.reader, c.snap_blocks.new.reader, c.in_ok-reader.ensures.0, c.in_ok-reader.ensures.1, c.in_ok-reader.ensures.2, read))
     c.snap_blocks.ensures

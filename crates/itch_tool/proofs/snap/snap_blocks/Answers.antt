@@ -12,7 +12,7 @@ returns-in-Err g c = inl (
   c.in-Err.fault,
   refl,
   day_fails g.R.CountedRead.remaining g.R.CountedRead.failures Only c.args.after c.args.reader.now c.read_market.new.reader c.in-Err.fault c.new-market.result c.read_market.new.market
-      c.new-market.ensures c.in-Err.ensures.reads c.in-Err.ensures.failures,
+      c.new-market.ensures c.in-Err.ensures.reads c.in-Err.ensures.failures c.in-Err.ensures.reader,
   refl,
 )
 
@@ -31,6 +31,6 @@ returns g c =
     c.new-market.ensures c.in-Ok.ensures.reads in
     read_writes g.W.CountedWrite.contents g.W.CountedWrite.failures (ReadsDay g.R.CountedRead.remaining g.R.CountedRead.failures Only c.args.after old new) snapshot_of (λ _. true)
     applied.payloads _ c.args.out.now c.write_market.new.out c.write_market.result
-    (day_done g.R.CountedRead.remaining g.R.CountedRead.failures Only c.args.after old new c.in-Ok.count c.read_market.new.market applied c.in-Ok.ensures.failures)
+    (day_done g.R.CountedRead.remaining g.R.CountedRead.failures Only c.args.after old new c.in-Ok.count c.read_market.new.market applied c.in-Ok.ensures.failures c.in-Ok.ensures.reader)
     (applied_snapshot c.args.after (bytes_left g.R.CountedRead.remaining old) (bytes_left g.R.CountedRead.remaining new) c.in-Ok.count c.read_market.new.market applied)
     c.write_market.ensures
