@@ -1,16 +1,22 @@
 -- A snapshot file has one list of messages and one number, and any other file has one fault.
-use Rattle.std.proofs.Common.{◌≡◌, ℕ, ◌+◌, ◌^◌, ◌⊎◌, List, ◌++◌, length, refl, sym, ap, subst, ◌∙◌, inl, inr}
+use Rattle.std.proofs.Common.{◌≡◌, ℕ, ◌+◌, ◌^◌, ◌⊎◌, List, [], ◌∷◌, ◌++◌, length, refl, sym, ap, subst, ◌∙◌, inl, inr}
+use Rattle.std.specs.List.{AllByRecursion}
 use Rattle.itch_codec.specs.declared.message.Message.{Message}
+use Rattle.itch_codec.specs.Fields.{AreBytes}
+use Rattle.itch_codec.specs.Widths.{IsMessage}
+use Rattle.itch_codec.proofs.Spelling.{IsMessage-Spells}
 use Rattle.itch_frame.specs.Blocks.{IsFull, block, Open}
 use Rattle.itch_frame.specs.declared.fault.FrameFault.TheVariants.{Read, Truncated, Write, TooLong}
-use Rattle.itch_market.specs.Content.{empty}
+use Rattle.itch_market.specs.Content.{empty, laid}
+use Rattle.itch_market.specs.Runs.{run}
 use Rattle.itch_market.specs.declared.stop.Stop.{Stop}
 use Rattle.itch_market.specs.declared.stop.Stop.TheVariants as stop
 use Rattle.itch_market.specs.Stops.{Stops}
+use Rattle.itch_market.proofs.DayFiles.{payload_bytes}
 use Rattle.itch_market.proofs.OneStop.{stops_place, stops_reason}
 use Rattle.itch_snapshot.specs.declared.fault.SnapFault.{SnapFault}
 use Rattle.itch_snapshot.specs.declared.fault.SnapFault.TheVariants.{NoEnd, Frame, Codec, Rule, AfterEnd, TooManyMessages}
-use Rattle.itch_snapshot.specs.Files.{ClosesBefore, IsSnapshotFile, StopsAt, IsFaultOf}
+use Rattle.itch_snapshot.specs.Files.{AreSpelled, ClosesBefore, IsSnapshotFile, StopsAt, IsFaultOf, IsMarketOf}
 use Rattle.itch_snapshot.proofs.FileLemmas.{closes_once, file_no_fault, not_refused, not_ended, not_cut}
 
 pub file_messages : (bytes : List ℕ) → (ms ns : List Message) → (j k : ℕ) → IsSnapshotFile bytes ms j → IsSnapshotFile bytes ns k → ms ≡ ns
@@ -18,6 +24,21 @@ file_messages bytes ms ns j k (r, one, ends) (s, other, other_ends) = (closes_on
 
 pub file_number : (bytes : List ℕ) → (ms ns : List Message) → (j k : ℕ) → IsSnapshotFile bytes ms j → IsSnapshotFile bytes ns k → j ≡ k
 file_number bytes ms ns j k (r, one, ends) (s, other, other_ends) = (closes_once bytes r s ms ns j k one other).number
+
+-- the fields of messages that bytes spell fit
+spelled_fit : (ms : List Message) (ps : List (List ℕ)) → AreSpelled ms ps → AllByRecursion AreBytes ps → AllByRecursion IsMessage ms
+spelled_fit [] [] spelled wide = tt
+spelled_fit [] (p ∷ ps) spelled wide = absurd spelled
+spelled_fit (x ∷ xs) [] spelled wide = absurd spelled
+spelled_fit (x ∷ xs) (p ∷ ps) spelled wide = (IsMessage-Spells x p wide.0 spelled.0, spelled_fit xs ps spelled.1 wide.1)
+
+pub file_market : (bytes : List ℕ) → (ms : List Message) → (next : ℕ) → AreBytes bytes → IsSnapshotFile bytes ms next → IsMarketOf bytes (laid (run ms), next)
+file_market bytes ms next wide (rest, file, ends) = (
+  ms,
+  (rest, file, ends),
+  spelled_fit ms file.payloads file.spelled (payload_bytes file.payloads (block file.last ++ rest) (subst AreBytes file.whole wide)),
+  refl,
+)
 
 pub file_or_fault : (bytes : List ℕ) → (ms : List Message) → (next : ℕ) → (fault : SnapFault) → IsSnapshotFile bytes ms next → IsFaultOf bytes fault → ⊥
 file_or_fault bytes ms next fault (rest, file, ends) is = file_no_fault bytes rest ms next file fault ends is

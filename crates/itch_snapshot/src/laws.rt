@@ -116,10 +116,11 @@ pub fn rewritten_snapshot()
 {}
 
 /// A file, whatever its bytes, either is a snapshot file, with exactly one list of messages and one number, or has exactly
-/// one fault.
+/// one fault. A snapshot file of bytes is read as the market that its messages leave.
 pub fn one_file()
     ensures messages { (bytes : List ℕ) → (ms ns : List Message) → (j k : ℕ) → IsSnapshotFile bytes ms j → IsSnapshotFile bytes ns k → ms ≡ ns }
     ensures number { (bytes : List ℕ) → (ms ns : List Message) → (j k : ℕ) → IsSnapshotFile bytes ms j → IsSnapshotFile bytes ns k → j ≡ k }
+    ensures market { (bytes : List ℕ) → (ms : List Message) → (next : ℕ) → AreBytes bytes → IsSnapshotFile bytes ms next → IsMarketOf bytes (laid (run ms), next) }
     ensures fault { (bytes : List ℕ) → (f g : SnapFault) → IsFaultOf bytes f → IsFaultOf bytes g → f ≡ g }
     ensures never_both { (bytes : List ℕ) → (ms : List Message) → (next : ℕ) → (fault : SnapFault) → IsSnapshotFile bytes ms next → ¬ IsFaultOf bytes fault }
     ensures some { (bytes : List ℕ) → ((ms : List Message) × (next : ℕ) × IsSnapshotFile bytes ms next) ⊎ ((fault : SnapFault) × IsFaultOf bytes fault) }

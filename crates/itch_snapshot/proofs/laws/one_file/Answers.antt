@@ -1,4 +1,4 @@
-use Rattle.itch_snapshot.proofs.OneFile.{file_messages, file_number, one_fault, file_or_fault}
+use Rattle.itch_snapshot.proofs.OneFile.{file_messages, file_number, file_market, one_fault, file_or_fault}
 use Rattle.itch_snapshot.proofs.SomeFile.{file_read}
 use Rattle.itch_snapshot.proofs.laws.one_file.Goals as goal
 
@@ -7,6 +7,9 @@ returns-clause-messages c = file_messages
 
 pub returns-clause-number : goal.returns-clause-number
 returns-clause-number c = file_number
+
+pub returns-clause-market : goal.returns-clause-market
+returns-clause-market c = file_market
 
 pub returns-clause-fault : goal.returns-clause-fault
 returns-clause-fault c = one_fault
