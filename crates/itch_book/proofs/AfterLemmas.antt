@@ -1,23 +1,20 @@
 -- What stands behind an order in its locate.
-use Rattle.std.proofs.Common.{◌≡◌, ℕ, ◌+◌, ◌<◌, ◌==◌, ◌&&◌, Bool, true, false, cond, eqb, not, List, [], ◌∷◌, ◌++◌, length, filter, find, Option, Some, None, IsSome, refl, sym, ap, ◌∙◌, subst, arith}
-use Rattle.std.specs.List.{AllByRecursion, list_any}
+use Rattle.std.proofs.Common.{◌≡◌, ℕ, ◌==◌, ◌&&◌, Bool, true, false, eqb, not, List, [], ◌∷◌, ◌++◌, filter, find, Option, Some, None, refl, sym, ap, ◌∙◌, subst}
+use Rattle.std.specs.List.{AllByRecursion}
 use Rattle.std.proofs.lemmas.Bool.{false≢true, and_parts}
 use Rattle.itch_codec.specs.declared.side.Side.{Side}
 use Rattle.itch_codec.specs.declared.side.Side.TheVariants.{Buy, Sell}
 use Rattle.itch_book.specs.declared.order.Order.{Order}
 use Rattle.itch_book.specs.Stable.{IsInOrder}
-use Rattle.itch_book.specs.Orders.{is_level, is_of, is_in, is_better, is_worse, is_next, same_side, level, first, stands_before, has_reference, get, behind, next_in, after, IsDistinct, IsBook}
-use Rattle.itch_book.specs.Links.{first_or}
+use Rattle.itch_book.specs.Orders.{is_level, is_of, is_in, is_worse, is_next, same_side, first, stands_before, has_reference, get, behind, next_in, after, IsBook}
 use Rattle.itch_book.specs.Queued.{Seen, found, shown}
-use Rattle.itch_book.specs.Indexed.{Place, orders_in, line, line_at, indexed, queue_of_side, node_of, IsListed, IsKnown, IsIndexed}
-use Rattle.itch_book.proofs.Lists.{by_test, All-weaker_rec, All-both_rec, All-found_rec, found_passes, filter_none}
-use Rattle.itch_book.proofs.Distinct.{own_reference, has_own, find_first}
+use Rattle.itch_book.specs.Indexed.{Place, orders_in, line_at, indexed, node_of, IsIndexed}
+use Rattle.itch_book.proofs.Lists.{by_test, All-weaker_rec, All-both_rec, All-found_rec, found_passes}
+use Rattle.itch_book.proofs.Distinct.{own_reference, find_first}
 use Rattle.itch_book.proofs.StableLemmas.{not_itself}
-use Rattle.itch_book.proofs.Levels.{ties}
-use Rattle.itch_book.proofs.OrderLemmas.{stands_order, stands_of, same_side_is, same_side_self, ties_level}
-use Rattle.itch_book.proofs.LinkLemmas.{In, NotIn, eqb_itself, eqb_is, in_head, in_tail, in_cases, not_in_head, not_in_tail}
-use Rattle.itch_book.proofs.UnlinkLemmas.{in_right}
-use Rattle.itch_book.proofs.QueueSteps.{none_some, same_some, inj}
+use Rattle.itch_book.proofs.OrderLemmas.{stands_order, stands_of, ties_level}
+use Rattle.itch_book.proofs.LinkLemmas.{In, NotIn, eqb_itself, eqb_is, not_in_head, not_in_tail}
+use Rattle.itch_book.proofs.QueueSteps.{same_some, inj}
 use Rattle.itch_book.proofs.IndexSteps.{level_is, level_own, get_some}
 use Rattle.itch_book.proofs.PutLemmas.{level_tells}
 use Rattle.itch_book.proofs.FrontLemmas.{find_wider, find_alike, find_none, none_find, in_sides, sides_apart}

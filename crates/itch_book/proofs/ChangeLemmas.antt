@@ -1,21 +1,21 @@
 -- Shares taken from an order that keeps some.
-use Rattle.std.proofs.Common.{◌≡◌, ℕ, ◌+◌, ◌-◌, ◌^◌, ◌<◌, ◌==◌, ◌&&◌, Bool, true, false, cond, eqb, not, List, [], ◌∷◌, ◌++◌, map, set, length, filter, find, Option, Some, None, IsSome, option_map, refl, sym, ap, ◌∙◌, subst, arith, length-set}
-use Rattle.std.specs.List.{AllByRecursion, list_any, position_or_len}
+use Rattle.std.proofs.Common.{◌≡◌, ℕ, ◌-◌, ◌^◌, ◌<◌, true, false, eqb, List, [], ◌∷◌, ◌++◌, map, length, filter, Option, Some, None, IsSome, option_map, refl, sym, ap, ◌∙◌, subst, arith, length-set}
+use Rattle.std.specs.List.{AllByRecursion, position_or_len}
 use Rattle.std.proofs.lemmas.Bool.{false≢true, cond_both}
 use Rattle.std.proofs.lemmas.Bool.Decides.{nat_tests}
 use Rattle.itch_codec.specs.declared.side.Side.{Side}
 use Rattle.itch_book.specs.declared.order.Order.{Order}
-use Rattle.itch_book.specs.Orders.{is_level, level, lay, less, taken, has_shares, has_reference, get, IsLive, IsBook}
+use Rattle.itch_book.specs.Orders.{is_level, level, lay, less, taken, has_shares, has_reference, IsLive, IsBook}
 use Rattle.itch_book.specs.Links.{at_key}
 use Rattle.itch_book.specs.Queued.{Seen, found, shown, left_with}
-use Rattle.itch_book.specs.Indexed.{Place, orders_in, line, line_at, joined, indexed, queue_of_side, node_of, IsListed, IsKnown, IsIndexed}
+use Rattle.itch_book.specs.Indexed.{Place, orders_in, line, line_at, joined, indexed, queue_of_side, node_of, IsIndexed}
 use Rattle.itch_book.proofs.Lists.{by_test, All-map_rec, All-weaker_rec, filter_swap, filter_all, filter-map}
 use Rattle.itch_book.proofs.Distinct.{own_reference, has_own}
 use Rattle.itch_book.proofs.OrderLemmas.{lay_same_levels}
 use Rattle.itch_book.proofs.BookLemmas.{IsBook-taken, taken-book}
 use Rattle.itch_book.proofs.PlaceLemmas.{taken_part}
 use Rattle.itch_book.proofs.LinkLemmas.{eqb_itself, eqb_is}
-use Rattle.itch_book.proofs.QueueSteps.{none_some, same_some, inj}
+use Rattle.itch_book.proofs.QueueSteps.{same_some}
 use Rattle.itch_book.proofs.SoundSteps.{at_apart, at_same}
 use Rattle.itch_book.proofs.IndexLemmas.{level_both}
 use Rattle.itch_book.proofs.IndexSteps.{level_is, get_some, All-found}

@@ -1,21 +1,19 @@
 -- The best price of an index, and the order in front.
-use Rattle.std.proofs.Common.{◌≡◌, ℕ, ◌+◌, ◌^◌, ◌<◌, ◌==◌, ◌&&◌, nat_lt, Bool, true, false, cond, eqb, not, List, [], ◌∷◌, ◌++◌, length, filter, find, Option, Some, None, IsSome, option_map, refl, sym, ap, ◌∙◌, subst, arith}
-use Rattle.std.specs.List.{AllByRecursion, list_any}
+use Rattle.std.proofs.Common.{◌≡◌, ℕ, ◌^◌, ◌<◌, ◌==◌, ◌&&◌, Bool, true, false, List, [], ◌∷◌, ◌++◌, find, Option, Some, None, IsSome, option_map, refl, sym, ap, ◌∙◌, subst, arith}
+use Rattle.std.specs.List.{AllByRecursion}
 use Rattle.std.proofs.lemmas.Bool.{false≢true, and_parts}
 use Rattle.std.proofs.lemmas.Bool.Decides.{nat_tests}
 use Rattle.itch_codec.specs.declared.side.Side.{Side}
 use Rattle.itch_codec.specs.declared.side.Side.TheVariants.{Buy, Sell}
 use Rattle.itch_book.specs.declared.order.Order.{Order}
 use Rattle.itch_book.specs.Stable.{IsInOrder}
-use Rattle.itch_book.specs.Orders.{is_level, is_of, is_in, is_better, is_worse, is_next, next_price, same_side, level, first, stands_before, IsBook}
-use Rattle.itch_book.specs.Links.{first_or}
+use Rattle.itch_book.specs.Orders.{is_level, is_of, is_in, is_better, is_worse, is_next, next_price, same_side, first, stands_before}
 use Rattle.itch_book.specs.Queued.{Seen, found, shown}
-use Rattle.itch_book.specs.Indexed.{Place, orders_in, line, line_at, joined, indexed, queue_of_side, has_keys, IsListed, IsIndexed, IsNextLevel, IsNextOr}
+use Rattle.itch_book.specs.Indexed.{Place, orders_in, line_at, joined, indexed, queue_of_side, has_keys, IsIndexed, IsNextLevel, IsNextOr}
 use Rattle.itch_book.proofs.Lists.{by_test, All-append_rec, All-weaker_rec, All-found_rec, found_passes}
 use Rattle.itch_book.proofs.Distinct.{find_first}
-use Rattle.itch_book.proofs.OrderLemmas.{All-lay, stands_of, same_side_is, same_side_self, locate_is, side_is, of_in}
+use Rattle.itch_book.proofs.OrderLemmas.{All-lay, stands_of, locate_is, side_is, of_in}
 use Rattle.itch_book.proofs.LinkLemmas.{in_head}
-use Rattle.itch_book.proofs.QueueSteps.{none_some, same_some, inj}
 use Rattle.itch_book.proofs.IndexSteps.{All-joined, level_is}
 
 -- what passes a test first is what passes a narrower one first, where that stands before all else

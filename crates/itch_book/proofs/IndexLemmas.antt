@@ -1,5 +1,5 @@
 -- The orders at a price are those of its queue.
-use Rattle.std.proofs.Common.{◌≡◌, ℕ, ◌+◌, ◌<◌, ◌==◌, ◌&&◌, Bool, true, false, cond, not, List, [], ◌∷◌, ◌++◌, length, filter, Option, Some, None, IsSome, refl, sym, ap, ◌∙◌, subst, arith}
+use Rattle.std.proofs.Common.{◌≡◌, ℕ, true, false, List, [], ◌∷◌, ◌++◌, filter, Some, None, refl, sym, ap, ◌∙◌, subst, arith}
 use Rattle.std.specs.declared.cmp.Ordering.{Ordering}
 use Rattle.std.specs.Ordering.{nat_cmp, ordering_then, is_eq}
 use Rattle.std.specs.declared.cmp.Ordering.TheVariants.{Less, Equal, Greater}
@@ -9,17 +9,21 @@ use Rattle.std.specs.BTreeMap.{is_at}
 use Rattle.std.specs.List.Sorted.{IsStrictlySortedBy}
 use Rattle.std.proofs.lemmas.Bool.{false≢true}
 use Rattle.std.proofs.lemmas.Bool.Decides.{nat_tests}
-use Rattle.std.proofs.lemmas.Map.Lookups.{CmpEqualImpliesEq, exact_unsigned, exact_pairs}
+use Rattle.std.proofs.lemmas.Map.Lookups.{exact_unsigned, exact_pairs}
 use Rattle.std.proofs.lemmas.Map.Keys.{sorted_head, sorted_tail}
 use Rattle.std.proofs.lemmas.List.Elements.{filter-append}
 use Rattle.itch_codec.specs.declared.side.Side.{Side}
 use Rattle.itch_codec.specs.declared.side.Side.TheVariants.{Buy, Sell}
 use Rattle.itch_book.specs.declared.order.Order.{Order}
-use Rattle.itch_book.specs.Orders.{is_level, is_of, same_side, lay, level}
-use Rattle.itch_book.specs.Queued.{Queued, Seen, seen, keys_at, order_at, found}
-use Rattle.itch_book.specs.Indexed.{Place, place_cmp, queue_at, orders_in, line, line_at, joined, IsAt, indexed, queue_of_side}
+use Rattle.itch_book.specs.Orders.{is_level, same_side, level}
+use Rattle.itch_book.specs.Queued.{Seen}
+use Rattle.itch_book.specs.Indexed.{Place, place_cmp, queue_at, line, line_at, joined, queue_of_side}
 use Rattle.itch_book.proofs.Lists.{by_test, filter_none, filter_all, All-weaker_rec}
 use Rattle.itch_book.proofs.OrderLemmas.{same_side_is}
+
+-- the orders of a queue are all at one price
+abbrev pub IsAt : Seen → Side → Place × ℕ → Type 0
+IsAt v side e = AllByRecursion (λ x. is_level e.0.0 side e.0.1 x ≡ true) (line v e.1)
 
 -- a query for a place finds that place alone
 pub place_is : (a b : Place) → is_at (place_cmp a) b ≡ true → a ≡ b

@@ -1,7 +1,6 @@
 -- What is read off an index.
-use Rattle.std.proofs.Common.{◌≡◌, ℕ, ◌+◌, ◌<◌, ◌==◌, ◌&&◌, Bool, true, false, cond, eqb, not, List, [], ◌∷◌, ◌++◌, length, filter, find, get_or, Option, Some, None, IsSome, refl, sym, ap, ◌∙◌, subst, arith}
-use Rattle.std.specs.List.{AllByRecursion, list_any}
-use Rattle.std.specs.BTreeMap.{is_at}
+use Rattle.std.proofs.Common.{◌≡◌, ℕ, ◌&&◌, Bool, true, false, not, List, [], ◌∷◌, ◌++◌, length, filter, find, get_or, Option, Some, None, refl, sym, ap, ◌∙◌, subst, arith}
+use Rattle.std.specs.List.{AllByRecursion}
 use Rattle.std.specs.List.Sorted.{IsStrictlySortedBy}
 use Rattle.itch_book.proofs.BookLemmas.{IsBook-lay}
 use Rattle.std.proofs.lemmas.Bool.{false≢true}
@@ -9,15 +8,14 @@ use Rattle.std.proofs.lemmas.Bool.Decides.{nat_tests}
 use Rattle.itch_codec.specs.declared.side.Side.{Side}
 use Rattle.itch_codec.specs.declared.side.Side.TheVariants.{Buy, Sell}
 use Rattle.itch_book.specs.declared.order.Order.{Order}
-use Rattle.itch_book.specs.Stable.{in_order}
-use Rattle.itch_book.specs.Orders.{is_level, is_of, same_side, lay, level, level_total, fits, AllFit, has_reference, get, stands_before, IsLive, IsDistinct, IsBook}
-use Rattle.itch_book.specs.Queued.{Queued, Seen, seen, keys_at, order_at, found, shown, totals_of}
-use Rattle.itch_book.specs.Indexed.{Place, place_cmp, queue_at, orders_in, line, line_at, joined, indexed, queue_of_side, node_of, IsListed, IsKnown, IsIndexed, IsBusy}
-use Rattle.itch_book.proofs.Lists.{by_test, filter_none, filter_all, All-append_rec, All-weaker_rec, found_passes, absent_in_filter}
-use Rattle.itch_book.proofs.Distinct.{has_own, own_reference, head_distinct, tail_distinct, live_fit}
+use Rattle.itch_book.specs.Orders.{is_level, same_side, level, level_total, fits, AllFit, has_reference, get, stands_before, IsDistinct}
+use Rattle.itch_book.specs.Queued.{Seen, found, shown, totals_of}
+use Rattle.itch_book.specs.Indexed.{Place, orders_in, line, line_at, joined, indexed, queue_of_side, node_of, IsIndexed, IsBusy}
+use Rattle.itch_book.proofs.Lists.{by_test, All-append_rec, found_passes, absent_in_filter}
+use Rattle.itch_book.proofs.Distinct.{has_own, own_reference, head_distinct, tail_distinct}
 use Rattle.itch_book.proofs.OrderLemmas.{stands_order, lay_fit, same_side_self, same_side_is, ties_level}
 use Rattle.itch_book.proofs.Levels.{ties, in_order-tied}
-use Rattle.itch_book.proofs.LinkLemmas.{In, eqb_itself, eqb_is, in_head, in_tail, in_cases}
+use Rattle.itch_book.proofs.LinkLemmas.{In, eqb_itself, in_cases}
 use Rattle.itch_book.proofs.QueueSteps.{none_some, same_some, inj}
 use Rattle.itch_book.proofs.IndexLemmas.{level_both}
 

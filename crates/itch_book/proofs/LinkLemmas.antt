@@ -1,12 +1,19 @@
 -- Links, frame by frame: what a change of one node leaves of a list of linked nodes.
-use Rattle.std.proofs.Common.{◌≡◌, ◌≢◌, ℕ, zero, suc, ◌+◌, ◌-◌, ◌<◌, ◌≤◌, Bool, true, false, not, ◌||◌, cond, eqb, List, [], ◌∷◌, ◌++◌, length, filter, Option, Some, None, option_map, refl, sym, ap, ◌∙◌, subst, arith}
+use Rattle.std.proofs.Common.{◌≡◌, ℕ, true, false, eqb, List, [], ◌∷◌, ◌++◌, length, Option, Some, None, refl, sym, ap, ◌∙◌, subst, arith}
 use Rattle.std.specs.List.{AllByRecursion, IsDistinct, list_any}
 use Rattle.std.proofs.lemmas.Bool.{false≢true}
 use Rattle.std.proofs.lemmas.Bool.Decides.{nat_tests}
 use Rattle.itch_book.specs.declared.queues.Node.{Node}
-use Rattle.itch_book.specs.declared.queues.Head.{Head}
-use Rattle.itch_book.specs.Links.{Nodes, next_of, walk, first_or, last_or, IsLink, IsLinked, order_of, shares_of, total, IsQueue, walked, IsHome, IsSound, cond_none, with_after, with_before, at_key, unlinked, unlinked_head, pushed, pushed_head}
+use Rattle.itch_book.specs.Links.{Nodes, next_of, walk, first_or, last_or, IsLink, IsLinked, with_after, with_before, at_key}
 use Rattle.itch_book.proofs.Lists.{by_test}
+
+-- the nodes after one is taken out of its queue
+abbrev pub unlinked : ℕ → Node → Nodes → Nodes
+unlinked key x f = with_before x.after x.before (with_after x.before x.after (at_key key None f))
+
+-- the nodes after one is put last in a queue
+abbrev pub pushed : ℕ → Node → Nodes → Nodes
+pushed key x f = with_after x.before (Some key) (at_key key (Some x) f)
 
 -- a key is in a list
 abbrev pub In : ℕ → List ℕ → Type 0

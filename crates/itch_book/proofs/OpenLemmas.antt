@@ -1,5 +1,5 @@
 -- An empty queue put at a price that had none.
-use Rattle.std.proofs.Common.{◌≡◌, ℕ, ◌+◌, ◌<◌, ◌==◌, ◌&&◌, Bool, true, false, cond, eqb, not, List, [], ◌∷◌, ◌++◌, length, filter, find, Option, Some, None, IsSome, refl, sym, ap, ◌∙◌, subst, arith}
+use Rattle.std.proofs.Common.{◌≡◌, ℕ, true, false, cond, eqb, List, [], ◌++◌, length, Option, Some, None, IsSome, refl, sym, ap, ◌∙◌, subst}
 use Rattle.std.specs.List.{AllByRecursion, list_any}
 use Rattle.std.specs.Map.{keys_of}
 use Rattle.std.specs.BTreeMap.{is_at}
@@ -7,16 +7,16 @@ use Rattle.std.specs.List.Sorted.{IsStrictlySortedBy}
 use Rattle.std.proofs.lemmas.Bool.{false≢true}
 use Rattle.itch_codec.specs.declared.side.Side.{Side}
 use Rattle.itch_book.specs.declared.order.Order.{Order}
-use Rattle.itch_book.specs.Orders.{is_level, same_side, lay, level, IsBook}
+use Rattle.itch_book.specs.Orders.{is_level, same_side, level, IsBook}
 use Rattle.itch_book.specs.Links.{at_key}
 use Rattle.std.specs.Prelude.{Result, Ok, Err, OnErr}
 use Rattle.std.proofs.Common.{get_or}
-use Rattle.itch_book.specs.Queued.{Queued, Seen, seen, found}
-use Rattle.itch_book.specs.Indexed.{Place, place_cmp, orders_in, line, line_at, joined, indexed, queue_of_side, is_there, node_of, has_keys, IsListed, IsKnown, IsPlace, IsIndexed, IsBusy, IsBusyBut}
+use Rattle.itch_book.specs.Queued.{Queued, Seen, seen}
+use Rattle.itch_book.specs.Indexed.{Place, place_cmp, orders_in, line, line_at, joined, indexed, queue_of_side, is_there, node_of, has_keys, IsPlace, IsIndexed, IsBusy, IsBusyBut}
 use Rattle.itch_book.proofs.Lists.{by_test}
 use Rattle.itch_book.proofs.OrderLemmas.{lay_same_levels, same_side_is}
 use Rattle.itch_book.proofs.LinkLemmas.{eqb_itself, eqb_is}
-use Rattle.itch_book.proofs.QueueSteps.{none_some, same_some, inj}
+use Rattle.itch_book.proofs.QueueSteps.{none_some, same_some}
 use Rattle.itch_book.proofs.SoundSteps.{at_apart, at_same}
 use Rattle.itch_book.proofs.IndexLemmas.{level_both, place_is}
 

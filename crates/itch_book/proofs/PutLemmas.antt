@@ -1,27 +1,26 @@
 -- An order put last in the queue of its price.
-use Rattle.std.proofs.Common.{◌≡◌, ℕ, ◌+◌, ◌^◌, ◌<◌, ◌==◌, ◌&&◌, Bool, true, false, cond, eqb, not, List, [], ◌∷◌, ◌++◌, length, filter, find, Option, Some, None, IsSome, refl, sym, ap, ◌∙◌, subst, arith, length-append}
+use Rattle.std.proofs.Common.{◌≡◌, ℕ, ◌+◌, ◌^◌, ◌<◌, true, false, eqb, List, [], ◌∷◌, ◌++◌, length, filter, Option, Some, None, IsSome, refl, sym, ap, ◌∙◌, subst, arith, length-append}
 use Rattle.std.specs.List.{AllByRecursion, list_any}
 use Rattle.std.proofs.lemmas.Bool.{false≢true}
 use Rattle.std.proofs.lemmas.Bool.Decides.{nat_tests}
 use Rattle.std.proofs.lemmas.List.Elements.{filter-append}
 use Rattle.itch_codec.specs.declared.side.Side.{Side}
-use Rattle.itch_codec.specs.declared.side.Side.TheVariants.{Buy, Sell}
 use Rattle.itch_book.specs.declared.order.Order.{Order}
-use Rattle.itch_book.specs.Orders.{is_level, same_side, lay, level, added, fits, AllFit, has_reference, get, stands_before, IsLive, IsDistinct, IsBook}
+use Rattle.itch_book.specs.Orders.{is_level, same_side, lay, level, added, fits, AllFit, get, stands_before, IsLive, IsBook}
 use Rattle.itch_book.specs.Links.{at_key}
 use Rattle.itch_book.specs.Queued.{Seen, found, shown}
-use Rattle.itch_book.specs.Indexed.{Place, orders_in, line, line_at, joined, indexed, queue_of_side, node_of, has_keys, IsBusy, IsBusyBut, IsListed, IsKnown, IsPlace, IsIndexed}
-use Rattle.itch_book.proofs.Lists.{by_test, All-append_rec, filter_all}
-use Rattle.itch_book.proofs.Distinct.{own_reference, live_fit}
+use Rattle.itch_book.specs.Indexed.{Place, orders_in, line, line_at, joined, indexed, queue_of_side, node_of, has_keys, IsBusy, IsBusyBut, IsPlace, IsIndexed}
+use Rattle.itch_book.proofs.Lists.{by_test, All-append_rec}
+use Rattle.itch_book.proofs.Distinct.{live_fit}
 use Rattle.itch_book.proofs.StableLemmas.{length-in_order}
-use Rattle.itch_book.proofs.OrderLemmas.{lay_fit, lay_same_levels, same_side_is, same_side_self}
+use Rattle.itch_book.proofs.OrderLemmas.{lay_fit, lay_same_levels, same_side_is}
 use Rattle.itch_book.proofs.BookLemmas.{IsBook-added}
-use Rattle.itch_book.proofs.LinkLemmas.{In, NotIn, eqb_itself, eqb_is, in_head, in_tail, in_cases, not_in_head, not_in_tail, clash}
+use Rattle.itch_book.proofs.LinkLemmas.{In, NotIn, eqb_itself, eqb_is, in_head, in_cases, not_in_head, not_in_tail}
 use Rattle.itch_book.proofs.UnlinkLemmas.{in_left, in_right, in_parts}
-use Rattle.itch_book.proofs.QueueSteps.{none_some, same_some, inj}
+use Rattle.itch_book.proofs.QueueSteps.{none_some, same_some}
 use Rattle.itch_book.proofs.SoundSteps.{at_apart, at_same}
 use Rattle.itch_book.proofs.IndexLemmas.{level_both}
-use Rattle.itch_book.proofs.IndexSteps.{all_fit, level_is, level_own, get_some}
+use Rattle.itch_book.proofs.IndexSteps.{level_is, level_own, get_some}
 
 found-append : (orders : ℕ → Option Order) (xs ys : List ℕ) → found orders (xs ++ ys) ≡ found orders xs ++ found orders ys
 found-append orders [] ys = refl

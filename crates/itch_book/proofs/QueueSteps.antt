@@ -1,16 +1,14 @@
 -- Sound queues stay sound.
-use Rattle.std.proofs.Common.{◌≡◌, ◌≢◌, ℕ, zero, suc, ◌+◌, ◌-◌, ◌*◌, ◌^◌, ◌<◌, ◌≤◌, Bool, true, false, not, ◌||◌, cond, eqb, List, [], ◌∷◌, ◌++◌, length, filter, Option, Some, None, option_map, refl, sym, ap, ◌∙◌, subst, arith, length-append}
-use Rattle.std.specs.List.{AllByRecursion, IsDistinct, list_any}
-use Rattle.std.proofs.lemmas.Bool.{false≢true}
-use Rattle.std.proofs.lemmas.Bool.Decides.{nat_tests}
+use Rattle.std.proofs.Common.{◌≡◌, ℕ, ◌+◌, ◌*◌, ◌^◌, ◌<◌, ◌≤◌, false, eqb, List, [], ◌∷◌, ◌++◌, length, Option, Some, None, option_map, refl, sym, ap, ◌∙◌, subst, arith, length-append}
+use Rattle.std.specs.List.{list_any}
 use Rattle.std.specs.Cmp.{nat_eq_equiv}
 use Rattle.std.proofs.lemmas.Map.Keys.{IsDistinct-push}
 use Rattle.itch_book.specs.declared.queues.Node.{Node}
 use Rattle.itch_book.specs.declared.queues.Head.{Head}
-use Rattle.itch_book.specs.Links.{Nodes, next_of, walk, first_or, last_or, IsLink, IsLinked, order_of, shares_of, total, IsQueue, walked, IsHome, IsSound, cond_none, with_after, with_before, at_key, unlinked, unlinked_head, pushed, pushed_head}
-use Rattle.itch_book.proofs.Lists.{by_test, All-left_rec, All-right_rec}
-use Rattle.itch_book.proofs.LinkLemmas.{In, NotIn, eqb_itself, eqb_is, eqb_turned, in_head, in_tail, in_cases, not_in_head, not_in_tail, clash, frame, in_queue, other_linked, linked_left, linked_right, linked_joined, first_or-append, last_or-append, walk_is, last_key, last_or_is, in_last, distinct_head, distinct_tail}
-use Rattle.itch_book.proofs.UnlinkLemmas.{in_left, in_right, in_parts, parts_at, apart, distinct_right, distinct_left, distinct_without, not_head, apart_keys, unlinked_linked, pushed_linked}
+use Rattle.itch_book.specs.Links.{Nodes, walk, first_or, last_or, IsLinked, shares_of, total, IsQueue, walked, IsHome, IsSound, cond_none, with_after, with_before, at_key, unlinked_head, pushed_head}
+use Rattle.itch_book.proofs.Lists.{by_test}
+use Rattle.itch_book.proofs.LinkLemmas.{unlinked, pushed, In, NotIn, eqb_itself, eqb_is, eqb_turned, in_head, in_tail, not_in_head, in_queue, other_linked, linked_right, last_or-append, walk_is, last_key, last_or_is, in_last, distinct_head}
+use Rattle.itch_book.proofs.UnlinkLemmas.{in_parts, apart, distinct_right, distinct_without, apart_keys, unlinked_linked, pushed_linked}
 
 -- the keys that a queue has are those on the way along its links
 pub walked_is : (f : Nodes) (q : ℕ) (head : Head) (ks : List ℕ) → IsQueue f q head ks → walked f head ≡ ks

@@ -1,17 +1,17 @@
 -- What is read off queues, and an order's shares changed.
-use Rattle.std.proofs.Common.{◌≡◌, ◌≢◌, ℕ, zero, suc, ◌+◌, ◌-◌, ◌*◌, ◌^◌, ◌<◌, ◌≤◌, Bool, true, false, not, cond, eqb, List, [], ◌∷◌, ◌++◌, map, length, filter, get_or, Option, Some, None, IsSome, IsSomeAnd, option_map, refl, sym, ap, ◌∙◌, subst, arith, length-append}
+use Rattle.std.proofs.Common.{◌≡◌, ℕ, ◌+◌, ◌-◌, ◌^◌, ◌<◌, true, false, eqb, List, [], ◌∷◌, ◌++◌, length, Option, Some, None, IsSomeAnd, option_map, refl, sym, ap, ◌∙◌, subst, arith}
 use Rattle.std.specs.List.{IsDistinct, list_any, sum_by}
 use Rattle.std.proofs.lemmas.List.Sums.{sum_by-cons}
 use Rattle.std.proofs.lemmas.Bool.{false≢true}
-use Rattle.slab.specs.Slab.{Slab, get, slab_len, Updates}
+use Rattle.slab.specs.Slab.{Slab, get}
 use Rattle.itch_book.specs.declared.order.Order.{Order}
 use Rattle.itch_book.specs.declared.queues.Node.{Node}
 use Rattle.itch_book.specs.declared.queues.Head.{Head}
-use Rattle.itch_book.specs.Links.{Nodes, first_or, last_or, IsLinked, order_of, shares_of, total, IsQueue, walked, IsHome, IsSound, at_key}
-use Rattle.itch_book.specs.Queued.{Queued, keys_at, order_at, without_key, queued, shown, found, totals_of, left_with}
+use Rattle.itch_book.specs.Links.{Nodes, first_or, IsLinked, order_of, shares_of, total, IsQueue, walked, IsSound, at_key}
+use Rattle.itch_book.specs.Queued.{keys_at, order_at, queued, shown, found, totals_of, left_with}
 use Rattle.itch_book.proofs.Lists.{by_test}
-use Rattle.itch_book.proofs.LinkLemmas.{In, NotIn, eqb_itself, eqb_is, eqb_turned, in_cases, in_head, in_tail, in_queue, linked_right, distinct_head, not_in_head}
-use Rattle.itch_book.proofs.UnlinkLemmas.{in_parts, parts_at, apart, apart_keys, distinct_right}
+use Rattle.itch_book.proofs.LinkLemmas.{In, eqb_itself, eqb_is, eqb_turned, in_queue, linked_right, distinct_head, not_in_head}
+use Rattle.itch_book.proofs.UnlinkLemmas.{parts_at, apart, distinct_right}
 use Rattle.itch_book.proofs.QueueSteps.{none_some, same_some, inj, total_frame, total-append, IsStep, sound_step, total_small}
 use Rattle.itch_book.proofs.SoundSteps.{at_apart, at_same, home_in, has_one}
 use Rattle.itch_book.proofs.ViewLemmas.{pointwise, map_at_key, keys_seen, order_seen, keys_stepped}

@@ -1,7 +1,5 @@
 -- A new order added, and the one that it replaces taken out.
-use Rattle.std.proofs.Common.{◌≡◌, ℕ, ◌==◌, Bool, true, false, not, List, [], ◌∷◌, ◌++◌, filter, find, Option, Some, None, IsSome, refl, sym, ap, ◌∙◌, subst}
-use Rattle.std.specs.List.{AllByRecursion}
-use Rattle.std.proofs.lemmas.Bool.{false≢true}
+use Rattle.std.proofs.Common.{◌≡◌, ℕ, Bool, true, false, not, List, [], ◌∷◌, ◌++◌, find, Some, None, IsSome, refl, sym, ap, ◌∙◌, subst}
 use Rattle.std.proofs.lemmas.List.Elements.{filter-append}
 use Rattle.itch_book.specs.declared.order.Order.{Order}
 use Rattle.itch_book.specs.Orders.{lay, added, without, replaced, replaced_by, has_reference, get, fits, AllFit, IsLive, IsBook}

@@ -1,17 +1,16 @@
 -- What each change of the queues leaves sound.
-use Rattle.std.proofs.Common.{◌≡◌, ◌≢◌, ℕ, zero, suc, ◌+◌, ◌-◌, ◌^◌, ◌<◌, ◌≤◌, Bool, true, false, not, ◌||◌, cond, eqb, List, [], ◌∷◌, ◌++◌, length, filter, Option, Some, None, option_map, refl, sym, ap, ◌∙◌, subst, arith, length-append}
-use Rattle.std.specs.List.{AllByRecursion, IsDistinct, list_any}
+use Rattle.std.proofs.Common.{◌≡◌, ℕ, ◌^◌, ◌<◌, ◌≤◌, true, false, eqb, List, [], ◌∷◌, ◌++◌, length, Option, Some, None, refl, sym, ap, ◌∙◌, subst, arith, length-append}
+use Rattle.std.specs.List.{IsDistinct, list_any}
 use Rattle.std.proofs.lemmas.Bool.{false≢true}
-use Rattle.std.proofs.lemmas.Bool.Decides.{nat_tests}
 use Rattle.itch_book.specs.declared.order.Order.{Order}
 use Rattle.itch_book.specs.declared.queues.Node.{Node}
 use Rattle.itch_book.specs.declared.queues.Head.{Head}
-use Rattle.itch_book.specs.Links.{Nodes, next_of, walk, first_or, last_or, IsLink, IsLinked, order_of, shares_of, total, IsQueue, walked, IsHome, IsSound, cond_none, with_after, with_before, at_key, unlinked, unlinked_head, pushed, pushed_head}
+use Rattle.itch_book.specs.Links.{Nodes, last_or, IsLinked, shares_of, total, IsQueue, walked, IsSound, with_after, with_before, at_key, unlinked_head, pushed_head}
 use Rattle.itch_book.specs.Queued.{without_key}
 use Rattle.itch_book.proofs.Lists.{by_test}
-use Rattle.itch_book.proofs.LinkLemmas.{In, NotIn, eqb_itself, eqb_is, eqb_turned, in_head, in_tail, in_cases, not_in_head, not_in_tail, clash, frame, in_queue, linked_right, distinct_head}
-use Rattle.itch_book.proofs.UnlinkLemmas.{in_left, in_right, in_parts, parts_at, apart, distinct_right, not_head, apart_keys}
-use Rattle.itch_book.proofs.QueueSteps.{walked_is, queue_walked, total_frame, total-append, unlinked_keeps, pushed_keeps, none_some, same_some, inj, last_in, first_in, unlink_queue, vacant_out, push_queue, IsStep, sound_step, total_small}
+use Rattle.itch_book.proofs.LinkLemmas.{unlinked, pushed, In, NotIn, eqb_itself, eqb_is, in_head, in_tail, in_cases, not_in_head, not_in_tail, clash, in_queue, linked_right}
+use Rattle.itch_book.proofs.UnlinkLemmas.{in_left, in_right, in_parts, parts_at, apart, distinct_right, not_head}
+use Rattle.itch_book.proofs.QueueSteps.{total-append, unlinked_keeps, pushed_keeps, none_some, same_some, inj, last_in, first_in, unlink_queue, push_queue, IsStep, sound_step}
 
 -- a list without a key that is not in it
 pub without_none : (k : ℕ) (ks : List ℕ) → NotIn k ks → without_key k ks ≡ ks

@@ -1,13 +1,11 @@
 -- A node taken out of its queue, and one put last.
-use Rattle.std.proofs.Common.{◌≡◌, ◌≢◌, ℕ, zero, suc, ◌+◌, ◌-◌, ◌<◌, ◌≤◌, Bool, true, false, not, ◌||◌, cond, eqb, List, [], ◌∷◌, ◌++◌, length, filter, Option, Some, None, option_map, refl, sym, ap, ◌∙◌, subst, arith, length-append}
+use Rattle.std.proofs.Common.{◌≡◌, ℕ, true, false, eqb, List, [], ◌∷◌, ◌++◌, Option, Some, None, refl, sym, ap, ◌∙◌, subst}
 use Rattle.std.specs.List.{AllByRecursion, IsDistinct, list_any}
 use Rattle.std.proofs.lemmas.Bool.{false≢true}
-use Rattle.std.proofs.lemmas.Bool.Decides.{nat_tests}
 use Rattle.itch_book.specs.declared.queues.Node.{Node}
-use Rattle.itch_book.specs.declared.queues.Head.{Head}
-use Rattle.itch_book.specs.Links.{Nodes, next_of, walk, first_or, last_or, IsLink, IsLinked, order_of, shares_of, total, IsQueue, walked, IsHome, IsSound, cond_none, with_after, with_before, at_key, unlinked, unlinked_head, pushed, pushed_head}
-use Rattle.itch_book.proofs.Lists.{by_test, All-left_rec, All-right_rec}
-use Rattle.itch_book.proofs.LinkLemmas.{In, NotIn, eqb_itself, eqb_is, eqb_turned, in_head, in_tail, in_cases, not_in_head, not_in_tail, clash, frame, in_queue, other_linked, linked_left, linked_right, linked_joined, first_or-append, last_or-append, walk_is, last_key, last_or_is, in_last, distinct_head, distinct_tail, relinked_last, relinked_first}
+use Rattle.itch_book.specs.Links.{Nodes, first_or, last_or, IsLink, IsLinked, with_after, with_before, at_key}
+use Rattle.itch_book.proofs.Lists.{by_test, All-left_rec}
+use Rattle.itch_book.proofs.LinkLemmas.{unlinked, pushed, In, NotIn, eqb_itself, eqb_is, in_head, in_tail, in_cases, clash, frame, linked_left, linked_right, linked_joined, last_key, last_or_is, in_last, distinct_head, distinct_tail, relinked_last, relinked_first}
 
 pub in_left : (j : ℕ) (xs ys : List ℕ) → In j xs → In j (xs ++ ys)
 in_left j [] ys i = absurd (false≢true i)

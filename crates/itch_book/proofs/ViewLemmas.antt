@@ -1,24 +1,22 @@
 -- The slabs of queues, and what contracts see of them.
-use Rattle.std.proofs.Common.{◌≡◌, ◌≢◌, ℕ, zero, suc, ◌+◌, ◌-◌, ◌*◌, ◌^◌, ◌<◌, ◌≤◌, Bool, true, false, not, cond, eqb, List, [], ◌∷◌, ◌++◌, map, length, filter, get_or, Option, Some, None, IsSome, option_map, refl, sym, ap, ◌∙◌, subst, arith, length-append}
+use Rattle.std.proofs.Common.{◌≡◌, ℕ, zero, suc, ◌+◌, ◌^◌, ◌<◌, ◌≤◌, true, false, eqb, List, [], ◌∷◌, ◌++◌, map, length, get_or, Option, Some, None, IsSome, option_map, refl, sym, ap, ◌∙◌, subst, arith, length-append}
 use Rattle.std.specs.List.{IsDistinct, list_any}
 use Rattle.std.proofs.lemmas.Bool.{false≢true}
-use Rattle.std.proofs.lemmas.Bool.Decides.{nat_tests}
-use Rattle.std.proofs.lemmas.List.{get_or_past}
 use Rattle.std.proofs.lemmas.Map.Steps.{length-le_from_distinct_below}
-use Rattle.slab.specs.Slab.{Slab, get, slab_len, Updates}
+use Rattle.slab.specs.Slab.{Slab, get, Updates}
 use Rattle.itch_book.specs.declared.order.Order.{Order}
 use Rattle.itch_book.specs.declared.queues.Node.{Node}
 use Rattle.itch_book.specs.declared.queues.Head.{Head}
-use Rattle.itch_book.specs.Links.{Nodes, IsLinked, order_of, shares_of, total, IsQueue, walked, IsHome, IsSound, with_after, with_before, at_key, unlinked, unlinked_head, pushed, pushed_head}
-use Rattle.itch_book.specs.Queued.{Queued, keys_at, order_at, without_key, queued}
+use Rattle.itch_book.specs.Links.{Nodes, order_of, IsQueue, walked, IsSound, with_after, with_before, at_key, unlinked_head, pushed_head}
+use Rattle.itch_book.specs.Queued.{keys_at, order_at, without_key, queued}
 use Rattle.std.specs.Cmp.{nat_eq_equiv}
 use Rattle.std.proofs.lemmas.Map.Keys.{IsDistinct-push}
 use Rattle.slab.proofs.SlabLemmas.{ContainsKey-within}
 use Rattle.itch_book.proofs.UnlinkLemmas.{in_parts, apart_keys}
 use Rattle.itch_book.proofs.Lists.{by_test}
-use Rattle.itch_book.proofs.LinkLemmas.{In, NotIn, eqb_itself, eqb_is, in_cases, in_queue}
-use Rattle.itch_book.proofs.QueueSteps.{none_some, same_some, vacant_out, push_queue, IsStep, sound_step, total_small, unlinked_keeps, pushed_keeps}
-use Rattle.itch_book.proofs.SoundSteps.{at_apart, sound_unlinked, sound_pushed, other_without, has_one}
+use Rattle.itch_book.proofs.LinkLemmas.{unlinked, pushed, In, NotIn, eqb_itself, eqb_is, in_cases, in_queue}
+use Rattle.itch_book.proofs.QueueSteps.{none_some, same_some, vacant_out, IsStep, sound_step, total_small, unlinked_keeps, pushed_keeps}
+use Rattle.itch_book.proofs.SoundSteps.{at_apart, sound_unlinked, sound_pushed, other_without}
 
 pub pointwise : {A B : Type 0} (f g : A → B) → ((x : A) → f x ≡ g x) → f ≡ g
 pointwise f g h = λ i x. h x i

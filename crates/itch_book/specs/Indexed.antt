@@ -1,5 +1,5 @@
 -- What an index of queues by price means: its orders, level by level.
-use Rattle.std.specs.Prelude.{◌≡◌, ℕ, ◌<◌, ◌^◌, ◌==◌, ◌&&◌, Bool, true, false, List, [], ◌∷◌, ◌++◌, length, eqb, Option, Some, None, IsSome}
+use Rattle.std.specs.Prelude.{◌≡◌, ℕ, ◌<◌, ◌^◌, ◌&&◌, Bool, true, false, List, [], ◌∷◌, ◌++◌, length, eqb, Option, Some, None, IsSome}
 use Rattle.std.specs.declared.cmp.Ordering.{Ordering}
 use Rattle.std.specs.Ordering.{nat_cmp, ordering_then}
 use Rattle.std.specs.List.{AllByRecursion, list_any}
@@ -9,10 +9,10 @@ use Rattle.std.specs.List.Sorted.{IsStrictlySortedBy}
 use Rattle.itch_codec.specs.declared.side.Side.{Side}
 use Rattle.itch_codec.specs.declared.side.Side.TheVariants.{Buy, Sell}
 use Rattle.itch_book.specs.declared.order.Order.{Order}
-use Rattle.itch_book.specs.Orders.{is_level, is_better, is_worse, same_side, lay, IsDistinct, IsLive, IsBook}
-use Rattle.itch_book.specs.Queued.{Queued, Seen, seen, keys_at, order_at, found}
+use Rattle.itch_book.specs.Orders.{is_level, is_better, is_worse, same_side, lay, IsLive, IsBook}
+use Rattle.itch_book.specs.Queued.{Seen, found}
 
--- a locate and a price
+-- a locate, and a price
 abbrev pub Place : Type 0
 Place = ℕ × ℕ
 
@@ -24,6 +24,7 @@ place_cmp a b = ordering_then (nat_cmp a.0 b.0) (nat_cmp a.1 b.1)
 abbrev pub queue_at : List (Place × ℕ) → ℕ → ℕ → Option ℕ
 queue_at es locate price = lookup (is_at (place_cmp (locate, price))) es
 
+-- the orders of these nodes, if there are any keys
 abbrev pub orders_in : (ℕ → Option Order) → Option (List ℕ) → List Order
 orders_in orders None = []
 orders_in orders (Some ks) = found orders ks
@@ -32,6 +33,7 @@ orders_in orders (Some ks) = found orders ks
 abbrev pub line : Seen → ℕ → List Order
 line v q = orders_in (v.orders) (v.keys q)
 
+-- the orders of a queue, if there is one
 abbrev pub line_at : Seen → Option ℕ → List Order
 line_at v None = []
 line_at v (Some q) = line v q
@@ -40,10 +42,6 @@ line_at v (Some q) = line v q
 abbrev pub joined : Seen → List (Place × ℕ) → List Order
 joined v [] = []
 joined v (e ∷ es) = line v e.1 ++ joined v es
-
--- the orders of a queue are all at one price
-abbrev pub IsAt : Seen → Side → Place × ℕ → Type 0
-IsAt v side e = AllByRecursion (λ x. is_level e.0.0 side e.0.1 x ≡ true) (line v e.1)
 
 -- all orders, in snapshot order
 abbrev pub indexed : Seen → List (Place × ℕ) → List (Place × ℕ) → List Order
@@ -125,7 +123,7 @@ pub record IsNextLevel (at : ℕ → Option ℕ) (side : Side) (last : Option �
   pub worse : is_worse side last e.0 ≡ true
   pub best : (p : ℕ) → p < 2 ^ 32 → is_worse side last p ≡ true → IsSome (at p) → is_better side p e.0 ≡ false
 
--- or there is none
+-- or there is no worse price
 abbrev pub IsNextOr : (ℕ → Option ℕ) → Side → Option ℕ → Option (ℕ × ℕ) → Type 0
 IsNextOr at side last None = (p : ℕ) → p < 2 ^ 32 → is_worse side last p ≡ true → at p ≡ None
 IsNextOr at side last (Some e) = IsNextLevel at side last e

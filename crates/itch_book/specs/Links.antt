@@ -1,7 +1,6 @@
 -- Queues of nodes that are linked both ways.
-use Rattle.std.specs.Prelude.{◌≡◌, ◌≢◌, ℕ, zero, suc, ◌+◌, ◌-◌, ◌^◌, ◌<◌, ◌≤◌, Bool, true, not, cond, eqb, List, [], ◌∷◌, ◌++◌, map, length, Option, Some, None, option_map, slice_index_or}
-use Rattle.std.specs.List.{IsDistinct, filter, list_any}
-use Rattle.slab.specs.Slab.{Slab, get, slab_len}
+use Rattle.std.specs.Prelude.{◌≡◌, ℕ, zero, suc, ◌+◌, ◌-◌, ◌^◌, ◌<◌, true, cond, eqb, List, [], ◌∷◌, length, Option, Some, None, option_map}
+use Rattle.std.specs.List.{IsDistinct, list_any}
 use Rattle.itch_book.specs.declared.order.Order.{Order}
 use Rattle.itch_book.specs.declared.queues.Node.{Node}
 use Rattle.itch_book.specs.declared.queues.Head.{Head}
@@ -10,7 +9,7 @@ use Rattle.itch_book.specs.declared.queues.Head.{Head}
 abbrev pub Nodes : Type 0
 Nodes = ℕ → Option Node
 
--- the key behind a node
+-- the key after a node
 abbrev pub next_of : Option Node → Option ℕ
 next_of None = None
 next_of (Some x) = x.after
@@ -21,10 +20,10 @@ walk f zero from = []
 walk f (suc n) None = []
 walk f (suc n) (Some k) = k ∷ walk f n (next_of (f k))
 
--- the first key, or what stands behind the list
+-- the first key, or what stands after the list
 abbrev pub first_or : List ℕ → Option ℕ → Option ℕ
-first_or [] behind = behind
-first_or (k ∷ ks) behind = Some k
+first_or [] after = after
+first_or (k ∷ ks) after = Some k
 
 -- the last key, or what stands before the list
 abbrev pub last_or : Option ℕ → List ℕ → Option ℕ
@@ -39,7 +38,7 @@ pub record IsLink (f : Nodes) (queue : ℕ) (before : Option ℕ) (k : ℕ) (aft
   pub before_is : node.before ≡ before
   pub after_is : node.after ≡ after
 
--- the nodes of these keys are linked in this order, behind one and before another
+-- the nodes of these keys are linked in this order, after one and before another
 abbrev pub IsLinked : Nodes → ℕ → Option ℕ → List ℕ → Option ℕ → Type 0
 IsLinked f queue before [] after = Unit {0}
 IsLinked f queue before (k ∷ ks) after = IsLink f queue before k (first_or ks after) × IsLinked f queue (Some k) ks after
@@ -89,7 +88,7 @@ abbrev pub cond_none : Option ℕ → Option ℕ → Option ℕ → Option ℕ
 cond_none None there other = there
 cond_none (Some k) there other = other
 
--- another node behind that of a key
+-- another node after that of a key
 abbrev pub with_after : Option ℕ → Option ℕ → Nodes → Nodes
 with_after None after f k = f k
 with_after (Some p) after f k = cond (eqb p k) (option_map (λ (x : Node). record x { after = after }) (f k)) (f k)
@@ -103,11 +102,7 @@ with_before (Some p) before f k = cond (eqb p k) (option_map (λ (x : Node). rec
 abbrev pub at_key : {X : Type 0} → ℕ → Option X → (ℕ → Option X) → ℕ → Option X
 at_key key slot f k = cond (eqb key k) slot (f k)
 
--- the nodes after one is taken out of its queue
-abbrev pub unlinked : ℕ → Node → Nodes → Nodes
-unlinked key x f = with_before x.after x.before (with_after x.before x.after (at_key key None f))
-
--- the head of its queue then
+-- the head of a queue after a node is taken out of it
 abbrev pub unlinked_head : Node → Head → Head
 unlinked_head x head = record head {
   first = cond_none x.before x.after head.first;
@@ -116,11 +111,7 @@ unlinked_head x head = record head {
   orders = head.orders - 1;
 }
 
--- the nodes after one is put last in a queue
-abbrev pub pushed : ℕ → Node → Nodes → Nodes
-pushed key x f = with_after x.before (Some key) (at_key key (Some x) f)
-
--- the head of that queue then
+-- the head of a queue after a node is put last in it
 abbrev pub pushed_head : ℕ → Node → Head → Head
 pushed_head key x head = record head {
   first = cond_none x.before (Some key) head.first;

@@ -1,11 +1,11 @@
 -- What contracts see of queues of orders: the keys of each queue in order, and the order of each node.
-use Rattle.std.specs.Prelude.{◌≡◌, ℕ, ◌+◌, ◌-◌, ◌<◌, nat_lt, cond, Bool, not, eqb, List, [], ◌∷◌, map, length, Option, Some, None, option_map, slice_index_or, refl}
+use Rattle.std.specs.Prelude.{ℕ, ◌-◌, not, eqb, List, [], ◌∷◌, map, length, Option, Some, None, option_map, slice_index_or}
 use Rattle.std.specs.List.{filter, sum_by}
 use Rattle.slab.specs.Slab.{Slab, get, slab_len}
 use Rattle.itch_book.specs.declared.order.Order.{Order}
 use Rattle.itch_book.specs.declared.queues.Node.{Node}
 use Rattle.itch_book.specs.declared.queues.Head.{Head}
-use Rattle.itch_book.specs.Links.{order_of, walked, shares_of}
+use Rattle.itch_book.specs.Links.{order_of, walked}
 
 -- the keys of a queue's nodes, or nothing, at each queue key; the order, or nothing, at each node key;
 -- and how many more nodes and queues fit
@@ -40,6 +40,7 @@ queued nodes heads = record {
   queue_room = room heads;
 }
 
+-- an order, if there is one, before others
 abbrev pub shown : Option Order → List Order → List Order
 shown None rest = rest
 shown (Some x) rest = x ∷ rest
@@ -62,5 +63,6 @@ pub record Seen : Type 0 where
   pub keys : ℕ → Option (List ℕ)
   pub orders : ℕ → Option Order
 
+-- that of queues
 abbrev pub seen : Queued → Seen
 seen v = record { keys = keys_at v; orders = order_at v }

@@ -34,7 +34,7 @@ pub trait OrderBook: Drop {
     fn first(&self, locate: u16) -> Option<&Order>
         ensures { option_copied result ≡ find (is_in locate) (orders self.now) };
 
-    /// The order of the same locate behind that of a reference.
+    /// The order of the same locate after that of a reference.
     fn after(&self, reference: u64) -> Option<&Order>
         requires { IsSome (get (orders self.now) reference) }
         ensures { option_copied result ≡ after (orders self.now) reference };
@@ -66,7 +66,7 @@ pub trait OrderBook: Drop {
         ensures orders { orders self.new ≡ lay (taken reference shares (orders self.old)) }
         ensures left { IfSome (get (orders self.old) reference) (λ x. IsLeft (x.shares - shares) result) };
 
-    /// Removes an order, and answers it (TotalView-ITCH 5.0, "Order Delete Message").
+    /// Removes an order, and returns it (TotalView-ITCH 5.0, "Order Delete Message").
     fn delete(&mut self, reference: u64) -> Order
         requires { IsSome (get (orders self.old) reference) }
         ensures orders { orders self.new ≡ lay (without reference (orders self.old)) }

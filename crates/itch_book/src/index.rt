@@ -115,7 +115,7 @@ impl<A: Allocator + Copy> Index<A> {
         Taken::Left(left)
     }
 
-    /// Removes an order, and answers it.
+    /// Removes an order, and returns it.
     pub(crate) fn delete(&mut self, reference: u64) -> Order
         requires { IsSome (get self.old reference) }
         ensures orders { self.new ≡ lay (without reference self.old) }
@@ -159,7 +159,7 @@ impl<A: Allocator + Copy> Index<A> {
         Ok(())
     }
 
-    /// The order of the same locate behind that of a reference.
+    /// The order of the same locate after that of a reference.
     pub(crate) fn after(&self, reference: u64) -> Option<&Order>
         requires { IsSome (get self.now reference) }
         ensures { option_copied result ≡ after self.now reference }

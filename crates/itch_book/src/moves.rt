@@ -7,7 +7,7 @@ use crate::order::{Order, Taken};
 use crate::places::{index_of, place_of};
 use std::alloc::{AllocError, Allocator};
 
-// Takes the order of a reference out, and answers it. That leaves room for another one.
+// Takes the order of a reference out, and returns it. That leaves room for another one.
 #[tactic(auto, using(crate::proofs::PlaceLemmas::is_cut, crate::proofs::PlaceLemmas::found_there))]
 pub(crate) fn take_out<A: Allocator>(orders: &mut Vec<Order, A>, reference: u64) -> Order
     requires book { IsBook orders.old.items }

@@ -83,7 +83,7 @@ pub(crate) fn first_of(orders: &[Order], locate: u16, side: Side) -> Option<&Ord
     orders.iter().find(|order| is_of(order, locate, side))
 }
 
-// The next order of the same locate behind that of a reference.
+// The next order of the same locate after that of a reference.
 pub(crate) fn next_of(orders: &[Order], reference: u64) -> Option<&Order>
     requires { IsSome (get orders.now reference) }
     ensures { option_copied result ≡ after orders.now reference }

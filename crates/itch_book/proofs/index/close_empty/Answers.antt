@@ -1,8 +1,8 @@
 use Rattle.std.proofs.Common.{◌≡◌, ℕ, true, false, eqb, List, [], ◌∷◌, Option, Some, None, IsSome, is_some, rules, refl, sym, ap, ◌∙◌, subst}
 use Rattle.std.proofs.lemmas.Bool.{false≢true}
 use Rattle.itch_book.specs.Links.{at_key, first_or}
-use Rattle.itch_book.specs.Queued.{Queued, Seen, seen, keys_at, order_at}
-use Rattle.itch_book.specs.Indexed.{Place, queue_of_side, indexed, has_keys, IsIndexed, IsBusy, IsBusyBut}
+use Rattle.itch_book.specs.Queued.{Seen, seen, keys_at}
+use Rattle.itch_book.specs.Indexed.{indexed, has_keys, IsIndexed, IsBusy}
 use Rattle.itch_book.proofs.Lists.{by_test}
 use Rattle.itch_book.proofs.LinkLemmas.{eqb_is}
 use Rattle.itch_book.proofs.OpenLemmas.{seen_same, same_orders}

@@ -1,4 +1,4 @@
-use Rattle.std.proofs.Common.{◌≡◌, ℕ, List, [], Option, Some, None, refl, sym, ap, ◌∙◌, subst}
+use Rattle.std.proofs.Common.{◌≡◌, ℕ, List, [], Some, None, sym, ap, ◌∙◌, subst}
 use Rattle.itch_book.specs.Links.{at_key}
 use Rattle.itch_book.specs.Queued.{Queued, Seen, seen, keys_at, order_at}
 use Rattle.itch_book.specs.Indexed.{Place, queue_of_side, indexed, IsIndexed, IsBusy, IsBusyBut}

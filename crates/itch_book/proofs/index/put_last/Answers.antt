@@ -1,8 +1,8 @@
-use Rattle.std.proofs.Common.{◌≡◌, ℕ, ◌+◌, ◌^◌, ◌<◌, ◌++◌, ◌∷◌, true, List, [], length, Option, Some, None, IsSome, is_some, option_map, cond, rules, arith, refl, sym, ap, ◌∙◌, subst}
+use Rattle.std.proofs.Common.{◌≡◌, ℕ, ◌+◌, ◌^◌, ◌<◌, ◌++◌, ◌∷◌, true, List, [], length, Option, Some, None, IsSome, is_some, option_map, cond, rules, refl, sym, ap, ◌∙◌, subst}
 use Rattle.itch_book.specs.Links.{at_key}
 use Rattle.itch_book.specs.Orders.{fits, IsLive}
-use Rattle.itch_book.specs.Queued.{Queued, Seen, seen, keys_at, order_at}
-use Rattle.itch_book.specs.Indexed.{Place, queue_of_side, indexed, node_of, IsIndexed}
+use Rattle.itch_book.specs.Queued.{Seen, seen, keys_at}
+use Rattle.itch_book.specs.Indexed.{indexed, node_of, IsIndexed}
 use Rattle.itch_book.proofs.OpenLemmas.{seen_same}
 use Rattle.itch_book.proofs.PutLemmas.{put_view, put_index, put_keys_busy, unnamed}
 use Rattle.itch_book.proofs.index.put_last.Goals as goal

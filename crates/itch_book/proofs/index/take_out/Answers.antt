@@ -1,8 +1,7 @@
-use Rattle.std.proofs.Common.{◌≡◌, ℕ, ◌+◌, List, length, Option, Some, None, IsSome, option_map, refl, sym, ap, ◌∙◌, subst}
-use Rattle.itch_book.specs.declared.order.Order.{Order}
+use Rattle.std.proofs.Common.{◌≡◌, ℕ, ◌+◌, length, Some, None, option_map, sym, ap, ◌∙◌, subst}
 use Rattle.itch_book.specs.Links.{at_key}
-use Rattle.itch_book.specs.Queued.{Queued, Seen, seen, keys_at, order_at, without_key}
-use Rattle.itch_book.specs.Indexed.{Place, queue_of_side, indexed, node_of, IsIndexed, IsBusy, IsBusyBut}
+use Rattle.itch_book.specs.Queued.{Seen, seen, order_at, without_key}
+use Rattle.itch_book.specs.Indexed.{queue_of_side, indexed, node_of, IsIndexed, IsBusyBut}
 use Rattle.itch_book.proofs.OpenLemmas.{seen_same}
 use Rattle.itch_book.proofs.CutLemmas.{cut_view, cut_index, cut_busy}
 use Rattle.itch_book.proofs.index.take_out.Goals as goal

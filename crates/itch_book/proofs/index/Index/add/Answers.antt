@@ -1,8 +1,8 @@
-use Rattle.std.proofs.Common.{◌≡◌, ℕ, List, Option, Some, None, IsSome, refl, sym, ap, ◌∙◌, subst}
+use Rattle.std.proofs.Common.{◌≡◌, List, Some, None, sym, ap, ◌∙◌, subst}
 use Rattle.itch_book.specs.declared.order.Order.{Order}
 use Rattle.itch_book.specs.Orders.{get, lay, added}
-use Rattle.itch_book.specs.Queued.{Seen, seen, keys_at}
-use Rattle.itch_book.specs.Indexed.{Place, queue_of_side, indexed, node_of, IsIndexed, IsBusy, IsBusyBut}
+use Rattle.itch_book.specs.Queued.{Seen, seen}
+use Rattle.itch_book.specs.Indexed.{queue_of_side, indexed, IsIndexed, IsBusy}
 use Rattle.itch_book.proofs.OpenLemmas.{seen_slots, any_err, reordered}
 use Rattle.itch_book.proofs.index.Index.add.Goals as goal
 

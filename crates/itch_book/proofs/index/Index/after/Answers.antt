@@ -1,13 +1,12 @@
 use Rattle.std.proofs.Common.{◌≡◌, ℕ, true, eqb, List, [], ◌∷◌, ◌++◌, find, Option, Some, None, IsSome, IsSomeAnd, refl, sym, ap, ◌∙◌, subst}
-use Rattle.itch_codec.specs.declared.side.Side.{Side}
-use Rattle.itch_codec.specs.declared.side.Side.TheVariants.{Buy, Sell}
+use Rattle.itch_codec.specs.declared.side.Side.TheVariants.{Sell}
 use Rattle.std.specs.List.{list_any}
 use Rattle.std.proofs.lemmas.Bool.{false≢true}
 use Rattle.itch_book.specs.declared.order.Order.{Order}
 use Rattle.itch_book.specs.Links.{first_or}
-use Rattle.itch_book.specs.Orders.{get, after, behind, first, is_level, is_of, is_in, is_next}
+use Rattle.itch_book.specs.Orders.{get, after, behind, first, is_level, is_of, is_next}
 use Rattle.itch_book.specs.Queued.{Seen, seen, keys_at, order_at, found, shown}
-use Rattle.itch_book.specs.Indexed.{Place, node_of, queue_of_side, indexed, has_keys, IsIndexed}
+use Rattle.itch_book.specs.Indexed.{Place, node_of, indexed, has_keys, IsIndexed}
 use Rattle.itch_book.proofs.LinkLemmas.{in_head, in_tail}
 use Rattle.itch_book.proofs.UnlinkLemmas.{in_right}
 use Rattle.itch_book.proofs.QueueSteps.{none_some, inj}

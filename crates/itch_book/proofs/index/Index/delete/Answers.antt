@@ -1,9 +1,6 @@
-use Rattle.std.proofs.Common.{◌≡◌, ℕ, List, Option, Some, None, IsSome, IsSomeAnd, IfSome, refl, sym, ap, ◌∙◌, subst}
-use Rattle.std.proofs.lemmas.Bool.{false≢true}
+use Rattle.std.proofs.Common.{List, IsSome, sym, ap, ◌∙◌, subst}
 use Rattle.itch_book.specs.declared.order.Order.{Order}
 use Rattle.itch_book.specs.Orders.{get}
-use Rattle.itch_book.specs.Queued.{Seen, seen, order_at}
-use Rattle.itch_book.specs.Indexed.{Place, node_of, indexed, IsIndexed}
 use Rattle.itch_book.proofs.LiveLemmas.{live_node, live_order}
 use Rattle.itch_book.proofs.index.Index.delete.Goals as goal
 

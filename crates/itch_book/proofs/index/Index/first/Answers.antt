@@ -1,4 +1,4 @@
-use Rattle.std.proofs.Common.{◌≡◌, sym, ◌∙◌}
+use Rattle.std.proofs.Common.{sym, ◌∙◌}
 use Rattle.itch_book.proofs.FrontLemmas.{first_bid, first_ask}
 use Rattle.itch_book.proofs.index.Index.first.Goals as goal
 

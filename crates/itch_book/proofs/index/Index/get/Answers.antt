@@ -1,4 +1,4 @@
-use Rattle.std.proofs.Common.{◌≡◌, ℕ, List, Option, Some, None, IsSome, refl, sym, ap, ◌∙◌, subst}
+use Rattle.std.proofs.Common.{IsSome, refl, sym, ap, ◌∙◌, subst}
 use Rattle.itch_book.specs.Orders.{get}
 use Rattle.itch_book.proofs.IndexSteps.{get_some, get_none}
 use Rattle.itch_book.proofs.index.Index.get.Goals as goal

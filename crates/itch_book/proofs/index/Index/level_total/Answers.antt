@@ -1,7 +1,6 @@
-use Rattle.std.proofs.Common.{◌≡◌, ℕ, List, Option, Some, None, IsSome, refl, sym, ap, ◌∙◌, subst}
+use Rattle.std.proofs.Common.{◌≡◌, ℕ, List, Option, Some, None, IsSome, refl, sym, ap, ◌∙◌}
 use Rattle.itch_book.specs.Orders.{level_total}
-use Rattle.itch_book.specs.Queued.{keys_at, order_at, found, totals_of}
-use Rattle.itch_book.specs.Indexed.{indexed}
+use Rattle.itch_book.specs.Queued.{keys_at}
 use Rattle.itch_book.proofs.IndexSteps.{level_none, level_some}
 use Rattle.itch_book.proofs.index.Index.level_total.Goals as goal
 

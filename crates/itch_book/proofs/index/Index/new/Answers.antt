@@ -1,7 +1,6 @@
-use Rattle.std.proofs.Common.{◌≡◌, ℕ, List, [], ◌++◌, Option, Some, None, refl, sym, ap, ◌∙◌, subst}
+use Rattle.std.proofs.Common.{ℕ, List, [], sym, ap, ◌∙◌, subst}
 use Rattle.itch_book.specs.Queued.{seen}
-use Rattle.itch_book.specs.Indexed.{Place, joined, indexed, IsIndexed, IsBusy}
-use Rattle.itch_book.specs.Orders.{lay}
+use Rattle.itch_book.specs.Indexed.{Place, indexed, IsIndexed, IsBusy}
 use Rattle.itch_book.proofs.OrderLemmas.{lay_fit}
 use Rattle.itch_book.proofs.IndexSteps.{empty_index, empty_busy, no_slots}
 use Rattle.itch_book.proofs.index.Index.new.Goals as goal

@@ -1,4 +1,4 @@
-use Rattle.std.proofs.Common.{◌≡◌, Some, IsSome, sym, ap, ◌∙◌, subst, List}
+use Rattle.std.proofs.Common.{IsSome, sym, ap, ◌∙◌, subst, List}
 use Rattle.itch_book.specs.declared.order.Order.{Order}
 use Rattle.itch_book.specs.Orders.{get, lay, without}
 use Rattle.itch_book.proofs.ReplaceLemmas.{still_there, put_and_cut}

@@ -1,15 +1,13 @@
-use Rattle.std.proofs.Common.{◌≡◌, ℕ, ◌-◌, ◌≤◌, ◌<◌, List, remove, Option, Some, None, IsSome, IsSomeAnd, IfSome, option_map, refl, sym, ap, ◌∙◌, subst, arith}
+use Rattle.std.proofs.Common.{◌≡◌, ℕ, ◌-◌, ◌≤◌, ◌<◌, List, remove, Option, Some, None, IsSome, IsSomeAnd, option_map, refl, sym, ap, ◌∙◌, subst, arith}
 use Rattle.std.specs.List.{position_or_len}
-use Rattle.std.proofs.lemmas.Bool.{false≢true}
 use Rattle.itch_book.specs.declared.order.Order.{Order}
 use Rattle.itch_book.specs.Orders.{get, lay, taken, without, has_reference, IsBook}
-use Rattle.itch_book.specs.Taken.{IsLeft}
 use Rattle.itch_book.specs.Links.{at_key}
-use Rattle.itch_book.specs.Queued.{Seen, seen, order_at, left_with}
-use Rattle.itch_book.specs.Indexed.{Place, node_of, indexed, IsIndexed, IsBusy}
+use Rattle.itch_book.specs.Queued.{Seen, seen, left_with}
+use Rattle.itch_book.specs.Indexed.{indexed, IsIndexed, IsBusy}
 use Rattle.itch_book.proofs.OpenLemmas.{seen_same}
 use Rattle.itch_book.proofs.IndexSteps.{get_some}
-use Rattle.itch_book.proofs.LiveLemmas.{live_node, live_order}
+use Rattle.itch_book.proofs.LiveLemmas.{live_node}
 use Rattle.itch_book.proofs.PlaceLemmas.{is_cut, gone_there}
 use Rattle.itch_book.proofs.ChangeLemmas.{change_view, change_index}
 use Rattle.itch_book.proofs.index.Index.take.Goals as goal

@@ -1,9 +1,8 @@
-use Rattle.std.proofs.Common.{◌≡◌, ℕ, List, [], Option, Some, None, option_map, refl, sym, ap, ◌∙◌, subst}
-use Rattle.slab.specs.Slab.{Slab, get}
-use Rattle.itch_book.specs.declared.queues.Head.{Head}
+use Rattle.std.proofs.Common.{◌≡◌, ℕ, List, [], Option, Some, None, option_map, sym, ap, ◌∙◌}
+use Rattle.slab.specs.Slab.{get}
 use Rattle.itch_book.specs.Links.{walked, at_key}
 use Rattle.itch_book.specs.Queued.{keys_at, queued}
-use Rattle.itch_book.proofs.QueueSteps.{inj, none_some}
+use Rattle.itch_book.proofs.QueueSteps.{inj}
 use Rattle.itch_book.proofs.ViewLemmas.{from_updates, sound_closed, keys_seen, map_at_key, pointwise}
 use Rattle.itch_book.proofs.queues.Queues.close.Goals as goal
 

@@ -1,4 +1,4 @@
-use Rattle.std.proofs.Common.{◌≡◌, Some, sym, ap, ◌∙◌, subst}
+use Rattle.std.proofs.Common.{ap, ◌∙◌}
 use Rattle.itch_book.specs.Queued.{keys_at}
 use Rattle.itch_book.proofs.ReadLemmas.{queue_seen}
 use Rattle.itch_book.proofs.queues.Queues.first.Goals as goal

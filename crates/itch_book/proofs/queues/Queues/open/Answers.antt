@@ -1,7 +1,6 @@
-use Rattle.std.proofs.Common.{ℕ, [], Some, refl, sym, ap, ◌∙◌, subst}
-use Rattle.slab.specs.Slab.{Slab, get}
-use Rattle.itch_book.specs.Links.{IsSound, at_key}
-use Rattle.itch_book.specs.Queued.{keys_at, queued}
+use Rattle.std.proofs.Common.{[], Some, refl, ap, ◌∙◌}
+use Rattle.itch_book.specs.Links.{at_key}
+use Rattle.itch_book.specs.Queued.{keys_at}
 use Rattle.itch_book.proofs.ViewLemmas.{from_updates, sound_opened, empty_queue, keys_stepped}
 use Rattle.itch_book.proofs.queues.Queues.open.Goals as goal
 

@@ -1,5 +1,5 @@
-use Rattle.std.proofs.Common.{◌≡◌, ℕ, ◌∷◌, ◌++◌, ◌+◌, ◌<◌, ◌^◌, List, [], Option, Some, None, IsSome, option_map, rules, refl, sym, ap, ◌∙◌, subst}
-use Rattle.slab.specs.Slab.{Slab, get}
+use Rattle.std.proofs.Common.{◌≡◌, ◌∷◌, ◌++◌, ◌+◌, ◌<◌, ◌^◌, [], Some, IsSome, option_map, rules, sym, ap, ◌∙◌, subst}
+use Rattle.slab.specs.Slab.{get}
 use Rattle.itch_book.specs.declared.order.Order.{Order}
 use Rattle.itch_book.specs.Links.{with_after, at_key}
 use Rattle.itch_book.specs.Queued.{keys_at, order_at}

@@ -1,4 +1,4 @@
-use Rattle.std.proofs.Common.{◌≡◌, true, eqb, IsSomeAnd, sym, ap, ◌∙◌, subst}
+use Rattle.std.proofs.Common.{◌≡◌, true, eqb, IsSomeAnd, ap, ◌∙◌, subst}
 use Rattle.std.specs.List.{list_any}
 use Rattle.itch_book.specs.Queued.{keys_at}
 use Rattle.itch_book.proofs.ReadLemmas.{member_seen, member_only}

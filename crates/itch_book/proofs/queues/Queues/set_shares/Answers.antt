@@ -1,4 +1,4 @@
-use Rattle.std.proofs.Common.{◌≡◌, ℕ, ◌+◌, ◌<◌, ◌^◌, Some, IsSome, option_map, rules, refl, sym, ap, ◌∙◌, subst}
+use Rattle.std.proofs.Common.{◌<◌, ◌^◌, IsSome, option_map, rules, refl, sym, ap, ◌∙◌, subst}
 use Rattle.slab.specs.Slab.{get}
 use Rattle.itch_book.specs.Links.{at_key}
 use Rattle.itch_book.specs.Queued.{keys_at, order_at, left_with}

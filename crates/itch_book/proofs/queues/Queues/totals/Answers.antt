@@ -1,4 +1,4 @@
-use Rattle.std.proofs.Common.{◌≡◌, ℕ, sym, ap, ◌∙◌, subst}
+use Rattle.std.proofs.Common.{◌≡◌, ℕ, ap, ◌∙◌, subst}
 use Rattle.itch_book.specs.Queued.{keys_at, order_at, found, totals_of}
 use Rattle.itch_book.proofs.ReadLemmas.{totals_seen}
 use Rattle.itch_book.proofs.queues.Queues.totals.Goals as goal

@@ -1,8 +1,6 @@
-use Rattle.std.proofs.Common.{◌≡◌, ℕ, List, [], Option, Some, None, IsSome, option_map, refl, sym, ap, ◌∙◌, subst}
-use Rattle.slab.specs.Slab.{Slab, get}
-use Rattle.itch_book.specs.declared.queues.Head.{Head}
-use Rattle.itch_book.specs.Links.{walked, at_key}
-use Rattle.itch_book.specs.Queued.{keys_at, order_at, without_key, queued}
+use Rattle.std.proofs.Common.{None, IsSome, option_map, refl, sym, ap, ◌∙◌, subst}
+use Rattle.itch_book.specs.Links.{at_key}
+use Rattle.itch_book.specs.Queued.{keys_at, order_at, without_key}
 use Rattle.itch_book.proofs.SoundSteps.{has_one}
 use Rattle.itch_book.proofs.ViewLemmas.{unlink_done}
 use Rattle.itch_book.proofs.queues.Queues.unlink.Goals as goal
