@@ -1,6 +1,6 @@
 -- How far the block at hand is, and the law on cut streams.
-use Rattle.std.proofs.Common.{◌≡◌, ℕ, ◌+◌, ◌-◌, ◌/◌, ◌%◌, ◌<◌, ◌≤◌, ◌⊎◌, min, List, [], ◌∷◌, ◌++◌, length, take, drop, get_or, zero, suc, refl, sym, ap, subst, ◌∙◌, inl, inr, append_assoc, arith, length-append}
-use Rattle.std.proofs.lemmas.List.{take_all, take_at, take-append-le, take-take, length-take-le, length-drop, append-nil, nil_from_length, get_or_append_left, get_or-take, drop-take}
+use Rattle.std.proofs.Common.{◌≡◌, ℕ, ◌+◌, ◌-◌, ◌/◌, ◌%◌, ◌<◌, ◌≤◌, ◌⊎◌, min, List, [], ◌∷◌, ◌++◌, length, take, drop, get_or, refl, sym, ap, subst, ◌∙◌, inl, inr, append_assoc, arith, length-append}
+use Rattle.std.proofs.lemmas.List.{take_all, take_at, take-append-le, take-take, length-take-le, length-drop, append-nil, nil_from_length, get_or_append_left, drop-take}
 use Rattle.std.proofs.Math.Seq.{take-append-add, take-add}
 use Rattle.std.proofs.lemmas.Bool.{cases_lt}
 use Rattle.itch_frame.specs.Blocks.{IsPayload, block, blocks, IsBlock, IsBlockOf, HasNoBlock, Blocks}
@@ -45,22 +45,6 @@ front_whole buffer len within bound is x_fits y_fits =
     let same : take (length (take len buffer) - 2) (drop 2 (take len buffer)) ≡ take (len - 2) (drop 2 buffer) =
     ap (λ n. take (n - 2) (drop 2 (take len buffer))) all ∙ ap (take (len - 2)) payload ∙ take-take (len - 2) (len - 2) (drop 2 buffer) (omega arith) in
     subst (λ (p : List ℕ). IsBlockOf p (take len buffer)) same (whole_block (take len buffer) (omega (arith, all)) (is ∙ sym all) (omega (arith, all)) x_fits y_fits)
-
--- the first bytes tell the same, where both length bytes are among them
-need_front : (bytes : List ℕ) (n : ℕ) → 2 ≤ n → need (take n bytes) ≡ need bytes
-need_front [] n two = ap need (take_all n [] (omega arith))
-need_front (x ∷ []) n two = ap need (take_all n (x ∷ []) (omega arith))
-need_front (x ∷ y ∷ payload) (suc (suc n)) two = refl
-need_front (x ∷ y ∷ payload) (suc zero) two = absurd (omega (arith, two))
-need_front (x ∷ y ∷ payload) zero two = absurd (omega (arith, two))
-
--- a block that lies at the front of more bytes
-pub ahead_whole : (bytes : List ℕ) (n : ℕ) → need bytes ≡ n → 2 ≤ n → n ≤ 65537 → n ≤ length bytes → get_or bytes 0 0 < 256 → get_or bytes 1 0 < 256
-    → IsBlockOf (take (n - 2) (drop 2 bytes)) (take n bytes)
-ahead_whole bytes n is two bound within x_fits y_fits =
-    let high : get_or (take n bytes) 0 0 ≡ get_or bytes 0 0 = get_or-take n bytes 0 0 (omega (arith, two)) in
-    let low : get_or (take n bytes) 1 0 ≡ get_or bytes 1 0 = get_or-take n bytes 1 0 (omega (arith, two)) in
-    front_whole bytes n within bound (need_front bytes n two ∙ is) (omega (arith, x_fits, high)) (omega (arith, y_fits, low))
 
 need_start : (held : List ℕ) → length held < 2 → need held ≡ 2
 need_start [] short = refl

@@ -4,7 +4,8 @@ use Rattle.std.proofs.lemmas.List.{take-take}
 use Rattle.std.proofs.Math.Seq.{take-add}
 use Rattle.std.specs.Io.KnownBytes.{Appends}
 use Rattle.itch_frame.specs.Blocks.{IsPayload, block, blocks}
-use Rattle.itch_frame.specs.Counting.{Rises, AppendsOrForgets}
+use Rattle.itch_frame.specs.Counting.{failed}
+use Rattle.itch_frame.specs.declared.tally.Failures.{Failures}
 use Rattle.itch_frame.specs.Writing.{WriteBlock, WriteBlocks}
 use Rattle.itch_frame.specs.declared.fault.FrameFault.{FrameFault}
 use Rattle.itch_frame.specs.declared.fault.FrameFault.TheVariants.{Read, Truncated, Write, TooLong}
@@ -16,13 +17,6 @@ Appends-more None mid new xs ys first second = tt
 Appends-more (Some a) None new xs ys first second = absurd first
 Appends-more (Some a) (Some b) None xs ys first second = absurd second
 Appends-more (Some a) (Some b) (Some c) xs ys first second = second ∙ ap (λ t. t ++ ys) first ∙ append_assoc a xs ys
-
--- bytes and then others, after which the bytes may be told no more
-pub Appends-part : (old mid new : Option (List ℕ)) (xs ys : List ℕ) → Appends old mid xs → AppendsOrForgets mid new ys → AppendsOrForgets old new (xs ++ ys)
-Appends-part None mid new xs ys first second = tt
-Appends-part (Some a) None new xs ys first second = absurd first
-Appends-part (Some a) (Some b) None xs ys first second = tt
-Appends-part (Some a) (Some b) (Some c) xs ys first second = second ∙ ap (λ t. t ++ ys) first ∙ append_assoc a xs ys
 
 -- the same bytes, by another name
 pub Appends-same : (old new : Option (List ℕ)) (xs ys : List ℕ) → xs ≡ ys → Appends old new xs → Appends old new ys
@@ -44,7 +38,7 @@ Appends-block old mid new done payload first second =
     Appends-same old new (blocks done ++ block payload) (blocks (done ++ payload ∷ [])) (sym (blocks-push done payload))
     (Appends-more old mid new (blocks done) (block payload) first second)
 
-module _ {W : Type 0} (contents : W → Option (List ℕ)) (failures : W → ℕ) where
+module _ {W : Type 0} (contents : W → Option (List ℕ)) (failures : W → Failures) where
   -- a block that was not written whole, behind some that were
   pub part_written : (old mid new : W) (done : List (List ℕ)) (payload : List ℕ) (more all : List (List ℕ)) → all ≡ done ++ payload ∷ more → IsPayload payload
       → Appends (contents old) (contents mid) (blocks done) → failures mid ≡ failures old
@@ -52,15 +46,15 @@ module _ {W : Type 0} (contents : W → Option (List ℕ)) (failures : W → ℕ
   part_written old mid new done payload more all is fits so_far count (Write sent error) wrote =
       let start : sent - 0 ≡ sent = omega arith in
       let within : sent < length (block payload) = omega (arith, wrote.1.1) in
-      let part : AppendsOrForgets (contents mid) (contents new) (take sent (block payload)) =
-      subst (λ n. AppendsOrForgets (contents mid) (contents new) (take n (block payload))) start wrote.1.2 in (
+      let part : Appends (contents mid) (contents new) (take sent (block payload)) =
+      subst (λ n. Appends (contents mid) (contents new) (take n (block payload))) start wrote.1.2 in (
         done,
         payload,
         more,
         is,
         within,
-        Appends-part (contents old) (contents mid) (contents new) (blocks done) (take sent (block payload)) so_far part,
-        subst (λ n. Rises n (failures new)) count wrote.1.3,
+        Appends-more (contents old) (contents mid) (contents new) (blocks done) (take sent (block payload)) so_far part,
+        wrote.1.3 ∙ ap (failed error) count,
       )
   part_written old mid new done payload more all is fits so_far count TooLong wrote = absurd (let long : 65535 < length payload = wrote.0 in omega arith)
   part_written old mid new done payload more all is fits so_far count (Read error) wrote = absurd wrote

@@ -2,19 +2,20 @@
 use Rattle.std.specs.Prelude.{◌≡◌, ℕ, ◌+◌, ◌-◌, ◌<◌, ◌≤◌, List, ◌∷◌, ◌++◌, length, take, Option, Result, Ok, Err}
 use Rattle.std.specs.Io.KnownBytes.{Appends}
 use Rattle.itch_frame.specs.Blocks.{IsPayload, block, blocks}
-use Rattle.itch_frame.specs.Counting.{Rises, AppendsOrForgets}
+use Rattle.itch_frame.specs.Counting.{failed}
+use Rattle.itch_frame.specs.declared.tally.Failures.{Failures}
 use Rattle.itch_frame.specs.declared.fault.FrameFault.{FrameFault}
 use Rattle.itch_frame.specs.declared.fault.FrameFault.TheVariants.{Read, Truncated, Write, TooLong}
 
-module _ {W : Type 0} (contents : W → Option (List ℕ)) (failures : W → ℕ) where
+module _ {W : Type 0} (contents : W → Option (List ℕ)) (failures : W → Failures) where
   -- what writing these bytes may answer, and leave; `before` of the block were written before them
   abbrev pub WritePart : W → ℕ → List ℕ → Result (Unit {0}) FrameFault → W → Type 0
   WritePart old before bytes (Ok done) new =
       Appends (contents old) (contents new) bytes × (failures new ≡ failures old)
   -- exactly the bytes up to `sent` were written
   WritePart old before bytes (Err (Write sent error)) new =
-      (before ≤ sent) × (sent < before + length bytes) × AppendsOrForgets (contents old) (contents new) (take (sent - before) bytes)
-      × Rises (failures old) (failures new)
+      (before ≤ sent) × (sent < before + length bytes) × Appends (contents old) (contents new) (take (sent - before) bytes)
+      × (failures new ≡ failed error (failures old))
   WritePart old before bytes (Err TooLong) new = ⊥
   WritePart old before bytes (Err (Read error)) new = ⊥
   WritePart old before bytes (Err (Truncated held)) new = ⊥
@@ -35,7 +36,7 @@ module _ {W : Type 0} (contents : W → Option (List ℕ)) (failures : W → ℕ
   -- some blocks were written whole, and exactly the bytes of the next one up to `sent`
   WriteBlocks old payloads (Err (Write sent error)) new =
       (done : List (List ℕ)) × (payload : List ℕ) × (more : List (List ℕ)) × (payloads ≡ done ++ payload ∷ more) × (sent < length (block payload))
-      × AppendsOrForgets (contents old) (contents new) (blocks done ++ take sent (block payload)) × Rises (failures old) (failures new)
+      × Appends (contents old) (contents new) (blocks done ++ take sent (block payload)) × (failures new ≡ failed error (failures old))
   WriteBlocks old payloads (Err TooLong) new = ⊥
   WriteBlocks old payloads (Err (Read error)) new = ⊥
   WriteBlocks old payloads (Err (Truncated held)) new = ⊥

@@ -14,10 +14,10 @@
 pub mod counted;
 mod fault;
 pub mod laws;
-mod lender;
 mod reader;
 mod splitter;
 mod stage;
+pub mod tally;
 pub mod testing;
 #[cfg(test)]
 mod tests;

@@ -1,14 +1,12 @@
 //! Blocks from a reader.
-ghost use Rattle.std.specs.Prelude.{◌≡◌, ℕ, ◌+◌, ◌-◌, ◌<◌, ◌≤◌, List, [], ◌++◌, length, take, drop, vec_len, IfOk, MatchResult, true, false};
-ghost use Rattle.std.specs.Io.KnownBytes.{prepend_known, Keeps, Consumes, IsAtEnd};
+ghost use Rattle.std.specs.Prelude.{◌≡◌, ℕ, ◌+◌, ◌-◌, ◌<◌, ◌≤◌, List, [], ◌++◌, length, take, drop, vec_len, IfOk, true, false};
+ghost use Rattle.std.specs.Io.KnownBytes.{prepend_known, Keeps, IsAtEnd};
 ghost use Rattle.itch_frame.specs.Blocks.{IsBlockOf};
-ghost use Rattle.itch_frame.specs.Counting.{CountsErr, KeepsOrForgets};
+ghost use Rattle.itch_frame.specs.Counting.{CountsErr};
 ghost use Rattle.itch_frame.specs.Needs.{need};
-ghost use Rattle.itch_frame.specs.Reading.{drop_known, bytes_left};
 
 use crate::counted::CountedRead;
 use crate::fault::FrameFault;
-use crate::lender::Lender;
 use crate::splitter::{LONGEST, lacking};
 use crate::stage::Stage;
 use std::alloc::{AllocError, Allocator, Global};
@@ -16,12 +14,9 @@ use std::io;
 use std::marker::Model;
 
 /// Gives the blocks of a reader one by one, and never asks for more than the block at hand lacks.
-///
-/// A block that lies whole in the reader's buffer is given out of it. Another one is read into a buffer of the block
-/// reader's own.
 #[derive(Drop)]
 pub struct BlockReader<R: CountedRead, A: Allocator = Global> {
-    lender: Lender<R>,
+    reader: R,
     // As long as the longest block. The first `len` bytes are those of the block at hand.
     buffer: Vec<u8, A>,
     len: usize,
@@ -32,16 +27,16 @@ impl<R: CountedRead, A: Allocator> Model for BlockReader<R, A> {
     ghost use Rattle.std.specs.Prelude.{◌≡◌, ◌<◌, ◌≤◌, length, take, vec_len, []};
     ghost use Rattle.std.specs.Io.KnownBytes.{IsAtEnd};
     ghost use Rattle.itch_frame.specs.Needs.{need};
-    ghost use Rattle.itch_frame.specs.Reading.{Reading, held_of, drop_known};
+    ghost use Rattle.itch_frame.specs.Reading.{Reading, held_of};
     ghost use Rattle.itch_frame.specs.declared.stage.Stage.TheVariants.{Ended, Cut};
 
     ghost Value = { Reading R };
 
-    ghost view = { λ r. record { reader = r.lender.reader; held = held_of r.stage (take r.len r.buffer.items); lent = r.lender.lent; stage = r.stage } };
+    ghost view = { λ r. record { reader = r.reader; held = held_of r.stage (take r.len r.buffer.items); stage = r.stage } };
 
     ghost invariant = { λ r. (vec_len r.buffer ≡ 65537) × (r.len ≤ 65537) × (r.len ≤ need (take r.len r.buffer.items))
-        × (r.stage ≡ Ended → (r.len ≡ 0) × IsAtEnd (drop_known r.lender.lent (R.remaining r.lender.reader)))
-        × (r.stage ≡ Cut → (0 < r.len) × (r.len < need (take r.len r.buffer.items)) × IsAtEnd (drop_known r.lender.lent (R.remaining r.lender.reader))) };
+        × (r.stage ≡ Ended → (r.len ≡ 0) × IsAtEnd (R.remaining r.reader))
+        × (r.stage ≡ Cut → (0 < r.len) × (r.len < need (take r.len r.buffer.items)) × IsAtEnd (R.remaining r.reader)) };
 }
 
 impl<R: CountedRead, A: Allocator> BlockReader<R, A> {
@@ -55,10 +50,10 @@ impl<R: CountedRead, A: Allocator> BlockReader<R, A> {
     pub fn new(alloc: A, reader: R) -> Result<BlockReader<R, A>, AllocError>
     where
         R: Drop,
-        ensures { IfOk result (λ r. (r.reader ≡ reader) × (r.held ≡ []) × (r.lent ≡ 0) × (r.stage ≡ Stage.Going)) }
+        ensures { IfOk result (λ r. (r.reader ≡ reader) × (r.held ≡ []) × (r.stage ≡ Stage.Going)) }
     {
         Ok(BlockReader {
-            lender: Lender { reader, lent: 0 },
+            reader,
             buffer: zeros(alloc, LONGEST)?,
             len: 0,
             stage: Stage::Going,
@@ -73,28 +68,6 @@ impl<R: CountedRead, A: Allocator> BlockReader<R, A> {
         ensures* next { sem 𝓛 (Rests (reader_row R.row A.row R.CountedRead A.Allocator) self.entry (λ new.
             NextBlock R.remaining R.failures self.old result new × StaysEnded self.old result new)) }
     {
-        if self.lend_block() {
-            return Ok(Some(self.lender.payload()));
-        }
-        self.read_block()
-    }
-
-    // Lends the next block out of the reader's buffer, if it lies there whole behind a block that was given.
-    fn lend_block(&mut self) -> bool
-        ensures same { result ≡ false → self.new ≡ self.old }
-        ensures stage { result ≡ true → (self.old.stage ≡ Stage.Given) × (self.new.held ≡ []) × (2 ≤ self.new.lent) }
-        ensures block { result ≡ true → IsBlockOf (take (self.new.lent - 2) (drop 2 (R.buffered self.new.reader))) (take self.new.lent (R.buffered self.new.reader)) }
-        ensures bytes { result ≡ true → Consumes (bytes_left R.remaining self.old) (bytes_left R.remaining self.new) (take self.new.lent (R.buffered self.new.reader)) }
-        ensures failures { R.failures self.new.reader ≡ R.failures self.old.reader }
-    {
-        self.stage == Stage::Given && self.lender.lend()
-    }
-
-    // Reads the next block into the buffer.
-    fn read_block(&mut self) -> Result<Option<&[u8]>, FrameFault>
-        ensures* next { sem 𝓛 (Rests (reader_row R.row A.row R.CountedRead A.Allocator) self.entry (λ new.
-            NextBlock R.remaining R.failures self.old result new × StaysEnded self.old result new)) }
-    {
         match self.stage {
             Stage::Ended => return Ok(None),
             Stage::Cut => return Err(FrameFault::Truncated { held: self.len }),
@@ -102,7 +75,7 @@ impl<R: CountedRead, A: Allocator> BlockReader<R, A> {
             Stage::Going => {}
         }
         self.stage = Stage::Going;
-        match fill_block(&mut self.lender, &mut self.buffer, &mut self.len) {
+        match fill_block(&mut self.reader, &mut self.buffer, &mut self.len) {
             Err(error) => Err(FrameFault::Read(error)),
             Ok(true) => {
                 self.stage = Stage::Given;
@@ -129,7 +102,7 @@ fn zeros<A: Allocator>(alloc: A, len: usize) -> Result<Vec<u8, A>, AllocError>
 
 /// Reads until the block at hand, the first `len` bytes of `buffer`, is whole (true), or the input ends (false).
 fn fill_block<R: CountedRead>(
-    lender: &mut Lender<R>,
+    reader: &mut R,
     buffer: &mut [u8],
     len: &mut usize,
 ) -> io::Result<bool>
@@ -138,20 +111,18 @@ fn fill_block<R: CountedRead>(
     requires within { len.old ≤ 65537 }
     ensures begun { len.new ≤ need (take len.new buffer.new) }
     ensures within { len.new ≤ 65537 }
-    ensures kept { MatchResult result
-        (λ _. Keeps (prepend_known (take len.old buffer.old) (drop_known lender.old.lent (R.remaining lender.old.reader))) (prepend_known (take len.new buffer.new) (drop_known lender.new.lent (R.remaining lender.new.reader))))
-        (λ _. KeepsOrForgets (prepend_known (take len.old buffer.old) (drop_known lender.old.lent (R.remaining lender.old.reader))) (prepend_known (take len.new buffer.new) (drop_known lender.new.lent (R.remaining lender.new.reader)))) }
+    ensures kept { Keeps (prepend_known (take len.old buffer.old) (R.remaining reader.old)) (prepend_known (take len.new buffer.new) (R.remaining reader.new)) }
     ensures front { (more : List ℕ) × (take len.new buffer.new ≡ take len.old buffer.old ++ more) }
     ensures whole { result ≡ Ok true → IsBlockOf (take (len.new - 2) (drop 2 buffer.new)) (take len.new buffer.new) }
-    ensures ended { result ≡ Ok false → (len.new < need (take len.new buffer.new)) × IsAtEnd (drop_known lender.new.lent (R.remaining lender.new.reader)) }
-    ensures count { CountsErr result (R.failures lender.old.reader) (R.failures lender.new.reader) }
+    ensures ended { result ≡ Ok false → (len.new < need (take len.new buffer.new)) × IsAtEnd (R.remaining reader.new) }
+    ensures count { CountsErr result (R.failures reader.old) (R.failures reader.new) }
 {
     loop {
         let lacks = lacking(&buffer[..*len]);
         if lacks == 0 {
             return Ok(true);
         }
-        let count = lender.read_some(&mut buffer[*len..*len + lacks])?;
+        let count = reader.read_some(&mut buffer[*len..*len + lacks])?;
         if count == 0 {
             return Ok(false);
         }

@@ -26,13 +26,11 @@ impl<A: Allocator> Model for Splitter<A> {
 }
 
 impl<A: Allocator> Splitter<A> {
-    /// Holds nothing. It takes all its memory here, 65,537 bytes.
+    /// Holds nothing. It takes all its memory here, 65,537 bytes and no more.
     pub fn new(alloc: A) -> Result<Splitter<A>, AllocError>
         ensures { IfOk result (λ s. s ≡ []) }
     {
-        Ok(Splitter {
-            held: Vec::with_capacity(alloc, LONGEST)?,
-        })
+        Ok(Splitter { held: room(alloc)? })
     }
 
     /// Takes bytes from the front of `piece` up to the end of the block at hand, and answers how many: 0 while a block is ready.
@@ -72,26 +70,25 @@ impl<A: Allocator> Splitter<A> {
     }
 }
 
-/// How long the block at the front of `bytes` is, as far as they tell: both length bytes come first.
-pub(crate) fn needed(bytes: &[u8]) -> usize
-    ensures length { result ≡ need bytes.now }
-    ensures bound { (2 ≤ result) × (result ≤ 65537) }
-    ensures bytes { (k : ℕ) → slice_index bytes.now k < 256 }
+// Room for the longest block, and no more.
+fn room<A: Allocator>(alloc: A) -> Result<Vec<u8, A>, AllocError>
+    ensures { IfOk result (λ held. (held.items ≡ []) × (vec_capacity held ≡ 65537)) }
 {
-    if bytes.len() < 2 {
-        2
-    } else {
-        2 + usize::from(BigEndian::read_u16(bytes))
-    }
+    Vec::with_capacity(alloc, LONGEST)
 }
 
-/// How many bytes the block at hand lacks, as far as its bytes tell.
+/// How many bytes the block at hand lacks, as far as its bytes tell: both length bytes come first.
 pub(crate) fn lacking(held: &[u8]) -> usize
     ensures count { result ≡ need held.now - length held.now }
     ensures bound { need held.now ≤ 65537 }
     ensures bytes { (k : ℕ) → slice_index held.now k < 256 }
 {
-    needed(held).saturating_sub(held.len())
+    let len = held.len();
+    if len < 2 {
+        2 - len
+    } else {
+        (2 + usize::from(BigEndian::read_u16(held))).saturating_sub(len)
+    }
 }
 
 /// Moves as much of the piece as the block at hand lacks, and answers how much.

@@ -1,10 +1,13 @@
 //! For tests: a reader and a writer over memory, each of which fails once where a test asks for it.
-ghost use Rattle.std.specs.Prelude.{◌≡◌, ◌≢◌, ℕ, ◌+◌, ◌-◌, ◌^◌, ◌≤◌, min, List, [], ◌++◌, length, take, drop, Option, Some, MatchResult};
+ghost use Rattle.std.specs.Prelude.{◌≡◌, ◌≢◌, ℕ, ◌+◌, ◌-◌, ◌^◌, ◌≤◌, ◌⊎◌, min, List, [], ◌++◌, length, take, Option, Some, MatchResult};
+ghost use Rattle.std.specs.IoError.{error_kind};
+ghost use Rattle.std.specs.declared.io.ErrorKind.TheVariants.{Other, OutOfMemory};
 ghost use Rattle.std.specs.Io.{ReadsAtMost, WritesAtMost};
-ghost use Rattle.std.specs.Io.KnownBytes.{Consumes, ReadConsumes};
-ghost use Rattle.itch_frame.specs.Counting.{CountsErr, Gives, Takes};
+ghost use Rattle.std.specs.Io.KnownBytes.{ReadConsumes};
+ghost use Rattle.itch_frame.specs.Counting.{CountsErr, Takes};
 
 use crate::counted::{CountedRead, CountedWrite};
+use crate::tally::Failures;
 use std::alloc::{Allocator, Global};
 use std::io::{self, Read};
 
@@ -15,7 +18,7 @@ pub struct PieceReader<'a> {
     piece: usize,
     fail_at: Option<u64>,
     reads: u64,
-    failures: u64,
+    failures: Failures,
     ghost some: { 1 ≤ piece },
 }
 
@@ -25,14 +28,14 @@ impl<'a> PieceReader<'a> {
         requires { 1 ≤ piece }
         ensures bytes { result.bytes.now ≡ bytes.entry.now }
         ensures plan { (result.piece ≡ piece) × (result.fail_at ≡ fail_at) }
-        ensures counts { (result.reads ≡ 0) × (result.failures ≡ 0) }
+        ensures counts { (result.reads ≡ 0) × (result.failures.count ≡ 0) × (result.failures.last ≡ None) }
     {
         PieceReader {
             bytes,
             piece,
             fail_at,
             reads: 0,
-            failures: 0,
+            failures: Failures::none(),
         }
     }
 }
@@ -40,25 +43,22 @@ impl<'a> PieceReader<'a> {
 impl CountedRead for PieceReader<'_> {
     ghost remaining = { λ r. Some r.bytes.now };
 
-    ghost buffered = { λ r. [] };
-
     ghost failures = { λ r. r.failures };
 
     fn read_some(&mut self, buf: &mut [u8]) -> io::Result<usize>
         ensures bound { ReadsAtMost result buf.new }
-        ensures bytes { Gives (Some self.old.bytes.now) (Some self.new.bytes.now) result buf.new }
+        ensures bytes { ReadConsumes (Some self.old.bytes.now) (Some self.new.bytes.now) result buf.new }
         ensures count { CountsErr result self.old.failures self.new.failures }
         // The read that was to fail fails, and no other. The others give as much as the piece, the room and the rest allow.
         ensures answer { MatchResult result
             (λ count. (self.old.fail_at ≢ Some self.new.reads) × (count ≡ min (min self.old.piece (length buf.new)) (length self.old.bytes.now)))
-            (λ _. self.old.fail_at ≡ Some self.new.reads) }
+            (λ error. (self.old.fail_at ≡ Some self.new.reads) × (error_kind error ≡ Other)) }
         ensures reads { self.new.reads ≡ min (self.old.reads + 1) (2 ^ 64 - 1) }
         ensures plan { (self.new.piece ≡ self.old.piece) × (self.new.fail_at ≡ self.old.fail_at) }
     {
         self.reads = self.reads.saturating_add(1);
         if self.fail_at == Some(self.reads) {
-            self.failures = self.failures.saturating_add(1);
-            return Err(io::Error::from(io::ErrorKind::Other));
+            return Err(self.failures.add(io::Error::from(io::ErrorKind::Other)));
         }
         let count = self.piece.min(buf.len()).min(self.bytes.len());
         let (given, rest) = self.bytes.split_at(count);
@@ -66,17 +66,6 @@ impl CountedRead for PieceReader<'_> {
         self.bytes = rest;
         Ok(count)
     }
-
-    fn buffer(&self) -> &[u8] {
-        &[]
-    }
-
-    fn consume(&mut self, _count: usize)
-        ensures bytes { Consumes (Some self.old.bytes.now) (Some self.new.bytes.now) (take _count []) }
-        ensures buffer { ◌≡◌ {A = List ℕ} [] (drop _count []) }
-        ensures failures { self.new.failures ≡ self.old.failures }
-        ensures same { self.new ≡ self.old }
-    {}
 }
 
 /// The same for standard code, as for a buffer in front.
@@ -88,7 +77,7 @@ impl Read for PieceReader<'_> {
         ensures bytes { ReadConsumes (Some self.old.bytes.now) (Some self.new.bytes.now) result buf.new }
         ensures answer { MatchResult result
             (λ count. (self.old.fail_at ≢ Some self.new.reads) × (count ≡ min (min self.old.piece (length buf.new)) (length self.old.bytes.now)))
-            (λ _. self.old.fail_at ≡ Some self.new.reads) }
+            (λ error. (self.old.fail_at ≡ Some self.new.reads) × (error_kind error ≡ Other)) }
         ensures reads { self.new.reads ≡ min (self.old.reads + 1) (2 ^ 64 - 1) }
         ensures plan { (self.new.piece ≡ self.old.piece) × (self.new.fail_at ≡ self.old.fail_at) }
     {
@@ -104,7 +93,7 @@ pub struct FuseWriter<A: Allocator = Global> {
     piece: usize,
     fail_at: Option<u64>,
     writes: u64,
-    failures: u64,
+    failures: Failures,
     ghost some: { 1 ≤ piece },
 }
 
@@ -114,14 +103,14 @@ impl<A: Allocator> FuseWriter<A> {
         requires { 1 ≤ piece }
         ensures written { result.written.items ≡ [] }
         ensures plan { (result.piece ≡ piece) × (result.fail_at ≡ fail_at) }
-        ensures counts { (result.writes ≡ 0) × (result.failures ≡ 0) }
+        ensures counts { (result.writes ≡ 0) × (result.failures.count ≡ 0) × (result.failures.last ≡ None) }
     {
         FuseWriter {
             written: Vec::new(alloc),
             piece,
             fail_at,
             writes: 0,
-            failures: 0,
+            failures: Failures::none(),
         }
     }
 
@@ -142,25 +131,28 @@ impl<A: Allocator> CountedWrite for FuseWriter<A> {
         ensures bound { WritesAtMost result buf.now }
         ensures bytes { Takes (Some self.old.written.items) (Some self.new.written.items) result buf.now }
         ensures count { CountsErr result self.old.failures self.new.failures }
-        // The write that was to fail does not go through. One that does takes as much as the piece and the buffer allow.
+        // The write that was to fail fails, and no other but for want of memory. The others take as much as the piece and the buffer allow.
         ensures answer { MatchResult result
             (λ count. (self.old.fail_at ≢ Some self.new.writes) × (count ≡ min self.old.piece (length buf.now)))
-            (λ _. self.new.written.items ≡ self.old.written.items) }
+            (λ error. (self.new.written.items ≡ self.old.written.items)
+            × (((self.old.fail_at ≡ Some self.new.writes) × (error_kind error ≡ Other)) ⊎ ((self.old.fail_at ≢ Some self.new.writes) × (error_kind error ≡ OutOfMemory)))) }
         ensures writes { self.new.writes ≡ min (self.old.writes + 1) (2 ^ 64 - 1) }
         ensures plan { (self.new.piece ≡ self.old.piece) × (self.new.fail_at ≡ self.old.fail_at) }
     {
         self.writes = self.writes.saturating_add(1);
         if self.fail_at == Some(self.writes) {
-            self.failures = self.failures.saturating_add(1);
-            return Err(io::Error::from(io::ErrorKind::Other));
+            return Err(self.failures.add(io::Error::from(io::ErrorKind::Other)));
         }
         let count = self.piece.min(buf.len());
         match self.written.extend_from_slice(&buf[..count]) {
             Ok(()) => Ok(count),
-            Err(_) => {
-                self.failures = self.failures.saturating_add(1);
-                Err(io::Error::from(io::ErrorKind::OutOfMemory))
-            }
+            Err(_) => Err(self.failures.add(out_of_memory())),
         }
     }
+}
+
+fn out_of_memory() -> io::Error
+    ensures { error_kind result ≡ OutOfMemory }
+{
+    io::Error::from(io::ErrorKind::OutOfMemory)
 }

@@ -6,6 +6,7 @@ pub mod Goods
 pub mod Laid
 pub mod LawRules
 pub mod Causes
+pub mod DayFiles
 pub mod Taking
 pub mod Stopping
 pub mod Told
@@ -13,3 +14,4 @@ pub mod Searches
 pub mod OneStop
 pub mod Runs
 pub mod Sames
+pub mod Standing

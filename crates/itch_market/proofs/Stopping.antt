@@ -26,7 +26,7 @@ pub stop_behind : (most : ℕ) (m : Content) (ps : List (List ℕ)) (rest : List
 stop_behind most m ps rest k last = chosen (k == min most (length ps)) (Some (last_stop most ps rest)) (cause_at m ps k) (eq-eqb k (min most (length ps)) last)
 
 -- an earlier place
-stop_before : (most : ℕ) (m : Content) (ps : List (List ℕ)) (rest : List ℕ) (k : ℕ) → k < min most (length ps) → stop_at most m ps rest k ≡ cause_at m ps k
+pub stop_before : (most : ℕ) (m : Content) (ps : List (List ℕ)) (rest : List ℕ) (k : ℕ) → k < min most (length ps) → stop_at most m ps rest k ≡ cause_at m ps k
 stop_before most m ps rest k early =
     passed_over (k == min most (length ps)) (Some (last_stop most ps rest)) (cause_at m ps k) (ne_eqb k (min most (length ps)) (λ same. omega arith))
 

@@ -1,11 +1,14 @@
 -- What a replay does to its reader and its market, step by step.
-use Rattle.std.specs.Prelude.{◌≡◌, ℕ, ◌-◌, ◌<◌, ◌≤◌, ◌^◌, ◌==◌, ◌⊎◌, Bool, true, false, IsTrue, List, [], map, length, ⊤, Option, Some, None, Result, Ok, Err, IfSome}
+use Rattle.std.specs.Prelude.{◌≡◌, ◌≢◌, ℕ, ◌-◌, ◌<◌, ◌≤◌, ◌^◌, ◌==◌, ◌⊎◌, Bool, true, false, IsTrue, List, [], map, length, ⊤, Option, Some, None, Result, Ok, Err, IfSome}
 use Rattle.std.specs.List.{AllByRecursion}
-use Rattle.std.specs.Io.KnownBytes.{Consumes, IsAtEnd}
+use Rattle.std.specs.Io.KnownBytes.{Keeps, Consumes, IsAtEnd}
 use Rattle.itch_codec.specs.Messages.{fault, message_of}
 use Rattle.itch_codec.specs.Widths.{IsMessage}
 use Rattle.itch_frame.specs.Blocks.{block, blocks, Open, IsFull}
-use Rattle.itch_frame.specs.Counting.{KeepsOrForgets, Rises}
+use Rattle.itch_frame.specs.Counting.{failed}
+use Rattle.itch_frame.specs.Reading.{Reading}
+use Rattle.itch_frame.specs.declared.stage.Stage.TheVariants.{Going, Given, Ended, Cut}
+use Rattle.itch_frame.specs.declared.tally.Failures.{Failures}
 use Rattle.itch_frame.specs.declared.fault.FrameFault.TheVariants.{Read, Truncated, Write, TooLong}
 use Rattle.itch_market.specs.declared.refusal.Refusal.{Refusal}
 use Rattle.itch_market.specs.declared.refusal.Refusal.TheVariants.{UnknownLocate, StockMismatch, ZeroShares, DuplicateRef, UnknownRef, LocateMismatch, TooManyShares, UnexpectedEnd, OutOfMemory}
@@ -50,27 +53,50 @@ TakesOff old new payload = IsFull payload × Consumes old new (block payload)
 abbrev pub Halts : Bool → Content → Option (List ℕ) → Option (List ℕ) → Stop → Type 0
 Halts full m old new End = IsAtEnd old ⊎ Consumes old new (block [])
 Halts full m old new (Frame (Truncated held)) = IfSome old (λ bytes. Open bytes × (held ≡ length bytes))
-Halts full m old new (Frame (Read error)) = KeepsOrForgets old new
+Halts full m old new (Frame (Read error)) = Keeps old new
 Halts full m old new (Frame (Write sent error)) = ⊥
 Halts full m old new (Frame TooLong) = ⊥
 Halts full m old new (Codec f) = (payload : List ℕ) × TakesOff old new payload × (full ≡ false) × (fault payload ≡ Some f)
 Halts full m old new (Rule why) = (payload : List ℕ) × TakesOff old new payload × (full ≡ false) × Refuses m payload why
 Halts full m old new TooManyMessages = (payload : List ℕ) × TakesOff old new payload × (full ≡ true)
 
--- a failed read is counted, and nothing else is
-abbrev pub Counts : Stop → ℕ → ℕ → Type 0
+-- a failed read is counted with its error, and nothing else is
+abbrev pub Counts : Stop → Failures → Failures → Type 0
 Counts End old new = new ≡ old
 Counts (Frame (Truncated held)) old new = new ≡ old
-Counts (Frame (Read error)) old new = Rises old new
+Counts (Frame (Read error)) old new = new ≡ failed error old
 Counts (Frame (Write sent error)) old new = ⊥
 Counts (Frame TooLong) old new = ⊥
 Counts (Codec f) old new = new ≡ old
 Counts (Rule why) old new = new ≡ old
 Counts TooManyMessages old new = new ≡ old
 
-abbrev pub CountsFirst : Option Stop → ℕ → ℕ → Type 0
+abbrev pub CountsFirst : Option Stop → Failures → Failures → Type 0
 CountsFirst None old new = new ≡ old
 CountsFirst (Some stop) old new = Counts stop old new
+
+-- where a stop leaves the reader of blocks, as `NextBlock` says it of one block
+abbrev pub LeavesReader : {R : Type 0} → Stop → Reading R → Type 0
+LeavesReader End new = (new.held ≡ []) × ((new.stage ≡ Ended) ⊎ (new.stage ≡ Given))
+LeavesReader (Frame (Truncated held)) new = (new.stage ≡ Cut) × (held ≡ length new.held)
+LeavesReader (Frame (Read error)) new = new.stage ≡ Going
+LeavesReader (Frame (Write sent error)) new = ⊥
+LeavesReader (Frame TooLong) new = ⊥
+LeavesReader (Codec f) new = (new.held ≡ []) × (new.stage ≡ Given)
+LeavesReader (Rule why) new = (new.held ≡ []) × (new.stage ≡ Given)
+LeavesReader TooManyMessages new = (new.held ≡ []) × (new.stage ≡ Given)
+
+-- Once the input has ended, or a block was truncated there, each replay stops so at once, and reads nothing.
+abbrev pub StopsAgain : {R : Type 0} → Reading R → ℕ → Stop → Reading R → Type 0
+StopsAgain old count stop new =
+    (old.stage ≡ Ended → (count ≡ 0) × (stop ≡ End) × (new ≡ old))
+    × (old.stage ≡ Cut → (count ≡ 0) × (stop ≡ Frame (Truncated (length old.held))) × (new ≡ old))
+
+-- the same where n messages are wanted: without any, the reader is left alone
+abbrev pub LeavesReaderFirst : {R : Type 0} → Reading R → ℕ → Option Stop → Reading R → Type 0
+LeavesReaderFirst old count None new =
+    (count ≡ 0 → new ≡ old) × (0 < count → (new.held ≡ []) × (new.stage ≡ Given) × (old.stage ≢ Ended) × (old.stage ≢ Cut))
+LeavesReaderFirst old count (Some stop) new = LeavesReader stop new × StopsAgain old count stop new
 
 -- what one block does: its message is applied, or the replay stops
 abbrev pub Step : Bool → Content → Option (List ℕ) → Option (List ℕ) → Result (Unit {0}) Stop → Content → Type 0

@@ -1,18 +1,22 @@
 //! What holds of all good markets and messages, of whatever size.
 //!
 //! Each function does nothing: its clauses are the laws.
-ghost use Rattle.std.specs.Prelude.{◌≡◌, ℕ, List, None};
+ghost use Rattle.std.specs.Prelude.{◌≡◌, ℕ, List, None, map, length};
 ghost use Rattle.std.specs.List.{AllByRecursion};
 ghost use Rattle.itch_codec.specs.declared.message.Message.{Message};
+ghost use Rattle.itch_codec.specs.Fields.{AreBytes};
+ghost use Rattle.itch_codec.specs.Messages.{message_of};
+ghost use Rattle.itch_frame.specs.Blocks.{Day};
 ghost use Rattle.itch_market.specs.Content.{Content, empty, laid};
 ghost use Rattle.itch_market.specs.Reasons.{reason};
 ghost use Rattle.itch_market.specs.Effects.{effect, takes_memory};
 ghost use Rattle.itch_codec.specs.Widths.{IsMessage};
 ghost use Rattle.itch_market.specs.Goods.{IsGood};
-ghost use Rattle.itch_market.specs.Runs.{FollowsFrom, after};
+ghost use Rattle.itch_market.specs.Runs.{AreMessages, FollowsFrom, after};
 ghost use Rattle.itch_market.specs.Sames.{Same};
 ghost use Rattle.itch_market.specs.Stops.{Stops};
 ghost use Rattle.itch_market.specs.declared.stop.Stop.{Stop};
+ghost use Rattle.itch_market.specs.declared.stop.Stop.TheVariants.{End};
 
 /// A market with its orders in snapshot order refuses the same messages for the same reasons,
 /// and the others leave it with the same orders in snapshot order.
@@ -46,4 +50,11 @@ pub fn one_stop()
     ensures place { (m : Content) → (bytes : List ℕ) → (k j : ℕ) → (s t : Stop) → Stops m bytes k s → Stops m bytes j t → k ≡ j }
     ensures reason { (m : Content) → (bytes : List ℕ) → (k j : ℕ) → (s t : Stop) → Stops m bytes k s → Stops m bytes j t → s ≡ t }
     ensures somewhere { (m : Content) → (bytes : List ℕ) → (k : ℕ) × (s : Stop) × Stops m bytes k s }
+{}
+
+/// A day file whose replay ends is messages, as many as were counted, that follow the order rules.
+pub fn day_files()
+    ensures count { (m : Content) → (bytes : List ℕ) → (ps : List (List ℕ)) → (rest : List ℕ) → (k : ℕ) → Day bytes ps rest → Stops m bytes k End → k ≡ length ps }
+    ensures follows { (m : Content) → (bytes : List ℕ) → (ps : List (List ℕ)) → (rest : List ℕ) → (k : ℕ) → Day bytes ps rest → Stops m bytes k End → FollowsFrom m (map message_of ps) }
+    ensures messages { (m : Content) → (bytes : List ℕ) → (ps : List (List ℕ)) → (rest : List ℕ) → (k : ℕ) → Day bytes ps rest → Stops m bytes k End → AreBytes bytes → AreMessages (map message_of ps) }
 {}

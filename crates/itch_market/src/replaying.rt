@@ -6,7 +6,7 @@ ghost use Rattle.itch_frame.specs.Reading.{bytes_left};
 ghost use Rattle.itch_market.specs.Content.{laid};
 ghost use Rattle.itch_market.specs.Runs.{after};
 ghost use Rattle.itch_market.specs.Stops.{Stops};
-ghost use Rattle.itch_market.specs.Replays.{Counts, CountsFirst, Step, TakesOne, Replays, ReplaysFirst, IsTold};
+ghost use Rattle.itch_market.specs.Replays.{Counts, CountsFirst, LeavesReader, LeavesReaderFirst, StopsAgain, Step, TakesOne, Replays, ReplaysFirst, IsTold};
 
 #[cfg(test)]
 mod tests;
@@ -22,10 +22,11 @@ use std::alloc::Allocator;
 /// As many messages as a day file may have: 10^19 - 1.
 const MOST: u64 = 9_999_999_999_999_999_999;
 
-/// Applies the messages of a day file, up to the first that is not taken, and tells how many there were and why it stopped.
+/// Applies the messages of a day file, up to the first that is not taken, and returns how many there were and why it stopped.
 ///
-/// The market is that of the messages before the stop. A block that was refused has been read, and behind an end block
-/// nothing is read. After `Frame(Read)` a second call goes on where the first stopped.
+/// The market is that of the messages before the stop. A block that was refused has been read, and nothing after an end
+/// block is read. After `Frame(Read)` a second call goes on where the first stopped; after the end of input, or a block
+/// truncated there, it stops so again and reads nothing.
 pub fn replay<R: CountedRead, A: Allocator, B: OrderBook>(
     reader: &mut BlockReader<R, A>,
     market: &mut Market<B>,
@@ -38,6 +39,8 @@ pub fn replay<R: CountedRead, A: Allocator, B: OrderBook>(
     // What was read, what was not, and what each stop means.
     ensures steps { Replays market.old (bytes_left R.remaining reader.old) (bytes_left R.remaining reader.new) result.count result.stop market.new }
     ensures failures { Counts result.stop (R.failures reader.old.reader) (R.failures reader.new.reader) }
+    ensures reader { LeavesReader result.stop reader.new }
+    ensures again { StopsAgain reader.old result.count result.stop reader.new }
 {
     match replay_first(reader, market, u64::MAX) {
         (count, Some(stop)) => ReplayEnd { count, stop },
@@ -53,6 +56,7 @@ pub fn replay_first<R: CountedRead, A: Allocator, B: OrderBook>(
 ) -> (u64, Option<Stop>)
     ensures steps { ReplaysFirst most market.old (bytes_left R.remaining reader.old) (bytes_left R.remaining reader.new) result.0 result.1 market.new }
     ensures failures { CountsFirst result.1 (R.failures reader.old.reader) (R.failures reader.new.reader) }
+    ensures reader { LeavesReaderFirst reader.old result.0 result.1 reader.new }
 {
     // Each market is good, and its orders stand in snapshot order: its book tells so.
     let _book = market.book();
@@ -73,6 +77,7 @@ fn step<R: CountedRead, A: Allocator, B: OrderBook>(
     ensures step { Step full market.old (bytes_left R.remaining reader.old) (bytes_left R.remaining reader.new) result market.new }
     ensures failures { MatchResult result (λ _. R.failures reader.new.reader ≡ R.failures reader.old.reader)
         (λ stop. Counts stop (R.failures reader.old.reader) (R.failures reader.new.reader)) }
+    ensures reader { MatchResult result (λ _. LeavesReaderFirst reader.old 1 None reader.new) (λ stop. LeavesReaderFirst reader.old 0 (Some stop) reader.new) }
 {
     match reader.next_block() {
         Ok(Some(payload)) => {

@@ -6,6 +6,8 @@ pub mod Sizes
 pub mod Spelled
 pub mod Wires
 pub mod Closed
+pub mod WrittenFiles
+pub mod TwoFiles
 pub mod LawRules
 pub mod Keys
 pub mod Cursors

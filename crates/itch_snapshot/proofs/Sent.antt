@@ -12,6 +12,7 @@ use Rattle.itch_frame.specs.Blocks.{IsPayload, blocks}
 use Rattle.itch_frame.specs.Writing.{WriteBlock}
 use Rattle.itch_frame.specs.declared.fault.FrameFault.{FrameFault}
 use Rattle.itch_frame.proofs.Writes.{part_written, Appends-block, Appends-more}
+use Rattle.itch_frame.specs.declared.tally.Failures.{Failures}
 use Rattle.itch_book.proofs.Lists.{All-right_rec}
 use Rattle.itch_market.specs.Content.{Content}
 use Rattle.itch_market.specs.Goods.{IsGood}
@@ -35,7 +36,7 @@ payloads_at m next seen left x messages = ap (λ ms. map spelling ms ++ spelling
   regroup [] = refl
   regroup (y ∷ ys) = ap (λ ps. spelling y ∷ ps) (regroup ys)
 
-module _ {W : Type 0} (contents : W → Option (List ℕ)) (failures : W → ℕ) where
+module _ {W : Type 0} (contents : W → Option (List ℕ)) (failures : W → Failures) where
   -- the blocks of these messages were written, and the others are still to come
   pub record WrittenSoFar (m : Content) (old : W) (seen left : List Message) (count : ℕ) (new : W) : Type 0 where
     pub messages : snap m ≡ seen ++ left

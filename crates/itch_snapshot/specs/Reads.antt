@@ -1,9 +1,10 @@
 -- What the reading of a snapshot does to its reader, step by step.
 use Rattle.std.specs.Prelude.{◌≡◌, ℕ, ◌-◌, ◌≤◌, ◌^◌, ◌⊎◌, List, [], map, length, ⊤, Option, Some, None, Result, Ok, Err, IfSome}
-use Rattle.std.specs.Io.KnownBytes.{Consumes, IsAtEnd}
+use Rattle.std.specs.Io.KnownBytes.{Keeps, Consumes, IsAtEnd}
 use Rattle.itch_codec.specs.Messages.{message_of}
 use Rattle.itch_frame.specs.Blocks.{block, Open}
-use Rattle.itch_frame.specs.Counting.{KeepsOrForgets, Rises}
+use Rattle.itch_frame.specs.Counting.{failed}
+use Rattle.itch_frame.specs.declared.tally.Failures.{Failures}
 use Rattle.itch_frame.specs.declared.fault.FrameFault.{FrameFault}
 use Rattle.itch_frame.specs.declared.fault.FrameFault.TheVariants.{Read, Truncated, Write, TooLong}
 use Rattle.itch_market.specs.declared.stop.Stop.TheVariants as stop
@@ -21,7 +22,7 @@ EndsHere old new = IsAtEnd old ⊎ Consumes old new (block [])
 -- why no block came off the front
 abbrev pub FailsHere : FrameFault → Option (List ℕ) → Option (List ℕ) → Type 0
 FailsHere (Truncated held) old new = IfSome old (λ bytes. Open bytes × (held ≡ length bytes))
-FailsHere (Read error) old new = KeepsOrForgets old new
+FailsHere (Read error) old new = Keeps old new
 FailsHere (Write sent error) old new = ⊥
 FailsHere TooLong old new = ⊥
 
@@ -66,9 +67,9 @@ ReadsSnapshot old new (Err fault) =
     ((n : Content) × ReadsAll empty old new (Err fault) n)
     ⊎ ((mid : Option (List ℕ)) × (next : ℕ) × (n : Content) × ReadsAll empty old mid (Ok next) n × ReadsEnd mid new (Err fault))
 
--- a failed read is counted, and nothing else is
-abbrev pub CountsFault : SnapFault → ℕ → ℕ → Type 0
-CountsFault (Frame (Read error)) old new = Rises old new
+-- a failed read is counted with its error, and nothing else is
+abbrev pub CountsFault : SnapFault → Failures → Failures → Type 0
+CountsFault (Frame (Read error)) old new = new ≡ failed error old
 CountsFault fault old new = new ≡ old
 
 -- a fault that the file alone decides: no read failed, and memory was not refused

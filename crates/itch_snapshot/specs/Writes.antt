@@ -4,6 +4,7 @@ use Rattle.std.specs.Io.KnownBytes.{Appends}
 use Rattle.itch_codec.specs.declared.message.Message.TheVariants as is
 use Rattle.itch_codec.specs.Messages.{spelling}
 use Rattle.itch_frame.specs.Writing.{WriteBlocks}
+use Rattle.itch_frame.specs.declared.tally.Failures.{Failures}
 use Rattle.itch_market.specs.Content.{Content}
 use Rattle.itch_snapshot.specs.declared.fault.SnapFault.{SnapFault}
 use Rattle.itch_snapshot.specs.declared.fault.SnapFault.TheVariants.{NoEnd, Frame, Codec, Rule, AfterEnd, TooManyMessages}
@@ -14,7 +15,7 @@ use Rattle.itch_snapshot.specs.Bytes.{canon, closing}
 abbrev pub payloads : Content → ℕ → List (List ℕ)
 payloads m next = map spelling (snap m) ++ spelling (is.End next) ∷ []
 
-module _ {W : Type 0} (contents : W → Option (List ℕ)) (failures : W → ℕ) where
+module _ {W : Type 0} (contents : W → Option (List ℕ)) (failures : W → Failures) where
   -- the canonical bytes and the closing block were appended, or some blocks whole and exactly the bytes of the next one up to `sent`
   abbrev pub WritesSnapshot : Content → ℕ → W → Result ℕ SnapFault → W → Type 0
   WritesSnapshot m next old (Ok count) new =

@@ -1,15 +1,21 @@
 //! What holds of markets and their snapshots, of whatever size.
 //!
 //! Each function here does nothing: its clauses are the laws.
-ghost use Rattle.std.specs.Prelude.{◌≡◌, ℕ, ◌≤◌, ◌↔◌, List, ◌++◌, length};
+ghost use Rattle.std.specs.Prelude.{◌≡◌, ℕ, ◌≤◌, ◌<◌, ◌^◌, ◌↔◌, List, ◌++◌, length, map};
 ghost use Rattle.itch_codec.specs.declared.message.Message.{Message};
 ghost use Rattle.itch_codec.specs.Widths.{IsSequence};
-ghost use Rattle.itch_market.specs.Content.{Content, laid};
+ghost use Rattle.itch_codec.specs.Fields.{AreBytes};
+ghost use Rattle.itch_codec.specs.Messages.{message_of};
+ghost use Rattle.itch_frame.specs.Blocks.{Day};
+ghost use Rattle.itch_market.specs.Stops.{Stops};
+ghost use Rattle.itch_market.specs.declared.stop.Stop.TheVariants.{End};
+ghost use Rattle.itch_market.specs.Content.{Content, empty, laid};
 ghost use Rattle.itch_market.specs.Goods.{IsGood};
 ghost use Rattle.itch_market.specs.Runs.{AreMessages, after, run, Follows, FollowsFrom};
 ghost use Rattle.itch_market.specs.Sames.{Same};
 ghost use Rattle.itch_snapshot.specs.Bytes.{canon, closing};
 ghost use Rattle.itch_snapshot.specs.Snapshot.{snap};
+ghost use Rattle.itch_snapshot.specs.Files.{IsSnapshotFile};
 
 /// The snapshot list of a market is messages whose fields fit, follows the order rules, and leaves the same market:
 /// that market with its orders in snapshot order.
@@ -64,4 +70,16 @@ pub fn whole_snapshot()
 #[tactic(auto, using(crate::proofs::LawRules::headline_laws))]
 pub fn headline()
     ensures { (ms ns : List Message) → AreMessages ms → AreMessages ns → Follows ms → Follows ns → Same (run ms) (run ns) ↔ (canon (run ms) ≡ canon (run ns)) }
+{}
+
+/// What is written of a market is a snapshot file.
+pub fn written_snapshot()
+    ensures { (m : Content) → (next : ℕ) → IsGood m → IsSequence next → length (snap m) < 10 ^ 19 → IsSnapshotFile (canon m ++ closing next) (snap m) next }
+{}
+
+/// Two day files whose replays end leave the same market exactly if the canonical bytes of what they leave are equal.
+pub fn two_day_files()
+    ensures { (b c : List ℕ) → (ps qs : List (List ℕ)) → (r s : List ℕ) → (j k : ℕ) → AreBytes b → AreBytes c → Day b ps r → Day c qs s
+        → Stops empty b j End → Stops empty c k End
+        → Same (run (map message_of ps)) (run (map message_of qs)) ↔ (canon (run (map message_of ps)) ≡ canon (run (map message_of qs))) }
 {}

@@ -1,4 +1,4 @@
--- The bytes of a login, and that they spell it.
+-- The bytes of a login and of its acceptance, and that they spell them.
 use Rattle.std.proofs.Common.{◌≡◌, ℕ, ◌+◌, ◌-◌, ◌<◌, ◌≤◌, ◌^◌, ◌&&◌, Bool, true, false, MatchBool, List, [], ◌∷◌, ◌++◌, length, take, refl, sym, ap, ◌∙◌, subst, arith, rules}
 use Rattle.std.specs.Prelude.{slice_range}
 use Rattle.std.specs.List.{list_all}
@@ -11,8 +11,9 @@ use Rattle.std.proofs.lemmas.Slice.{take-put_mid}
 use Rattle.itch_codec.specs.Numbers.{slice_at, dec20, is_space, SpellsNumber, IsNumber}
 use Rattle.itch_codec.specs.Fields.{IsAlpha}
 use Rattle.itch_codec.proofs.Numbers.{dec20-spells, length-dec20}
-use Rattle.itch_soup.specs.declared.origin.Origin.TheVariants.{Client}
+use Rattle.itch_soup.specs.declared.origin.Origin.TheVariants.{Client, Server}
 use Rattle.itch_soup.specs.declared.packet.LoginRequest.{LoginRequest}
+use Rattle.itch_soup.specs.declared.packet.LoginAccepted.{LoginAccepted}
 use Rattle.itch_soup.specs.declared.packet.Packet.TheVariants as is
 use Rattle.itch_soup.specs.Packets.{Requests, PacketSpells, packet_spelling}
 
@@ -98,6 +99,34 @@ login-spelled login block user password session number e =
               tt,
             ),
           ),
+        ),
+      );
+    }
+
+-- the same of an acceptance
+pub accepted_written : (named block session number : List ℕ) → length block ≡ 31 → take 11 named ≡ 65 ∷ session → take 31 block ≡ take 11 named ++ number
+    → block ≡ 65 ∷ (session ++ (number ++ []))
+accepted_written named block session number long e1 e2 = sym (take_all 31 block (omega arith)) ∙ rw (e2, e1) (simp append-nil)
+
+pub acceptance-spelled : (login : LoginAccepted) (block : List ℕ) → IsAlpha 10 login.session → 1 ≤ login.next → login.next ≤ 10 ^ 19
+    → block ≡ packet_spelling (is.LoginAccepted login) → PacketSpells (is.LoginAccepted login) block Server
+acceptance-spelled login block session least most e =
+    let s = login.session in
+    let d = dec20 login.next in
+    let long : length d ≡ 20 = length-dec20 login.next (omega arith) in
+    let ls : length s ≡ 10 = session.0 in
+    record {
+      first = rw e refl;
+      side = refl;
+      size = rw e (simp length-append (omega arith));
+      parts = (
+        (field_at 1 10 (65 ∷ []) s (d ++ []) block refl ls e, session.1),
+        (
+          (
+            subst (λ field. SpellsNumber field login.next) (field_at 11 20 (65 ∷ s) d [] block (omega arith) long e) (dec20-spells login.next (omega arith)),
+            least,
+          ),
+          tt,
         ),
       );
     }

@@ -1,16 +1,19 @@
 -- The text of a field is what stands before the spaces at its end.
-use Rattle.std.proofs.Common.{◌≡◌, ◌≢◌, ℕ, zero, suc, ◌-◌, ◌<◌, Bool, true, false, eqb, List, [], ◌∷◌, ◌++◌, length, replicate, get_or, IsTrue, ◌↔◌, refl, sym, ap, ◌∙◌, arith}
+use Rattle.std.proofs.Common.{◌≡◌, ◌≢◌, ℕ, zero, suc, ◌-◌, ◌<◌, ◌≤◌, Bool, true, false, eqb, List, [], ◌∷◌, ◌++◌, length, take, drop, replicate, length-append, get_or, IsTrue, ◌↔◌, refl, sym, ap, ◌∙◌, arith}
 use Rattle.std.specs.Prelude.{reverse}
-use Rattle.std.specs.List.{prefix_len}
+use Rattle.std.specs.List.{All, prefix_len}
 use Rattle.std.specs.Str.{bytes_eq}
 use Rattle.std.proofs.Math.Numerals.{one-add}
 use Rattle.std.proofs.lemmas.Bool.{eqb-true}
-use Rattle.std.proofs.lemmas.List.{drop_at, length-replicate, reverse-append, reverse-reverse, length-reverse, get_or-reverse}
+use Rattle.std.proofs.lemmas.List.{take-append-drop, drop_at, length-drop, length-replicate, reverse-append, reverse-reverse, length-reverse, get_or-reverse}
+use Rattle.std.proofs.lemmas.List.Elements.{All-from_recursion, recursion_from_All, All-same, All-replicate, All-append, All-take, All-drop}
+use Rattle.std.proofs.lemmas.List.Sums.{prefix_len-le-length}
 use Rattle.std.proofs.lemmas.Bool.Decides.{same_from_decides}
 use Rattle.std.proofs.lemmas.Slice.Eq.{bytes_eq-Decides}
-use Rattle.itch_codec.specs.Text.{IsTextOf}
+use Rattle.itch_codec.specs.Text.{IsPrintableByte, IsPrintable, padded_to, IsTextOf}
 use Rattle.itch_codec.specs.Numbers.{is_space, after_spaces}
-use Rattle.itch_soup.specs.Names.{before_spaces}
+use Rattle.itch_codec.specs.Fields.{IsAlpha}
+use Rattle.itch_soup.specs.Names.{before_spaces, session_name, padded_on_left}
 
 abbrev spaces : ℕ → List ℕ
 spaces n = replicate n 32
@@ -55,6 +58,50 @@ text-before_spaces field text h =
     h.last (omega (arith, same)) (rw place at last) in
     ap (λ xs. reverse (after_spaces xs)) backwards ∙ ap reverse (after-spaces n (reverse text) (no_space_in_front (reverse text) first))
     ∙ reverse-reverse text
+
+-- what stands before the spaces at the end is the front of a field
+pub before_spaces-take : (field : List ℕ) → prefix_len is_space (reverse field) ≤ length field
+    → before_spaces field ≡ take (length field - prefix_len is_space (reverse field)) field
+unfolding before_spaces after_spaces
+before_spaces-take field within =
+    let n = prefix_len is_space (reverse field) in
+    let k = length field - n in
+    let front = take k field in
+    let back = drop k field in
+    let turned : reverse field ≡ reverse back ++ reverse front = ap reverse (sym (take-append-drop k field)) ∙ reverse-append front back in
+    let long : length (reverse back) ≡ n = omega (arith, within, length-reverse back, length-drop k field) in
+    ap (λ xs. reverse (drop n xs)) turned ∙ ap reverse (drop_at (reverse back) (reverse front) n long) ∙ reverse-reverse front
+
+-- the name of a session is printable where its field is
+pub name_printable : (field : List ℕ) → IsPrintable field → IsPrintable (session_name field)
+unfolding after_spaces
+name_printable field h =
+    let front = before_spaces-take field (omega (arith, prefix_len-le-length is_space (reverse field), length-reverse field)) in
+    let whole = All-from_recursion IsPrintableByte field h in
+    let before = All-same IsPrintableByte _ _ front (All-take IsPrintableByte _ field whole) in
+    recursion_from_All IsPrintableByte _ (All-drop IsPrintableByte _ _ before)
+
+pub ruleset trimming = (before_spaces-take, name_printable)
+
+spaces_printable : (n : ℕ) → All IsPrintableByte (spaces n)
+spaces_printable n = All-replicate IsPrintableByte n 32 (omega arith, omega arith)
+
+-- a name with spaces on either side is a text of the field's width
+pub padded_to-fits : (width : ℕ) (name : List ℕ) → length name ≤ width → IsPrintable name → IsAlpha width (padded_to width name)
+padded_to-fits width name within printable =
+    let room = width - length name in (
+      length-append name (spaces room) ∙ omega (arith, within, length-replicate {A = ℕ} room 32),
+      recursion_from_All IsPrintableByte _
+          (All-append IsPrintableByte name (spaces room) (All-from_recursion IsPrintableByte name printable) (spaces_printable room)),
+    )
+
+pub padded_on_left-fits : (width : ℕ) (name : List ℕ) → length name ≤ width → IsPrintable name → IsAlpha width (padded_on_left width name)
+padded_on_left-fits width name within printable =
+    let room = width - length name in (
+      length-append (spaces room) name ∙ omega (arith, within, length-replicate {A = ℕ} room 32),
+      recursion_from_All IsPrintableByte _
+          (All-append IsPrintableByte (spaces room) name (spaces_printable room) (All-from_recursion IsPrintableByte name printable)),
+    )
 
 -- a test that is true exactly where two texts are equal
 pub tested-bytes_eq : (test : Bool) (text other : List ℕ) → IsTrue test ↔ (text ≡ other) → test ≡ bytes_eq text other

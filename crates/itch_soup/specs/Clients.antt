@@ -12,6 +12,7 @@ use Rattle.itch_soup.specs.declared.client.ClientAct.{ClientAct}
 use Rattle.itch_soup.specs.declared.client.ClientAct.TheVariants as act
 use Rattle.itch_soup.specs.PacketTable.{sequenced_data}
 use Rattle.itch_soup.specs.Packets.{packet_type}
+use Rattle.itch_soup.specs.Names.{client_session}
 use Rattle.itch_soup.specs.Connections.{opened, after_packet, after_tick, after_sent}
 
 -- a client's session: what it logs in with, the first number that it asks for, the number of the next message, and how
@@ -22,14 +23,18 @@ pub record Client : Type 0 where
   pub next : ℕ
   pub connection : Connection
 
--- the login that the credentials and the number mean
-abbrev pub login_of : Client → LoginRequest
-login_of c = record {
-  username = c.credentials.username;
-  password = c.credentials.password;
-  session = c.credentials.session;
-  number = c.from;
+-- the login that the credentials and the number mean: its session's name stands padded on the right
+abbrev pub login_with : Credentials → ℕ → LoginRequest
+login_with credentials number = record {
+  username = credentials.username;
+  password = credentials.password;
+  session = client_session credentials.session;
+  number = number;
 }
+
+-- the login of a session
+abbrev pub login_of : Client → LoginRequest
+login_of c = login_with c.credentials c.from
 
 -- the answer to a packet, the next stage, and the number of the next message
 abbrev pub client_turn : ℕ → Stage → Packet → ClientAct × Stage × ℕ

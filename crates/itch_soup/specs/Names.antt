@@ -1,8 +1,9 @@
--- How the names in a login are compared.
-use Rattle.std.specs.Prelude.{ℕ, Bool, ◌||◌, List, map, reverse}
+-- How the names in a login are compared and written.
+use Rattle.std.specs.Prelude.{ℕ, ◌-◌, Bool, ◌||◌, List, ◌++◌, length, map, replicate, reverse}
 use Rattle.std.specs.Char.{to_ascii_lowercase}
 use Rattle.std.specs.List.{list_all}
 use Rattle.std.specs.Str.{bytes_eq}
+use Rattle.itch_codec.specs.Text.{padded_to}
 use Rattle.itch_codec.specs.Numbers.{is_space, after_spaces}
 
 -- a field without the spaces at its end
@@ -17,6 +18,18 @@ is_same_name name other =
 -- a session's name is what stands between the spaces at both ends
 abbrev pub session_name : List ℕ → List ℕ
 session_name field = after_spaces (before_spaces field)
+
+-- a text with spaces before it, up to the width of its field
+abbrev pub padded_on_left : ℕ → List ℕ → List ℕ
+padded_on_left width text = replicate (width - length text) 32 ++ text
+
+-- the field that a client writes for a session: its name, padded on the right
+abbrev pub client_session : List ℕ → List ℕ
+client_session field = padded_to 10 (session_name field)
+
+-- the field that a server writes for a session: its name, padded on the left
+abbrev pub server_session : List ℕ → List ℕ
+server_session field = padded_on_left 10 (session_name field)
 
 -- a login asks for the session that is served by its name, or by a blank field
 abbrev pub asks_for_session : List ℕ → List ℕ → Bool

@@ -2,6 +2,7 @@
 use Rattle.std.specs.Prelude.{ℕ, ◌+◌, ◌&&◌, max, nat_lt, Bool, not, if◌then◌else◌}
 use Rattle.itch_soup.specs.declared.config.ServerConfig.{ServerConfig}
 use Rattle.itch_soup.specs.declared.packet.LoginRequest.{LoginRequest}
+use Rattle.itch_soup.specs.declared.packet.LoginAccepted.{LoginAccepted}
 use Rattle.itch_soup.specs.declared.packet.Packet.{Packet}
 use Rattle.itch_soup.specs.declared.packet.Packet.TheVariants as is
 use Rattle.itch_soup.specs.declared.fault.SoupFault.TheVariants as fault
@@ -11,7 +12,7 @@ use Rattle.itch_soup.specs.declared.connection.Connection.{Connection}
 use Rattle.itch_soup.specs.declared.server.ServerAct.{ServerAct}
 use Rattle.itch_soup.specs.declared.server.ServerAct.TheVariants as act
 use Rattle.itch_soup.specs.Packets.{packet_type}
-use Rattle.itch_soup.specs.Names.{is_same_name, asks_for_session}
+use Rattle.itch_soup.specs.Names.{is_same_name, asks_for_session, server_session}
 use Rattle.itch_soup.specs.Connections.{opened, after_packet, after_tick, after_sent}
 
 -- a server's session: whom it lets in, how many messages it has, and how its connection stands
@@ -42,6 +43,10 @@ judged config total login =
     if not (asks_for_session config.session login.session) then (act.Reject not_available, stage.Closed) else (
     if nat_lt (total + 1) (first_asked login) then (act.Reject not_available, stage.Closed) else (
     (act.Accept (first_asked login), stage.Accepted))))
+
+-- the acceptance of a login from this number on: the name of the server's session stands padded on the left
+abbrev pub acceptance : ServerConfig → ℕ → LoginAccepted
+acceptance config next = record { session = server_session config.session; next = next }
 
 -- the answer to a packet, and the next stage
 abbrev pub server_turn : ServerConfig → ℕ → Stage → Packet → ServerAct × Stage

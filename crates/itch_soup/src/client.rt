@@ -71,18 +71,13 @@ impl ClientSession {
         }
     }
 
-    /// The login request to send, without the length in front.
+    /// The login request to send, without the length in front. Its session is the name in the credentials without the
+    /// spaces at both ends, padded on the right.
     pub fn login(&self) -> [u8; 47]
         ensures bytes { result ≡ packet_spelling (Packet.LoginRequest (login_of self.now)) }
         ensures spelled { PacketSpells (Packet.LoginRequest (login_of self.now)) result Origin.Client }
     {
-        let login = LoginRequest {
-            username: self.credentials.username,
-            password: self.credentials.password,
-            session: self.credentials.session,
-            number: self.from,
-        };
-        login.spelling()
+        LoginRequest::spelling(&self.credentials, self.from)
     }
 
     /// What a packet means that was heard at this moment, in milliseconds.

@@ -1,10 +1,12 @@
-//! How the names in a login are compared.
-ghost use Rattle.std.specs.Prelude.{◌≡◌, ◌≤◌, length, map};
+//! How the names in a login are compared and written.
+ghost use Rattle.std.specs.Prelude.{◌≡◌, ◌≤◌, length, map, reverse};
 ghost use Rattle.std.specs.Char.{to_ascii_lowercase};
 ghost use Rattle.std.specs.List.{list_all, prefix_len};
 ghost use Rattle.std.specs.Str.{bytes_eq};
+ghost use Rattle.itch_codec.specs.Text.{IsPrintable};
 ghost use Rattle.itch_codec.specs.Numbers.{is_space, after_spaces};
-ghost use Rattle.itch_soup.specs.Names.{is_same_name, session_name, asks_for_session};
+ghost use Rattle.itch_codec.specs.Fields.{IsAlpha};
+ghost use Rattle.itch_soup.specs.Names.{before_spaces, is_same_name, session_name, asks_for_session, client_session, server_session};
 
 use itch_codec::Alpha;
 
@@ -30,6 +32,28 @@ pub(crate) fn asks_for_session(served: &Alpha<10>, asked: &Alpha<10>) -> bool
     is_blank(asked.bytes()) || session_name(served) == session_name(asked)
 }
 
+/// A session's name as a client writes it, padded on the right.
+pub(crate) fn client_session(session: &Alpha<10>) -> [u8; 10]
+    ensures field { result ≡ client_session session.now }
+    ensures fits { IsAlpha 10 (client_session session.now) }
+{
+    let name = session_name(session);
+    let mut field = [b' '; 10];
+    field[..name.len()].copy_from_slice(name);
+    field
+}
+
+/// A session's name as a server writes it, padded on the left.
+pub(crate) fn server_session(session: &Alpha<10>) -> [u8; 10]
+    ensures field { result ≡ server_session session.now }
+    ensures fits { IsAlpha 10 (server_session session.now) }
+{
+    let name = session_name(session);
+    let mut field = [b' '; 10];
+    field[10 - name.len()..].copy_from_slice(name);
+    field
+}
+
 pub(crate) fn is_blank(field: &[u8]) -> bool
     ensures { result ≡ list_all is_space field.now }
 {
@@ -37,16 +61,34 @@ pub(crate) fn is_blank(field: &[u8]) -> bool
 }
 
 // The name without the spaces at both ends: either side may pad it on either.
-#[tactic(auto, using(crate::proofs::Trimming::texts))]
+#[tactic(auto, using(crate::proofs::Trimming::trimming))]
 fn session_name(session: &Alpha<10>) -> &[u8]
-    ensures { result.now ≡ session_name session.entry.now }
+    ensures name { result.now ≡ session_name session.entry.now }
+    ensures width { length (session_name session.now) ≤ 10 }
+    ensures printable { IsPrintable (session_name session.now) }
 {
-    after_spaces(session.text().as_bytes())
+    after_spaces(before_spaces(session.bytes()))
+}
+
+#[tactic(auto, using(crate::proofs::Trimming::trimming))]
+fn before_spaces(text: &[u8]) -> &[u8]
+    ensures text { result.now ≡ before_spaces text.entry.now }
+    ensures within { length result.now ≤ length text.entry.now }
+{
+    &text[..text.len() - trailing_spaces(text)]
+}
+
+fn trailing_spaces(text: &[u8]) -> usize
+    ensures count { result ≡ prefix_len is_space (reverse text.now) }
+    ensures within { result ≤ length text.now }
+{
+    text.iter().rev().take_while(|byte| **byte == b' ').count()
 }
 
 #[tactic(auto, unfolding(itch_codec::specs::Numbers::after_spaces))]
 fn after_spaces(text: &[u8]) -> &[u8]
-    ensures { result.now ≡ after_spaces text.entry.now }
+    ensures text { result.now ≡ after_spaces text.entry.now }
+    ensures within { length result.now ≤ length text.entry.now }
 {
     &text[leading_spaces(text)..]
 }

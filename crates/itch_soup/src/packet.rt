@@ -1,15 +1,20 @@
 //! The packets.
 
-ghost use Rattle.std.specs.Prelude.{◌≡◌, ◌+◌, ◌≤◌, ◌++◌, take};
+ghost use Rattle.std.specs.Prelude.{◌≡◌, ◌+◌, ◌≤◌, ◌++◌, length, take};
 
+use crate::config::{Credentials, ServerConfig};
 use crate::fault::SoupFault;
 use crate::fields::{request_at, seq_at, text_at};
+use crate::names::{client_session, server_session};
 use crate::origin::Origin;
 use crate::payload::Payload;
 use itch_codec::{Alpha, Seq, number20};
+use std::fmt::{self, Debug, Formatter};
 
 /// Login Request, `L` (SoupBinTCP 3.00, "Login Request Packet").
-#[derive(Clone, Copy, Debug, PartialEq, Eq)]
+///
+/// `{:?}` leaves the password out.
+#[derive(Clone, Copy, PartialEq, Eq)]
 pub struct LoginRequest {
     pub username: Alpha<6>,
     pub password: Alpha<10>,
@@ -23,6 +28,7 @@ impl LoginRequest {
     ghost use Rattle.std.specs.Prelude.{◌≡◌, ◌≤◌, ◌^◌, length};
     ghost use Rattle.itch_soup.specs.PacketTable.{login_request};
     ghost use Rattle.itch_soup.specs.Packets.{PacketSpells, packet_spelling, HasParts, parts_fault, login_request_values, Reads};
+    ghost use Rattle.itch_soup.specs.Clients.{login_with};
 
     pub(crate) fn parse(block: &[u8]) -> Result<LoginRequest, SoupFault>
         requires { length block.now ≡ 47 }
@@ -36,18 +42,29 @@ impl LoginRequest {
         })
     }
 
-    /// The packet's bytes. The fields are padded on the right, and the number on the left.
-    pub(crate) fn spelling(&self) -> [u8; 47]
-        requires { self.now.number ≤ 10 ^ 19 }
-        ensures bytes { result ≡ packet_spelling (Packet.LoginRequest self.now) }
-        ensures spelled { PacketSpells (Packet.LoginRequest self.now) result Origin.Client }
+    /// The bytes of a login with these credentials that asks for the messages from this number on. The texts are padded
+    /// on the right, and the number on the left.
+    pub(crate) fn spelling(credentials: &Credentials, number: u64) -> [u8; 47]
+        requires { number ≤ 10 ^ 19 }
+        ensures bytes { result ≡ packet_spelling (Packet.LoginRequest (login_with credentials.now number)) }
+        ensures spelled { PacketSpells (Packet.LoginRequest (login_with credentials.now number)) result Origin.Client }
     {
         let mut block = [b'L'; 47];
-        put(&mut block, 1, self.username.bytes());
-        put(&mut block, 7, self.password.bytes());
-        put(&mut block, 17, self.session.bytes());
-        put(&mut block, 27, &number20(self.number));
+        put(&mut block, 1, credentials.username.bytes());
+        put(&mut block, 7, credentials.password.bytes());
+        put(&mut block, 17, &client_session(&credentials.session));
+        put(&mut block, 27, &number20(number));
         block
+    }
+}
+
+impl Debug for LoginRequest {
+    fn fmt<W: fmt::Write>(&self, f: &mut Formatter<W>) -> fmt::Result {
+        f.debug_struct("LoginRequest")
+            .field("username", &self.username)
+            .field("session", &self.session)
+            .field("number", &self.number)
+            .finish_non_exhaustive()
     }
 }
 
@@ -62,7 +79,19 @@ pub struct LoginAccepted {
 impl LoginAccepted {
     ghost use Rattle.std.specs.Prelude.{◌≡◌, length};
     ghost use Rattle.itch_soup.specs.PacketTable.{login_accepted};
-    ghost use Rattle.itch_soup.specs.Packets.{HasParts, parts_fault, login_accepted_values, Reads};
+    ghost use Rattle.itch_soup.specs.Packets.{PacketSpells, packet_spelling, HasParts, parts_fault, login_accepted_values, Reads};
+    ghost use Rattle.itch_soup.specs.Servers.{acceptance};
+
+    /// The bytes of this server's acceptance from this number on. Both fields are padded on the left.
+    pub(crate) fn spelling(config: &ServerConfig, next: Seq) -> [u8; 31]
+        ensures bytes { result ≡ packet_spelling (Packet.LoginAccepted (acceptance config.now next)) }
+        ensures spelled { PacketSpells (Packet.LoginAccepted (acceptance config.now next)) result Origin.Server }
+    {
+        let mut block = [b'A'; 31];
+        put(&mut block, 1, &server_session(&config.session));
+        put(&mut block, 11, &number20(next.value()));
+        block
+    }
 
     pub(crate) fn parse(block: &[u8]) -> Result<LoginAccepted, SoupFault>
         requires { length block.now ≡ 31 }
@@ -123,11 +152,12 @@ impl Packet<'_> {
     }
 }
 
-// Writes a field behind the first bytes of the block, of which there are `at`.
+// Writes a field after the first `at` bytes of the block.
 #[tactic(auto, using(crate::proofs::Logins::putting))]
-fn put<const N: usize>(block: &mut [u8; 47], at: usize, field: &[u8; N])
-    requires { at + N ≤ 47 }
-    ensures { take (at + N) block.new ≡ take at block.old ++ field.now }
+fn put<const N: usize>(block: &mut [u8], at: usize, field: &[u8; N])
+    requires { at + N ≤ length block.old }
+    ensures length { length block.new ≡ length block.old }
+    ensures front { take (at + N) block.new ≡ take at block.old ++ field.now }
 {
     block[at..at + N].copy_from_slice(field);
 }

@@ -6,7 +6,8 @@ use crate::config::ServerConfig;
 use crate::connection::{Connection, Stage, Tick};
 use crate::fault::SoupFault;
 use crate::names::{asks_for_session, is_same_name};
-use crate::packet::{LoginRequest, Packet};
+use crate::origin::Origin;
+use crate::packet::{LoginAccepted, LoginRequest, Packet};
 use itch_codec::Seq;
 use std::marker::Model;
 
@@ -51,8 +52,9 @@ impl Model for ServerSession {
 }
 
 impl ServerSession {
+    ghost use Rattle.itch_soup.specs.Packets.{PacketSpells, packet_spelling};
     ghost use Rattle.itch_soup.specs.Connections.{tick_answer};
-    ghost use Rattle.itch_soup.specs.Servers.{new_server, server_answer, server_after_packet, server_after_tick, server_after_sent};
+    ghost use Rattle.itch_soup.specs.Servers.{new_server, acceptance, server_answer, server_after_packet, server_after_tick, server_after_sent};
 
     /// A session of `total` messages that begins at this moment, in milliseconds, which counts as heard and sent.
     ///
@@ -66,6 +68,15 @@ impl ServerSession {
             total,
             connection: Connection::new(now_ms),
         }
+    }
+
+    /// The packet to send once a login is accepted from this number on, without the length in front. Its session is the
+    /// name in the configuration without the spaces at both ends, padded on the left.
+    pub fn accepted(&self, next: Seq) -> [u8; 31]
+        ensures bytes { result ≡ packet_spelling (Packet.LoginAccepted (acceptance self.now.config next)) }
+        ensures spelled { PacketSpells (Packet.LoginAccepted (acceptance self.now.config next)) result Origin.Server }
+    {
+        LoginAccepted::spelling(&self.config, next)
     }
 
     /// The answer to a packet that was heard at this moment, in milliseconds.

@@ -4,10 +4,13 @@ use crate::{
     ServerAct, ServerConfig, ServerSession, SoupFault, Tick, parse_packet,
 };
 use itch_codec::{Alpha, Seq};
+use std::alloc::AllocError;
 use std::process::Abort;
 use std::test::Fail;
 
 const LOGIN: &[u8; 47] = b"Luser  secret                                 3";
+
+const ACCEPTED: &[u8; 31] = b"A  ITCHSNAP                   3";
 
 fn alpha<const N: usize>(rt: &impl Abort, text: &str) -> Alpha<N> {
     Alpha::from_text(text).expect(rt, "a text that fits")
@@ -75,11 +78,7 @@ fn packets(rt: HostRuntime) {
     let rows: [(&[u8], Origin, Packet<'_>); 13] = [
         (b"+", Origin::Client, Packet::Debug(Payload::new(b""))),
         (b"+hi", Origin::Server, Packet::Debug(Payload::new(b"hi"))),
-        (
-            b"A  ITCHSNAP                   3",
-            Origin::Server,
-            accepted(&rt, 3),
-        ),
+        (ACCEPTED, Origin::Server, accepted(&rt, 3)),
         (b"JS", Origin::Server, Packet::LoginRejected { code: b'S' }),
         (b"J\0", Origin::Server, Packet::LoginRejected { code: 0 }),
         (
@@ -205,6 +204,71 @@ fn hostile_packets(rt: HostRuntime) {
 #[test]
 fn client_logs_in(rt: HostRuntime) {
     assert_eq!(rt; client(&rt).login(), *LOGIN);
+}
+
+#[test]
+fn session_names_are_padded(rt: HostRuntime) {
+    let rows: [(&str, &[u8; 10], &[u8; 10]); 6] = [
+        ("ITCHSNAP", b"ITCHSNAP  ", b"  ITCHSNAP"),
+        ("  ITCHSNAP", b"ITCHSNAP  ", b"  ITCHSNAP"),
+        (" ITCHSNAP ", b"ITCHSNAP  ", b"  ITCHSNAP"),
+        (" A B", b"A B       ", b"       A B"),
+        ("0123456789", b"0123456789", b"0123456789"),
+        ("", b"          ", b"          "),
+    ];
+    for (session, asked, served) in rows {
+        let credentials = Credentials {
+            username: alpha(&rt, "user"),
+            password: alpha(&rt, "secret"),
+            session: alpha(&rt, session),
+        };
+        let mut login = *LOGIN;
+        login[17..27].copy_from_slice(asked);
+        assert_eq!(rt;
+            ClientSession::new(credentials, 3, 0).login(),
+            login,
+            "{session:?}"
+        );
+
+        let config = ServerConfig {
+            username: alpha(&rt, "user"),
+            password: alpha(&rt, "secret"),
+            session: alpha(&rt, session),
+        };
+        let mut accepted = *ACCEPTED;
+        accepted[1..11].copy_from_slice(served);
+        let server = ServerSession::new(config, 5, 0);
+        assert_eq!(rt; server.accepted(seq(&rt, 3)), accepted, "{session:?}");
+    }
+}
+
+#[test]
+fn passwords_are_not_shown(rt: HostRuntime) -> Result<(), Fail> {
+    let shown = |password: &str| -> Result<String, AllocError> {
+        let login = LoginRequest {
+            password: alpha(&rt, password),
+            ..login(&rt, "ITCHSNAP", 3)
+        };
+        let config = ServerConfig {
+            username: login.username,
+            password: login.password,
+            session: login.session,
+        };
+        let credentials = Credentials {
+            username: login.username,
+            password: login.password,
+            session: login.session,
+        };
+        let packet = Packet::LoginRequest(login);
+        let server = ServerSession::new(config, 5, 0);
+        let client = ClientSession::new(credentials, 3, 0);
+        format!(in rt.alloc();
+            "{login:?} {config:?} {credentials:?} {packet:?} {server:?} {client:?}"
+        )
+    };
+    assert_eq!(rt; shown("secret")?, shown("another")?);
+    assert_eq!(rt; shown("")?, shown("0123456789")?);
+    Ok(())
 }
 
 #[test]

@@ -1,79 +1,75 @@
 -- What a command knows of the file that it read.
-use Rattle.std.proofs.Common.{◌≡◌, ℕ, ◌-◌, ◌^◌, ◌≤◌, ◌==◌, Bool, List, [], map, length, Option, None, Some, IsSome, IfSome, Result, Ok, Err, refl, subst, ◌∙◌, inl, inr}
+use Rattle.std.proofs.Common.{◌≡◌, ℕ, ◌-◌, ◌^◌, ◌≤◌, ◌==◌, Bool, List, [], map, length, Option, None, Some, IsSome, IfSome, Result, Ok, Err, refl, sym, subst, ◌∙◌, inl, inr, arith}
 use Rattle.std.specs.List.{AllByRecursion}
-use Rattle.std.specs.Io.KnownBytes.{prepend_known}
+use Rattle.std.specs.Io.KnownBytes.{prepend_known, Consumes, IsAtEnd}
 use Rattle.itch_codec.specs.Messages.{message_of}
-use Rattle.itch_frame.specs.Blocks.{Ends}
-use Rattle.itch_frame.specs.Reading.{Reading, bytes_left, drop_known}
+use Rattle.itch_frame.specs.Blocks.{block, Ends}
+use Rattle.itch_frame.specs.Reading.{Reading, bytes_left}
+use Rattle.itch_frame.specs.declared.tally.Failures.{Failures}
 use Rattle.itch_market.specs.Content.{Content, empty, laid}
 use Rattle.itch_market.specs.Runs.{run}
 use Rattle.itch_market.specs.declared.stop.Stop.{Stop}
 use Rattle.itch_market.specs.declared.stop.Stop.TheVariants.{End}
 use Rattle.itch_market.specs.Stops.{Stops}
-use Rattle.itch_market.specs.Replays.{Fits, NoCause, Halts, Takes, IsTold}
+use Rattle.itch_market.specs.Replays.{Fits, NoCause, Halts, Takes, Counts, IsTold}
 use Rattle.itch_market.proofs.Told.{replays_stop}
 use Rattle.itch_tool.specs.declared.fault.ToolFault.{ToolFault}
 use Rattle.itch_tool.specs.declared.fault.ToolFault.TheVariants as tool
-use Rattle.itch_tool.specs.Readings.{IsWhole, IsPart, HaltsPart, ReadsMarket}
-use Rattle.itch_tool.specs.Outputs.{IsShort, WritesOutput, Outputs}
-
-none_before : (bytes : Option (List ℕ)) → prepend_known [] (drop_known 0 bytes) ≡ bytes
-none_before None = refl
-none_before (Some bytes) = refl
-
--- a new reader of blocks has the bytes of the reader below
-pub new_bytes : {R : Type 0} (remaining : R → Option (List ℕ)) (r : Reading R) (reader : R) → r.reader ≡ reader → r.held ≡ [] → r.lent ≡ 0
-    → bytes_left remaining r ≡ remaining reader
-new_bytes remaining r reader is none unlent =
-    (λ i. prepend_known (none i) (drop_known (unlent i) (remaining (is i)))) ∙ none_before (remaining reader)
+use Rattle.itch_tool.specs.declared.fault.Source.{Source}
+use Rattle.itch_tool.specs.Readings.{AreTaken, IsPart, IsShort, HaltsPart, LeavesPart, LeavesDay, ReadsMarket, CountsRead, ReadsDay}
+use Rattle.itch_tool.specs.Outputs.{WritesOutput, Outputs}
 
 -- the messages that were applied
-pub record Applied (after : Option ℕ) (bytes : Option (List ℕ)) (count : ℕ) (n : Content) : Type 0 where
+pub record Applied (after : Option ℕ) (bytes new : Option (List ℕ)) (count : ℕ) (n : Content) : Type 0 where
   pub payloads : List (List ℕ)
+  pub taken : AreTaken after payloads
   pub part : IfSome bytes (λ b. IsPart after b payloads)
+  pub leaves : LeavesPart after bytes new payloads
   pub left : n ≡ laid (run (map message_of payloads))
   pub counted : length payloads ≡ count
   pub few : count ≤ 10 ^ 19 - 1
   pub fits : AllByRecursion Fits payloads
-  pub none : NoCause empty payloads
 
 rest_ends : (full : Bool) (m : Content) (rest : List ℕ) (new : Option (List ℕ)) → Halts full m (Some rest) new End → Ends rest
 rest_ends full m rest new (inl at_end) = inl at_end
 rest_ends full m rest None (inr block_read) = absurd block_read
 rest_ends full m rest (Some more) (inr block_read) = inr (more, block_read)
 
-whole_part : (full : Bool) (m n : Content) (bytes mid new : Option (List ℕ)) (ps : List (List ℕ)) → Takes empty bytes mid ps n → Halts full m mid new End → IfSome bytes (λ b. IsWhole b ps)
+whole_part : (full : Bool) (m n : Content) (bytes mid new : Option (List ℕ)) (ps : List (List ℕ)) → Takes empty bytes mid ps n → Halts full m mid new End → IfSome bytes (λ b. IsPart None b ps)
 whole_part full m n None mid new ps takes halts = tt
 whole_part full m n (Some b) None new ps takes halts = absurd takes.bytes
 whole_part full m n (Some b) (Some rest) new ps takes halts =
-    let ends = rest_ends full m rest new halts in
-    record { rest = rest; day = record { whole = takes.bytes; each = takes.full; last = inl ends }; ends = ends; taken = takes.none }
+    let ends = rest_ends full m rest new halts in (rest, record { whole = takes.bytes; each = takes.full; last = inl ends }, ends)
 
-front_part : (most : ℕ) (n : Content) (bytes new : Option (List ℕ)) (ps : List (List ℕ)) → Takes empty bytes new ps n → length ps ≡ most → IfSome bytes (λ b. IsPart (Some most) b ps)
-front_part most n None new ps takes many = tt
-front_part most n (Some b) None ps takes many = absurd takes.bytes
-front_part most n (Some b) (Some rest) ps takes many = record { rest = rest; front = takes.bytes; full = takes.full; taken = takes.none; many = many }
+front_part : (most : ℕ) (n : Content) (bytes new : Option (List ℕ)) (ps : List (List ℕ)) → Takes empty bytes new ps n → IfSome bytes (λ b. IsPart (Some most) b ps)
+front_part most n None new ps takes = tt
+front_part most n (Some b) None ps takes = absurd takes.bytes
+front_part most n (Some b) (Some rest) ps takes = (rest, takes.bytes)
 
 -- where the part of the file that is wanted was read
-pub read_done : (after : Option ℕ) (bytes new : Option (List ℕ)) (count : ℕ) (n : Content) → ReadsMarket after empty bytes new (Ok count) n → Applied after bytes count n
-read_done None bytes new count n (ps, mid, takes, counted, few, halts) = record {
-  payloads = ps;
-  part = whole_part (count == 10 ^ 19 - 1) (run (map message_of ps)) n bytes mid new ps takes halts;
-  left = takes.left;
-  counted = counted;
-  few = few;
-  fits = takes.fits;
-  none = takes.none;
-}
-read_done (Some most) bytes new count n (all, few, ps, takes, counted) = record {
-  payloads = ps;
-  part = front_part most n bytes new ps takes (counted ∙ all);
-  left = takes.left;
-  counted = counted;
-  few = few;
-  fits = takes.fits;
-  none = takes.none;
-}
+pub read_done : (file : Source) (after : Option ℕ) (bytes new : Option (List ℕ)) (start : Content) (count : ℕ) (n : Content) → start ≡ empty → ReadsMarket file after start bytes new (Ok count) n → Applied after bytes new count n
+read_done file after bytes new start count n first reads = by_part after (subst (λ m. ReadsMarket file after m bytes new (Ok count) n) first reads) where
+  by_part : (part : Option ℕ) → ReadsMarket file part empty bytes new (Ok count) n → Applied part bytes new count n
+  by_part None (ps, mid, takes, counted, few, halts) = record {
+    payloads = ps;
+    taken = record { full = takes.full; taken = takes.none; few = omega (arith, counted, few); wanted = tt };
+    part = whole_part (count == 10 ^ 19 - 1) (run (map message_of ps)) n bytes mid new ps takes halts;
+    leaves = (mid, takes.bytes, halts);
+    left = takes.left;
+    counted = counted;
+    few = few;
+    fits = takes.fits;
+  }
+  by_part (Some most) (all, few, ps, takes, counted) = record {
+    payloads = ps;
+    taken = record { full = takes.full; taken = takes.none; few = omega (arith, counted, few); wanted = counted ∙ all };
+    part = front_part most n bytes new ps takes;
+    leaves = takes.bytes;
+    left = takes.left;
+    counted = counted;
+    few = few;
+    fits = takes.fits;
+  }
 
 -- where it stopped before
 halts_told : (after : Option ℕ) (bytes new : Option (List ℕ)) (count : ℕ) (stop : Stop) (n : Content) → HaltsPart after empty bytes new count stop n
@@ -89,41 +85,46 @@ halts_early : (after : Option ℕ) (bytes new : Option (List ℕ)) (count : ℕ)
 halts_early None bytes new count stop n some halts = cc
 halts_early (Some most) bytes new count stop n some (early, halts) = early
 
--- what was read through a new reader into a new market
-pub read_anew : {R : Type 0} (remaining : R → Option (List ℕ)) (r : Reading R) (reader : R) (m : Content) (after : Option ℕ) (new : Option (List ℕ)) (result : Result ℕ ToolFault) (n : Content)
-    → r.reader ≡ reader → r.held ≡ [] → r.lent ≡ 0 → m ≡ empty → ReadsMarket after m (bytes_left remaining r) new result n → ReadsMarket after empty (remaining reader) new result n
-read_anew remaining r reader m after new result n is none unlent first reads =
-    subst (λ bytes. ReadsMarket after empty bytes new result n) (new_bytes remaining r reader is none unlent)
-    (subst (λ start. ReadsMarket after start (bytes_left remaining r) new result n) first reads)
+module _ {R : Type 0} (remaining : R → Option (List ℕ)) (failures : R → Failures) (file : Source) (after : Option ℕ) (old new : Reading R) where
+  -- what a day file was read for
+  pub day_done : (count : ℕ) (n : Content) (applied : Applied after (bytes_left remaining old) (bytes_left remaining new) count n)
+      → failures new.reader ≡ failures old.reader → LeavesDay (Ok count) after old new → ReadsDay remaining failures file after old new (Ok applied.payloads)
+  day_done count n applied uncounted left = (
+    applied.taken,
+    applied.part,
+    applied.leaves,
+    uncounted,
+    subst (λ k. LeavesDay (Ok k) after old new) (sym applied.counted) left,
+  )
 
-module _ {W : Type 0} (contents : W → Option (List ℕ)) (failures : W → ℕ) (output : List (List ℕ) → List ℕ) (out : W) where
-  -- where it was not, nothing is written
-  pub read_fails : (after : Option ℕ) (bytes new : Option (List ℕ)) (fault : ToolFault) (n : Content) → ReadsMarket after empty bytes new (Err fault) n
-      → Outputs contents failures output after bytes out (Err fault) out
-  read_fails after bytes new (tool.Stopped file end) n (only, stop, halts) = (only, stop, refl, halts_told after bytes new end.count end.stop n halts)
-  read_fails after bytes new (tool.Short count) n (some, halts) =
-      (halts_early after bytes new count End n some halts, refl, ends_told bytes count (halts_told after bytes new count End n halts))
-  read_fails after bytes new (tool.Snap file fault) n reads = absurd reads
-  read_fails after bytes new tool.UnknownLocate n reads = absurd reads
-  read_fails after bytes new (tool.Write error) n reads = absurd reads
-  read_fails after bytes new tool.TooMany n reads = absurd reads
-  read_fails after bytes new (tool.Socket error) n reads = absurd reads
-  read_fails after bytes new tool.OutOfMemory n reads = absurd reads
-  read_fails after bytes new tool.Open n reads = absurd reads
+  -- or why it was refused
+  pub day_fails : (fault : ToolFault) (start n : Content) → start ≡ empty → ReadsMarket file after start (bytes_left remaining old) (bytes_left remaining new) (Err fault) n
+      → CountsRead (Err fault) (failures old.reader) (failures new.reader) → LeavesDay (Err fault) after old new → ReadsDay remaining failures file after old new (Err fault)
+  day_fails fault start n first reads counts left =
+      by_fault fault (subst (λ m. ReadsMarket file after m (bytes_left remaining old) (bytes_left remaining new) (Err fault) n) first reads) counts left where
+        by_fault : (f : ToolFault) → ReadsMarket file after empty (bytes_left remaining old) (bytes_left remaining new) (Err f) n
+            → CountsRead (Err f) (failures old.reader) (failures new.reader) → LeavesDay (Err f) after old new → ReadsDay remaining failures file after old new (Err f)
+        by_fault (tool.Stopped at end) (same, stop, halts) counted leaves =
+            (same, stop, (n, halts), halts_told after (bytes_left remaining old) (bytes_left remaining new) end.count end.stop n halts, counted, leaves)
+        by_fault (tool.Short count) (some, halts) counted leaves = (
+          halts_early after (bytes_left remaining old) (bytes_left remaining new) count End n some halts,
+          (n, halts),
+          ends_told (bytes_left remaining old) count (halts_told after (bytes_left remaining old) (bytes_left remaining new) count End n halts),
+          counted,
+          leaves,
+        )
+        by_fault (tool.Write error) h counted leaves = absurd h
+        by_fault tool.OutOfMemory h counted leaves = absurd h
+        by_fault tool.Open h counted leaves = absurd h
 
-  -- where it was, and what is written is what the messages make
-  pub read_writes : (new : W) (after : Option ℕ) (bytes : Option (List ℕ)) (count : ℕ) (n : Content) (written : List ℕ) (applied : Applied after bytes count n)
-      → written ≡ output applied.payloads → (result : Result Bool ToolFault) → WritesOutput contents failures written out result new
-      → Outputs contents failures output after bytes out result new
-  read_writes new after bytes count n written applied is (Ok answer) wrote =
-      (applied.payloads, applied.part, subst (λ b. WritesOutput contents failures b out (Ok answer) new) is wrote)
-  read_writes new after bytes count n written applied is (Err (tool.Write error)) wrote =
-      (applied.payloads, applied.part, subst (λ b. WritesOutput contents failures b out (Err (tool.Write error)) new) is wrote)
-  read_writes new after bytes count n written applied is (Err (tool.Stopped file end)) wrote = absurd wrote
-  read_writes new after bytes count n written applied is (Err (tool.Snap file fault)) wrote = absurd wrote
-  read_writes new after bytes count n written applied is (Err (tool.Short many)) wrote = absurd wrote
-  read_writes new after bytes count n written applied is (Err tool.UnknownLocate) wrote = absurd wrote
-  read_writes new after bytes count n written applied is (Err tool.TooMany) wrote = absurd wrote
-  read_writes new after bytes count n written applied is (Err (tool.Socket error)) wrote = absurd wrote
-  read_writes new after bytes count n written applied is (Err tool.OutOfMemory) wrote = absurd wrote
-  read_writes new after bytes count n written applied is (Err tool.Open) wrote = absurd wrote
+module _ {W : Type 0} (contents : W → Option (List ℕ)) (failures : W → Failures) where
+  -- what is written is what is made of what was read
+  pub read_writes : {X : Type 0} (reads : Result X ToolFault → Type 0) (output : X → List ℕ) (verdict : X → Bool) (x : X) (written : List ℕ) (old new : W) (result : Result Bool ToolFault)
+      → reads (Ok x) → written ≡ output x → WritesOutput contents failures written (verdict x) old result new → Outputs contents failures reads output verdict old result new
+  read_writes reads output verdict x written old new result read is wrote = inr (x, read, subst (λ b. WritesOutput contents failures b (verdict x) old result new) is wrote)
+
+  -- another reading that says less
+  pub Outputs-weaker : {X : Type 0} (P Q : Result X ToolFault → Type 0) (output : X → List ℕ) (verdict : X → Bool) (old new : W) (result : Result Bool ToolFault)
+      → ((r : Result X ToolFault) → P r → Q r) → Outputs contents failures P output verdict old result new → Outputs contents failures Q output verdict old result new
+  Outputs-weaker P Q output verdict old new result weaker (inl (fault, is, refused, same)) = inl (fault, is, weaker (Err fault) refused, same)
+  Outputs-weaker P Q output verdict old new result weaker (inr (x, read, wrote)) = inr (x, weaker (Ok x) read, wrote)

@@ -18,12 +18,12 @@ use Rattle.itch_snapshot.proofs.Wires.{canon-laid}
 use Rattle.itch_tool.specs.Outputs.{snapshot_of}
 use Rattle.itch_tool.proofs.Parts.{Applied}
 
-module _ (after : Option ℕ) (bytes : Option (List ℕ)) (count : ℕ) (n : Content) (applied : Applied after bytes count n) where
+module _ (after : Option ℕ) (bytes new : Option (List ℕ)) (count : ℕ) (n : Content) (applied : Applied after bytes new count n) where
   fit : AreMessages (map message_of applied.payloads)
   fit = All-map_rec IsMessage message_of applied.payloads applied.fits
 
   follow : Follows (map message_of applied.payloads)
-  follow = none_follows empty applied.payloads applied.none
+  follow = none_follows empty applied.payloads applied.taken.taken
 
   good : IsGood (run (map message_of applied.payloads))
   good = run_good (map message_of applied.payloads) fit follow

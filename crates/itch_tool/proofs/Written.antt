@@ -1,15 +1,16 @@
 -- What a failed write of several blocks leaves of their joined bytes.
-use Rattle.std.proofs.Common.{◌≡◌, ℕ, ◌+◌, ◌<◌, ◌≤◌, List, [], ◌∷◌, ◌++◌, map, length, take, Option, Err, sym, ap, subst, ◌∙◌, append-nil, arith, length-append}
+use Rattle.std.proofs.Common.{Bool, ◌≡◌, ℕ, ◌+◌, ◌<◌, ◌≤◌, List, [], ◌∷◌, ◌++◌, map, length, take, Option, Err, sym, ap, subst, ◌∙◌, append-nil, arith, length-append}
 use Rattle.std.proofs.lemmas.List.{take-append-le}
 use Rattle.std.proofs.Math.Seq.{take-append-add}
 use Rattle.std.specs.declared.io.Error.{Error}
+use Rattle.std.specs.Io.KnownBytes.{Appends}
 use Rattle.itch_codec.specs.Messages.{spelling}
 use Rattle.itch_codec.specs.declared.message.Message.TheVariants as is
 use Rattle.itch_frame.specs.Blocks.{block, blocks}
-use Rattle.itch_frame.specs.Counting.{AppendsOrForgets}
 use Rattle.itch_frame.specs.Writing.{WriteBlocks}
 use Rattle.itch_frame.specs.declared.fault.FrameFault.TheVariants.{Write}
 use Rattle.itch_frame.proofs.BlockLemmas.{blocks-append}
+use Rattle.itch_frame.specs.declared.tally.Failures.{Failures}
 use Rattle.itch_market.specs.Content.{Content}
 use Rattle.itch_snapshot.specs.Bytes.{canon, closing}
 use Rattle.itch_snapshot.specs.Snapshot.{snap}
@@ -38,17 +39,17 @@ snapshot_blocks : (m : Content) (next : ℕ) → blocks (payloads m next) ≡ ca
 snapshot_blocks m next =
     blocks-append (map spelling (snap m)) (spelling (is.End next) ∷ []) ∙ ap (λ t. canon m ++ t) (append-nil (closing next))
 
-module _ {W : Type 0} (contents : W → Option (List ℕ)) (failures : W → ℕ) where
+module _ {W : Type 0} (contents : W → Option (List ℕ)) (failures : W → Failures) where
   -- a snapshot that was not written whole
-  pub snapshot_cut : (m : Content) (next after sent : ℕ) (error : Error) (old new : W) → next ≡ after → WriteBlocks contents failures old (payloads m next) (Err (Write sent error)) new
-      → WritesOutput contents failures (canon m ++ closing after) old (Err (tool.Write error)) new
-  snapshot_cut m next after sent error old new same (done, payload, more, is, within, part, rises) =
+  pub snapshot_cut : (m : Content) (next after sent : ℕ) (verdict : Bool) (error : Error) (old new : W) → next ≡ after → WriteBlocks contents failures old (payloads m next) (Err (Write sent error)) new
+      → WritesOutput contents failures (canon m ++ closing after) verdict old (Err (tool.Write error)) new
+  snapshot_cut m next after sent verdict error old new same (done, payload, more, is, within, part, rises) =
       let bytes : blocks (done ++ payload ∷ more) ≡ canon m ++ closing after =
       ap blocks (sym is) ∙ snapshot_blocks m next ∙ ap (λ n. canon m ++ closing n) same in
       let n = length (blocks done) + sent in (
         n,
         subst (λ b. n < length b) bytes (within_all done more payload sent within),
-        subst (λ b. AppendsOrForgets (contents old) (contents new) (take n b)) bytes
-            (subst (AppendsOrForgets (contents old) (contents new)) (sym (beginning done more payload sent within)) part),
+        subst (λ b. Appends (contents old) (contents new) (take n b)) bytes
+            (subst (Appends (contents old) (contents new)) (sym (beginning done more payload sent within)) part),
         rises,
       )

@@ -1,3 +1,4 @@
 pub mod Statuses
 pub mod Readings
 pub mod Outputs
+pub mod Requests

@@ -1,34 +1,40 @@
 -- How a command reads the messages of a day file into a new market.
-use Rattle.std.specs.Prelude.{◌≡◌, ◌≢◌, ℕ, List, ◌++◌, length, Option, Some, None, IsSome, Result, Ok, Err}
+use Rattle.std.specs.Prelude.{◌≡◌, ◌≢◌, ℕ, ◌-◌, ◌^◌, ◌≤◌, List, [], ◌++◌, length, ◌⊎◌, ◌<◌, Option, Some, None, IsSome, IfSome, Result, Ok, Err}
 use Rattle.std.specs.List.{AllByRecursion}
-use Rattle.itch_frame.specs.Blocks.{blocks, Ends, IsFull, Day}
+use Rattle.std.specs.Io.KnownBytes.{Consumes, IsAtEnd}
+use Rattle.itch_frame.specs.Blocks.{block, blocks, Ends, IsFull, Day}
+use Rattle.itch_frame.specs.Reading.{Reading, bytes_left}
+use Rattle.itch_frame.specs.declared.stage.Stage.TheVariants.{Going}
+use Rattle.itch_frame.specs.declared.tally.Failures.{Failures}
 use Rattle.itch_market.specs.Content.{Content, empty}
 use Rattle.itch_market.specs.declared.stop.Stop.{Stop}
 use Rattle.itch_market.specs.declared.stop.Stop.TheVariants.{End}
-use Rattle.itch_market.specs.Replays.{NoCause, Replays, ReplaysFirst}
+use Rattle.itch_market.specs.Replays.{NoCause, Replays, ReplaysFirst, Counts, LeavesReaderFirst, IsTold}
+use Rattle.itch_market.specs.Stops.{Stops}
 use Rattle.itch_tool.specs.declared.fault.ToolFault.{ToolFault}
 use Rattle.itch_tool.specs.declared.fault.ToolFault.TheVariants as tool
-use Rattle.itch_tool.specs.declared.fault.Source.TheVariants.{Only}
+use Rattle.itch_tool.specs.declared.fault.Source.{Source}
 
--- a file whose payloads are these: all are taken, and then it ends
-pub record IsWhole (bytes : List ℕ) (payloads : List (List ℕ)) : Type 0 where
-  pub rest : List ℕ
-  pub day : Day bytes payloads rest
-  pub ends : Ends rest
-  pub taken : NoCause empty payloads
-
--- a file whose first payloads are these, so many, and all are taken
-pub record IsFront (most : ℕ) (bytes : List ℕ) (payloads : List (List ℕ)) : Type 0 where
-  pub rest : List ℕ
-  pub front : bytes ≡ blocks payloads ++ rest
+-- these payloads were taken, one after another, from the empty market: none is empty, faulty or refused, and there are as many
+-- as are wanted
+pub record AreTaken (after : Option ℕ) (payloads : List (List ℕ)) : Type 0 where
   pub full : AllByRecursion IsFull payloads
   pub taken : NoCause empty payloads
-  pub many : length payloads ≡ most
+  pub few : length payloads ≤ 10 ^ 19 - 1
+  pub wanted : IfSome after (λ most. length payloads ≡ most)
+
+-- a file whose payloads are these, and which then ends
+abbrev pub IsWhole : List ℕ → List (List ℕ) → Type 0
+IsWhole bytes payloads = (rest : List ℕ) × Day bytes payloads rest × Ends rest
+
+-- a file that begins with the blocks of these payloads
+abbrev pub IsFront : List ℕ → List (List ℕ) → Type 0
+IsFront bytes payloads = (rest : List ℕ) × (bytes ≡ blocks payloads ++ rest)
 
 -- the payloads of the part of a file that is wanted: the whole of it, or its first messages
 abbrev pub IsPart : Option ℕ → List ℕ → List (List ℕ) → Type 0
 IsPart None bytes payloads = IsWhole bytes payloads
-IsPart (Some most) bytes payloads = IsFront most bytes payloads
+IsPart (Some most) bytes payloads = IsFront bytes payloads
 
 -- the part that is wanted was applied
 abbrev pub TakesPart : Option ℕ → Content → Option (List ℕ) → Option (List ℕ) → ℕ → Content → Type 0
@@ -40,9 +46,58 @@ abbrev pub HaltsPart : Option ℕ → Content → Option (List ℕ) → Option (
 HaltsPart None m old new count stop n = Replays m old new count stop n
 HaltsPart (Some most) m old new count stop n = ReplaysFirst most m old new count (Some stop) n
 
--- what reading a file into a market answers, and leaves
-abbrev pub ReadsMarket : Option ℕ → Content → Option (List ℕ) → Option (List ℕ) → Result ℕ ToolFault → Content → Type 0
-ReadsMarket after m old new (Ok count) n = TakesPart after m old new count n
-ReadsMarket after m old new (Err (tool.Stopped file end)) n = (file ≡ Only) × (end.stop ≢ End) × HaltsPart after m old new end.count end.stop n
-ReadsMarket after m old new (Err (tool.Short count)) n = IsSome after × HaltsPart after m old new count End n
-ReadsMarket after m old new (Err fault) n = ⊥
+-- fewer messages than the first so many that are wanted
+abbrev pub IsShort : Option ℕ → ℕ → Type 0
+IsShort None count = ⊥
+IsShort (Some most) count = count < most
+
+-- what reading a file into a market returns, and leaves
+abbrev pub ReadsMarket : Source → Option ℕ → Content → Option (List ℕ) → Option (List ℕ) → Result ℕ ToolFault → Content → Type 0
+ReadsMarket file after m old new (Ok count) n = TakesPart after m old new count n
+ReadsMarket file after m old new (Err (tool.Stopped at end)) n = (at ≡ file) × (end.stop ≢ End) × HaltsPart after m old new end.count end.stop n
+ReadsMarket file after m old new (Err (tool.Short count)) n = IsSome after × HaltsPart after m old new count End n
+ReadsMarket file after m old new (Err fault) n = ⊥
+
+-- a failed read is counted with its error, and nothing else is
+abbrev pub CountsRead : Result ℕ ToolFault → Failures → Failures → Type 0
+CountsRead (Err (tool.Stopped at end)) old new = Counts end.stop old new
+CountsRead result old new = new ≡ old
+
+-- the payloads came off the front: nothing more, where the first so many are wanted; else the end of the file was seen
+abbrev pub LeavesPart : Option ℕ → Option (List ℕ) → Option (List ℕ) → List (List ℕ) → Type 0
+LeavesPart None old new payloads = (mid : Option (List ℕ)) × Consumes old mid (blocks payloads) × (IsAtEnd mid ⊎ Consumes mid new (block []))
+LeavesPart (Some most) old new payloads = Consumes old new (blocks payloads)
+
+-- where the reader of blocks is left
+abbrev pub LeavesDay : {R : Type 0} → Result ℕ ToolFault → Option ℕ → Reading R → Reading R → Type 0
+LeavesDay (Ok count) None old new = LeavesReaderFirst old count (Some End) new
+LeavesDay (Ok count) (Some most) old new = LeavesReaderFirst old count None new
+LeavesDay (Err (tool.Stopped at end)) after old new = LeavesReaderFirst old end.count (Some end.stop) new
+LeavesDay (Err (tool.Short count)) after old new = LeavesReaderFirst old count (Some End) new
+LeavesDay (Err fault) after old new = ⊥
+
+module _ {R : Type 0} (remaining : R → Option (List ℕ)) (failures : R → Failures) where
+  -- What reading a day file, or its first messages, from the empty market returns, and leaves of its reader. Every command
+  -- that reads a day file says so by this table.
+  abbrev pub ReadsDay : Source → Option ℕ → Reading R → Reading R → Result (List (List ℕ)) ToolFault → Type 0
+  ReadsDay file after old new (Ok payloads) =
+      AreTaken after payloads × IfSome (bytes_left remaining old) (λ b. IsPart after b payloads)
+      × LeavesPart after (bytes_left remaining old) (bytes_left remaining new) payloads
+      × (failures new.reader ≡ failures old.reader) × LeavesDay (Ok (length payloads)) after old new
+  -- so many messages were taken, and then this stopped it; where the file alone decides, it is the first bad place of the file
+  ReadsDay file after old new (Err (tool.Stopped at end)) =
+      (at ≡ file) × (end.stop ≢ End) × ((n : Content) × HaltsPart after empty (bytes_left remaining old) (bytes_left remaining new) end.count end.stop n)
+      × IfSome (bytes_left remaining old) (λ b. IsTold end.stop → Stops empty b end.count end.stop)
+      × Counts end.stop (failures old.reader) (failures new.reader) × LeavesDay (Err (tool.Stopped at end)) after old new
+  -- fewer messages than are wanted were taken, and then the file ended
+  ReadsDay file after old new (Err (tool.Short count)) =
+      IsShort after count × ((n : Content) × HaltsPart after empty (bytes_left remaining old) (bytes_left remaining new) count End n)
+      × IfSome (bytes_left remaining old) (λ b. Stops empty b count End)
+      × (failures new.reader ≡ failures old.reader) × LeavesDay (Err (tool.Short count)) after old new
+  ReadsDay file after old new (Err fault) = ⊥
+
+-- what is read of a reader that is handed over: a reader of blocks is made of it first, for which memory may be refused
+abbrev pub FromReader : {R X : Type 0} → R → (Reading R → Reading R → Result X ToolFault → Type 0) → Result X ToolFault → Type 0
+FromReader reader reads result =
+    (result ≡ Err tool.OutOfMemory)
+    ⊎ ((old : Reading _) × (new : Reading _) × (old.reader ≡ reader) × (old.held ≡ []) × (old.stage ≡ Going) × reads old new result)

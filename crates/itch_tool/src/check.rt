@@ -1,9 +1,11 @@
 //! `check`: whether a file follows the order rules.
-ghost use Rattle.std.specs.Prelude.{◌≡◌, ◌<◌, ◌≤◌, ◌^◌, List, ℕ, None, length};
+ghost use Rattle.std.specs.Prelude.{◌≡◌, ◌<◌, ◌≤◌, ◌^◌, None, true};
 ghost use Rattle.arrayvec.specs.ArrayVec.{array_vec_len};
-ghost use Rattle.itch_tool.specs.Outputs.{Outputs, WritesOutput, ok_line};
+ghost use Rattle.itch_tool.specs.Outputs.{Outputs, WritesOutput, ok_line, ok_line_of};
+ghost use Rattle.itch_tool.specs.Readings.{ReadsDay, FromReader};
+ghost use Rattle.itch_tool.specs.declared.fault.Source.TheVariants.{Only};
 
-use crate::fault::ToolFault;
+use crate::fault::{Source, ToolFault};
 use crate::reading::read_market;
 use arrayvec::ArrayVec;
 use itch_book::ListBook;
@@ -19,11 +21,22 @@ pub fn check<R: CountedRead + Drop, A: Allocator + Copy, W: CountedWrite>(
     reader: R,
     out: &mut W,
 ) -> Result<bool, ToolFault>
-    ensures { Outputs W.contents W.failures (λ (payloads : List (List ℕ)). ok_line (length payloads)) None (R.remaining reader) out.old result out.new }
+    ensures { Outputs W.contents W.failures (FromReader reader (ReadsDay R.remaining R.failures Only None)) ok_line_of (λ _. true) out.old result out.new }
 {
     let mut reader = BlockReader::new(alloc, reader)?;
+    check_blocks(alloc, &mut reader, out)
+}
+
+/// The same over a reader of blocks, which is left where the reading ended.
+pub fn check_blocks<R: CountedRead, B: Allocator, A: Allocator + Copy, W: CountedWrite>(
+    alloc: A,
+    reader: &mut BlockReader<R, B>,
+    out: &mut W,
+) -> Result<bool, ToolFault>
+    ensures { Outputs W.contents W.failures (ReadsDay R.remaining R.failures Only None reader.old reader.new) ok_line_of (λ _. true) out.old result out.new }
+{
     let mut market: Market<ListBook<A>> = Market::new(alloc);
-    let count = match read_market(&mut reader, &mut market, None) {
+    let count = match read_market(reader, &mut market, None, Source::Only) {
         Ok(count) => count,
         Err(fault) => return Err(fault),
     };
@@ -31,7 +44,7 @@ pub fn check<R: CountedRead + Drop, A: Allocator + Copy, W: CountedWrite>(
 }
 
 fn write_count<W: CountedWrite>(count: u64, out: &mut W) -> Result<bool, ToolFault>
-    ensures { WritesOutput W.contents W.failures (ok_line count) out.old result out.new }
+    ensures { WritesOutput W.contents W.failures (ok_line count) true out.old result out.new }
 {
     match write_part(out, &ok_line(count), 0) {
         Ok(()) => Ok(true),

@@ -1,13 +1,14 @@
 //! Why a command failed: its line on standard error, and the program's status.
-ghost use Rattle.std.specs.Prelude.{◌≡◌};
-ghost use Rattle.itch_tool.specs.Statuses.{stop_status, snapshot_status, status_of};
+ghost use Rattle.std.specs.Prelude.{◌≡◌, ◌≢◌};
+ghost use Rattle.std.specs.IoError.{error_kind};
+ghost use Rattle.itch_tool.specs.Statuses.{stop_status, status_of, exit_status};
 
 use itch_frame::FrameFault;
 use itch_market::{Refusal, ReplayEnd, Stop};
-use itch_snapshot::SnapFault;
 use std::alloc::AllocError;
 use std::error::Error;
-use std::{fmt, io};
+use std::fmt;
+use std::io::{self, ErrorKind};
 
 /// Which of a command's files a fault is in.
 #[derive(Clone, Copy, Debug, PartialEq, Eq)]
@@ -32,25 +33,17 @@ impl fmt::Display for Source {
     }
 }
 
-/// Why a command failed. Nothing was written to its output, but a beginning of it before `Write`.
+/// Why a command failed. Only `Write` leaves output: a beginning of it.
 ///
 /// `Display` gives the line for standard error, without its line feed, and takes no memory.
 #[derive(Debug, Drop)]
 pub enum ToolFault {
     /// A replay of a file stopped before its end.
     Stopped { file: Source, end: ReplayEnd },
-    /// A snapshot was refused.
-    Snap { file: Source, fault: SnapFault },
     /// A file has only so many messages.
     Short { count: u64 },
-    /// The locate is not in the directory.
-    UnknownLocate,
     /// A write failed.
     Write(io::Error),
-    /// A snapshot would have more than 10^19 - 1 messages.
-    TooMany,
-    /// A socket failed.
-    Socket(io::Error),
     /// Memory was refused.
     OutOfMemory,
     /// A file cannot be opened.
@@ -58,17 +51,38 @@ pub enum ToolFault {
 }
 
 impl ToolFault {
-    /// The status that the program ends with: 1 refused, 3 read, write, file or socket, 4 memory.
+    /// The status that the program ends with: 1 refused, 3 read, write or file, 4 memory.
     pub fn status(&self) -> u8
         ensures { result ≡ status_of self.now }
     {
         match self {
             ToolFault::Stopped { end, .. } => stop_status(&end.stop),
-            ToolFault::Snap { fault, .. } => snapshot_status(fault),
-            ToolFault::Short { .. } | ToolFault::UnknownLocate | ToolFault::TooMany => 1,
-            ToolFault::Write(_) | ToolFault::Socket(_) | ToolFault::Open => 3,
+            ToolFault::Short { .. } => 1,
+            ToolFault::Write(_) | ToolFault::Open => 3,
             ToolFault::OutOfMemory => 4,
         }
+    }
+}
+
+/// The status of a command: 0 where its answer is true, 1 where it is false, else that of its fault.
+pub fn status(outcome: &Result<bool, ToolFault>) -> u8
+    ensures { result ≡ exit_status outcome.now }
+{
+    match outcome {
+        Ok(true) => 0,
+        Ok(false) => 1,
+        Err(fault) => fault.status(),
+    }
+}
+
+/// The fault of a call of the system: want of memory where the error says so, else another.
+pub fn system_fault(error: io::Error, otherwise: ToolFault) -> ToolFault
+    ensures memory { error_kind error ≡ ErrorKind.OutOfMemory → result ≡ ToolFault.OutOfMemory }
+    ensures otherwise { error_kind error ≢ ErrorKind.OutOfMemory → result ≡ otherwise }
+{
+    match error.kind() {
+        ErrorKind::OutOfMemory => ToolFault::OutOfMemory,
+        _ => otherwise,
     }
 }
 
@@ -82,19 +96,6 @@ fn stop_status(stop: &Stop) -> u8
     }
 }
 
-fn snapshot_status(fault: &SnapFault) -> u8
-    ensures { result ≡ snapshot_status fault.now }
-{
-    match fault {
-        SnapFault::Frame(FrameFault::Read(_)) | SnapFault::Frame(FrameFault::Write { .. }) => 3,
-        SnapFault::Rule {
-            reason: Refusal::OutOfMemory,
-            ..
-        } => 4,
-        _ => 1,
-    }
-}
-
 impl fmt::Display for ToolFault {
     fn fmt<W: fmt::Write>(&self, f: &mut fmt::Formatter<W>) -> fmt::Result {
         f.write_str("itchsnap: ")?;
@@ -104,12 +105,8 @@ impl fmt::Display for ToolFault {
                 let stop = &end.stop;
                 write!(f, "{file}message {place}: {stop}")
             }
-            ToolFault::Snap { file, fault } => write!(f, "{file}{fault}"),
             ToolFault::Short { count } => write!(f, "only {count} messages"),
-            ToolFault::UnknownLocate => f.write_str("unknown locate"),
             ToolFault::Write(_) => f.write_str("write failed"),
-            ToolFault::TooMany => f.write_str("too many messages"),
-            ToolFault::Socket(_) => f.write_str("socket failed"),
             ToolFault::OutOfMemory => f.write_str("out of memory"),
             ToolFault::Open => f.write_str("cannot open"),
         }

@@ -12,35 +12,56 @@ mod snap;
 #[cfg(test)]
 mod tests;
 
-use crate::fault::ToolFault;
-use crate::request::read_request;
+use crate::fault::{ToolFault, status, system_fault};
+use crate::request::{read_request, usage_fault};
 use crate::run::run;
+use clap::Error;
 use clap::error::ErrorKind;
+use std::alloc::{AllocError, Global};
+use std::env::{self, Args};
 use std::io;
 use std::process::ExitCode;
 
-fn main(rt: HostRuntime) -> io::Result<ExitCode> {
+fn main(rt: HostRuntime) -> ExitCode {
     let alloc = rt.alloc();
-    let words: Vec<String> = std::env::args(&rt)?.collect(alloc)?;
-    let request = match read_request(alloc, words.as_slice()) {
-        Ok(request) => request,
-        Err(error) if matches!(error.kind(), ErrorKind::OutOfMemory) => {
-            return report(&rt, &ToolFault::OutOfMemory);
-        }
-        Err(error) => {
-            error.print(&rt)?;
-            return Ok(ExitCode::from(error.exit_code() as u8));
-        }
+    let status = match read_words(alloc, env::args(&rt)) {
+        Ok(words) => match read_request(alloc, words.as_slice()) {
+            Ok(request) => finish(&rt, run(&rt, request)),
+            Err(error) => explain(&rt, error),
+        },
+        Err(error) => explain(&rt, error),
     };
-    match run(&rt, request) {
-        Ok(true) => Ok(ExitCode::SUCCESS),
-        Ok(false) => Ok(ExitCode::FAILURE),
-        Err(fault) => report(&rt, &fault),
+    ExitCode::from(status)
+}
+
+// The words of the command line, of which the first is the program's name.
+fn read_words(alloc: Global, args: io::Result<Args>) -> Result<Vec<String>, Error> {
+    match args {
+        Ok(words) => Ok(words.collect(alloc)?),
+        Err(error) if matches!(error.kind(), io::ErrorKind::OutOfMemory) => {
+            Err(Error::from(AllocError))
+        }
+        Err(_) => Err(usage_fault(alloc, "a word is not UTF-8")?),
     }
 }
 
-// Writes the line of a fault to standard error.
-fn report(rt: &impl Eprint, fault: &ToolFault) -> io::Result<ExitCode> {
-    rt.eprintln(fault)?;
-    Ok(ExitCode::from(fault.status()))
+// Tells a fault on standard error, and returns the status.
+fn finish(rt: &impl Eprint, outcome: Result<bool, ToolFault>) -> u8 {
+    if let Err(fault) = &outcome {
+        if let Err(error) = rt.eprintln(fault) {
+            return ToolFault::Write(error).status();
+        }
+    }
+    status(&outcome)
+}
+
+// Prints what help or a usage fault has to say, and returns the status.
+fn explain<R: Print + Eprint>(rt: &R, error: Error) -> u8 {
+    if matches!(error.kind(), ErrorKind::OutOfMemory) {
+        return finish(rt, Err(ToolFault::OutOfMemory));
+    }
+    match error.print(rt) {
+        Ok(()) => error.exit_code() as u8,
+        Err(failed) => finish(rt, Err(system_fault(failed, ToolFault::Write(failed)))),
+    }
 }

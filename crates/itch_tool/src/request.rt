@@ -61,7 +61,8 @@ fn read_after<'a>(alloc: Global, options: &ArgMatches<'a>) -> Result<Option<u64>
     Ok(options.get_one::<u64>("after"))
 }
 
-fn usage_fault(alloc: Global, message: &str) -> Result<Error, AllocError> {
+/// The usage fault that says so.
+pub fn usage_fault(alloc: Global, message: &str) -> Result<Error, AllocError> {
     command(alloc)?.error(ErrorKind::ValueValidation, message)
 }
 

@@ -1,10 +1,12 @@
 //! The commands over files and standard streams.
+ghost use Rattle.itch_tool.specs.Requests.{Performs};
 
-use crate::check::check;
-use crate::fault::ToolFault;
+use crate::check::check_blocks;
+use crate::fault::{ToolFault, system_fault};
 use crate::request::Request;
-use crate::snap::snap;
-use itch_frame::counted::{Buffered, Counted, CountedWrite};
+use crate::snap::snap_blocks;
+use itch_frame::BlockReader;
+use itch_frame::counted::{Buffered, Counted, CountedRead, CountedWrite};
 use std::alloc::Allocator;
 use std::fs;
 use std::io::{self, BufReader, BufWriter, Read, Write};
@@ -25,12 +27,13 @@ pub fn run<R: Files + Input + Print + AllocGlobal>(
     let mut out = Counted::new(buffered);
     let answer = match request.file() {
         Some(path) => {
-            let Ok(file) = fs::open(rt, path) else {
-                return Err(ToolFault::Open);
+            let file = match fs::open(rt, path) {
+                Ok(file) => file,
+                Err(error) => return Err(system_fault(error, ToolFault::Open)),
             };
-            perform(alloc, request, file, &mut out)?
+            perform_over(alloc, request, file, &mut out)?
         }
-        None => perform(alloc, request, rt.reader(), &mut out)?,
+        None => perform_over(alloc, request, rt.reader(), &mut out)?,
     };
     match out.into_inner().flush() {
         Ok(()) => Ok(answer),
@@ -38,7 +41,8 @@ pub fn run<R: Files + Input + Print + AllocGlobal>(
     }
 }
 
-fn perform<A: Allocator + Copy, R: Read + Drop, W: CountedWrite>(
+// Performs a request over the bytes of its file.
+fn perform_over<A: Allocator + Copy, R: Read + Drop, W: CountedWrite>(
     alloc: A,
     request: Request<'_>,
     reader: R,
@@ -47,9 +51,21 @@ fn perform<A: Allocator + Copy, R: Read + Drop, W: CountedWrite>(
     let Ok(buffered) = BufReader::with_capacity(alloc, PIECE, reader) else {
         return Err(ToolFault::OutOfMemory);
     };
-    let reader = Buffered::new(buffered);
+    let mut reader = BlockReader::new(alloc, Buffered::new(buffered))?;
+    perform(alloc, request, &mut reader, out)
+}
+
+/// Performs a request over the blocks of its file.
+fn perform<R: CountedRead, B: Allocator, A: Allocator + Copy, W: CountedWrite>(
+    alloc: A,
+    request: Request<'_>,
+    reader: &mut BlockReader<R, B>,
+    out: &mut W,
+) -> Result<bool, ToolFault>
+    ensures { Performs R.remaining R.failures W.contents W.failures request.entry reader.old reader.new out.old result out.new }
+{
     match request {
-        Request::Snap { after, .. } => snap(alloc, reader, after, out),
-        Request::Check { .. } => check(alloc, reader, out),
+        Request::Snap { after, .. } => snap_blocks(alloc, reader, after, out),
+        Request::Check { .. } => check_blocks(alloc, reader, out),
     }
 }

@@ -1,10 +1,12 @@
 //! `snap`: the canonical snapshot of a file.
-ghost use Rattle.std.specs.Prelude.{◌-◌, ◌+◌, ◌≤◌, ◌^◌, ◌++◌, length};
+ghost use Rattle.std.specs.Prelude.{◌-◌, ◌+◌, ◌≤◌, ◌^◌, ◌++◌, length, true};
 ghost use Rattle.itch_snapshot.specs.Bytes.{canon, closing};
 ghost use Rattle.itch_snapshot.specs.Snapshot.{snap as snapshot_list};
 ghost use Rattle.itch_tool.specs.Outputs.{Outputs, WritesOutput, snapshot_of};
+ghost use Rattle.itch_tool.specs.Readings.{ReadsDay, FromReader};
+ghost use Rattle.itch_tool.specs.declared.fault.Source.TheVariants.{Only};
 
-use crate::fault::ToolFault;
+use crate::fault::{Source, ToolFault};
 use crate::reading::read_market;
 use itch_book::{ListBook, OrderBook};
 use itch_codec::Seq;
@@ -24,11 +26,23 @@ pub fn snap<R: CountedRead + Drop, A: Allocator + Copy, W: CountedWrite>(
     after: Option<u64>,
     out: &mut W,
 ) -> Result<bool, ToolFault>
-    ensures { Outputs W.contents W.failures snapshot_of after (R.remaining reader) out.old result out.new }
+    ensures { Outputs W.contents W.failures (FromReader reader (ReadsDay R.remaining R.failures Only after)) snapshot_of (λ _. true) out.old result out.new }
 {
     let mut reader = BlockReader::new(alloc, reader)?;
+    snap_blocks(alloc, &mut reader, after, out)
+}
+
+/// The same over a reader of blocks, which is left where the reading ended: after the first messages, where those are wanted.
+pub fn snap_blocks<R: CountedRead, B: Allocator, A: Allocator + Copy, W: CountedWrite>(
+    alloc: A,
+    reader: &mut BlockReader<R, B>,
+    after: Option<u64>,
+    out: &mut W,
+) -> Result<bool, ToolFault>
+    ensures { Outputs W.contents W.failures (ReadsDay R.remaining R.failures Only after reader.old reader.new) snapshot_of (λ _. true) out.old result out.new }
+{
     let mut market: Market<ListBook<A>> = Market::new(alloc);
-    let count = match read_market(&mut reader, &mut market, after) {
+    let count = match read_market(reader, &mut market, after, Source::Only) {
         Ok(count) => count,
         Err(fault) => return Err(fault),
     };
@@ -43,7 +57,7 @@ fn write_market<B: OrderBook, W: CountedWrite>(
 ) -> Result<bool, ToolFault>
     requires few { count ≤ 10 ^ 19 - 1 }
     requires short { length (snapshot_list market.now) ≤ count }
-    ensures { WritesOutput W.contents W.failures (canon market.now ++ closing (count + 1)) out.old result out.new }
+    ensures { WritesOutput W.contents W.failures (canon market.now ++ closing (count + 1)) true out.old result out.new }
 {
     let Some(next) = Seq::new(count + 1) else {
         unreachable!()

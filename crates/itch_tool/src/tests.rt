@@ -11,7 +11,7 @@ use crate::check::check;
 use crate::fault::ToolFault;
 use crate::snap::snap;
 use blocks::*;
-use itch_frame::counted::Buffered;
+use itch_frame::counted::Counted;
 use itch_frame::testing::{FuseWriter, PieceReader};
 use std::alloc::{AllocError, Global};
 use std::io::BufReader;
@@ -118,7 +118,7 @@ fn snap_reads_through_any_buffer(rt: HostRuntime) -> Result<(), Fail> {
     for capacity in 1..=150 {
         let reader = BufReader::with_capacity(alloc, capacity, input.as_slice())?;
         let mut out = FuseWriter::new(alloc, 4096, None);
-        let answer = snap(alloc, Buffered::new(reader), None, &mut out);
+        let answer = snap(alloc, Counted::new(reader), None, &mut out);
         assert!(rt; matches!(answer, Ok(true)), "behind {capacity} bytes");
         assert_eq!(rt; out.written(), wanted.as_slice(), "behind {capacity} bytes");
     }

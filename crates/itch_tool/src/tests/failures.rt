@@ -6,7 +6,7 @@ use crate::check::check;
 use crate::fault::ToolFault;
 use crate::snap::snap;
 use itch_frame::FrameFault;
-use itch_frame::counted::Buffered;
+use itch_frame::counted::Counted;
 use itch_frame::testing::{FuseWriter, PieceReader};
 use itch_market::{ReplayEnd, Stop};
 use refusing::Refusing;
@@ -55,7 +55,7 @@ fn a_failed_read_behind_a_buffer_stops_the_replay(rt: HostRuntime) -> Result<(),
             .filter(|end| **end <= 50 * (fail_at - 1))
             .count();
         let source = PieceReader::new(input.as_slice(), 50, Some(fail_at));
-        let reader = Buffered::new(BufReader::with_capacity(alloc, 50, source)?);
+        let reader = Counted::new(BufReader::with_capacity(alloc, 50, source)?);
         let mut out = FuseWriter::new(alloc, 4096, None);
         match snap(alloc, reader, None, &mut out) {
             Ok(is_whole) => {

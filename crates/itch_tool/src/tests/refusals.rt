@@ -3,10 +3,9 @@
 use super::blocks::*;
 use super::{file, snapshot};
 use crate::check::check;
-use crate::fault::{Source, ToolFault};
+use crate::fault::{Source, ToolFault, status, system_fault};
 use itch_frame::testing::{FuseWriter, PieceReader};
 use itch_market::{Refusal, ReplayEnd, Stop};
-use itch_snapshot::SnapFault;
 use std::io;
 use std::test::Fail;
 
@@ -118,34 +117,30 @@ fn every_fault_has_its_line_and_status(rt: HostRuntime) -> Result<(), Fail> {
             "first: message 10000000000000000000: too many messages",
             1,
         ),
-        (
-            ToolFault::Snap {
-                file: Source::Snapshot,
-                fault: SnapFault::NoEnd,
-            },
-            "snapshot: no end of snapshot",
-            1,
-        ),
-        (
-            ToolFault::Snap {
-                file: Source::Second,
-                fault: SnapFault::AfterEnd,
-            },
-            "second: message after end of snapshot",
-            1,
-        ),
         (ToolFault::Short { count: 3 }, "only 3 messages", 1),
-        (ToolFault::UnknownLocate, "unknown locate", 1),
         (ToolFault::Write(error), "write failed", 3),
-        (ToolFault::TooMany, "too many messages", 1),
-        (ToolFault::Socket(error), "socket failed", 3),
         (ToolFault::OutOfMemory, "out of memory", 4),
         (ToolFault::Open, "cannot open", 3),
     ];
-    for (fault, reason, status) in cases {
+    for (fault, reason, wanted) in cases {
         let line = format!(in alloc; "itchsnap: {reason}")?;
         assert_eq!(rt; format!(in alloc; "{fault}")?.as_str(), line.as_str());
-        assert_eq!(rt; fault.status(), status, "{reason}");
+        assert_eq!(rt; status(&Err(fault)), wanted, "{reason}");
     }
+    assert_eq!(rt; status(&Ok(true)), 0);
+    assert_eq!(rt; status(&Ok(false)), 1);
     Ok(())
+}
+
+#[test]
+fn want_of_memory_is_told_apart(rt: HostRuntime) {
+    let refused = io::Error::from(io::ErrorKind::OutOfMemory);
+    let missing = io::Error::from(io::ErrorKind::NotFound);
+    assert!(rt;
+        matches!(
+            system_fault(refused, ToolFault::Open),
+            ToolFault::OutOfMemory
+        )
+    );
+    assert!(rt; matches!(system_fault(missing, ToolFault::Open), ToolFault::Open));
 }

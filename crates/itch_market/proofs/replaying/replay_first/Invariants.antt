@@ -1,5 +1,6 @@
 use Rattle.std.proofs.Common.{◌≡◌}
 use Rattle.itch_frame.specs.Reading.{bytes_left}
+use Rattle.itch_market.proofs.Standing.{Standing}
 use Rattle.itch_market.proofs.Taking.{Going}
 use Rattle.itch_market.proofs.replaying.replay_first.Given as goal
 
@@ -9,4 +10,5 @@ invariant-loop-count g l =
     record {
       going : Going l.initial.market (bytes_left remaining l.initial.reader) (bytes_left remaining l.reader) l.count l.market;
       uncounted : g.R.CountedRead.failures l.reader.reader ≡ g.R.CountedRead.failures l.initial.reader.reader;
+      standing : Standing l.initial.reader l.count l.reader;
     }

@@ -1,0 +1,65 @@
+//! Counted reading through a standard buffer, cheap for many short reads.
+ghost use Rattle.std.specs.Prelude.{◌≡◌, ℕ, List, Option, None, length, take, min};
+ghost use Rattle.std.specs.Io.Buffered.{reader_remaining};
+
+use crate::counted::{Counted, CountedRead};
+use crate::tally::Failures;
+use std::alloc::{Allocator, Global};
+use std::io::{self, BufRead, BufReader, Read};
+
+/// Counts the failures of a buffered reader, as [`Counted`] does, and gives the same bytes.
+///
+/// A read that finds bytes in the buffer copies them from there and calls nothing below; only one that finds it empty does.
+#[derive(Drop)]
+pub struct Buffered<T, A: Allocator = Global> {
+    counted: Counted<BufReader<T, A>>,
+}
+
+impl<T: Read, A: Allocator> Buffered<T, A> {
+    /// Counts from 0.
+    pub fn new(reader: BufReader<T, A>) -> Buffered<T, A>
+        ensures inner { result.counted.inner ≡ reader }
+        ensures count { result.counted.failures.count ≡ 0 }
+        ensures last { result.counted.failures.last ≡ None }
+    {
+        Buffered {
+            counted: Counted::new(reader),
+        }
+    }
+
+    /// The failures so far.
+    pub fn failures(&self) -> Failures
+        ensures { result ≡ self.now.counted.failures }
+    {
+        self.counted.failures
+    }
+}
+
+impl<T: Read, A: Allocator> CountedRead for Buffered<T, A> {
+    ghost remaining = { λ b. reader_remaining T.remaining b.counted.inner };
+
+    ghost failures = { λ b. b.counted.failures };
+
+    #[inline(always)]
+    #[tactic(auto, using(crate::proofs::Ahead::passed_over))]
+    fn read_some(&mut self, buf: &mut [u8]) -> io::Result<usize> {
+        let ahead = self.counted.inner.buffer();
+        if ahead.is_empty() {
+            return self.counted.read_some(buf);
+        }
+        let count = copy_front(ahead, buf);
+        self.counted.inner.consume(count);
+        Ok(count)
+    }
+}
+
+// Copies as many bytes as there are and fit, and returns how many.
+#[inline(always)]
+fn copy_front(from: &[u8], to: &mut [u8]) -> usize
+    ensures count { result ≡ min (length from.now) (length to.new) }
+    ensures bytes { take result to.new ≡ take result from.now }
+{
+    let count = from.len().min(to.len());
+    to[..count].copy_from_slice(&from[..count]);
+    count
+}

@@ -1,0 +1,36 @@
+use Rattle.std.proofs.Common.{true, refl, inl}
+use Rattle.itch_frame.specs.Reading.{bytes_left}
+use Rattle.itch_tool.specs.declared.fault.Source.TheVariants.{Only}
+use Rattle.itch_tool.specs.Outputs.{snapshot_of}
+use Rattle.itch_tool.specs.Readings.{ReadsDay}
+use Rattle.itch_tool.proofs.Parts.{read_done, day_done, day_fails, read_writes}
+use Rattle.itch_tool.proofs.Snapshots.{applied_short, applied_snapshot}
+use Rattle.itch_tool.proofs.snap.snap_blocks.Goals as goal
+
+pub returns-in-Err : goal.returns-in-Err
+returns-in-Err g c = inl (
+  c.in-Err.fault,
+  refl,
+  day_fails g.R.CountedRead.remaining g.R.CountedRead.failures Only c.args.after c.args.reader.now c.read_market.new.reader c.in-Err.fault c.new-market.result c.read_market.new.market
+      c.new-market.ensures c.in-Err.ensures.reads c.in-Err.ensures.failures c.in-Err.ensures.reader,
+  refl,
+)
+
+pub write_market-requires-clause-short : goal.write_market-requires-clause-short
+write_market-requires-clause-short g c =
+    let old = bytes_left g.R.CountedRead.remaining c.args.reader.now in
+    let new = bytes_left g.R.CountedRead.remaining c.read_market.new.reader in
+    applied_short c.args.after old new c.in-Ok.count c.read_market.new.market
+    (read_done Only c.args.after old new c.new-market.result c.in-Ok.count c.read_market.new.market c.new-market.ensures c.in-Ok.ensures.reads)
+
+pub returns : goal.returns
+returns g c =
+    let old = c.args.reader.now in
+    let new = c.read_market.new.reader in
+    let applied = read_done Only c.args.after (bytes_left g.R.CountedRead.remaining old) (bytes_left g.R.CountedRead.remaining new) c.new-market.result c.in-Ok.count c.read_market.new.market
+    c.new-market.ensures c.in-Ok.ensures.reads in
+    read_writes g.W.CountedWrite.contents g.W.CountedWrite.failures (ReadsDay g.R.CountedRead.remaining g.R.CountedRead.failures Only c.args.after old new) snapshot_of (λ _. true)
+    applied.payloads _ c.args.out.now c.write_market.new.out c.write_market.result
+    (day_done g.R.CountedRead.remaining g.R.CountedRead.failures Only c.args.after old new c.in-Ok.count c.read_market.new.market applied c.in-Ok.ensures.failures c.in-Ok.ensures.reader)
+    (applied_snapshot c.args.after (bytes_left g.R.CountedRead.remaining old) (bytes_left g.R.CountedRead.remaining new) c.in-Ok.count c.read_market.new.market applied)
+    c.write_market.ensures

@@ -1,0 +1,77 @@
+/* For tests, loaded into the program by LD_PRELOAD: one call of one kind fails, as FAIL says: `memory:3` refuses the third
+ * allocation, `read:1` fails the first read, `write:2` the second write. Where a call has failed so, the file that FAILED names
+ * is made. */
+#define _GNU_SOURCE
+#include <dlfcn.h>
+#include <errno.h>
+#include <fcntl.h>
+#include <stdlib.h>
+#include <string.h>
+#include <unistd.h>
+
+static long left = -1;
+
+/* Whether this call, of the kind that is named, is the one that fails. */
+static int fails(const char *kind) {
+    const char *fail = getenv("FAIL");
+    size_t len = strlen(kind);
+    if (!fail || strncmp(fail, kind, len) != 0 || fail[len] != ':')
+        return 0;
+    if (left < 0)
+        left = atol(fail + len + 1);
+    if (left == 0 || --left > 0)
+        return 0;
+    const char *path = getenv("FAILED");
+    int file = path ? open(path, O_CREAT | O_WRONLY, 0600) : -1;
+    if (file >= 0)
+        close(file);
+    return 1;
+}
+
+static void *real(const char *name) { return dlsym(RTLD_NEXT, name); }
+
+void *malloc(size_t size) {
+    static void *(*next)(size_t);
+    if (!next)
+        next = (void *(*)(size_t))real("malloc");
+    if (fails("memory")) {
+        errno = ENOMEM;
+        return NULL;
+    }
+    return next(size);
+}
+
+void *realloc(void *old, size_t size) {
+    static void *(*next)(void *, size_t);
+    if (!next)
+        next = (void *(*)(void *, size_t))real("realloc");
+    if (fails("memory")) {
+        errno = ENOMEM;
+        return NULL;
+    }
+    return next(old, size);
+}
+
+ssize_t read(int file, void *buffer, size_t count) {
+    static ssize_t (*next)(int, void *, size_t);
+    if (!next)
+        next = (ssize_t(*)(int, void *, size_t))real("read");
+    if (fails("read")) {
+        errno = EIO;
+        return -1;
+    }
+    return next(file, buffer, count);
+}
+
+ssize_t write(int file, const void *buffer, size_t count) {
+    static ssize_t (*next)(int, const void *, size_t);
+    if (!next)
+        next = (ssize_t(*)(int, const void *, size_t))real("write");
+    if (fails("write")) {
+        errno = EIO;
+        return -1;
+    }
+    return next(file, buffer, count);
+}
+
+ssize_t __write(int file, const void *buffer, size_t count) { return write(file, buffer, count); }
