@@ -3,6 +3,7 @@
 use itch_codec::{Alpha, Side};
 
 /// An order that is live: it has shares left.
+// Fields lie as they stand here: the wide ones first leave no room unused.
 #[derive(Clone, Copy, Debug, PartialEq, Eq)]
 pub struct Order {
     /// The order reference number, which no other live order has.

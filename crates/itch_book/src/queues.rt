@@ -11,6 +11,7 @@ use crate::order::Order;
 use slab::Slab;
 use std::alloc::{AllocError, Allocator, Global};
 use std::marker::Model;
+use std::mem::size_of;
 
 // An order in its queue.
 #[derive(Clone, Copy, Drop)]
@@ -22,6 +23,9 @@ pub(crate) struct Node {
     before: Link,
     after: Link,
 }
+
+// With the slab's own word a node takes less than a cache line of 64 bytes.
+const _: () = prove!(size_of::<Node>() == 48);
 
 // The ends of a queue, and its totals.
 #[derive(Clone, Copy, Drop)]
@@ -117,7 +121,7 @@ impl<A: Allocator> Queues<A> {
         let last = self.heads[queue].last;
         let node = last_node(order, queue, last);
         let key = self.nodes.insert_reserved(node);
-        // No more nodes than the slab has room for.
+        // Keys are below it, so they fit a link, and queues have no more nodes.
         let _most = self.nodes.capacity();
         let link = Link::to(key);
         link_after(&mut self.nodes, last, link);
