@@ -4,3 +4,12 @@ pub mod Trimming
 pub mod Logins
 pub mod Faultless
 pub mod Closed
+pub mod Sends
+pub mod Sessions
+pub mod Waiting
+pub mod Hearing
+pub mod Rounds
+pub mod OneWait
+pub mod OneFetch
+pub mod SomeFetch
+pub mod SomeWait

@@ -13,7 +13,7 @@ use Rattle.std.proofs.lemmas.Slice.Eq.{bytes_eq-Decides}
 use Rattle.itch_codec.specs.Text.{IsPrintableByte, IsPrintable, padded_to, IsTextOf}
 use Rattle.itch_codec.specs.Numbers.{is_space, after_spaces}
 use Rattle.itch_codec.specs.Fields.{IsAlpha}
-use Rattle.itch_soup.specs.Names.{before_spaces, session_name, padded_on_left}
+use Rattle.itch_soup.specs.Names.{before_spaces, session_name, padded_on_left, server_session}
 
 abbrev spaces : ℕ → List ℕ
 spaces n = replicate n 32
@@ -86,6 +86,14 @@ pub ruleset trimming = (before_spaces-take, name_printable)
 spaces_printable : (n : ℕ) → All IsPrintableByte (spaces n)
 spaces_printable n = All-replicate IsPrintableByte n 32 (omega arith, omega arith)
 
+-- and it is no longer than its field
+name_within : (field : List ℕ) → length (session_name field) ≤ length field
+unfolding before_spaces after_spaces
+name_within field =
+    let front = length-drop (prefix_len is_space (reverse field)) (reverse field) in
+    let name = length-drop (prefix_len is_space (before_spaces field)) (before_spaces field) in
+    omega (arith, front, name, length-reverse (after_spaces (reverse field)), length-reverse field)
+
 -- a name with spaces on either side is a text of the field's width
 pub padded_to-fits : (width : ℕ) (name : List ℕ) → length name ≤ width → IsPrintable name → IsAlpha width (padded_to width name)
 padded_to-fits width name within printable =
@@ -102,6 +110,12 @@ padded_on_left-fits width name within printable =
       recursion_from_All IsPrintableByte _
           (All-append IsPrintableByte (spaces room) name (spaces_printable room) (All-from_recursion IsPrintableByte name printable)),
     )
+
+-- the field that a server writes for a session is a text of that width
+pub server_session-fits : (field : List ℕ) → IsAlpha 10 field → IsAlpha 10 (server_session field)
+server_session-fits field (width, printable) =
+    let within = name_within field in
+    padded_on_left-fits 10 (session_name field) (omega (arith, within, width)) (name_printable field printable)
 
 -- a test that is true exactly where two texts are equal
 pub tested-bytes_eq : (test : Bool) (text other : List ℕ) → IsTrue test ↔ (text ≡ other) → test ≡ bytes_eq text other

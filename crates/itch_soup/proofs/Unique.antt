@@ -21,16 +21,16 @@ use Rattle.itch_soup.specs.PacketTable.{Part, Field, Request, Rest, PacketType, 
 use Rattle.itch_soup.specs.Packets.{packet_type, packet_values, Requests, HasPart, HasParts, HasSize, IsPacket, PacketSpells, positive_fault, number_fault, requested, class_fault, part_fault, parts_fault, size_fault, fault_by_type, packet_fault, Reads}
 
 -- the number in a field that spells one, or that asks for one
-abbrev spelled_number : List ℕ → ℕ
+abbrev pub spelled_number : List ℕ → ℕ
 spelled_number field = unwrap_or (read20 field) 0
 
-abbrev requested_number : List ℕ → ℕ
+abbrev pub requested_number : List ℕ → ℕ
 requested_number field = unwrap_or (requested field) 0
 
-abbrev login_accepted_at : List ℕ → LoginAccepted
+abbrev pub login_accepted_at : List ℕ → LoginAccepted
 login_accepted_at block = record { session = slice_at 1 10 block; next = spelled_number (slice_at 11 20 block) }
 
-abbrev login_request_at : List ℕ → LoginRequest
+abbrev pub login_request_at : List ℕ → LoginRequest
 login_request_at block = record {
   username = slice_at 1 6 block;
   password = slice_at 7 10 block;
@@ -39,7 +39,7 @@ login_request_at block = record {
 }
 
 -- the packet with this type byte in the block
-abbrev packet_at : ℕ → List ℕ → Packet
+abbrev pub packet_at : ℕ → List ℕ → Packet
 packet_at kind block =
     if kind == 43 then is.Debug (drop 1 block) else (
     if kind == 65 then is.LoginAccepted (login_accepted_at block) else (
@@ -66,7 +66,7 @@ number_requested : (field : List ℕ) (n : ℕ) → Requests field n → n ≡ r
 number_requested field n h = sym (ap (λ found. unwrap_or found 0) (requests-requested field n h))
 
 -- a packet is what stands in each block that spells it
-packet_at-spelled : (packet : Packet) (block : List ℕ) (from : Origin) → PacketSpells packet block from → packet ≡ packet_at (byte_at 0 block) block
+pub packet_at-spelled : (packet : Packet) (block : List ℕ) (from : Origin) → PacketSpells packet block from → packet ≡ packet_at (byte_at 0 block) block
 packet_at-spelled (is.Debug payload) block from h = rw h.first (ap is.Debug h.parts.0)
 packet_at-spelled (is.LoginAccepted login) block from h =
     let next = number_spelled (slice_at 11 20 block) login.next h.parts.1.0.0 in

@@ -5,3 +5,6 @@ pub mod Connections
 pub mod Servers
 pub mod Clients
 pub mod Closing
+pub mod Sending
+pub mod Serving
+pub mod Fetching

@@ -12,7 +12,7 @@ use itch_codec::Seq;
 use std::marker::Model;
 
 /// What a client learns from a packet.
-#[derive(Debug, Drop, PartialEq, Eq)]
+#[derive(Debug, Drop)]
 pub enum ClientAct<'a> {
     /// The login was accepted; the first message that comes has this number.
     Accepted { next: Seq },
@@ -78,6 +78,22 @@ impl ClientSession {
         ensures spelled { PacketSpells (Packet.LoginRequest (login_of self.now)) result Origin.Client }
     {
         LoginRequest::spelling(&self.credentials, self.from)
+    }
+
+    /// The packet to send at [`Tick::Heartbeat`], without the length in front.
+    pub fn heartbeat() -> [u8; 1]
+        ensures bytes { result ≡ packet_spelling Packet.ClientHeartbeat }
+        ensures spelled { PacketSpells Packet.ClientHeartbeat result Origin.Client }
+    {
+        [b'R']
+    }
+
+    /// The packet that logs out, without the length in front.
+    pub fn logout() -> [u8; 1]
+        ensures bytes { result ≡ packet_spelling Packet.LogoutRequest }
+        ensures spelled { PacketSpells Packet.LogoutRequest result Origin.Client }
+    {
+        [b'O']
     }
 
     /// What a packet means that was heard at this moment, in milliseconds.

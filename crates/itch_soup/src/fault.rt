@@ -1,11 +1,16 @@
 //! What can be wrong with a packet or in a session.
+ghost use Rattle.std.specs.Prelude.{◌≡◌};
+ghost use Rattle.itch_soup.specs.declared.fault.SoupFault.TheVariants.{Frame};
 
+use itch_codec::Seq;
+use itch_frame::FrameFault;
+use itch_snapshot::SnapFault;
 use thiserror::Error;
 
 /// Why a block is no packet, or what ended a session. Offsets count from 0, at the packet's type byte.
 ///
 /// A block is judged in the order of the first six; the first fault is answered.
-#[derive(Clone, Copy, Debug, PartialEq, Eq, Error)]
+#[derive(Clone, Copy, Debug, Error)]
 pub enum SoupFault {
     /// The block has no bytes.
     #[error("empty packet")]
@@ -37,4 +42,27 @@ pub enum SoupFault {
     /// Sequenced data that would have a number above 10^19 - 1.
     #[error("too many messages")]
     TooManyMessages,
+    /// A block was not read or not written.
+    #[error("{0}")]
+    Frame(FrameFault),
+    /// The server rejected the login with this code.
+    #[error("login rejected with {}", char::from(*.0))]
+    Rejected(u8),
+    /// The server accepted the login with another number than 1.
+    #[error("accepted from {}, not from 1", .next.value())]
+    WrongStart { next: Seq },
+    /// The session or the input ended before the End of Snapshot.
+    #[error("ended early")]
+    EndedEarly,
+    /// The snapshot received was refused.
+    #[error("{0}")]
+    Snapshot(SnapFault),
+}
+
+impl From<FrameFault> for SoupFault {
+    ghost from_gives = { λ fault made. made ≡ Frame fault };
+
+    fn from(fault: FrameFault) -> SoupFault {
+        SoupFault::Frame(fault)
+    }
 }

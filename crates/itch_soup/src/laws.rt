@@ -1,10 +1,27 @@
 //! Laws of the packets and of both sides of a session. They speak of the definitions alone, and take no part in a run.
-ghost use Rattle.std.specs.Prelude.{◌≡◌, ℕ, List, map, None};
+ghost use Rattle.std.specs.Prelude.{◌≡◌, ℕ, ◌-◌, ◌<◌, ◌^◌, List, [], ◌∷◌, ◌++◌, length, map, Option, None, Some, Result};
+ghost use Rattle.itch_codec.specs.Fields.{AreBytes, IsAlpha};
+ghost use Rattle.itch_codec.specs.Widths.{IsSequence};
+ghost use Rattle.itch_frame.specs.Blocks.{block};
+ghost use Rattle.itch_market.specs.Content.{Content, laid};
+ghost use Rattle.itch_market.specs.Goods.{IsGood};
+ghost use Rattle.itch_market.specs.Sames.{Same};
+ghost use Rattle.itch_snapshot.specs.Snapshot.{snap};
+ghost use Rattle.itch_soup.specs.declared.config.Credentials.{Credentials};
+ghost use Rattle.itch_soup.specs.declared.config.ServerConfig.{ServerConfig};
+ghost use Rattle.itch_soup.specs.declared.server.ServerAct.{ServerAct};
+ghost use Rattle.itch_soup.specs.Sending.{verdict, served};
+ghost use Rattle.itch_soup.specs.Fetching.{asking, Fetched, Receives, IsToldFetch};
+ghost use Rattle.itch_soup.specs.declared.fault.SoupFault.{SoupFault};
+ghost use Rattle.itch_soup.specs.Serving.{Wait, WaitsForLogin, IsToldWait, IsIdle};
 ghost use Rattle.itch_soup.specs.declared.origin.Origin.{Origin};
 ghost use Rattle.itch_soup.specs.declared.packet.Packet.{Packet};
 ghost use Rattle.itch_soup.specs.Packets.{PacketSpells, packet_fault};
-ghost use Rattle.itch_soup.specs.Servers.{Server};
-ghost use Rattle.itch_soup.specs.Clients.{Client};
+ghost use Rattle.itch_soup.specs.Servers.{Server, server_turn, judged};
+ghost use Rattle.itch_soup.specs.declared.connection.Stage.{Stage};
+ghost use Rattle.itch_soup.specs.declared.packet.LoginRequest.{LoginRequest};
+ghost use Rattle.itch_soup.specs.declared.packet.Packet.TheVariants as is;
+ghost use Rattle.itch_soup.specs.Clients.{Client, login_of};
 ghost use Rattle.itch_soup.specs.Closing.{Call, server_reply, server_after, server_replies, ServerCloses, closed_server_reply, client_reply, client_after, client_replies, ClientCloses, closed_client_reply};
 
 /// One block spells at most one packet, whichever side it came from.
@@ -30,4 +47,50 @@ pub fn server_stays_closed()
 pub fn client_stays_closed()
     ensures { (session : Client) (call : Call) (later : List Call) → ClientCloses (client_reply session call)
         → client_replies (client_after session call) later ≡ map closed_client_reply later }
+{}
+
+/// What is served to a login for all messages, where it is accepted, is fetched: the market itself, its orders in snapshot
+/// order, and the number of its End of Snapshot. Whatever follows the end of the session is left.
+pub fn served_is_fetched()
+    ensures fetched { (m : Content) → (next : ℕ) → (config : ServerConfig) → (credentials : Credentials) → (more : List ℕ)
+        → IsGood m → IsSequence next → IsAlpha 10 config.session → length (snap m) < 10 ^ 19 - 1
+        → verdict m next config (login_of (asking credentials)) ≡ ServerAct.Accept 1
+        → Fetched (asking credentials) (Some (served m next config (login_of (asking credentials)) ++ more)) (Some (block (90 ∷ []) ++ more)) (laid m, next) }
+    ensures same { (m : Content) → IsGood m → Same (laid m) m }
+{}
+
+/// The bytes of a client end a server's wait for a login in one way, unless a read fails: by the first login, logout, end of
+/// input or fault after packets that are passed over.
+pub fn one_wait()
+    ensures { (bytes : List ℕ) → (left other : Option (List ℕ)) → (wait found : Wait) → WaitsForLogin (Some bytes) left wait → WaitsForLogin (Some bytes) other found
+        → IsToldWait wait → IsToldWait found → wait ≡ found }
+{}
+
+/// Whatever bytes a client sends, they end a server's wait for a login with no failed read.
+pub fn some_wait()
+    ensures { (bytes : List ℕ) → (left : Option (List ℕ)) × (wait : Wait) × WaitsForLogin (Some bytes) left wait × IsToldWait wait }
+{}
+
+/// The bytes that answer a login end a fetch in one way, unless a read fails or memory is refused: by the market and the
+/// number of the snapshot, or by the first fault. So where they are those of a snapshot, no fault and no other market is
+/// answered.
+pub fn one_fetch()
+    ensures { (credentials : Credentials) → (bytes : List ℕ) → (left other : Option (List ℕ)) → (result found : Result (Content × ℕ) SoupFault)
+        → Receives (asking credentials) (Some bytes) left result → Receives (asking credentials) (Some bytes) other found
+        → IsToldFetch result → IsToldFetch found → result ≡ found }
+{}
+
+/// Whatever bytes answer a login, they end a fetch with no failed read and memory enough.
+pub fn some_fetch()
+    ensures { (credentials : Credentials) → (bytes : List ℕ) → AreBytes bytes
+        → (left : Option (List ℕ)) × (result : Result (Content × ℕ) SoupFault) × Receives (asking credentials) (Some bytes) left result × IsToldFetch result }
+{}
+
+/// While a server waits for a login, its table answers with nothing to the packets that are passed over and to no others, with
+/// the judgement to a login, and to a logout by closing.
+pub fn waits_by_the_table()
+    ensures over { (config : ServerConfig) → (total : ℕ) → (packet : Packet) → IsIdle packet → server_turn config total Stage.Before packet ≡ (ServerAct.Nothing, Stage.Before) }
+    ensures only { (config : ServerConfig) → (total : ℕ) → (packet : Packet) → (server_turn config total Stage.Before packet).0 ≡ ServerAct.Nothing → IsIdle packet }
+    ensures login { (config : ServerConfig) → (total : ℕ) → (login : LoginRequest) → server_turn config total Stage.Before (is.LoginRequest login) ≡ judged config total login }
+    ensures logout { (config : ServerConfig) → (total : ℕ) → server_turn config total Stage.Before is.LogoutRequest ≡ (ServerAct.Close, Stage.Closed) }
 {}

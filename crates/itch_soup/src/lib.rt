@@ -1,14 +1,18 @@
-//! SoupBinTCP 3.00: its packets, and the server's and the client's side of a session.
+//! SoupBinTCP 3.00: its packets, the server's and the client's side of a session, and one snapshot served or fetched.
 //!
-//! Nothing here reads a clock or a socket, or takes memory. A caller cuts the stream into blocks, hands each to
-//! [`parse_packet`] and its packet to the session, and does what the session answers. Moments are milliseconds that the
-//! caller counts from wherever it likes.
+//! Nothing here reads a clock or opens a socket, and only [`fetch_one`] takes memory, for the market that it makes.
+//!
+//! [`serve_one`] and [`fetch_one`] are whole sessions over a reader and a writer. For a session of another kind a caller
+//! cuts the stream into blocks, hands each to [`parse_packet`] and its packet to [`ServerSession`] or [`ClientSession`],
+//! and does what the session answers; each packet that it sends has a function there, or is written by [`write_data`].
+//! Moments are milliseconds that the caller counts from wherever it likes.
 #![tactic(auto)]
 
 mod client;
 mod config;
 mod connection;
 mod fault;
+mod fetch;
 mod fields;
 pub mod laws;
 mod names;
@@ -16,6 +20,8 @@ mod origin;
 mod packet;
 mod parsing;
 mod payload;
+mod sending;
+mod serve;
 mod server;
 #[cfg(test)]
 mod tests;
@@ -25,8 +31,11 @@ pub use client::{ClientAct, ClientSession};
 pub use config::{Credentials, ServerConfig};
 pub use connection::Tick;
 pub use fault::SoupFault;
+pub use fetch::fetch_one;
 pub use origin::Origin;
 pub use packet::{LoginAccepted, LoginRequest, Packet};
 pub use parsing::parse_packet;
 pub use payload::Payload;
+pub use sending::write_data;
+pub use serve::{Served, serve_one};
 pub use server::{ServerAct, ServerSession};

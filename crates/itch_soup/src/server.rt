@@ -16,7 +16,7 @@ const NOT_AUTHORISED: u8 = b'A';
 const NOT_AVAILABLE: u8 = b'S';
 
 /// What a server does after a packet.
-#[derive(Clone, Copy, Debug, PartialEq, Eq)]
+#[derive(Clone, Copy, Debug)]
 pub enum ServerAct {
     /// Accepts the login, and sends the messages from this number on.
     Accept { next: Seq },
@@ -79,6 +79,30 @@ impl ServerSession {
         LoginAccepted::spelling(&self.config, next)
     }
 
+    /// The packet to send once a login is rejected with this code, without the length in front.
+    pub fn rejected(code: u8) -> [u8; 2]
+        ensures bytes { result ≡ packet_spelling (Packet.LoginRejected code) }
+        ensures spelled { PacketSpells (Packet.LoginRejected code) result Origin.Server }
+    {
+        [b'J', code]
+    }
+
+    /// The packet to send at [`Tick::Heartbeat`], without the length in front.
+    pub fn heartbeat() -> [u8; 1]
+        ensures bytes { result ≡ packet_spelling Packet.ServerHeartbeat }
+        ensures spelled { PacketSpells Packet.ServerHeartbeat result Origin.Server }
+    {
+        [b'H']
+    }
+
+    /// The packet to send after the last message, without the length in front.
+    pub fn end() -> [u8; 1]
+        ensures bytes { result ≡ packet_spelling Packet.EndOfSession }
+        ensures spelled { PacketSpells Packet.EndOfSession result Origin.Server }
+    {
+        [b'Z']
+    }
+
     /// The answer to a packet that was heard at this moment, in milliseconds.
     ///
     /// The first login is judged by its user name and password, then by its session, then by its number, which may be at
@@ -138,7 +162,7 @@ fn closing(fault: SoupFault) -> (ServerAct, Stage)
 }
 
 // The answer to a login, and the next stage.
-fn judge(config: &ServerConfig, total: u64, login: &LoginRequest) -> (ServerAct, Stage)
+pub(crate) fn judge(config: &ServerConfig, total: u64, login: &LoginRequest) -> (ServerAct, Stage)
     requires { total < 10 ^ 19 }
     ensures { result ≡ judged config.now total login.now }
 {

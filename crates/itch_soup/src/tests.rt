@@ -4,9 +4,14 @@ use crate::{
     ServerAct, ServerConfig, ServerSession, SoupFault, Tick, parse_packet,
 };
 use itch_codec::{Alpha, Seq};
-use std::alloc::AllocError;
+use itch_frame::FrameFault;
+use itch_snapshot::SnapFault;
+use std::alloc::{AllocError, Global};
+use std::fmt::Debug;
 use std::process::Abort;
 use std::test::Fail;
+
+mod served;
 
 const LOGIN: &[u8; 47] = b"Luser  secret                                 3";
 
@@ -57,20 +62,39 @@ fn client(rt: &impl Abort) -> ClientSession {
     ClientSession::new(credentials, 3, 0)
 }
 
-fn server_answers(rt: &impl Abort, session: &mut ServerSession, rows: &[(Packet<'_>, ServerAct)]) {
+// Faults of the system have no equality: what is shown of a value stands for it.
+fn shown<T: Debug>(alloc: Global, value: &T) -> Result<String, AllocError> {
+    format!(in alloc; "{value:?}")
+}
+
+fn server_answers(
+    rt: &impl Abort,
+    alloc: Global,
+    session: &mut ServerSession,
+    rows: &[(Packet<'_>, ServerAct)],
+) -> Result<(), AllocError> {
     for (packet, act) in rows {
-        assert_eq!(rt; session.on_packet(packet, 0), *act);
+        assert_eq!(rt;
+            shown(alloc, &session.on_packet(packet, 0))?,
+            shown(alloc, act)?
+        );
     }
+    Ok(())
 }
 
 fn client_answers(
     rt: &impl Abort,
+    alloc: Global,
     session: &mut ClientSession,
     rows: &[(Packet<'_>, ClientAct<'_>)],
-) {
+) -> Result<(), AllocError> {
     for (packet, act) in rows {
-        assert_eq!(rt; session.on_packet(packet, 0), *act);
+        assert_eq!(rt;
+            shown(alloc, &session.on_packet(packet, 0))?,
+            shown(alloc, act)?
+        );
     }
+    Ok(())
 }
 
 #[test]
@@ -107,7 +131,7 @@ fn packets(rt: HostRuntime) {
         (b"O", Origin::Client, Packet::LogoutRequest),
     ];
     for (block, from, packet) in rows {
-        assert_eq!(rt; parse_packet(block, from), Ok(packet), "{block:?}");
+        assert_eq!(rt; parse_packet(block, from).ok(), Some(packet), "{block:?}");
     }
 }
 
@@ -131,15 +155,15 @@ fn numbers_of_logins(rt: HostRuntime) {
         block[27..].copy_from_slice(field);
         let packet = Packet::LoginRequest(login(&rt, "", number));
         assert_eq!(rt;
-            parse_packet(&block, Origin::Client),
-            Ok(packet),
+            parse_packet(&block, Origin::Client).ok(),
+            Some(packet),
             "{number}"
         );
     }
 }
 
 #[test]
-fn hostile_packets(rt: HostRuntime) {
+fn hostile_packets(rt: HostRuntime) -> Result<(), Fail> {
     let mut unprintable = *LOGIN;
     unprintable[1] = 0;
     let mut letter = *LOGIN;
@@ -197,8 +221,14 @@ fn hostile_packets(rt: HostRuntime) {
         ),
     ];
     for (block, from, fault) in rows {
-        assert_eq!(rt; parse_packet(block, from), Err(fault), "{block:?}");
+        let found = parse_packet(block, from).err().expect(&rt, "a fault");
+        assert_eq!(rt;
+            shown(rt.alloc(), &found)?,
+            shown(rt.alloc(), &fault)?,
+            "{block:?}"
+        );
     }
+    Ok(())
 }
 
 #[test]
@@ -243,6 +273,15 @@ fn session_names_are_padded(rt: HostRuntime) {
 }
 
 #[test]
+fn other_packets_of_a_session(rt: HostRuntime) {
+    assert_eq!(rt; ServerSession::rejected(b'S'), *b"JS");
+    assert_eq!(rt; ServerSession::heartbeat(), *b"H");
+    assert_eq!(rt; ServerSession::end(), *b"Z");
+    assert_eq!(rt; ClientSession::heartbeat(), *b"R");
+    assert_eq!(rt; ClientSession::logout(), *b"O");
+}
+
+#[test]
 fn passwords_are_not_shown(rt: HostRuntime) -> Result<(), Fail> {
     let shown = |password: &str| -> Result<String, AllocError> {
         let login = LoginRequest {
@@ -272,7 +311,7 @@ fn passwords_are_not_shown(rt: HostRuntime) -> Result<(), Fail> {
 }
 
 #[test]
-fn client_sessions(rt: HostRuntime) {
+fn client_sessions(rt: HostRuntime) -> Result<(), Fail> {
     let data = || Packet::SequencedData(Payload::new(b"m"));
     let heard = |number| ClientAct::Data {
         number,
@@ -282,14 +321,16 @@ fn client_sessions(rt: HostRuntime) {
 
     client_answers(
         &rt,
+        rt.alloc(),
         &mut client(&rt),
         &[
             (data(), ClientAct::Fault(SoupFault::Early(83))),
             (data(), closed()),
         ],
-    );
+    )?;
     client_answers(
         &rt,
+        rt.alloc(),
         &mut client(&rt),
         &[
             (accepted(&rt, 3), ClientAct::Accepted { next: seq(&rt, 3) }),
@@ -299,9 +340,10 @@ fn client_sessions(rt: HostRuntime) {
             (Packet::EndOfSession, ClientAct::Ended),
             (Packet::EndOfSession, closed()),
         ],
-    );
+    )?;
     client_answers(
         &rt,
+        rt.alloc(),
         &mut client(&rt),
         &[
             (accepted(&rt, 3), ClientAct::Accepted { next: seq(&rt, 3) }),
@@ -310,10 +352,11 @@ fn client_sessions(rt: HostRuntime) {
                 ClientAct::Fault(SoupFault::SecondLogin),
             ),
         ],
-    );
+    )?;
     let greatest = 10_000_000_000_000_000_000;
     client_answers(
         &rt,
+        rt.alloc(),
         &mut client(&rt),
         &[
             (
@@ -324,9 +367,10 @@ fn client_sessions(rt: HostRuntime) {
             ),
             (data(), ClientAct::Fault(SoupFault::TooManyMessages)),
         ],
-    );
+    )?;
     client_answers(
         &rt,
+        rt.alloc(),
         &mut client(&rt),
         &[
             (
@@ -335,13 +379,15 @@ fn client_sessions(rt: HostRuntime) {
             ),
             (accepted(&rt, 3), closed()),
         ],
-    );
+    )?;
+    Ok(())
 }
 
 #[test]
-fn server_sessions(rt: HostRuntime) {
+fn server_sessions(rt: HostRuntime) -> Result<(), Fail> {
     server_answers(
         &rt,
+        rt.alloc(),
         &mut server(&rt),
         &[
             (
@@ -353,9 +399,10 @@ fn server_sessions(rt: HostRuntime) {
             (Packet::LogoutRequest, ServerAct::Close),
             (Packet::ClientHeartbeat, ServerAct::Fault(SoupFault::Closed)),
         ],
-    );
+    )?;
     server_answers(
         &rt,
+        rt.alloc(),
         &mut server(&rt),
         &[
             (
@@ -368,11 +415,12 @@ fn server_sessions(rt: HostRuntime) {
             ),
             (Packet::LogoutRequest, ServerAct::Fault(SoupFault::Closed)),
         ],
-    );
+    )?;
+    Ok(())
 }
 
 #[test]
-fn logins_are_judged(rt: HostRuntime) {
+fn logins_are_judged(rt: HostRuntime) -> Result<(), Fail> {
     let accept = |next| ServerAct::Accept {
         next: seq(&rt, next),
     };
@@ -401,12 +449,14 @@ fn logins_are_judged(rt: HostRuntime) {
         (capitals, accept(3)),
     ];
     for (login, act) in rows {
+        let found = server(&rt).on_packet(&Packet::LoginRequest(login), 0);
         assert_eq!(rt;
-            server(&rt).on_packet(&Packet::LoginRequest(login), 0),
-            act,
+            shown(rt.alloc(), &found)?,
+            shown(rt.alloc(), &act)?,
             "{login:?}"
         );
     }
+    Ok(())
 }
 
 #[test]
@@ -422,20 +472,20 @@ fn ticks(rt: HostRuntime) {
     ];
     let mut server = server(&rt);
     let accept = server.on_packet(&Packet::LoginRequest(login(&rt, "", 3)), 0);
-    assert_eq!(rt; accept, ServerAct::Accept { next: seq(&rt, 3) });
+    assert!(rt; matches!(accept, ServerAct::Accept { next } if next.value() == 3));
     server.sent(0);
     let mut client = client(&rt);
     client.sent(0);
     let accept = client.on_packet(&accepted(&rt, 3), 0);
-    assert_eq!(rt; accept, ClientAct::Accepted { next: seq(&rt, 3) });
+    assert!(rt; matches!(accept, ClientAct::Accepted { next } if next.value() == 3));
     for (now, tick) in rows {
         assert_eq!(rt; server.tick(now), tick, "server at {now}");
         assert_eq!(rt; client.tick(now), tick, "client at {now}");
     }
     let after = server.on_packet(&Packet::ClientHeartbeat, 15_002);
-    assert_eq!(rt; after, ServerAct::Fault(SoupFault::Closed));
+    assert!(rt; matches!(after, ServerAct::Fault(SoupFault::Closed)));
     let after = client.on_packet(&Packet::ServerHeartbeat, 15_002);
-    assert_eq!(rt; after, ClientAct::Fault(SoupFault::Closed));
+    assert!(rt; matches!(after, ClientAct::Fault(SoupFault::Closed)));
 }
 
 #[test]
@@ -461,6 +511,14 @@ fn texts(rt: HostRuntime) -> Result<(), Fail> {
         ),
         (SoupFault::Closed, "the session is closed"),
         (SoupFault::TooManyMessages, "too many messages"),
+        (SoupFault::Frame(FrameFault::TooLong), "payload too long"),
+        (SoupFault::Rejected(b'S'), "login rejected with S"),
+        (
+            SoupFault::WrongStart { next: seq(&rt, 3) },
+            "accepted from 3, not from 1",
+        ),
+        (SoupFault::EndedEarly, "ended early"),
+        (SoupFault::Snapshot(SnapFault::NoEnd), "no end of snapshot"),
     ];
     for (fault, text) in rows {
         assert_eq!(rt; fault.to_string(rt.alloc())?.as_str(), text);

@@ -1,0 +1,226 @@
+-- The packets of a session: each fits a block, and they come one after another.
+use Rattle.std.proofs.Common.{◌≡◌, ℕ, zero, suc, ◌+◌, ◌-◌, ◌<◌, ◌≤◌, nat_le, Bool, true, false, List, [], ◌∷◌, ◌++◌, map, length, drop, flat_map, Option, None, Some, Result, Ok, Err, refl, sym, ap, subst, ◌∙◌, append_assoc, append-nil, arith, length-append}
+use Rattle.std.specs.List.{AllByRecursion}
+use Rattle.std.specs.FinMap as finite
+use Rattle.std.proofs.lemmas.List.{map-append, drop-append-le, drop_all, drop-drop}
+use Rattle.std.proofs.lemmas.Bool.Decides.{nat_tests}
+use Rattle.std.specs.Iterator.{YieldsFirst}
+use Rattle.itch_codec.specs.declared.message.Message.{Message}
+use Rattle.itch_codec.specs.declared.message.Message.TheVariants as message
+use Rattle.itch_codec.specs.Messages.{spelling, IsKeptWhole}
+use Rattle.itch_codec.specs.Widths.{IsMessage}
+use Rattle.itch_codec.proofs.Spelling.{Spells-spelling}
+use Rattle.itch_frame.specs.Blocks.{IsPayload}
+use Rattle.itch_book.specs.declared.order.Order.{Order}
+use Rattle.itch_book.specs.Orders as book
+use Rattle.itch_book.proofs.Lists.{All-append_rec, All-right_rec}
+use Rattle.itch_market.specs.declared.security.Action.{Action}
+use Rattle.itch_market.specs.declared.security.Security.{Security}
+use Rattle.itch_market.specs.Content.{Content}
+use Rattle.itch_market.specs.Goods.{IsGood}
+use Rattle.itch_market.specs.Runs.{AreMessages}
+use Rattle.itch_snapshot.specs.Snapshot.{snap, event_part, action_part, sho_part, add_of, attributed, order_part, locate_messages, locate_part}
+use Rattle.itch_snapshot.proofs.Spelled.{snap_messages}
+use Rattle.itch_soup.specs.declared.config.ServerConfig.{ServerConfig}
+use Rattle.itch_soup.specs.declared.connection.Stage.{Stage}
+use Rattle.itch_soup.specs.declared.packet.LoginRequest.{LoginRequest}
+use Rattle.itch_soup.specs.declared.server.ServerAct.{ServerAct}
+use Rattle.itch_soup.specs.declared.server.ServerAct.TheVariants as act
+use Rattle.itch_soup.specs.Servers.{acceptance, judged}
+use Rattle.itch_soup.specs.declared.packet.Packet.{Packet}
+use Rattle.itch_soup.specs.declared.packet.Packet.TheVariants as is
+use Rattle.itch_soup.specs.Packets.{packet_spelling}
+use Rattle.itch_frame.specs.Writing.{WriteBlock, WriteBlocks}
+use Rattle.itch_frame.specs.declared.tally.Failures.{Failures}
+use Rattle.itch_frame.specs.declared.fault.FrameFault.{FrameFault}
+use Rattle.itch_soup.specs.Sending.{data_packet, messages, messages_from, session_packets, end_part, FitPackets, packets_for, served_packets, verdict, Sends, SendsPackets}
+use Rattle.itch_soup.proofs.Sends.{none_sent, one_sent, one_failed, sent_then, sent_short}
+
+-- a message that is decoded
+abbrev pub IsDecoded : Message → Type 0
+IsDecoded x = IsKeptWhole x → ⊥
+
+-- no spelling of such a message is long
+spelling_small : (x : Message) → IsMessage x → IsDecoded x → length (spelling x) < 65535
+spelling_small (message.SystemEvent m) fits decoded = let laid = Spells-spelling (message.SystemEvent m) fits in omega (arith, laid.size)
+spelling_small (message.StockDirectory m) fits decoded = let laid = Spells-spelling (message.StockDirectory m) fits in omega (arith, laid.size)
+spelling_small (message.TradingAction m) fits decoded = let laid = Spells-spelling (message.TradingAction m) fits in omega (arith, laid.size)
+spelling_small (message.RegSho m) fits decoded = let laid = Spells-spelling (message.RegSho m) fits in omega (arith, laid.size)
+spelling_small (message.AddOrder m) fits decoded = let laid = Spells-spelling (message.AddOrder m) fits in omega (arith, laid.size)
+spelling_small (message.AttributedAddOrder m) fits decoded = let laid = Spells-spelling (message.AttributedAddOrder m) fits in omega (arith, laid.size)
+spelling_small (message.OrderExecuted m) fits decoded = let laid = Spells-spelling (message.OrderExecuted m) fits in omega (arith, laid.size)
+spelling_small (message.OrderExecutedWithPrice m) fits decoded = let laid = Spells-spelling (message.OrderExecutedWithPrice m) fits in omega (arith, laid.size)
+spelling_small (message.OrderCancel m) fits decoded = let laid = Spells-spelling (message.OrderCancel m) fits in omega (arith, laid.size)
+spelling_small (message.OrderDelete m) fits decoded = let laid = Spells-spelling (message.OrderDelete m) fits in omega (arith, laid.size)
+spelling_small (message.OrderReplace m) fits decoded = let laid = Spells-spelling (message.OrderReplace m) fits in omega (arith, laid.size)
+spelling_small (message.Trade m) fits decoded = let laid = Spells-spelling (message.Trade m) fits in omega (arith, laid.size)
+spelling_small (message.CrossTrade m) fits decoded = let laid = Spells-spelling (message.CrossTrade m) fits in omega (arith, laid.size)
+spelling_small (message.BrokenTrade m) fits decoded = let laid = Spells-spelling (message.BrokenTrade m) fits in omega (arith, laid.size)
+spelling_small (message.End next) fits decoded = let laid = Spells-spelling (message.End next) fits in omega (arith, laid.size)
+spelling_small (message.Other bytes) fits decoded = absurd (decoded tt)
+
+-- the packet of such a message fits a block
+pub packet_fits : (x : Message) → IsMessage x → IsDecoded x → IsPayload (packet_spelling (data_packet x))
+packet_fits x fits decoded = let small = spelling_small x fits decoded in omega (arith, length-append (spelling x) [])
+
+-- all messages of a snapshot list are decoded
+event_decoded : (event : Option ℕ) → AllByRecursion IsDecoded (event_part event)
+event_decoded None = tt
+event_decoded (Some code) = (λ kept. kept, tt)
+
+action_decoded : (locate : ℕ) (stock : List ℕ) (action : Option Action) → AllByRecursion IsDecoded (action_part locate stock action)
+action_decoded locate stock None = tt
+action_decoded locate stock (Some action) = (λ kept. kept, tt)
+
+sho_decoded : (locate : ℕ) (stock : List ℕ) (sho : Option ℕ) → AllByRecursion IsDecoded (sho_part locate stock sho)
+sho_decoded locate stock None = tt
+sho_decoded locate stock (Some sho) = (λ kept. kept, tt)
+
+orders_decoded : (stock : List ℕ) (os : List Order) → AllByRecursion IsDecoded (map (order_part stock) os)
+orders_decoded stock [] = tt
+orders_decoded stock (x ∷ xs) = (one x.mpid, orders_decoded stock xs) where
+  one : (mpid : Option (List ℕ)) → IsDecoded (attributed (add_of stock x) mpid)
+  one None = λ kept. kept
+  one (Some mpid) = λ kept. kept
+
+locate_decoded : (e : ℕ × Security) (os : List Order) → AllByRecursion IsDecoded (locate_messages e os)
+locate_decoded e os =
+    let stock = e.1.entry.stock in (
+      λ kept. kept,
+      All-append_rec IsDecoded (action_part e.0 stock e.1.action) (sho_part e.0 stock e.1.sho ++ map (order_part stock) os) (action_decoded e.0 stock e.1.action)
+          (All-append_rec IsDecoded (sho_part e.0 stock e.1.sho) (map (order_part stock) os) (sho_decoded e.0 stock e.1.sho) (orders_decoded stock os)),
+    )
+
+locates_decoded : (orders : List Order) (es : List (ℕ × Security)) → AllByRecursion IsDecoded (flat_map (locate_part orders) es)
+locates_decoded orders [] = tt
+locates_decoded orders (e ∷ es) =
+    All-append_rec IsDecoded (locate_part orders e) (flat_map (locate_part orders) es) (locate_decoded e (book.sides orders e.0)) (locates_decoded orders es)
+
+snap_decoded : (m : Content) → AllByRecursion IsDecoded (snap m)
+snap_decoded m =
+    All-append_rec IsDecoded (event_part m.event) (flat_map (locate_part m.orders) (finite.entries m.securities)) (event_decoded m.event)
+    (locates_decoded m.orders (finite.entries m.securities))
+
+packets_fit : (xs : List Message) → AreMessages xs → AllByRecursion IsDecoded xs → FitPackets xs
+packets_fit [] fit decoded = tt
+packets_fit (x ∷ xs) fit decoded = (packet_fits x fit.0 decoded.0, packets_fit xs fit.1 decoded.1)
+
+pub drop_fits : (n : ℕ) (xs : List Message) → FitPackets xs → FitPackets (drop n xs)
+drop_fits zero xs fit = fit
+drop_fits (suc n) [] fit = tt
+drop_fits (suc n) (x ∷ xs) fit = drop_fits n xs fit.1
+
+-- the packets of a good market's snapshot fit blocks, from wherever they are sent
+pub snap_fits : (m : Content) (n : ℕ) → IsGood m → FitPackets (drop n (snap m))
+snap_fits m n good = drop_fits n (snap m) (packets_fit (snap m) (snap_messages m good) (snap_decoded m))
+
+-- the messages from a number on are those of the snapshot list, and the End of Snapshot where it is among them
+pub from_parts : (m : Content) (next n : ℕ) (with_end : Bool) → (with_end ≡ true → n - 1 ≤ length (snap m)) → (with_end ≡ false → length (snap m) < n - 1)
+    → messages_from n m next ≡ drop (n - 1) (snap m) ++ end_part with_end next
+from_parts m next n true early late = drop-append-le (n - 1) (snap m) (message.End next ∷ []) (early refl)
+from_parts m next n false early late =
+    let behind = late refl in
+    drop_all (n - 1) (messages m next) (omega (arith, length-append (snap m) (message.End next ∷ [])))
+    ∙ sym (append-nil (drop (n - 1) (snap m)) ∙ drop_all (n - 1) (snap m) (omega arith))
+
+-- the packets of a session, in the three parts in which they are sent
+pub session_parts : (first : Packet) (xs ys : List Message)
+    → map packet_spelling (first ∷ session_packets (xs ++ ys)) ≡ map packet_spelling (first ∷ []) ++ (map packet_spelling (map data_packet xs) ++ map packet_spelling (session_packets ys))
+session_parts first xs ys =
+    ap (λ ps. packet_spelling first ∷ ps) (ap (map packet_spelling) (regroup xs) ∙ map-append packet_spelling (map data_packet xs) (session_packets ys)) where
+      regroup : (zs : List Message) → session_packets (zs ++ ys) ≡ map data_packet zs ++ session_packets ys
+      regroup [] = refl
+      regroup (z ∷ zs) = ap (λ ps. data_packet z ∷ ps) (regroup zs)
+
+module _ {W : Type 0} (contents : W → Option (List ℕ)) (failures : W → Failures) where
+  data_push : (seen : List Message) (x : Message) → map packet_spelling (map data_packet (seen ++ x ∷ [])) ≡ map packet_spelling (map data_packet seen) ++ packet_spelling (data_packet x) ∷ []
+  data_push seen x = ap (map packet_spelling) (map-append data_packet seen (x ∷ [])) ∙ map-append packet_spelling (map data_packet seen) (data_packet x ∷ [])
+
+  -- the packets of these messages were sent, and the others are still to come
+  pub record DataSent (all : List Message) (old : W) (seen left : List Message) (count : ℕ) (new : W) : Type 0 where
+    pub whole : all ≡ seen ++ left
+    pub sent : SendsPackets contents failures {T = Unit {0}} old (map data_packet seen) (Ok tt) new
+    pub counted : count ≡ length seen
+
+  pub no_data : (all : List Message) (old : W) → DataSent all old [] all 0 old
+  no_data all old = record { whole = refl; sent = none_sent contents failures old; counted = refl }
+
+  -- one message more was sent
+  pub data_sent : (all : List Message) (old mid new : W) (seen left rest : List Message) (count : ℕ) (x : Message) → DataSent all old seen left count mid → left ≡ x ∷ rest
+      → WriteBlock contents failures mid (packet_spelling (data_packet x)) (Ok tt) new → DataSent all old (seen ++ x ∷ []) rest (count + 1) new
+  data_sent all old mid new seen left rest count x so_far next wrote = record {
+    whole = so_far.whole ∙ ap (λ ms. seen ++ ms) next ∙ sym (append_assoc seen (x ∷ []) rest);
+    sent =
+        subst (λ ps. Sends contents failures {T = Unit {0}} old ps (Ok tt) new) (sym (data_push seen x))
+        (one_sent contents failures old mid new (map packet_spelling (map data_packet seen)) (packet_spelling (data_packet x)) so_far.sent wrote);
+    counted = omega (arith, so_far.counted, length-append seen (x ∷ []));
+  }
+
+  -- or it was not
+  pub data_failed : (T : Type 0) (all : List Message) (old mid new : W) (seen left rest : List Message) (count : ℕ) (x : Message) (fault : FrameFault) → FitPackets all → DataSent all old seen left count mid
+      → left ≡ x ∷ rest → WriteBlock contents failures mid (packet_spelling (data_packet x)) (Err fault) new → SendsPackets contents failures {T = T} old (map data_packet all) (Err fault) new
+  data_failed T all old mid new seen left rest count x fault fit so_far next wrote =
+      let messages_are : all ≡ seen ++ x ∷ rest = so_far.whole ∙ ap (λ ms. seen ++ ms) next in
+      let behind : FitPackets (x ∷ rest) = All-right_rec (λ m. IsPayload (packet_spelling (data_packet m))) seen (x ∷ rest) (subst FitPackets messages_are fit) in
+      one_failed contents failures T old mid new (map packet_spelling (map data_packet seen)) (packet_spelling (data_packet x)) (map packet_spelling (map data_packet rest))
+      (map packet_spelling (map data_packet all)) fault
+      (ap (λ ms. map packet_spelling (map data_packet ms)) messages_are ∙ ap (map packet_spelling) (map-append data_packet seen (x ∷ rest))
+      ∙ map-append packet_spelling (map data_packet seen) (map data_packet (x ∷ rest)))
+      behind.0 so_far.sent wrote
+
+  -- or all were
+  pub all_data : (all : List Message) (old new : W) (seen left : List Message) (count : ℕ) → DataSent all old seen left count new → left ≡ []
+      → SendsPackets contents failures {T = ℕ} old (map data_packet all) (Ok count) new × (count ≡ length all)
+  all_data all old new seen left count so_far none =
+      let is : all ≡ seen = so_far.whole ∙ ap (λ ms. seen ++ ms) none ∙ append-nil seen in
+      (subst (λ ms. SendsPackets contents failures {T = ℕ} old (map data_packet ms) (Ok count) new) (sym is) so_far.sent, so_far.counted ∙ sym (ap length is))
+
+  -- the parts of a session: its acceptance, the messages of the snapshot list, and the end
+  module _ (m : Content) (next n : ℕ) (config : ServerConfig) (xs : List Message) (passed len : ℕ)
+      (xs_are : xs ≡ drop passed (snap m)) (passed_is : passed ≡ n - 1) (len_is : len ≡ length (snap m)) where
+    abbrev accepted : Packet
+    accepted = is.LoginAccepted (acceptance config n)
+
+    abbrev body : List (List ℕ)
+    body = map packet_spelling (map data_packet xs)
+
+    abbrev end : List (List ℕ)
+    end = map packet_spelling (session_packets (end_part (nat_le passed len) next))
+
+    messages_are : messages_from n m next ≡ xs ++ end_part (nat_le passed len) next
+    messages_are =
+        from_parts m next n (nat_le passed len) (λ within. grind (arith, nat_tests, passed_is, len_is)) (λ beyond. grind (arith, nat_tests, passed_is, len_is))
+        ∙ ap (λ ms. ms ++ end_part (nat_le passed len) next) (sym (xs_are ∙ ap (λ k. drop k (snap m)) passed_is))
+
+    parts : map packet_spelling (accepted ∷ session_packets (messages_from n m next)) ≡ map packet_spelling (accepted ∷ []) ++ (body ++ end)
+    parts = ap (λ ms. map packet_spelling (accepted ∷ session_packets ms)) messages_are ∙ session_parts accepted xs (end_part (nat_le passed len) next)
+
+    pub failed_at_data : (S T : Type 0) (old mid new : W) (x : S) (fault : FrameFault) → SendsPackets contents failures old (accepted ∷ []) (Ok x) mid
+        → Sends contents failures {T = T} mid body (Err fault) new → SendsPackets contents failures {T = T} old (accepted ∷ session_packets (messages_from n m next)) (Err fault) new
+    failed_at_data S T old mid new x fault first second =
+        subst (λ ps. Sends contents failures {T = T} old ps (Err fault) new) (sym parts)
+        (sent_then contents failures {S = S} {T = T} old mid new (map packet_spelling (accepted ∷ [])) (body ++ end) x (Err fault) first
+        (sent_short contents failures T T mid new body end fault second))
+
+    pub sent_with_end : {S T U : Type 0} (old mid late_mid new : W) (x : S) (y : T) (result : Result U FrameFault) → SendsPackets contents failures old (accepted ∷ []) (Ok x) mid
+        → Sends contents failures mid body (Ok y) late_mid → Sends contents failures late_mid end result new
+        → SendsPackets contents failures old (accepted ∷ session_packets (messages_from n m next)) result new
+    sent_with_end old mid late_mid new x y result first second third =
+        subst (λ ps. Sends contents failures old ps result new) (sym parts)
+        (sent_then contents failures old mid new (map packet_spelling (accepted ∷ [])) (body ++ end) x result first
+        (sent_then contents failures mid late_mid new body end y result second third))
+
+-- a login that is rejected, where the packet that says so was not written whole
+pub rejected : {W : Type 0} (contents : W → Option (List ℕ)) (failures : W → Failures) (m : Content) (next : ℕ) (config : ServerConfig) (login : LoginRequest) (total code : ℕ) (answer : ServerAct × Stage)
+    (fault : FrameFault) (old new : W) → total ≡ length (snap m) → answer ≡ judged config (total + 1) login → answer.0 ≡ act.Reject code
+    → WriteBlock contents failures old (74 ∷ code ∷ []) (Err fault) new → WriteBlocks contents failures old (map packet_spelling (served_packets m next config login)) (Err fault) new
+rejected contents failures m next config login total code answer fault old new all judged_is is wrote =
+    let size : total + 1 ≡ length (messages m next) = omega (arith, all, length-append (snap m) (message.End next ∷ [])) in
+    let told : verdict m next config login ≡ act.Reject code = ap (λ n. (judged config n login).0) (sym size) ∙ ap (λ (a : ServerAct × Stage). a.0) (sym judged_is) ∙ is in
+    subst (λ a. WriteBlocks contents failures old (map packet_spelling (packets_for m next config a)) (Err fault) new) (sym told)
+    (one_failed contents failures (Unit {0}) old old new [] (74 ∷ code ∷ []) [] ((74 ∷ code ∷ []) ∷ []) fault refl (omega arith) (none_sent contents failures old) wrote)
+
+-- the first message of what is left was passed over
+pub one_passed : (all old new : List Message) (count : ℕ) (found : Option Message) → YieldsFirst (λ (s : List Message). s) old found new → old ≡ drop count all → new ≡ drop (count + 1) all
+one_passed all old new count None steps is = steps.1 ∙ sym (ap (drop 1) (sym is ∙ steps.0)) ∙ drop-drop 1 count all
+one_passed all old new count (Some x) steps is = sym (ap (drop 1) (sym is ∙ steps)) ∙ drop-drop 1 count all

@@ -1,0 +1,172 @@
+-- One fetched session: what a client hears after its login, and the snapshot that it makes of it.
+use Rattle.std.specs.Prelude.{OnOk, ◌≡◌, ◌≢◌, ℕ, ◌+◌, ◌-◌, ◌^◌, ◌≤◌, ◌⊎◌, Bool, true, false, List, [], ◌∷◌, ◌++◌, map, length, ⊤, Option, Some, Result, Ok, Err}
+use Rattle.std.specs.List.{AllByRecursion}
+use Rattle.std.specs.Option.{is_some}
+use Rattle.std.specs.Io.KnownBytes.{Consumes, IsAtEnd}
+use Rattle.itch_codec.specs.declared.message.Message.{Message}
+use Rattle.itch_codec.specs.declared.message.Message.TheVariants as message
+use Rattle.itch_codec.specs.Messages.{Spells, message_of}
+use Rattle.itch_codec.specs.Widths.{IsMessage}
+use Rattle.itch_frame.specs.Blocks.{IsPayload, blocks}
+use Rattle.itch_frame.specs.Reading.{Reading, bytes_left}
+use Rattle.itch_frame.specs.Writing.{WriteBlock}
+use Rattle.itch_frame.specs.declared.tally.Failures.{Failures}
+use Rattle.itch_frame.specs.declared.fault.FrameFault.{FrameFault}
+use Rattle.itch_market.specs.Content.{Content, empty, laid}
+use Rattle.itch_market.specs.Runs.{after, run, Follows}
+use Rattle.itch_market.specs.Replays.{NoCause, Fits, IsTold}
+use Rattle.itch_market.specs.declared.stop.Stop.TheVariants as stop
+use Rattle.itch_snapshot.specs.declared.stage.Stage.TheVariants.{Taking}
+use Rattle.itch_snapshot.specs.Files.{AreSpelled}
+use Rattle.itch_snapshot.specs.Loads.{Load, Loads}
+use Rattle.itch_snapshot.specs.Reads.{FailsHere, IsToldFault}
+use Rattle.itch_soup.specs.declared.config.Credentials.{Credentials}
+use Rattle.itch_soup.specs.declared.client.ClientAct.{ClientAct}
+use Rattle.itch_soup.specs.declared.client.ClientAct.TheVariants as act
+use Rattle.itch_soup.specs.declared.fault.SoupFault.{SoupFault}
+use Rattle.itch_soup.specs.declared.fault.SoupFault.TheVariants.{TooManyMessages, Frame, Rejected, WrongStart, EndedEarly, Snapshot}
+use Rattle.itch_soup.specs.declared.origin.Origin.TheVariants.{Server}
+use Rattle.itch_soup.specs.declared.packet.Packet.{Packet}
+use Rattle.itch_soup.specs.declared.packet.Packet.TheVariants as is
+use Rattle.itch_soup.specs.Packets.{PacketSpells, packet_fault, packet_spelling}
+use Rattle.itch_soup.specs.Clients.{Client, new_client, login_of, client_answer, client_after_packet}
+use Rattle.itch_soup.specs.Serving.{is_enough, ReadsBlock, CountsWait}
+
+-- a client that asks for all messages
+abbrev pub asking : Credentials → Client
+asking credentials = new_client credentials 1 0
+
+-- the bytes of its login
+abbrev pub login_bytes : Credentials → List ℕ
+login_bytes credentials = packet_spelling (is.LoginRequest (login_of (asking credentials)))
+
+-- each block, from the server, spells the packet at its place
+abbrev pub ArePackets : List Packet → List (List ℕ) → Type 0
+ArePackets [] [] = Unit {0}
+ArePackets (packet ∷ packets) (payload ∷ payloads) = (IsPayload payload × PacketSpells packet payload Server) × ArePackets packets payloads
+ArePackets packets payloads = ⊥
+
+-- an answer in front of others, unless it means nothing
+abbrev pub telling : ClientAct → List ClientAct → List ClientAct
+telling act.Nothing later = later
+telling answer later = answer ∷ later
+
+-- what a session answers to packets, one after the other, without the answers that mean nothing
+abbrev pub news : Client → List Packet → List ClientAct
+news c [] = []
+news c (packet ∷ packets) = telling (client_answer c packet) (news (client_after_packet c packet 0) packets)
+
+-- the session after the packets
+abbrev pub after_packets : Client → List Packet → Client
+after_packets c [] = c
+after_packets c (packet ∷ packets) = after_packets (client_after_packet c packet 0) packets
+
+-- messages with the numbers from n on
+abbrev pub numbered : ℕ → List (List ℕ) → List ClientAct
+numbered n [] = []
+numbered n (payload ∷ payloads) = act.Data n payload ∷ numbered (n + 1) payloads
+
+-- nothing yet; or the login is accepted with number 1, and then these messages come
+abbrev pub Hears : List ClientAct → List (List ℕ) → Type 0
+Hears [] payloads = payloads ≡ []
+Hears answers payloads = answers ≡ act.Accepted 1 ∷ numbered 1 payloads
+
+-- packets came off the front, and all that they mean is an acceptance with number 1 and these messages
+pub record Heard (c : Client) (old new : Option (List ℕ)) (payloads : List (List ℕ)) : Type 0 where
+  pub packets : List Packet
+  pub read : List (List ℕ)
+  pub bytes : Consumes old new (blocks read)
+  pub spelled : ArePackets packets read
+  pub few : length packets ≤ 10 ^ 19
+  pub told : Hears (news c packets) payloads
+
+-- the payloads spell these messages, which follow the order rules (so that none is End of Snapshot), and then an End of
+-- Snapshot with this number
+pub record SpellsSnapshot (payloads : List (List ℕ)) (ms : List Message) (next : ℕ) : Type 0 where
+  pub before : List (List ℕ)
+  pub last : List ℕ
+  pub whole : payloads ≡ before ++ last ∷ []
+  pub spelled : AreSpelled ms before
+  pub follows : Follows ms
+  pub few : length ms ≤ 10 ^ 19 - 1
+  pub closes : Spells (message.End next) last
+
+-- the last packet read is the one with this message, so that nothing after it was read
+abbrev pub IsLast : List Packet → List ℕ → Type 0
+IsLast packets payload = (before : List Packet) × (packets ≡ before ++ is.SequencedData payload ∷ [])
+
+-- the messages heard are those of a snapshot and its End of Snapshot, and nothing after it was read
+abbrev pub Fetched : Client → Option (List ℕ) → Option (List ℕ) → Content × ℕ → Type 0
+Fetched c old new done =
+    (payloads : List (List ℕ)) × (heard : Heard c old new payloads)
+    × ((ms : List Message) × (snapshot : SpellsSnapshot payloads ms done.1) × AllByRecursion IsMessage ms × (done.0 ≡ laid (run ms))
+    × IsLast heard.packets snapshot.last)
+
+-- a packet came off the front, and the session's answer to it is so
+abbrev pub HearsPacket : Bool → Client → Option (List ℕ) → Option (List ℕ) → (ClientAct → Type 0) → Type 0
+HearsPacket enough c old new P =
+    (enough ≡ false) × ReadsBlock old new (λ payload. (packet : Packet) × PacketSpells packet payload Server × P (client_answer c packet))
+
+-- a message that the snapshot's reader refuses
+abbrev pub IsRefused : Load → ClientAct → Load → Result (Option ℕ) SoupFault → Type 0
+IsRefused old (act.Data number payload) new (Err (Snapshot fault)) = Loads old payload (Err fault) new
+IsRefused old answer new result = ⊥
+
+-- why a fetch ends without a snapshot, but for a fault that the session finds: what stands at the front, and how it is taken
+abbrev pub EndsOtherwise : Bool → Client → Load → Option (List ℕ) → Option (List ℕ) → SoupFault → Load → Type 0
+EndsOtherwise enough c load old new (Frame fault) after = FailsHere fault old new
+EndsOtherwise enough c load old new EndedEarly after = IsAtEnd old ⊎ HearsPacket enough c old new (λ answer. answer ≡ act.Ended)
+EndsOtherwise enough c load old new (Rejected code) after = HearsPacket enough c old new (λ answer. answer ≡ act.Rejected code)
+EndsOtherwise enough c load old new (WrongStart next) after = HearsPacket enough c old new (λ answer. (answer ≡ act.Accepted next) × (next ≢ 1))
+EndsOtherwise enough c load old new (Snapshot fault) after = HearsPacket enough c old new (λ answer. IsRefused load answer after (Err (Snapshot fault)))
+EndsOtherwise enough c load old new TooManyMessages after = (enough ≡ true) × ReadsBlock old new (λ payload. ⊤)
+EndsOtherwise enough c load old new fault after = (enough ≡ false) × ReadsBlock old new (λ payload. packet_fault payload Server ≡ Some fault)
+
+-- why a fetch ends without a snapshot
+abbrev pub EndsFetch : Bool → Client → Load → Option (List ℕ) → Option (List ℕ) → SoupFault → Load → Type 0
+EndsFetch enough c load old new fault after =
+    HearsPacket enough c old new (λ answer. answer ≡ act.Fault fault) ⊎ EndsOtherwise enough c load old new fault after
+
+-- what an answer does to the snapshot's reader, and whether the snapshot is closed then
+abbrev pub TakesAnswer : ClientAct → Load → Bool → Load → Type 0
+TakesAnswer act.Nothing old closed new = (closed ≡ false) × (new ≡ old)
+TakesAnswer (act.Accepted next) old closed new = (next ≡ 1) × (closed ≡ false) × (new ≡ old)
+TakesAnswer (act.Data number payload) old closed new = (taken : Option ℕ) × Loads old payload (Ok taken) new × (closed ≡ is_some taken)
+TakesAnswer answer old closed new = ⊥
+
+-- the next packet: the session and the snapshot's reader take it, or the fetch ends
+abbrev pub HearsNext : Bool → Client → Load → Option (List ℕ) → Option (List ℕ) → Result Bool SoupFault → Client → Load → Type 0
+HearsNext enough c load old new (Ok closed) c_after load_after =
+    (enough ≡ false) × ReadsBlock old new (λ payload. (packet : Packet) × PacketSpells packet payload Server
+    × (c_after ≡ client_after_packet c packet 0) × TakesAnswer (client_answer c packet) load closed load_after)
+HearsNext enough c load old new (Err fault) c_after load_after = EndsFetch enough c load old new fault load_after
+
+-- a snapshot's reader that has taken these messages
+abbrev pub load_of : List (List ℕ) → Load
+load_of payloads = record { taken = length payloads; market = laid (run (map message_of payloads)); stage = Taking }
+
+-- what is read after the login: a snapshot; or messages that follow the order rules, and then something that ends the fetch
+abbrev pub Receives : Client → Option (List ℕ) → Option (List ℕ) → Result (Content × ℕ) SoupFault → Type 0
+Receives c old new (Ok done) = Fetched c old new done
+Receives c old new (Err fault) =
+    (payloads : List (List ℕ)) × (mid : Option (List ℕ)) × (heard : Heard c old mid payloads) × NoCause empty payloads × AllByRecursion Fits payloads
+    × ((load : Load) × EndsFetch (is_enough (length heard.packets)) (after_packets c heard.packets) (load_of payloads) mid new fault load)
+
+-- what a fetch does once the login was written, or was not
+abbrev pub FetchesAfterLogin : {R : Type 0} → (R → Option (List ℕ)) → (R → Failures) → Credentials → Result (Unit {0}) FrameFault → Reading R → Result (Content × ℕ) SoupFault → Reading R → Type 0
+FetchesAfterLogin remaining reads credentials (Ok done) reader result reader_after =
+    Receives (asking credentials) (bytes_left remaining reader) (bytes_left remaining reader_after) result × CountsWait result (reads reader.reader) (reads reader_after.reader)
+    × OnOk result (reader_after.held ≡ [])
+FetchesAfterLogin remaining reads credentials (Err fault) reader result reader_after = (result ≡ Err (Frame fault)) × (reader_after ≡ reader)
+
+-- what a fetch does: the login is written, and then what answers it is read
+abbrev pub Fetches : {R W : Type 0} → (R → Option (List ℕ)) → (R → Failures) → (W → Option (List ℕ)) → (W → Failures) → Credentials → Reading R → W → Result (Content × ℕ) SoupFault → Reading R → W → Type 0
+Fetches remaining reads contents writes credentials reader writer result reader_after writer_after =
+    (sent : Result (Unit {0}) FrameFault) × WriteBlock contents writes writer (login_bytes credentials) sent writer_after
+    × FetchesAfterLogin remaining reads credentials sent reader result reader_after
+
+-- the bytes alone decide: no read and no write failed, and memory was not refused
+abbrev pub IsToldFetch : Result (Content × ℕ) SoupFault → Type 0
+IsToldFetch (Err (Frame fault)) = IsTold (stop.Frame fault)
+IsToldFetch (Err (Snapshot fault)) = IsToldFault fault
+IsToldFetch result = ⊤

@@ -1,0 +1,105 @@
+//! One fetched session.
+ghost use Rattle.std.specs.Prelude.{◌≡◌, [], OnOk};
+ghost use Rattle.itch_frame.specs.Reading.{bytes_left};
+ghost use Rattle.itch_soup.specs.Serving.{CountsWait};
+ghost use Rattle.itch_soup.specs.Fetching.{HearsNext, Receives, Fetches};
+
+use crate::client::{ClientAct, ClientSession};
+use crate::config::Credentials;
+use crate::connection::Stage;
+use crate::fault::SoupFault;
+use crate::origin::Origin;
+use crate::parsing::parse_packet;
+use itch_book::OrderBook;
+use itch_codec::Seq;
+use itch_frame::counted::{CountedRead, CountedWrite};
+use itch_frame::{BlockReader, write_block};
+use itch_market::Market;
+use itch_snapshot::SnapshotReader;
+use std::alloc::Allocator;
+
+/// No more packets than these are read: 10^19.
+const MOST: u64 = 10_000_000_000_000_000_000;
+
+/// Fetches a snapshot: writes a login that asks for all messages, and reads up to the End of Snapshot, no further.
+///
+/// # Faults
+///
+/// `Frame(Write)` for the login; nothing was read. Otherwise the first of: a fault of a packet or its block, or of the
+/// session; `Rejected`; `WrongStart` where the login is accepted with another number than 1; `EndedEarly` where the session
+/// or the input ends; `Snapshot` for a message that the snapshot's reader refuses, want of memory among its reasons; and
+/// `TooManyMessages` for a packet after 10^19 others. No market is handed out then.
+pub fn fetch_one<R: CountedRead, A: Allocator, W: CountedWrite, B: OrderBook>(
+    alloc: B::Alloc,
+    reader: &mut BlockReader<R, A>,
+    writer: &mut W,
+    credentials: &Credentials,
+) -> Result<(Market<B>, Seq), SoupFault>
+    ensures { Fetches R.remaining R.failures W.contents W.failures credentials.now reader.old writer.old result reader.new writer.new }
+{
+    let session = ClientSession::new(*credentials, 1, 0);
+    write_block(writer, &session.login())?;
+    receive(alloc, reader, session)
+}
+
+// Reads what answers a login, up to the End of Snapshot.
+fn receive<R: CountedRead, A: Allocator, B: OrderBook>(
+    alloc: B::Alloc,
+    reader: &mut BlockReader<R, A>,
+    mut session: ClientSession,
+) -> Result<(Market<B>, Seq), SoupFault>
+    requires { session.connection.stage ≡ Stage.Before }
+    ensures received { Receives session (bytes_left R.remaining reader.old) (bytes_left R.remaining reader.new) result }
+    ensures held { OnOk result (reader.new.held ≡ []) }
+    ensures failures { CountsWait result (R.failures reader.old.reader) (R.failures reader.new.reader) }
+{
+    let mut snapshot = SnapshotReader::new(alloc);
+    snapshot.market().recall_invariant();
+    for count in 0..u64::MAX {
+        if hear(reader, &mut session, &mut snapshot, count == MOST)? {
+            let Ok(done) = snapshot.finish() else {
+                unreachable!()
+            };
+            return Ok(done);
+        }
+    }
+    unreachable!()
+}
+
+// Takes the next packet, which may be one too many (`enough`). True where it closes the snapshot.
+fn hear<R: CountedRead, A: Allocator, B: OrderBook>(
+    reader: &mut BlockReader<R, A>,
+    session: &mut ClientSession,
+    snapshot: &mut SnapshotReader<B>,
+    enough: bool,
+) -> Result<bool, SoupFault>
+    ensures step { HearsNext enough session.old snapshot.old (bytes_left R.remaining reader.old) (bytes_left R.remaining reader.new) result session.new snapshot.new }
+    ensures held { OnOk result (reader.new.held ≡ []) }
+    ensures failures { CountsWait result (R.failures reader.old.reader) (R.failures reader.new.reader) }
+{
+    let block = match reader.next_block() {
+        Ok(Some(block)) => block,
+        Ok(None) => return Err(SoupFault::EndedEarly),
+        Err(fault) => return Err(SoupFault::Frame(fault)),
+    };
+    if enough {
+        return Err(SoupFault::TooManyMessages);
+    }
+    let packet = parse_packet(block, Origin::Server)?;
+    match session.on_packet(&packet, 0) {
+        ClientAct::Nothing => Ok(false),
+        ClientAct::Accepted { next } => {
+            if next.value() == 1 {
+                return Ok(false);
+            }
+            Err(SoupFault::WrongStart { next })
+        }
+        ClientAct::Data { payload, .. } => match snapshot.message(payload.bytes()) {
+            Ok(taken) => Ok(taken.is_some()),
+            Err(fault) => Err(SoupFault::Snapshot(fault)),
+        },
+        ClientAct::Rejected(code) => Err(SoupFault::Rejected(code)),
+        ClientAct::Ended => Err(SoupFault::EndedEarly),
+        ClientAct::Fault(fault) => Err(fault),
+    }
+}

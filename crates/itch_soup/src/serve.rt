@@ -1,0 +1,139 @@
+//! One served session.
+ghost use Rattle.std.specs.Prelude.{◌≡◌, ◌<◌, ◌-◌, ◌^◌, [], length, OnOk};
+ghost use Rattle.itch_frame.specs.Reading.{bytes_left};
+ghost use Rattle.itch_snapshot.specs.Snapshot.{snap};
+ghost use Rattle.itch_soup.specs.Serving.{WaitsOn, WaitsForLogin, CountsWait, AnswersLogin, Serves};
+
+use crate::config::ServerConfig;
+use crate::fault::SoupFault;
+use crate::origin::Origin;
+use crate::packet::{LoginRequest, Packet};
+use crate::parsing::parse_packet;
+use crate::sending::write_session;
+use crate::server::{ServerAct, ServerSession, judge};
+use itch_book::OrderBook;
+use itch_codec::Seq;
+use itch_frame::counted::{CountedRead, CountedWrite};
+use itch_frame::{BlockReader, write_block};
+use itch_market::Market;
+use itch_snapshot::SnapshotIter;
+use std::alloc::Allocator;
+
+/// How a served connection ended.
+#[derive(Clone, Copy, Debug, PartialEq, Eq)]
+pub enum Served {
+    /// The login was accepted, and `packets` messages were sent, the first one with the number `from`.
+    Accepted { from: Seq, packets: u64 },
+    /// The login was rejected with this code.
+    Rejected(u8),
+    /// The client left before a login, and nothing was written.
+    Left,
+}
+
+/// How a client opens: by a login, or it leaves before one.
+#[derive(Clone, Copy)]
+pub(crate) enum Opening {
+    Login(LoginRequest),
+    Leave,
+}
+
+/// No more packets than these are read before a login: 10^19.
+const MOST: u64 = 10_000_000_000_000_000_000;
+
+/// Serves one connection: reads packets up to a login, writes its answer, and reads no more. It takes no memory.
+///
+/// Debug packets, unsequenced data and heartbeats are passed over. A login is judged by its user name and password, then by
+/// its session, then by its number. An accepted one is answered by its acceptance, the market's snapshot from that number on,
+/// its last message the End of Snapshot with `next`, and the end of the session. Where the client logs out or its input ends
+/// before a login, it has `Left`, and nothing is written.
+///
+/// The caller keeps the snapshot below 10^19 - 1 messages: `snapshot_len` counts them.
+///
+/// # Faults
+///
+/// The fault of the first packet or block that has one, and `TooManyMessages` for a packet after 10^19 others; nothing was
+/// written. After `Frame(Read)` the call may be made again, and goes on where it was. `Frame(Write)` for a failed write: the
+/// blocks before were written whole, and `sent` bytes of this one.
+pub fn serve_one<R: CountedRead, A: Allocator, W: CountedWrite, B: OrderBook>(
+    reader: &mut BlockReader<R, A>,
+    writer: &mut W,
+    market: &Market<B>,
+    next: Seq,
+    config: &ServerConfig,
+) -> Result<Served, SoupFault>
+    requires { length (snap market.now) < 10 ^ 19 - 1 }
+    ensures { Serves R.remaining R.failures W.contents W.failures market.now next config.now reader.old writer.old result reader.new writer.new }
+{
+    match read_login(reader)? {
+        Opening::Login(login) => answer(writer, market, next, config, &login),
+        Opening::Leave => Ok(Served::Left),
+    }
+}
+
+// Answers a login.
+fn answer<W: CountedWrite, B: OrderBook>(
+    writer: &mut W,
+    market: &Market<B>,
+    next: Seq,
+    config: &ServerConfig,
+    login: &LoginRequest,
+) -> Result<Served, SoupFault>
+    requires { length (snap market.now) < 10 ^ 19 - 1 }
+    ensures { AnswersLogin W.contents W.failures market.now next config.now login.now writer.old result writer.new }
+{
+    let total = SnapshotIter::new(market).remaining() + 1;
+    let (act, _) = judge(config, total, login);
+    match act {
+        ServerAct::Accept { next: from } => {
+            let packets = write_session(writer, market, next, config, from)?;
+            Ok(Served::Accepted { from, packets })
+        }
+        ServerAct::Reject(code) => {
+            write_block(writer, &ServerSession::rejected(code))?;
+            Ok(Served::Rejected(code))
+        }
+        _ => unreachable!(),
+    }
+}
+
+// Reads packets up to a login, or up to what stands in its place.
+fn read_login<R: CountedRead, A: Allocator>(
+    reader: &mut BlockReader<R, A>,
+) -> Result<Opening, SoupFault>
+    ensures wait { WaitsForLogin (bytes_left R.remaining reader.old) (bytes_left R.remaining reader.new) result }
+    ensures held { OnOk result (reader.new.held ≡ []) }
+    ensures failures { CountsWait result (R.failures reader.old.reader) (R.failures reader.new.reader) }
+{
+    for count in 0..u64::MAX {
+        if let Some(opening) = read_packet(reader, count == MOST)? {
+            return Ok(opening);
+        }
+    }
+    unreachable!()
+}
+
+// Reads the next packet, which may be one too many (`enough`). `None` where it is passed over.
+fn read_packet<R: CountedRead, A: Allocator>(
+    reader: &mut BlockReader<R, A>,
+    enough: bool,
+) -> Result<Option<Opening>, SoupFault>
+    ensures step { WaitsOn enough (bytes_left R.remaining reader.old) (bytes_left R.remaining reader.new) result }
+    ensures held { OnOk result (reader.new.held ≡ []) }
+    ensures failures { CountsWait result (R.failures reader.old.reader) (R.failures reader.new.reader) }
+{
+    match reader.next_block() {
+        Ok(Some(block)) => {
+            if enough {
+                return Err(SoupFault::TooManyMessages);
+            }
+            match parse_packet(block, Origin::Client) {
+                Ok(Packet::LoginRequest(login)) => Ok(Some(Opening::Login(login))),
+                Ok(Packet::LogoutRequest) => Ok(Some(Opening::Leave)),
+                Ok(_) => Ok(None),
+                Err(fault) => Err(fault),
+            }
+        }
+        Ok(None) => Ok(Some(Opening::Leave)),
+        Err(fault) => Err(SoupFault::Frame(fault)),
+    }
+}
