@@ -19,6 +19,7 @@ pub mod IndexLemmas
 pub mod IndexSteps
 pub mod PutLemmas
 pub mod OpenLemmas
+pub mod LevelLemmas
 pub mod RangeLemmas
 pub mod FrontLemmas
 pub mod LiveLemmas

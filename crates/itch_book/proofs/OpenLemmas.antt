@@ -134,12 +134,6 @@ module _ (references : List (ℕ × ℕ)) (bids asks bids' asks' : List (Place �
 pub seen_same : (v v' : Seen) → ((q : ℕ) → v'.keys q ≡ v.keys q) → ((k : ℕ) → v'.orders k ≡ v.orders k) → v' ≡ v
 seen_same v v' keys orders = λ i. record { keys = λ q. keys q i; orders = λ k. orders k i }
 
-pub closed_again : (keys keys1 keys2 : ℕ → Option (List ℕ)) (q : ℕ) → keys q ≡ None → ((p : ℕ) → keys1 p ≡ at_key q (Some []) keys p) → ((p : ℕ) → keys2 p ≡ at_key q None keys1 p) → (p : ℕ) → keys2 p ≡ keys p
-closed_again keys keys1 keys2 q vacant one two p =
-    two p ∙ by_test (eqb q p)
-    (λ e. at_same q None keys1 p e ∙ sym (ap keys (sym (eqb_is q p e)) ∙ vacant))
-    (λ e. at_apart q None keys1 p e ∙ one p ∙ at_apart q (Some []) keys p e)
-
 -- references in another order
 pub reordered : (references references' : List (ℕ × ℕ)) (bids asks : List (Place × ℕ)) (w : Seen) → ((r : ℕ) → node_of references' r ≡ node_of references r) → length references' ≡ length references
     → IsIndexed references bids asks w → IsIndexed references' bids asks w

@@ -1,11 +1,11 @@
 -- What contracts see of queues of orders: the keys of each queue in order, and the order of each node.
-use Rattle.std.specs.Prelude.{ℕ, ◌-◌, not, eqb, List, [], ◌∷◌, map, length, Option, Some, None, option_map, slice_index_or}
+use Rattle.std.specs.Prelude.{◌≡◌, ℕ, ◌-◌, not, eqb, List, [], ◌∷◌, map, length, Option, Some, None, option_map, slice_index_or}
 use Rattle.std.specs.List.{filter, sum_by}
 use Rattle.slab.specs.Slab.{Slab, get, slab_len}
 use Rattle.itch_book.specs.declared.order.Order.{Order}
 use Rattle.itch_book.specs.declared.queues.Node.{Node}
 use Rattle.itch_book.specs.declared.queues.Head.{Head}
-use Rattle.itch_book.specs.Links.{order_of, walked}
+use Rattle.itch_book.specs.Links.{order_of, walked, at_key}
 
 -- the keys of a queue's nodes, or nothing, at each queue key; the order, or nothing, at each node key;
 -- and how many more nodes and queues fit
@@ -22,6 +22,13 @@ keys_at v q = slice_index_or v.queues q None
 -- the order of a node
 abbrev pub order_at : Queued → ℕ → Option Order
 order_at v k = slice_index_or v.orders k None
+
+-- queues with one more, which is empty
+pub record Opens (q : ℕ) (old new : Queued) : Type 0 where
+  pub vacant : keys_at old q ≡ None
+  pub keys : (k : ℕ) → keys_at new k ≡ at_key q (Some []) (keys_at old) k
+  pub orders : new.orders ≡ old.orders
+  pub node_room : new.node_room ≡ old.node_room
 
 -- the keys without one
 abbrev pub without_key : ℕ → List ℕ → List ℕ

@@ -259,17 +259,7 @@ fn level_for<A: Allocator + Copy>(
     ensures busy { IfOk result (λ q. (references : List (ℕ × ℕ)) → IsIndexed references prices.old.bids.entries prices.old.asks.entries (seen queues.old) → IsBusy (seen queues.old) prices.old.bids.entries prices.old.asks.entries → IsBusyBut (seen queues.new) prices.new.bids.entries prices.new.asks.entries q) }
     ensures kept { OnErr result (IsBusy (seen queues.old) prices.old.bids.entries prices.old.asks.entries → IsBusy (seen queues.new) prices.new.bids.entries prices.new.asks.entries) }
 {
-    if let Some(queue) = prices.queue_at(locate, side, price) {
-        return Ok(queue);
-    }
-    let queue = queues.open();
-    match prices.add_level(locate, side, price, queue) {
-        Ok(()) => Ok(queue),
-        Err(error) => {
-            queues.close(queue);
-            Err(error)
-        }
-    }
+    prices.level(queues, locate, side, price)
 }
 
 // Closes the queue at a price, if it is empty.

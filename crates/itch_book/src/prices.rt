@@ -1,16 +1,19 @@
 //! The queues of price levels, for each side in order of locate and price.
-ghost use Rattle.std.specs.Prelude.{◌≡◌, ℕ, [], Some, None, cond, option_map, OnOk, OnErr};
+ghost use Rattle.std.specs.Prelude.{◌≡◌, ℕ, [], Some, None, cond, option_map, OnOk, OnErr, IfOk, Ok, ◌<◌};
 ghost use Rattle.std.specs.List.Sorted.{IsStrictlySortedBy};
 ghost use Rattle.std.specs.Map.{keys_of};
 ghost use Rattle.std.specs.BTreeMap.{is_at};
 ghost use Rattle.std.specs.Map.Iter.{deref_pair};
 ghost use Rattle.itch_codec.specs.declared.side.Side.{Side};
 ghost use Rattle.itch_codec.specs.declared.side.Side.TheVariants.{Buy, Sell};
+ghost use Rattle.itch_book.specs.Queued.{Opens};
 ghost use Rattle.itch_book.specs.Indexed.{queue_at as on_side, queue_of_side, is_there, place_cmp, IsNextOr, level_entry};
 
+use crate::queues::Queues;
 use itch_codec::Side;
 use std::alloc::{AllocError, Allocator, Global};
 use std::collections::BTreeMap;
+use std::collections::btree_map::Entry;
 use std::ops::Bound;
 
 // The queue of each locate and price.
@@ -60,23 +63,25 @@ impl<A: Allocator + Copy> Prices<A> {
         }
     }
 
-    /// Puts a queue at a price of a side that has none. Where memory is refused, nothing changes.
-    pub(crate) fn add_level(
+    /// The queue at a price of a side, opened where there is none. Where memory is refused, nothing changes.
+    pub(crate) fn level(
         &mut self,
+        queues: &mut Queues<A>,
         locate: u16,
         side: Side,
         price: u32,
-        queue: usize,
-    ) -> Result<(), AllocError>
-        ensures placed { OnOk result ((s : Side) → (l p : ℕ) → queue_of_side s self.new.bids.entries self.new.asks.entries l p ≡ cond (is_there side locate price s l p) (Some queue) (queue_of_side s self.old.bids.entries self.old.asks.entries l p)) }
+    ) -> Result<usize, AllocError>
+        requires { 0 < queues.old.queue_room }
+        ensures known { (q : ℕ) → queue_of_side side self.old.bids.entries self.old.asks.entries locate price ≡ Some q → (result ≡ Ok q) × (self.new.bids.entries ≡ self.old.bids.entries) × (self.new.asks.entries ≡ self.old.asks.entries) × (queues.new ≡ queues.old) }
+        ensures opened { queue_of_side side self.old.bids.entries self.old.asks.entries locate price ≡ None → IfOk result (λ q. Opens q queues.old queues.new) }
+        ensures placed { queue_of_side side self.old.bids.entries self.old.asks.entries locate price ≡ None → IfOk result (λ q. (s : Side) → (l p : ℕ) → queue_of_side s self.new.bids.entries self.new.asks.entries l p ≡ cond (is_there side locate price s l p) (Some q) (queue_of_side s self.old.bids.entries self.old.asks.entries l p)) }
         ensures bids_sorted { IsStrictlySortedBy place_cmp (keys_of self.old.bids.entries) → IsStrictlySortedBy place_cmp (keys_of self.new.bids.entries) }
         ensures asks_sorted { IsStrictlySortedBy place_cmp (keys_of self.old.asks.entries) → IsStrictlySortedBy place_cmp (keys_of self.new.asks.entries) }
-        ensures bids_kept { OnErr result (self.new.bids.entries ≡ self.old.bids.entries) }
-        ensures asks_kept { OnErr result (self.new.asks.entries ≡ self.old.asks.entries) }
+        ensures kept { OnErr result ((self.new.bids.entries ≡ self.old.bids.entries) × (self.new.asks.entries ≡ self.old.asks.entries) × (queues.new ≡ queues.old)) }
     {
         match side {
-            Side::Buy => place_on(&mut self.bids, locate, price, queue),
-            Side::Sell => place_on(&mut self.asks, locate, price, queue),
+            Side::Buy => level_on(&mut self.bids, queues, locate, price),
+            Side::Sell => level_on(&mut self.asks, queues, locate, price),
         }
     }
 
@@ -137,19 +142,27 @@ fn lowest<A: Allocator>(places: &Places<A>, locate: u16, last: Option<u32>) -> O
     }
 }
 
-// Puts a queue at a place. Where memory is refused, nothing changes.
-fn place_on<A: Allocator + Copy>(
+// The queue at a place, opened where there is none. Where memory is refused, nothing changes.
+fn level_on<A: Allocator + Copy>(
     places: &mut Places<A>,
+    queues: &mut Queues<A>,
     locate: u16,
     price: u32,
-    queue: usize,
-) -> Result<(), AllocError>
-    ensures placed { OnOk result ((l p : ℕ) → on_side places.new.entries l p ≡ cond (is_at (place_cmp (locate, price)) (l, p)) (Some queue) (on_side places.old.entries l p)) }
+) -> Result<usize, AllocError>
+    requires { 0 < queues.old.queue_room }
+    ensures known { (q : ℕ) → on_side places.old.entries locate price ≡ Some q → (result ≡ Ok q) × (places.new.entries ≡ places.old.entries) × (queues.new ≡ queues.old) }
+    ensures opened { on_side places.old.entries locate price ≡ None → IfOk result (λ q. Opens q queues.old queues.new) }
+    ensures placed { on_side places.old.entries locate price ≡ None → IfOk result (λ q. (l p : ℕ) → on_side places.new.entries l p ≡ cond (is_at (place_cmp (locate, price)) (l, p)) (Some q) (on_side places.old.entries l p)) }
     ensures sorted { IsStrictlySortedBy place_cmp (keys_of places.old.entries) → IsStrictlySortedBy place_cmp (keys_of places.new.entries) }
-    ensures kept { OnErr result (places.new.entries ≡ places.old.entries) }
+    ensures kept { OnErr result ((places.new.entries ≡ places.old.entries) × (queues.new ≡ queues.old)) }
 {
-    match places.insert((locate, price), queue) {
-        Ok(_) => Ok(()),
+    match places.entry((locate, price)) {
+        Ok(Entry::Occupied(entry)) => Ok(*entry.get()),
+        Ok(Entry::Vacant(entry)) => {
+            let queue = queues.open();
+            entry.insert(queue);
+            Ok(queue)
+        }
         Err(_) => Err(AllocError),
     }
 }

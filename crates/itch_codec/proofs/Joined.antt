@@ -5,7 +5,7 @@ use Rattle.std.proofs.lemmas.List.{append-nil, append_assoc, take_at, drop_at, l
 use Rattle.byteorder.specs.Endian.{big_number, big_bytes}
 use Rattle.byteorder.specs.Numbers.{big_number-reads_back, big_from-lt, length-bytes_high_first}
 use Rattle.itch_codec.specs.Numbers.{slice_at, number_at, byte_at, be, dec20, SpellsNumber}
-use Rattle.itch_codec.specs.Layouts.{Class, Integer, Text, OneSide, Code, Codes, Digits, Column}
+use Rattle.itch_codec.specs.Layouts.{Class, Integer, Price, Text, OneSide, Code, Codes, Digits, Column}
 use Rattle.itch_codec.specs.Fields.{AreBytes, Value, Number, Bytes, TheSide, HasAt, HasAll, FitsAt, FitAll, bytes_at, joined, side_byte}
 use Rattle.itch_codec.proofs.Numbers.{dec20-spells, length-dec20}
 use Rattle.itch_codec.proofs.Bytes.{be-number, slice_bytes, length-slice_at, each_byte}
@@ -70,6 +70,7 @@ length-be width n = length-bytes_high_first width n
 pub bytes_len : (class : Class) (width : ℕ) (value : Value) → is_wide class width ≡ true → FitsAt class width value
     → length (bytes_at class width value) ≡ width
 bytes_len Integer width (Number n) w h = length-be width n
+bytes_len Price width (Number n) w h = length-be width n
 bytes_len Text width (Bytes bytes) w h = h.0
 bytes_len OneSide width (TheSide side) w h = let e = same width 1 w in omega arith
 bytes_len Code width (Number n) w h = let e = same width 1 w in omega arith
@@ -77,11 +78,16 @@ bytes_len Codes width (Bytes bytes) w h = h.0
 bytes_len Digits width (Number n) w h = let e = same width 20 w in length-dec20 n (omega arith) ∙ sym e
 bytes_len class width value w h = absurd h
 
+-- a number stands in its bytes
+number_mid : (offset width n : ℕ) (front rest : List ℕ) → n < 256 ^ width → length front ≡ offset → n ≡ number_at offset width (front ++ (be width n ++ rest))
+number_mid offset width n front rest h f =
+    sym (number-slice offset width _ ∙ ap (big_number width) (slice_mid offset width front (be width n) rest f (length-be width n)) ∙ number-be width n h)
+
 -- what fits stands in its bytes
 has_mid : (class : Class) (offset width : ℕ) (value : Value) (front rest : List ℕ) → is_wide class width ≡ true → FitsAt class width value → length front ≡ offset
     → HasAt class offset width (front ++ (bytes_at class width value ++ rest)) value
-has_mid Integer offset width (Number n) front rest w h f =
-    sym (number-slice offset width _ ∙ ap (big_number width) (slice_mid offset width front (be width n) rest f (length-be width n)) ∙ number-be width n h)
+has_mid Integer offset width (Number n) front rest w h f = number_mid offset width n front rest h f
+has_mid Price offset width (Number n) front rest w h f = number_mid offset width n front rest h f
 has_mid Text offset width (Bytes bytes) front rest w h f = (sym (slice_mid offset width front bytes rest f h.0), h.1)
 has_mid OneSide offset width (TheSide side) front rest w h f = get_or_at front (side_byte side) rest 0 offset f
 has_mid Code offset width (Number n) front rest w h f = sym (get_or_at front n rest 0 offset f)
@@ -137,11 +143,17 @@ has_no_digits (c ∷ cs) = not (is_digits c.class) && has_no_digits cs
 no_digits : (c : Column) (cs : List Column) → has_no_digits (c ∷ cs) ≡ true → (not (is_digits c.class) ≡ true) × (has_no_digits cs ≡ true)
 no_digits c cs h = both_true _ _ h
 
-has_bytes : (class : Class) (offset width : ℕ) (payload : List ℕ) (value : Value) → not (is_digits class) ≡ true → is_wide class width ≡ true
-    → AreBytes payload → offset + width ≤ length payload → HasAt class offset width payload value → bytes_at class width value ≡ slice_at offset width payload
-has_bytes Integer offset width payload (Number n) d w b l h =
+-- a number's bytes are those of its field
+number_bytes : (offset width n : ℕ) (payload : List ℕ) → AreBytes payload → offset + width ≤ length payload → n ≡ number_at offset width payload
+    → be width n ≡ slice_at offset width payload
+number_bytes offset width n payload b l h =
     ap (be width) (h ∙ number-slice offset width payload)
     ∙ be-number width (slice_at offset width payload) (length-slice_at offset width payload l) (slice_bytes offset width payload b)
+
+has_bytes : (class : Class) (offset width : ℕ) (payload : List ℕ) (value : Value) → not (is_digits class) ≡ true → is_wide class width ≡ true
+    → AreBytes payload → offset + width ≤ length payload → HasAt class offset width payload value → bytes_at class width value ≡ slice_at offset width payload
+has_bytes Integer offset width payload (Number n) d w b l h = number_bytes offset width n payload b l h
+has_bytes Price offset width payload (Number n) d w b l h = number_bytes offset width n payload b l h
 has_bytes Text offset width payload (Bytes bytes) d w b l h = h.0
 has_bytes OneSide offset width payload (TheSide side) d w b l h =
     let one = same width 1 w in ap (λ byte. byte ∷ []) (sym h) ∙ sym (slice_one offset width payload one (omega arith))
@@ -176,13 +188,18 @@ has_joined at (c ∷ cs) (v ∷ vs) payload g d b h =
     ∙ ap (λ xs. xs ++ drop (at + c.width) payload) (sym first)
     ∙ ap (λ xs. bytes_at c.class c.width v ++ xs) rest
 
--- what a field of bytes holds fits
-has_fits : (class : Class) (offset width : ℕ) (payload : List ℕ) (value : Value) → is_wide class width ≡ true → AreBytes payload
-    → offset + width ≤ length payload → HasAt class offset width payload value → FitsAt class width value
-has_fits Integer offset width payload (Number n) w b l h =
+-- a number that bytes hold is below the greatest of its width
+number_fits : (offset width n : ℕ) (payload : List ℕ) → AreBytes payload → n ≡ number_at offset width payload → n < 256 ^ width
+number_fits offset width n payload b h =
     let e = h ∙ number-slice offset width payload in
     let small = big_from-lt 0 width (slice_at offset width payload) (each_byte _ (slice_bytes offset width payload b)) in
     subst (λ k. k < 256 ^ width) (sym e) small
+
+-- what a field of bytes holds fits
+has_fits : (class : Class) (offset width : ℕ) (payload : List ℕ) (value : Value) → is_wide class width ≡ true → AreBytes payload
+    → offset + width ≤ length payload → HasAt class offset width payload value → FitsAt class width value
+has_fits Integer offset width payload (Number n) w b l h = number_fits offset width n payload b h
+has_fits Price offset width payload (Number n) w b l h = number_fits offset width n payload b h
 has_fits Text offset width payload (Bytes bytes) w b l h = (ap length h.0 ∙ length-slice_at offset width payload l, h.1)
 has_fits OneSide offset width payload (TheSide side) w b l h = tt
 has_fits Code offset width payload (Number n) w b l h = subst (λ k. k < 256) (sym h) (each_byte payload b offset)

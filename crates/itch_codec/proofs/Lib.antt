@@ -5,3 +5,5 @@ pub mod Numbers
 pub mod Spelling
 pub mod Tables
 pub mod Texts
+pub mod Trimming
+pub mod Hexadecimal

@@ -8,7 +8,7 @@ use Rattle.itch_codec.specs.declared.fault.CodecFault.{CodecFault}
 use Rattle.itch_codec.specs.declared.fault.CodecFault.TheVariants.{BadText, BadSide}
 use Rattle.itch_codec.specs.Text.{IsPrintable}
 use Rattle.itch_codec.specs.Numbers.{slice_at, byte_at, SpellsNumber, read20}
-use Rattle.itch_codec.specs.Layouts.{Class, Integer, Text, OneSide, Code, Codes, Digits, Column}
+use Rattle.itch_codec.specs.Layouts.{Class, Integer, Price, Text, OneSide, Code, Codes, Digits, Column}
 use Rattle.itch_codec.specs.Fields.{Value, Number, Bytes, TheSide, HasAt, HasAll, side_byte, side_of, value_by, value_at, side_fault, number_fault, fault_by, field_fault, first_of, first_fault}
 use Rattle.itch_codec.proofs.Texts.{printable-none, none-printable}
 use Rattle.itch_codec.proofs.Numbers.{read-spells, spells-read}
@@ -48,6 +48,7 @@ number_fine (suc n) h = let above : eqb (suc n) 0 ≡ false = grind (arith, nat_
 has_value : (class : Class) (offset width : ℕ) (payload : List ℕ) (value : Value) → HasAt class offset width payload value
     → value ≡ value_by class offset width payload
 has_value Integer offset width payload (Number n) h = ap Number h
+has_value Price offset width payload (Number n) h = ap Number h
 has_value Text offset width payload (Bytes bytes) h = ap Bytes h.0
 has_value OneSide offset width payload (TheSide side) h = ap TheSide (side_there (byte_at offset payload) side h)
 has_value Code offset width payload (Number n) h = ap Number h
@@ -65,6 +66,7 @@ has_no_fault OneSide offset width payload (TheSide side) h = side_fine offset pa
 has_no_fault Digits offset width payload (Number n) h =
     ap number_fault (spells-read (slice_at offset width payload) n h.0) ∙ number_fine n h.1
 has_no_fault Integer offset width payload value h = refl
+has_no_fault Price offset width payload value h = refl
 has_no_fault Code offset width payload value h = refl
 has_no_fault Codes offset width payload value h = refl
 has_no_fault class offset width payload value h = absurd h
@@ -73,6 +75,7 @@ has_no_fault class offset width payload value h = absurd h
 no_fault_has : (class : Class) (offset width : ℕ) (payload : List ℕ) → fault_by class offset width payload ≡ None
     → HasAt class offset width payload (value_by class offset width payload)
 no_fault_has Integer offset width payload h = refl
+no_fault_has Price offset width payload h = refl
 no_fault_has Text offset width payload h = (refl, none-printable (slice_at offset width payload) (text_found offset _ h))
 no_fault_has OneSide offset width payload h = side_found offset (byte_at offset payload) _ _ refl refl h
 no_fault_has Code offset width payload h = refl

@@ -7,7 +7,7 @@ use Rattle.itch_codec.specs.declared.fault.CodecFault.{CodecFault}
 use Rattle.itch_codec.specs.declared.fault.CodecFault.TheVariants.{BadText, BadSide, BadNumber}
 use Rattle.itch_codec.specs.Text.{IsPrintable, first_unprintable}
 use Rattle.itch_codec.specs.Numbers.{slice_at, number_at, byte_at, be, dec20, SpellsNumber, read20}
-use Rattle.itch_codec.specs.Layouts.{Class, Integer, Text, OneSide, Code, Codes, Digits, Column}
+use Rattle.itch_codec.specs.Layouts.{Class, Integer, Price, Text, OneSide, Code, Codes, Digits, Column}
 
 -- numbers that are bytes
 abbrev pub AreBytes : List ℕ → Type 0
@@ -35,6 +35,7 @@ side_byte Sell = 83
 -- the field of the payload at this place, so wide, holds the value
 abbrev pub HasAt : Class → ℕ → ℕ → List ℕ → Value → Type 0
 HasAt Integer offset width payload (Number number) = number ≡ number_at offset width payload
+HasAt Price offset width payload (Number number) = number ≡ number_at offset width payload
 HasAt Text offset width payload (Bytes bytes) = (bytes ≡ slice_at offset width payload) × IsPrintable bytes
 HasAt OneSide offset width payload (TheSide side) = byte_at offset payload ≡ side_byte side
 HasAt Code offset width payload (Number byte) = byte ≡ byte_at offset payload
@@ -55,6 +56,7 @@ HasAll payload columns values = ⊥
 -- the value fits the field's width and class
 abbrev pub FitsAt : Class → ℕ → Value → Type 0
 FitsAt Integer width (Number number) = number < 256 ^ width
+FitsAt Price width (Number number) = number < 256 ^ width
 FitsAt Text width (Bytes bytes) = IsAlpha width bytes
 FitsAt OneSide width (TheSide side) = Unit {0}
 FitsAt Code width (Number byte) = byte < 256
@@ -89,6 +91,7 @@ side_of byte = if byte == 66 then Buy else Sell
 -- the value in a field, where it has no fault
 abbrev pub value_by : Class → ℕ → ℕ → List ℕ → Value
 value_by Integer offset width payload = Number (number_at offset width payload)
+value_by Price offset width payload = Number (number_at offset width payload)
 value_by Text offset width payload = Bytes (slice_at offset width payload)
 value_by OneSide offset width payload = TheSide (side_of (byte_at offset payload))
 value_by Code offset width payload = Number (byte_at offset payload)

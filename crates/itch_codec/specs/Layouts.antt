@@ -1,9 +1,10 @@
 -- The layout of each message type, as data (TotalView-ITCH 5.0, "Message Formats").
 use Rattle.std.specs.Prelude.{◌≡◌, ℕ, ◌==◌, List, [], ◌∷◌, Option, None, Some, if◌then◌else◌}
 
--- what may stand in a field: a number, a text, a side, one byte or several of any kind, or a number in decimal digits
+-- what may stand in a field: a number, a price, a text, a side, one byte or several of any kind, or a number in decimal digits
 pub data Class : Type 0 where
   Integer : Class
+  Price : Class
   Text : Class
   OneSide : Class
   Code : Class
@@ -59,7 +60,7 @@ reg_sho = message_type 89 20 (column 11 8 Text ∷ column 19 1 Code ∷ [])
 -- the fields of a new order
 abbrev pub order_columns : List Column → List Column
 order_columns columns =
-    column 11 8 Integer ∷ column 19 1 OneSide ∷ column 20 4 Integer ∷ column 24 8 Text ∷ column 32 4 Integer ∷ columns
+    column 11 8 Integer ∷ column 19 1 OneSide ∷ column 20 4 Integer ∷ column 24 8 Text ∷ column 32 4 Price ∷ columns
 
 -- Add Order without attribution, A
 abbrev pub add_order : Layout
@@ -79,7 +80,7 @@ order_executed = message_type 69 31 (execution_columns [])
 
 -- Order Executed With Price, C: as E, then printable, price
 abbrev pub order_executed_with_price : Layout
-order_executed_with_price = message_type 67 36 (execution_columns (column 31 1 Code ∷ column 32 4 Integer ∷ []))
+order_executed_with_price = message_type 67 36 (execution_columns (column 31 1 Code ∷ column 32 4 Price ∷ []))
 
 -- Order Cancel, X: reference, cancelled shares
 abbrev pub order_cancel : Layout
@@ -91,7 +92,7 @@ order_delete = message_type 68 19 (column 11 8 Integer ∷ [])
 
 -- Order Replace, U: original reference, new reference, shares, price
 abbrev pub order_replace : Layout
-order_replace = message_type 85 35 (column 11 8 Integer ∷ column 19 8 Integer ∷ column 27 4 Integer ∷ column 31 4 Integer ∷ [])
+order_replace = message_type 85 35 (column 11 8 Integer ∷ column 19 8 Integer ∷ column 27 4 Integer ∷ column 31 4 Price ∷ [])
 
 -- Trade, non-cross, P: as A, then match number
 abbrev pub trade : Layout
@@ -99,7 +100,7 @@ trade = message_type 80 44 (order_columns (column 36 8 Integer ∷ []))
 
 -- Cross Trade, Q: shares, stock, cross price, match number, cross type
 abbrev pub cross_trade : Layout
-cross_trade = message_type 81 40 (column 11 8 Integer ∷ column 19 8 Text ∷ column 27 4 Integer ∷ column 31 8 Integer ∷ column 39 1 Code ∷ [])
+cross_trade = message_type 81 40 (column 11 8 Integer ∷ column 19 8 Text ∷ column 27 4 Price ∷ column 31 8 Integer ∷ column 39 1 Code ∷ [])
 
 -- Broken Trade, B: match number
 abbrev pub broken_trade : Layout

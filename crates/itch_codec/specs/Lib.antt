@@ -7,3 +7,4 @@ pub mod Values
 pub mod Widths
 pub mod Messages
 pub mod Encoded
+pub mod Lines

@@ -1,6 +1,7 @@
 -- Texts of a fixed width: printable characters, left-justified and padded on the right with spaces (TotalView-ITCH 5.0, "Data Types").
-use Rattle.std.specs.Prelude.{◌≡◌, ℕ, ◌-◌, ◌<◌, ◌≤◌, Bool, ◌||◌, nat_lt, List, ◌++◌, length, replicate, Option, position, slice_index, ◌≢◌}
+use Rattle.std.specs.Prelude.{◌≡◌, ℕ, ◌-◌, ◌<◌, ◌≤◌, Bool, ◌||◌, nat_lt, List, ◌++◌, length, replicate, reverse, Option, position, slice_index, ◌≢◌}
 use Rattle.std.specs.List.{AllByRecursion}
+use Rattle.itch_codec.specs.Numbers.{after_spaces}
 
 -- a byte from the space to the tilde
 abbrev pub IsPrintableByte : ℕ → Type 0
@@ -26,3 +27,7 @@ padded_to width text = text ++ replicate (width - length text) 32
 pub record IsTextOf (field text : List ℕ) : Type 0 where
   pub whole : field ≡ padded_to (length field) text
   pub last : 0 < length text → slice_index text (length text - 1) ≢ 32
+
+-- a field without the spaces at its end
+unfoldable pub before_spaces : List ℕ → List ℕ
+before_spaces field = reverse (after_spaces (reverse field))

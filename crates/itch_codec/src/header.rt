@@ -2,6 +2,7 @@
 ghost use Rattle.std.specs.Prelude.{◌≡◌, ℕ, ◌<◌, ◌≤◌, ◌^◌, ◌↔◌, IsSome, IfSome};
 
 use crate::fields::{Buffer, put_u16, put_u48, u16_at, u48_at};
+use crate::words::{Words, show_number};
 use std::marker::Model;
 
 /// Nanoseconds since midnight, below 2^48.
@@ -54,10 +55,12 @@ pub struct Header {
 }
 
 impl Header {
-    ghost use Rattle.std.specs.Prelude.{[], ◌∷◌, length};
+    ghost use Rattle.std.specs.Prelude.{[], ◌∷◌, ◌++◌, length};
+    ghost use Rattle.arrayvec.specs.ArrayString.{array_string_len};
     ghost use Rattle.arrayvec.specs.ArrayVec.{array_vec_len};
     ghost use Rattle.itch_codec.specs.Layouts.{with_header};
     ghost use Rattle.itch_codec.specs.Fields.{HasAll, joined};
+    ghost use Rattle.itch_codec.specs.Lines.{words};
     ghost use Rattle.itch_codec.specs.Values.{header_values};
     ghost use Rattle.itch_codec.specs.Widths.{IsHeader};
 
@@ -73,6 +76,7 @@ impl Header {
             },
         }
     }
+
     // The message's first byte and its header.
     #[tactic(auto, using(crate::proofs::Joining::joining), unfolding(crate::specs::Fields::joined))]
     pub(crate) fn encode(&self, kind: u8) -> Buffer
@@ -86,5 +90,19 @@ impl Header {
         put_u16(&mut out, self.tracking);
         put_u48(&mut out, self.stamp.value());
         out
+    }
+
+    // The letter of the message's type and its header, as words of a line that has a number so far.
+    #[tactic(auto, using(crate::proofs::Joining::joining), unfolding(crate::specs::Lines::words))]
+    pub(crate) fn show(&self, line: &mut Words, letter: &str)
+        requires number { array_string_len line.old ≤ 21 }
+        requires letter { length letter.now ≤ 1 }
+        ensures bytes { line.new.bytes ≡ line.old.bytes ++ letter.now ++ words (with_header []) (header_values self.now []) }
+        ensures len { array_string_len line.new ≤ 85 }
+    {
+        line.push_str(letter);
+        show_number(line, u64::from(self.locate));
+        show_number(line, u64::from(self.tracking));
+        show_number(line, self.stamp.value());
     }
 }

@@ -11,6 +11,7 @@ pub mod laws;
 mod message;
 mod number;
 mod orders;
+mod showing;
 mod side;
 mod stocks;
 #[cfg(test)]
@@ -19,6 +20,7 @@ mod text;
 mod trades;
 mod types;
 mod undecoded;
+mod words;
 
 pub use decoding::decode;
 pub use encoded::Encoded;
@@ -31,6 +33,7 @@ pub use orders::{
     AddOrder, AttributedAddOrder, OrderCancel, OrderDelete, OrderExecuted, OrderExecutedWithPrice,
     OrderReplace,
 };
+pub use showing::{LineText, line, show};
 pub use side::Side;
 pub use stocks::{Directory, RegSho, StockDirectory, SystemEvent, TradingAction};
 pub use text::{Alpha, AlphaFault};

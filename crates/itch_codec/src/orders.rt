@@ -1,8 +1,10 @@
 //! The messages that make, change and end live orders.
 ghost use Rattle.std.specs.Prelude.{◌≡◌, ◌≤◌, [], ◌∷◌, ◌++◌, length};
+ghost use Rattle.arrayvec.specs.ArrayString.{array_string_len};
 ghost use Rattle.arrayvec.specs.ArrayVec.{array_vec_len};
 ghost use Rattle.itch_codec.specs.Layouts.{with_header, execution_columns, order_columns, add_order, attributed_add_order, order_executed, order_executed_with_price, order_cancel, order_delete, order_replace};
 ghost use Rattle.itch_codec.specs.Fields.{HasAll, joined, first_fault, Reads};
+ghost use Rattle.itch_codec.specs.Lines.{words};
 ghost use Rattle.itch_codec.specs.Values.{order_values, execution_values, add_order_values, attributed_add_order_values, order_executed_values, order_executed_with_price_values, order_cancel_values, order_delete_values, order_replace_values};
 ghost use Rattle.itch_codec.specs.Widths.{IsAddOrder, IsAttributedAddOrder, IsOrderExecuted, IsOrderExecutedWithPrice, IsOrderCancel, IsOrderDelete, IsOrderReplace};
 
@@ -13,6 +15,7 @@ use crate::fields::{
 use crate::header::Header;
 use crate::side::Side;
 use crate::text::Alpha;
+use crate::words::{Words, show_code, show_number, show_price, show_side, show_text};
 
 /// Add Order without attribution, `A` (TotalView-ITCH 5.0, "Add Order Message").
 #[derive(Clone, Copy, Debug, PartialEq, Eq)]
@@ -65,6 +68,32 @@ impl AddOrder {
     {
         self.begin(b'A')
     }
+
+    // The fields of a new order, after the letter of its type.
+    #[tactic(auto, using(crate::proofs::Joining::joining), unfolding(crate::specs::Lines::words))]
+    fn show_as(&self, line: &mut Words, letter: &str)
+        requires number { array_string_len line.old ≤ 21 }
+        requires letter { length letter.now ≤ 1 }
+        ensures bytes { line.new.bytes ≡ line.old.bytes ++ letter.now ++ words (with_header (order_columns [])) (order_values self.now []) }
+        ensures len { array_string_len line.new ≤ 166 }
+    {
+        self.header.show(line, letter);
+        show_number(line, self.reference);
+        show_side(line, self.side);
+        show_number(line, u64::from(self.shares));
+        show_text(line, &self.stock);
+        show_price(line, self.price);
+    }
+
+    /// The type and the fields, as words of a line that has a number so far.
+    #[tactic(auto, using(crate::proofs::Joining::joining), unfolding(crate::specs::Lines::words))]
+    pub(crate) fn show(&self, line: &mut Words)
+        requires { array_string_len line.old ≤ 21 }
+        ensures bytes { line.new.bytes ≡ line.old.bytes ++ add_order.kind ∷ words add_order.columns (add_order_values self.now) }
+        ensures len { array_string_len line.new ≤ 191 }
+    {
+        self.show_as(line, "A");
+    }
 }
 
 /// Add Order with attribution, `F` (TotalView-ITCH 5.0, "Add Order with MPID Attribution Message").
@@ -94,6 +123,17 @@ impl AttributedAddOrder {
         let mut out = self.order.begin(b'F');
         put_text(&mut out, &self.attribution);
         out
+    }
+
+    /// The type and the fields, as words of a line that has a number so far.
+    #[tactic(auto, using(crate::proofs::Joining::joining), unfolding(crate::specs::Lines::words))]
+    pub(crate) fn show(&self, line: &mut Words)
+        requires { array_string_len line.old ≤ 21 }
+        ensures bytes { line.new.bytes ≡ line.old.bytes ++ attributed_add_order.kind ∷ words attributed_add_order.columns (attributed_add_order_values self.now) }
+        ensures len { array_string_len line.new ≤ 191 }
+    {
+        self.order.show_as(line, "F");
+        show_text(line, &self.attribution);
     }
 }
 
@@ -141,6 +181,30 @@ impl OrderExecuted {
     {
         self.begin(b'E')
     }
+
+    // The fields of an execution, after the letter of its type.
+    #[tactic(auto, using(crate::proofs::Joining::joining), unfolding(crate::specs::Lines::words))]
+    fn show_as(&self, line: &mut Words, letter: &str)
+        requires number { array_string_len line.old ≤ 21 }
+        requires letter { length letter.now ≤ 1 }
+        ensures bytes { line.new.bytes ≡ line.old.bytes ++ letter.now ++ words (with_header (execution_columns [])) (execution_values self.now []) }
+        ensures len { array_string_len line.new ≤ 148 }
+    {
+        self.header.show(line, letter);
+        show_number(line, self.reference);
+        show_number(line, u64::from(self.shares));
+        show_number(line, self.match_number);
+    }
+
+    /// The type and the fields, as words of a line that has a number so far.
+    #[tactic(auto, using(crate::proofs::Joining::joining), unfolding(crate::specs::Lines::words))]
+    pub(crate) fn show(&self, line: &mut Words)
+        requires { array_string_len line.old ≤ 21 }
+        ensures bytes { line.new.bytes ≡ line.old.bytes ++ order_executed.kind ∷ words order_executed.columns (order_executed_values self.now) }
+        ensures len { array_string_len line.new ≤ 191 }
+    {
+        self.show_as(line, "E");
+    }
 }
 
 /// Order Executed With Price, `C` (TotalView-ITCH 5.0, "Order Executed With Price Message").
@@ -175,6 +239,18 @@ impl OrderExecutedWithPrice {
         put_u32(&mut out, self.price);
         out
     }
+
+    /// The type and the fields, as words of a line that has a number so far.
+    #[tactic(auto, using(crate::proofs::Joining::joining), unfolding(crate::specs::Lines::words))]
+    pub(crate) fn show(&self, line: &mut Words)
+        requires { array_string_len line.old ≤ 21 }
+        ensures bytes { line.new.bytes ≡ line.old.bytes ++ order_executed_with_price.kind ∷ words order_executed_with_price.columns (order_executed_with_price_values self.now) }
+        ensures len { array_string_len line.new ≤ 191 }
+    {
+        self.execution.show_as(line, "C");
+        show_code(line, self.printable);
+        show_price(line, self.price);
+    }
 }
 
 /// Order Cancel, `X` (TotalView-ITCH 5.0, "Order Cancel Message").
@@ -208,6 +284,18 @@ impl OrderCancel {
         put_u32(&mut out, self.shares);
         out
     }
+
+    /// The type and the fields, as words of a line that has a number so far.
+    #[tactic(auto, using(crate::proofs::Joining::joining), unfolding(crate::specs::Lines::words))]
+    pub(crate) fn show(&self, line: &mut Words)
+        requires { array_string_len line.old ≤ 21 }
+        ensures bytes { line.new.bytes ≡ line.old.bytes ++ order_cancel.kind ∷ words order_cancel.columns (order_cancel_values self.now) }
+        ensures len { array_string_len line.new ≤ 191 }
+    {
+        self.header.show(line, "X");
+        show_number(line, self.reference);
+        show_number(line, u64::from(self.shares));
+    }
 }
 
 /// Order Delete, `D` (TotalView-ITCH 5.0, "Order Delete Message").
@@ -236,6 +324,17 @@ impl OrderDelete {
         let mut out = self.header.encode(b'D');
         put_u64(&mut out, self.reference);
         out
+    }
+
+    /// The type and the fields, as words of a line that has a number so far.
+    #[tactic(auto, using(crate::proofs::Joining::joining), unfolding(crate::specs::Lines::words))]
+    pub(crate) fn show(&self, line: &mut Words)
+        requires { array_string_len line.old ≤ 21 }
+        ensures bytes { line.new.bytes ≡ line.old.bytes ++ order_delete.kind ∷ words order_delete.columns (order_delete_values self.now) }
+        ensures len { array_string_len line.new ≤ 191 }
+    {
+        self.header.show(line, "D");
+        show_number(line, self.reference);
     }
 }
 
@@ -276,5 +375,19 @@ impl OrderReplace {
         put_u32(&mut out, self.shares);
         put_u32(&mut out, self.price);
         out
+    }
+
+    /// The type and the fields, as words of a line that has a number so far.
+    #[tactic(auto, using(crate::proofs::Joining::joining), unfolding(crate::specs::Lines::words))]
+    pub(crate) fn show(&self, line: &mut Words)
+        requires { array_string_len line.old ≤ 21 }
+        ensures bytes { line.new.bytes ≡ line.old.bytes ++ order_replace.kind ∷ words order_replace.columns (order_replace_values self.now) }
+        ensures len { array_string_len line.new ≤ 191 }
+    {
+        self.header.show(line, "U");
+        show_number(line, self.original);
+        show_number(line, self.reference);
+        show_number(line, u64::from(self.shares));
+        show_price(line, self.price);
     }
 }

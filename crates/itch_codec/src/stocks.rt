@@ -1,8 +1,10 @@
 //! System events and the securities' own messages.
 ghost use Rattle.std.specs.Prelude.{◌≡◌, ◌≤◌, [], ◌∷◌, ◌++◌, length};
+ghost use Rattle.arrayvec.specs.ArrayString.{array_string_len};
 ghost use Rattle.arrayvec.specs.ArrayVec.{array_vec_len};
 ghost use Rattle.itch_codec.specs.Layouts.{system_event, directory_columns, stock_directory, trading_action, reg_sho};
 ghost use Rattle.itch_codec.specs.Fields.{HasAll, joined, first_fault, Reads};
+ghost use Rattle.itch_codec.specs.Lines.{words};
 ghost use Rattle.itch_codec.specs.Values.{system_event_values, directory_values, stock_directory_values, trading_action_values, reg_sho_values};
 ghost use Rattle.itch_codec.specs.Widths.{IsSystemEvent, IsDirectory, IsStockDirectory, IsTradingAction, IsRegSho};
 
@@ -10,6 +12,7 @@ use crate::fault::CodecFault;
 use crate::fields::{Buffer, codes_at, put_code, put_codes, put_text, put_u32, text_at, u32_at};
 use crate::header::Header;
 use crate::text::Alpha;
+use crate::words::{Words, show_code, show_codes, show_number, show_text};
 
 /// System Event, `S` (TotalView-ITCH 5.0, "System Event Message").
 #[derive(Clone, Copy, Debug, PartialEq, Eq)]
@@ -38,6 +41,17 @@ impl SystemEvent {
         let mut out = self.header.encode(b'S');
         put_code(&mut out, self.code);
         out
+    }
+
+    /// The type and the fields, as words of a line that has a number so far.
+    #[tactic(auto, using(crate::proofs::Joining::joining), unfolding(crate::specs::Lines::words))]
+    pub(crate) fn show(&self, line: &mut Words)
+        requires { array_string_len line.old ≤ 21 }
+        ensures bytes { line.new.bytes ≡ line.old.bytes ++ system_event.kind ∷ words system_event.columns (system_event_values self.now) }
+        ensures len { array_string_len line.new ≤ 191 }
+    {
+        self.header.show(line, "S");
+        show_code(line, self.code);
     }
 }
 
@@ -107,6 +121,29 @@ impl Directory {
         put_u32(out, self.etp_leverage_factor);
         put_code(out, self.inverse_indicator);
     }
+
+    // The fields of an entry, as words of a line.
+    #[tactic(auto, using(crate::proofs::Joining::joining), unfolding(crate::specs::Lines::words))]
+    fn show(&self, line: &mut Words)
+        requires { array_string_len line.old ≤ 85 }
+        ensures bytes { line.new.bytes ≡ line.old.bytes ++ words directory_columns (directory_values self.now) }
+        ensures len { array_string_len line.new ≤ 191 }
+    {
+        show_text(line, &self.stock);
+        show_code(line, self.market_category);
+        show_code(line, self.financial_status);
+        show_number(line, u64::from(self.round_lot_size));
+        show_code(line, self.round_lots_only);
+        show_code(line, self.issue_classification);
+        show_codes(line, &self.issue_sub_type);
+        show_code(line, self.authenticity);
+        show_code(line, self.short_sale_threshold);
+        show_code(line, self.ipo_flag);
+        show_code(line, self.luld_price_tier);
+        show_code(line, self.etp_flag);
+        show_number(line, u64::from(self.etp_leverage_factor));
+        show_code(line, self.inverse_indicator);
+    }
 }
 
 /// Stock Directory, `R` (TotalView-ITCH 5.0, "Stock Directory").
@@ -135,6 +172,17 @@ impl StockDirectory {
         let mut out = self.header.encode(b'R');
         self.entry.put(&mut out);
         out
+    }
+
+    /// The type and the fields, as words of a line that has a number so far.
+    #[tactic(auto, using(crate::proofs::Joining::joining), unfolding(crate::specs::Lines::words))]
+    pub(crate) fn show(&self, line: &mut Words)
+        requires { array_string_len line.old ≤ 21 }
+        ensures bytes { line.new.bytes ≡ line.old.bytes ++ stock_directory.kind ∷ words stock_directory.columns (stock_directory_values self.now) }
+        ensures len { array_string_len line.new ≤ 191 }
+    {
+        self.header.show(line, "R");
+        self.entry.show(line);
     }
 }
 
@@ -177,6 +225,20 @@ impl TradingAction {
         put_codes(&mut out, self.reason);
         out
     }
+
+    /// The type and the fields, as words of a line that has a number so far.
+    #[tactic(auto, using(crate::proofs::Joining::joining), unfolding(crate::specs::Lines::words))]
+    pub(crate) fn show(&self, line: &mut Words)
+        requires { array_string_len line.old ≤ 21 }
+        ensures bytes { line.new.bytes ≡ line.old.bytes ++ trading_action.kind ∷ words trading_action.columns (trading_action_values self.now) }
+        ensures len { array_string_len line.new ≤ 191 }
+    {
+        self.header.show(line, "H");
+        show_text(line, &self.stock);
+        show_code(line, self.state);
+        show_code(line, self.reserved);
+        show_codes(line, &self.reason);
+    }
 }
 
 /// Reg SHO Short Sale Price Test Restricted Indicator, `Y` (TotalView-ITCH 5.0, "Reg SHO Restriction").
@@ -209,5 +271,17 @@ impl RegSho {
         put_text(&mut out, &self.stock);
         put_code(&mut out, self.action);
         out
+    }
+
+    /// The type and the fields, as words of a line that has a number so far.
+    #[tactic(auto, using(crate::proofs::Joining::joining), unfolding(crate::specs::Lines::words))]
+    pub(crate) fn show(&self, line: &mut Words)
+        requires { array_string_len line.old ≤ 21 }
+        ensures bytes { line.new.bytes ≡ line.old.bytes ++ reg_sho.kind ∷ words reg_sho.columns (reg_sho_values self.now) }
+        ensures len { array_string_len line.new ≤ 191 }
+    {
+        self.header.show(line, "Y");
+        show_text(line, &self.stock);
+        show_code(line, self.action);
     }
 }

@@ -8,6 +8,7 @@ use crate::{
 use std::process::Abort;
 use std::test::Fail;
 
+mod lines;
 mod vectors;
 
 use vectors::*;

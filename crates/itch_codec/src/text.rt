@@ -1,7 +1,7 @@
 //! Texts of a fixed width.
 ghost use Rattle.std.specs.Prelude.{◌≡◌, ℕ, ◌-◌, ◌<◌, ◌≤◌, ◌↔◌, List, length, Option, None, Some, IfOk, IfErr, IfSome, IsOk, OnOk, slice_index, ◌≢◌};
 ghost use Rattle.std.specs.Str.{IsUtf8};
-ghost use Rattle.itch_codec.specs.Text.{IsPrintable, IsTextOf, first_unprintable, is_unprintable, padded_to};
+ghost use Rattle.itch_codec.specs.Text.{IsPrintable, IsTextOf, before_spaces, first_unprintable, is_unprintable, padded_to};
 
 use std::marker::Model;
 use std::str;
@@ -86,8 +86,12 @@ impl<const N: usize> Alpha<N> {
     }
 
     /// The characters without the spaces at the end.
+    #[tactic(auto, using(crate::proofs::Trimming::texts))]
     pub fn text(&self) -> &str
-        ensures { IsTextOf self.now result.now }
+        ensures text { IsTextOf self.now result.now }
+        ensures trimmed { result.now ≡ before_spaces self.now }
+        ensures within { length result.now ≤ N }
+        ensures printable { IsPrintable self.now }
     {
         str::from_utf8(trimmed(&self.bytes)).unwrap()
     }
@@ -135,6 +139,7 @@ fn padded<const N: usize>(text: &[u8]) -> [u8; N]
 fn trimmed(bytes: &[u8]) -> &[u8]
     requires { IsPrintable bytes.now }
     ensures text { IsTextOf bytes.entry.now result.now }
+    ensures within { length result.now ≤ length bytes.entry.now }
     ensures utf8 { IsUtf8 result.now }
 {
     &bytes[..text_len(bytes)]

@@ -1,8 +1,10 @@
 //! The messages that tell of trades, and change no order.
 ghost use Rattle.std.specs.Prelude.{◌≡◌, ◌≤◌, [], ◌∷◌, ◌++◌, length};
+ghost use Rattle.arrayvec.specs.ArrayString.{array_string_len};
 ghost use Rattle.arrayvec.specs.ArrayVec.{array_vec_len};
 ghost use Rattle.itch_codec.specs.Layouts.{trade, cross_trade, broken_trade};
 ghost use Rattle.itch_codec.specs.Fields.{HasAll, joined, first_fault, Reads};
+ghost use Rattle.itch_codec.specs.Lines.{words};
 ghost use Rattle.itch_codec.specs.Values.{trade_values, cross_trade_values, broken_trade_values};
 ghost use Rattle.itch_codec.specs.Widths.{IsTrade, IsCrossTrade, IsBrokenTrade};
 
@@ -13,6 +15,7 @@ use crate::fields::{
 use crate::header::Header;
 use crate::side::Side;
 use crate::text::Alpha;
+use crate::words::{Words, show_code, show_number, show_price, show_side, show_text};
 
 /// Trade, non-cross, `P` (TotalView-ITCH 5.0, "Trade Message (Non-Cross)").
 #[derive(Clone, Copy, Debug, PartialEq, Eq)]
@@ -57,6 +60,22 @@ impl Trade {
         put_u64(&mut out, self.match_number);
         out
     }
+
+    /// The type and the fields, as words of a line that has a number so far.
+    #[tactic(auto, using(crate::proofs::Joining::joining), unfolding(crate::specs::Lines::words))]
+    pub(crate) fn show(&self, line: &mut Words)
+        requires { array_string_len line.old ≤ 21 }
+        ensures bytes { line.new.bytes ≡ line.old.bytes ++ trade.kind ∷ words trade.columns (trade_values self.now) }
+        ensures len { array_string_len line.new ≤ 191 }
+    {
+        self.header.show(line, "P");
+        show_number(line, self.reference);
+        show_side(line, self.side);
+        show_number(line, u64::from(self.shares));
+        show_text(line, &self.stock);
+        show_price(line, self.price);
+        show_number(line, self.match_number);
+    }
 }
 
 /// Cross Trade, `Q` (TotalView-ITCH 5.0, "Cross Trade Message").
@@ -100,6 +119,21 @@ impl CrossTrade {
         put_code(&mut out, self.cross_type);
         out
     }
+
+    /// The type and the fields, as words of a line that has a number so far.
+    #[tactic(auto, using(crate::proofs::Joining::joining), unfolding(crate::specs::Lines::words))]
+    pub(crate) fn show(&self, line: &mut Words)
+        requires { array_string_len line.old ≤ 21 }
+        ensures bytes { line.new.bytes ≡ line.old.bytes ++ cross_trade.kind ∷ words cross_trade.columns (cross_trade_values self.now) }
+        ensures len { array_string_len line.new ≤ 191 }
+    {
+        self.header.show(line, "Q");
+        show_number(line, self.shares);
+        show_text(line, &self.stock);
+        show_price(line, self.price);
+        show_number(line, self.match_number);
+        show_code(line, self.cross_type);
+    }
 }
 
 /// Broken Trade, `B` (TotalView-ITCH 5.0, "Broken Trade / Order Execution Message").
@@ -128,5 +162,16 @@ impl BrokenTrade {
         let mut out = self.header.encode(b'B');
         put_u64(&mut out, self.match_number);
         out
+    }
+
+    /// The type and the fields, as words of a line that has a number so far.
+    #[tactic(auto, using(crate::proofs::Joining::joining), unfolding(crate::specs::Lines::words))]
+    pub(crate) fn show(&self, line: &mut Words)
+        requires { array_string_len line.old ≤ 21 }
+        ensures bytes { line.new.bytes ≡ line.old.bytes ++ broken_trade.kind ∷ words broken_trade.columns (broken_trade_values self.now) }
+        ensures len { array_string_len line.new ≤ 191 }
+    {
+        self.header.show(line, "B");
+        show_number(line, self.match_number);
     }
 }

@@ -1,6 +1,6 @@
 pub mod Maps
+pub mod Slots
 pub mod Bytes
-pub mod Directories
 pub mod Allowed
 pub mod Goods
 pub mod Laid

@@ -1,4 +1,5 @@
 pub mod Content
+pub mod Slots
 pub mod Reasons
 pub mod Effects
 pub mod Widths

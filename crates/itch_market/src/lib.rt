@@ -6,6 +6,7 @@ mod locates;
 mod market;
 mod refusal;
 mod replaying;
+mod securities;
 mod security;
 mod stop;
 

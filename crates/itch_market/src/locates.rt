@@ -1,31 +1,46 @@
 //! The locates of the directory.
-ghost use Rattle.std.specs.Prelude.{◌≡◌, List, ℕ};
+ghost use Rattle.std.specs.Prelude.{◌≡◌, ◌≤◌, List, ℕ, length};
 ghost use Rattle.std.specs.Iterator.{YieldsFirst, item_count};
+ghost use Rattle.itch_market.specs.Slots.{locates_from, IsFirstFrom};
 
 use crate::security::Security;
-use std::collections::btree_map::Keys;
 use std::marker::Model;
 
 /// The locates of the directory, rising.
 #[derive(Drop)]
 pub struct Locates<'a> {
-    pub(crate) keys: Keys<'a, u16, Security>,
+    slots: &'a [Option<Security>],
+    // The first locate that was not looked at.
+    next: usize,
 }
 
 impl<'a> Model for Locates<'a> {
+    ghost use Rattle.std.specs.Prelude.{◌≤◌, List, ℕ, length};
+    ghost use Rattle.itch_market.specs.Slots.{locates_from};
+
     ghost Value = { List ℕ };
 
-    ghost view = { λ l. l.keys };
+    ghost view = { λ l. locates_from l.next l.slots.now };
+
+    ghost invariant = { λ l. length l.slots.now ≤ 65536 };
 }
 
 impl<'a> Locates<'a> {
+    /// The locates at which slots have a security.
+    pub(crate) fn new(slots: &'a [Option<Security>]) -> Locates<'a>
+        requires { length slots.now ≤ 65536 }
+        ensures { result ≡ locates_from 0 slots.now }
+    {
+        Locates { slots, next: 0 }
+    }
+
     /// A second iterator over the locates that are left.
     pub fn again(&self) -> Locates<'a>
         ensures { result ≡ self.now }
     {
-        match self.keys.clone() {
-            Ok(keys) => Locates { keys },
-            Err(_) => unreachable!(),
+        Locates {
+            slots: self.slots,
+            next: self.next,
         }
     }
 }
@@ -38,6 +53,20 @@ impl Iterator for Locates<'_> {
     ghost remaining = { item_count (λ l. l) };
 
     fn next(&mut self) -> Option<u16> {
-        self.keys.next().copied()
+        let locate = first_from(self.slots, self.next)?;
+        self.next = locate + 1;
+        Some(locate as u16)
     }
+}
+
+// The first locate with a security, from one on.
+fn first_from(slots: &[Option<Security>], from: usize) -> Option<usize>
+    ensures { IsFirstFrom from slots.now result }
+{
+    for locate in from..slots.len() {
+        if slots[locate].is_some() {
+            return Some(locate);
+        }
+    }
+    None
 }

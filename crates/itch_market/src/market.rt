@@ -15,17 +15,17 @@ mod tests;
 
 use crate::locates::Locates;
 use crate::refusal::Refusal;
+use crate::securities::Securities;
 use crate::security::Security;
 use itch_book::{Order, OrderBook};
 use itch_codec::{Message, Side};
-use std::collections::BTreeMap;
 use std::marker::Model;
 
 /// The market of a feed: the last event, the directory with each security's trading states, and the live orders.
 #[derive(Drop)]
 pub struct Market<B: OrderBook> {
     event: Option<u8>,
-    securities: BTreeMap<u16, Security, B::Alloc>,
+    securities: Securities<B::Alloc>,
     book: B,
 }
 
@@ -39,9 +39,9 @@ impl<B: OrderBook> Model for Market<B> {
 
     ghost coded = { Prim.hlevel (codes, map.code) };
 
-    ghost view = { λ m. record { event = m.event; securities = map.from_entries m.securities.entries; orders = B.orders m.book } };
+    ghost view = { λ m. record { event = m.event; securities = m.securities; orders = B.orders m.book } };
 
-    ghost invariant = { λ m. IsGood (record { event = m.event; securities = map.from_entries m.securities.entries; orders = B.orders m.book }) };
+    ghost invariant = { λ m. IsGood (record { event = m.event; securities = m.securities; orders = B.orders m.book }) };
 }
 
 impl<B: OrderBook> Market<B> {
@@ -51,7 +51,7 @@ impl<B: OrderBook> Market<B> {
     {
         Market {
             event: None,
-            securities: BTreeMap::new(alloc),
+            securities: Securities::new(alloc),
             book: B::new(alloc),
         }
     }
@@ -67,16 +67,14 @@ impl<B: OrderBook> Market<B> {
     pub fn security(&self, locate: u16) -> Option<&Security>
         ensures { option_copied result ≡ map.get self.now.securities locate }
     {
-        self.securities.get(&locate)
+        self.securities.get(locate)
     }
 
     /// The locates of the directory, rising.
     pub fn locates(&self) -> Locates<'_>
         ensures { result ≡ map.keys self.now.securities }
     {
-        Locates {
-            keys: self.securities.keys(),
-        }
+        self.securities.locates()
     }
 
     /// The order of a locate and side that has priority over all others there, if there is one.

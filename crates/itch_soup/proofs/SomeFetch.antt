@@ -8,7 +8,7 @@ use Rattle.itch_codec.specs.declared.message.Message.{Message}
 use Rattle.itch_codec.specs.declared.message.Message.TheVariants as message
 use Rattle.itch_codec.specs.declared.orders.AddOrder.{AddOrder}
 use Rattle.itch_codec.specs.Fields.{AreBytes}
-use Rattle.itch_codec.specs.Layouts.{Class, Integer, Text, OneSide, Code, Codes, Digits}
+use Rattle.itch_codec.specs.Layouts.{Class, Integer, Price, Text, OneSide, Code, Codes, Digits}
 use Rattle.itch_codec.specs.Messages.{fault, message_of}
 use Rattle.itch_codec.specs.Numbers.{slice_at, read20}
 use Rattle.itch_codec.specs.Text.{first_unprintable}
@@ -86,6 +86,7 @@ of_number offset (Some n) = tt
 
 of_class : (class : Class) (offset : ℕ) (field : List ℕ) → OfBlock (class_fault class offset field)
 of_class Integer offset field = tt
+of_class Price offset field = tt
 of_class Text offset field = of_text offset (first_unprintable field)
 of_class OneSide offset field = tt
 of_class Code offset field = tt

@@ -6,7 +6,7 @@ use Rattle.std.proofs.lemmas.Bool.{eq-eqb}
 use Rattle.std.proofs.lemmas.Bool.Decides.{nat_tests}
 use Rattle.itch_codec.specs.Text.{first_unprintable}
 use Rattle.itch_codec.specs.Numbers.{slice_at, byte_at, is_space, SpellsNumber, read20}
-use Rattle.itch_codec.specs.Layouts.{Class, Integer, Text, OneSide, Code, Codes, Digits, column}
+use Rattle.itch_codec.specs.Layouts.{Class, Integer, Price, Text, OneSide, Code, Codes, Digits, column}
 use Rattle.itch_codec.specs.Fields.{Value, Number, Bytes, HasAt}
 use Rattle.itch_codec.proofs.Numbers.{spells-read}
 use Rattle.itch_codec.proofs.Texts.{printable-none}
@@ -97,6 +97,7 @@ positive_none offset n h = let k : eqb n 0 ≡ false = grind (arith, nat_tests) 
 class_none : (class : Class) (offset width : ℕ) (block : List ℕ) (value : Value) → HasAt class offset width block value
     → class_fault class offset (slice_at offset width block) ≡ None
 class_none Integer offset width block value h = refl
+class_none Price offset width block value h = refl
 class_none Text offset width block (Bytes bytes) h =
     ap (λ found. option_map (λ place. BadText (offset + place)) found) (ap first_unprintable (sym h.0) ∙ printable-none bytes h.1)
 class_none Text offset width block value h = absurd h

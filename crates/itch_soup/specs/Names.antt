@@ -1,14 +1,10 @@
 -- How the names in a login are compared and written.
-use Rattle.std.specs.Prelude.{ℕ, ◌-◌, Bool, ◌||◌, List, ◌++◌, length, map, replicate, reverse}
+use Rattle.std.specs.Prelude.{ℕ, ◌-◌, Bool, ◌||◌, List, ◌++◌, length, map, replicate}
 use Rattle.std.specs.Char.{to_ascii_lowercase}
 use Rattle.std.specs.List.{list_all}
 use Rattle.std.specs.Str.{bytes_eq}
-use Rattle.itch_codec.specs.Text.{padded_to}
+use Rattle.itch_codec.specs.Text.{padded_to, before_spaces}
 use Rattle.itch_codec.specs.Numbers.{is_space, after_spaces}
-
--- a field without the spaces at its end
-unfoldable pub before_spaces : List ℕ → List ℕ
-before_spaces field = reverse (after_spaces (reverse field))
 
 -- user names and passwords are compared without the spaces at their end, A to Z taken as a to z
 abbrev pub is_same_name : List ℕ → List ℕ → Bool

@@ -1,12 +1,12 @@
 //! How the names in a login are compared and written.
-ghost use Rattle.std.specs.Prelude.{◌≡◌, ◌≤◌, length, map, reverse};
+ghost use Rattle.std.specs.Prelude.{◌≡◌, ◌≤◌, length, map};
 ghost use Rattle.std.specs.Char.{to_ascii_lowercase};
 ghost use Rattle.std.specs.List.{list_all, prefix_len};
 ghost use Rattle.std.specs.Str.{bytes_eq};
 ghost use Rattle.itch_codec.specs.Text.{IsPrintable};
 ghost use Rattle.itch_codec.specs.Numbers.{is_space, after_spaces};
 ghost use Rattle.itch_codec.specs.Fields.{IsAlpha};
-ghost use Rattle.itch_soup.specs.Names.{before_spaces, is_same_name, session_name, asks_for_session, client_session, server_session};
+ghost use Rattle.itch_soup.specs.Names.{is_same_name, session_name, asks_for_session, client_session, server_session};
 
 use itch_codec::Alpha;
 
@@ -67,22 +67,7 @@ fn session_name(session: &Alpha<10>) -> &[u8]
     ensures width { length (session_name session.now) ≤ 10 }
     ensures printable { IsPrintable (session_name session.now) }
 {
-    after_spaces(before_spaces(session.bytes()))
-}
-
-#[tactic(auto, using(crate::proofs::Trimming::trimming))]
-fn before_spaces(text: &[u8]) -> &[u8]
-    ensures text { result.now ≡ before_spaces text.entry.now }
-    ensures within { length result.now ≤ length text.entry.now }
-{
-    &text[..text.len() - trailing_spaces(text)]
-}
-
-fn trailing_spaces(text: &[u8]) -> usize
-    ensures count { result ≡ prefix_len is_space (reverse text.now) }
-    ensures within { result ≤ length text.now }
-{
-    text.iter().rev().take_while(|byte| **byte == b' ').count()
+    after_spaces(session.text().as_bytes())
 }
 
 #[tactic(auto, unfolding(itch_codec::specs::Numbers::after_spaces))]

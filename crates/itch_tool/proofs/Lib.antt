@@ -1,3 +1,11 @@
 pub mod Parts
+pub mod Showings
 pub mod Written
 pub mod Snapshots
+pub mod Fetched
+pub mod Lines
+pub mod Comparisons
+pub mod Texts
+pub mod LevelLemmas
+pub mod LevelTexts
+pub mod Listings

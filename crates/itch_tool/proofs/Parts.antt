@@ -99,11 +99,11 @@ module _ {R : Type 0} (remaining : R → Option (List ℕ)) (failures : R → Fa
 
   -- or why it was refused
   pub day_fails : (fault : ToolFault) (start n : Content) → start ≡ empty → ReadsMarket file after start (bytes_left remaining old) (bytes_left remaining new) (Err fault) n
-      → CountsRead (Err fault) (failures old.reader) (failures new.reader) → LeavesDay (Err fault) after old new → ReadsDay remaining failures file after old new (Err fault)
+      → CountsRead {X = ℕ} (Err fault) (failures old.reader) (failures new.reader) → LeavesDay (Err fault) after old new → ReadsDay remaining failures file after old new (Err fault)
   day_fails fault start n first reads counts left =
       by_fault fault (subst (λ m. ReadsMarket file after m (bytes_left remaining old) (bytes_left remaining new) (Err fault) n) first reads) counts left where
         by_fault : (f : ToolFault) → ReadsMarket file after empty (bytes_left remaining old) (bytes_left remaining new) (Err f) n
-            → CountsRead (Err f) (failures old.reader) (failures new.reader) → LeavesDay (Err f) after old new → ReadsDay remaining failures file after old new (Err f)
+            → CountsRead {X = ℕ} (Err f) (failures old.reader) (failures new.reader) → LeavesDay (Err f) after old new → ReadsDay remaining failures file after old new (Err f)
         by_fault (tool.Stopped at end) (same, stop, halts) counted leaves =
             (same, stop, (n, halts), halts_told after (bytes_left remaining old) (bytes_left remaining new) end.count end.stop n halts, counted, leaves)
         by_fault (tool.Short count) (some, halts) counted leaves = (
@@ -113,9 +113,16 @@ module _ {R : Type 0} (remaining : R → Option (List ℕ)) (failures : R → Fa
           counted,
           leaves,
         )
+        by_fault (tool.Snap at f) h counted leaves = absurd h
+        by_fault tool.UnknownLocate h counted leaves = absurd h
         by_fault (tool.Write error) h counted leaves = absurd h
         by_fault tool.OutOfMemory h counted leaves = absurd h
         by_fault tool.Open h counted leaves = absurd h
+        by_fault tool.BadUser h counted leaves = absurd h
+        by_fault tool.BadPassword h counted leaves = absurd h
+        by_fault tool.TooMany h counted leaves = absurd h
+        by_fault (tool.Soup fault) h counted leaves = absurd h
+        by_fault tool.Socket h counted leaves = absurd h
 
 module _ {W : Type 0} (contents : W → Option (List ℕ)) (failures : W → Failures) where
   -- what is written is what is made of what was read

@@ -1,4 +1,9 @@
 pub mod Statuses
 pub mod Readings
 pub mod Outputs
+pub mod Showing
+pub mod Comparing
+pub mod Books
 pub mod Requests
+pub mod Logins
+pub mod Sessions

@@ -1,16 +1,20 @@
 -- How a command reads the messages of a day file into a new market.
-use Rattle.std.specs.Prelude.{◌≡◌, ◌≢◌, ℕ, ◌-◌, ◌^◌, ◌≤◌, List, [], ◌++◌, length, ◌⊎◌, ◌<◌, Option, Some, None, IsSome, IfSome, Result, Ok, Err}
+use Rattle.std.specs.Prelude.{◌≡◌, ◌≢◌, ℕ, ◌-◌, ◌^◌, ◌≤◌, List, [], ◌++◌, map, length, ◌⊎◌, ◌<◌, Option, Some, None, IsSome, IfSome, Result, Ok, Err}
 use Rattle.std.specs.List.{AllByRecursion}
 use Rattle.std.specs.Io.KnownBytes.{Consumes, IsAtEnd}
+use Rattle.itch_codec.specs.Messages.{message_of}
 use Rattle.itch_frame.specs.Blocks.{block, blocks, Ends, IsFull, Day}
 use Rattle.itch_frame.specs.Reading.{Reading, bytes_left}
 use Rattle.itch_frame.specs.declared.stage.Stage.TheVariants.{Going}
 use Rattle.itch_frame.specs.declared.tally.Failures.{Failures}
-use Rattle.itch_market.specs.Content.{Content, empty}
+use Rattle.itch_market.specs.Content.{Content, empty, laid}
+use Rattle.itch_market.specs.Runs.{run}
 use Rattle.itch_market.specs.declared.stop.Stop.{Stop}
 use Rattle.itch_market.specs.declared.stop.Stop.TheVariants.{End}
-use Rattle.itch_market.specs.Replays.{NoCause, Replays, ReplaysFirst, Counts, LeavesReaderFirst, IsTold}
+use Rattle.itch_market.specs.Replays.{Fits, NoCause, Replays, ReplaysFirst, Counts, LeavesReaderFirst, IsTold}
 use Rattle.itch_market.specs.Stops.{Stops}
+use Rattle.itch_snapshot.specs.Files.{IsFaultOf, IsMarketOf}
+use Rattle.itch_snapshot.specs.Reads.{ReadsSnapshot, CountsFault, IsToldFault}
 use Rattle.itch_tool.specs.declared.fault.ToolFault.{ToolFault}
 use Rattle.itch_tool.specs.declared.fault.ToolFault.TheVariants as tool
 use Rattle.itch_tool.specs.declared.fault.Source.{Source}
@@ -59,7 +63,7 @@ ReadsMarket file after m old new (Err (tool.Short count)) n = IsSome after × Ha
 ReadsMarket file after m old new (Err fault) n = ⊥
 
 -- a failed read is counted with its error, and nothing else is
-abbrev pub CountsRead : Result ℕ ToolFault → Failures → Failures → Type 0
+abbrev pub CountsRead : {X : Type 0} → Result X ToolFault → Failures → Failures → Type 0
 CountsRead (Err (tool.Stopped at end)) old new = Counts end.stop old new
 CountsRead result old new = new ≡ old
 
@@ -95,6 +99,24 @@ module _ {R : Type 0} (remaining : R → Option (List ℕ)) (failures : R → Fa
       × IfSome (bytes_left remaining old) (λ b. Stops empty b count End)
       × (failures new.reader ≡ failures old.reader) × LeavesDay (Err (tool.Short count)) after old new
   ReadsDay file after old new (Err fault) = ⊥
+
+module _ {R : Type 0} (remaining : R → Option (List ℕ)) (failures : R → Failures) where
+  -- What reading a snapshot file returns, and leaves of its reader: the market and the number, or why the file is refused.
+  abbrev pub ReadsSnap : Source → Reading R → Reading R → Result (Content × ℕ) ToolFault → Type 0
+  ReadsSnap file old new (Ok done) =
+      IfSome (bytes_left remaining old) (λ b. IsMarketOf b done) × ReadsSnapshot (bytes_left remaining old) (bytes_left remaining new) (Ok done)
+      × (failures new.reader ≡ failures old.reader)
+  -- where the file alone decides, it is the file's one fault
+  ReadsSnap file old new (Err (tool.Snap at fault)) =
+      (at ≡ file) × ReadsSnapshot (bytes_left remaining old) (bytes_left remaining new) (Err fault)
+      × IfSome (bytes_left remaining old) (λ b. IsToldFault fault → IsFaultOf b fault) × CountsFault fault (failures old.reader) (failures new.reader)
+  ReadsSnap file old new (Err fault) = ⊥
+
+-- the market that the messages of a file leave
+abbrev pub LeavesMarket : (Result (List (List ℕ)) ToolFault → Type 0) → Result Content ToolFault → Type 0
+LeavesMarket reads (Ok market) =
+    (payloads : List (List ℕ)) × reads (Ok payloads) × AllByRecursion Fits payloads × (market ≡ laid (run (map message_of payloads)))
+LeavesMarket reads (Err fault) = reads (Err fault)
 
 -- what is read of a reader that is handed over: a reader of blocks is made of it first, for which memory may be refused
 abbrev pub FromReader : {R X : Type 0} → R → (Reading R → Reading R → Result X ToolFault → Type 0) → Result X ToolFault → Type 0

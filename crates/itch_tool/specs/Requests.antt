@@ -1,16 +1,28 @@
 -- What the program does for each request.
-use Rattle.std.specs.Prelude.{ℕ, Bool, true, List, Option, None, Result}
+use Rattle.std.specs.Prelude.{ℕ, Bool, true, List, Option, None, Result, ⊤}
 use Rattle.itch_frame.specs.Reading.{Reading}
 use Rattle.itch_frame.specs.declared.tally.Failures.{Failures}
 use Rattle.itch_tool.specs.declared.fault.ToolFault.{ToolFault}
 use Rattle.itch_tool.specs.declared.fault.Source.TheVariants.{Only}
 use Rattle.itch_tool.specs.declared.request.Request.{Request}
-use Rattle.itch_tool.specs.declared.request.Request.TheVariants.{Snap, Check}
-use Rattle.itch_tool.specs.Readings.{ReadsDay}
-use Rattle.itch_tool.specs.Outputs.{Outputs, ok_line_of, snapshot_of}
+use Rattle.itch_tool.specs.declared.request.Request.TheVariants.{Snap, Check, Show, Canon, Compare, Book}
+use Rattle.itch_tool.specs.Readings.{ReadsDay, ReadsSnap}
+use Rattle.itch_tool.specs.Showing.{Shows}
+use Rattle.itch_tool.specs.Outputs.{Outputs, ok_line_of, snapshot_of, closed_bytes}
+use Rattle.itch_tool.specs.Books.{ReadsListed, book_of}
+
+-- a request over one file
+abbrev pub IsOverOne : Request → Type 0
+IsOverOne (Compare first second) = ⊥
+IsOverOne request = ⊤
 
 module _ {R W : Type 0} (remaining : R → Option (List ℕ)) (failed_reads : R → Failures) (contents : W → Option (List ℕ)) (failed_writes : W → Failures) where
   -- what a request over the blocks of one file reads, writes and returns
   abbrev pub Performs : Request → Reading R → Reading R → W → Result Bool ToolFault → W → Type 0
   Performs (Snap file after) old new = Outputs contents failed_writes (ReadsDay remaining failed_reads Only after old new) snapshot_of (λ _. true)
   Performs (Check file) old new = Outputs contents failed_writes (ReadsDay remaining failed_reads Only None old new) ok_line_of (λ _. true)
+  Performs (Show file) old new = Shows contents failed_writes remaining failed_reads old new
+  Performs (Canon file) old new = Outputs contents failed_writes (ReadsSnap remaining failed_reads Only old new) closed_bytes (λ _. true)
+  Performs (Book locate file) old new =
+      Outputs contents failed_writes (ReadsListed locate (ReadsDay remaining failed_reads Only None old new)) (book_of locate) (λ _. true)
+  Performs (Compare first second) old new = λ out result written. ⊥

@@ -8,9 +8,10 @@ ghost use Rattle.itch_tool.specs.declared.fault.Source.TheVariants.{Only};
 use crate::book::Book;
 use crate::fault::{Source, ToolFault};
 use crate::reading::read_market;
+use crate::writing::write_text;
 use arrayvec::ArrayVec;
+use itch_frame::BlockReader;
 use itch_frame::counted::{CountedRead, CountedWrite};
-use itch_frame::{BlockReader, FrameFault, write_part};
 use itch_market::Market;
 use itoa::Buffer;
 use std::alloc::Allocator;
@@ -46,10 +47,9 @@ pub fn check_blocks<R: CountedRead, B: Allocator, A: Allocator + Copy, W: Counte
 fn write_count<W: CountedWrite>(count: u64, out: &mut W) -> Result<bool, ToolFault>
     ensures { WritesOutput W.contents W.failures (ok_line count) true out.old result out.new }
 {
-    match write_part(out, &ok_line(count), 0) {
+    match write_text(&ok_line(count), out) {
         Ok(()) => Ok(true),
-        Err(FrameFault::Write { error, .. }) => Err(ToolFault::Write(error)),
-        Err(_) => unreachable!(),
+        Err(fault) => Err(fault),
     }
 }
 

@@ -1,10 +1,12 @@
 //! Why a command failed: its line on standard error, and the program's status.
 ghost use Rattle.std.specs.Prelude.{◌≡◌, ◌≢◌};
 ghost use Rattle.std.specs.IoError.{error_kind};
-ghost use Rattle.itch_tool.specs.Statuses.{stop_status, status_of, exit_status};
+ghost use Rattle.itch_tool.specs.Statuses.{stop_status, snapshot_status, soup_status, status_of, exit_status};
 
 use itch_frame::FrameFault;
 use itch_market::{Refusal, ReplayEnd, Stop};
+use itch_snapshot::SnapFault;
+use itch_soup::SoupFault;
 use std::alloc::AllocError;
 use std::error::Error;
 use std::fmt;
@@ -40,26 +42,45 @@ impl fmt::Display for Source {
 pub enum ToolFault {
     /// A replay of a file stopped before its end.
     Stopped { file: Source, end: ReplayEnd },
+    /// A snapshot file was refused.
+    Snap { file: Source, fault: SnapFault },
     /// A file has only so many messages.
     Short { count: u64 },
+    /// The directory has no such locate.
+    UnknownLocate,
     /// A write failed.
     Write(io::Error),
     /// Memory was refused.
     OutOfMemory,
     /// A file cannot be opened.
     Open,
+    /// The user name is not 1 to 6 printable characters.
+    BadUser,
+    /// The password is not 1 to 10 printable characters.
+    BadPassword,
+    /// A snapshot has too many messages to be served: its End of Snapshot would have no number.
+    TooMany,
+    /// A session ended without a snapshot.
+    Soup(SoupFault),
+    /// A socket was not bound, connected, accepted or set up.
+    Socket,
 }
 
 impl ToolFault {
-    /// The status that the program ends with: 1 refused, 3 read, write or file, 4 memory.
+    /// The status that the program ends with: 1 refused, 2 usage, 3 read, write, file or socket, 4 memory.
     pub fn status(&self) -> u8
         ensures { result ≡ status_of self.now }
     {
         match self {
             ToolFault::Stopped { end, .. } => stop_status(&end.stop),
-            ToolFault::Short { .. } => 1,
+            ToolFault::Snap { fault, .. } => snapshot_status(fault),
+            ToolFault::Short { .. } | ToolFault::UnknownLocate => 1,
             ToolFault::Write(_) | ToolFault::Open => 3,
             ToolFault::OutOfMemory => 4,
+            ToolFault::BadUser | ToolFault::BadPassword => 2,
+            ToolFault::TooMany => 1,
+            ToolFault::Soup(fault) => soup_status(fault),
+            ToolFault::Socket => 3,
         }
     }
 }
@@ -96,6 +117,34 @@ fn stop_status(stop: &Stop) -> u8
     }
 }
 
+fn snapshot_status(fault: &SnapFault) -> u8
+    ensures { result ≡ snapshot_status fault.now }
+{
+    match fault {
+        SnapFault::Frame(FrameFault::Read(_)) | SnapFault::Frame(FrameFault::Write { .. }) => 3,
+        SnapFault::Rule {
+            reason: Refusal::OutOfMemory,
+            ..
+        } => 4,
+        _ => 1,
+    }
+}
+
+fn soup_status(fault: &SoupFault) -> u8
+    ensures { result ≡ soup_status fault.now }
+{
+    match fault {
+        SoupFault::Frame(FrameFault::Read(_)) | SoupFault::Frame(FrameFault::Write { .. }) => 3,
+        SoupFault::Snapshot(
+            SnapFault::Rule {
+                reason: Refusal::OutOfMemory,
+                ..
+            },
+        ) => 4,
+        _ => 1,
+    }
+}
+
 impl fmt::Display for ToolFault {
     fn fmt<W: fmt::Write>(&self, f: &mut fmt::Formatter<W>) -> fmt::Result {
         f.write_str("itchsnap: ")?;
@@ -105,11 +154,38 @@ impl fmt::Display for ToolFault {
                 let stop = &end.stop;
                 write!(f, "{file}message {place}: {stop}")
             }
+            ToolFault::Snap { file, fault } => write!(f, "{file}{fault}"),
             ToolFault::Short { count } => write!(f, "only {count} messages"),
+            ToolFault::UnknownLocate => f.write_str("unknown locate"),
             ToolFault::Write(_) => f.write_str("write failed"),
             ToolFault::OutOfMemory => f.write_str("out of memory"),
             ToolFault::Open => f.write_str("cannot open"),
+            ToolFault::BadUser => f.write_str("bad user"),
+            ToolFault::BadPassword => f.write_str("bad password"),
+            ToolFault::TooMany => f.write_str("too many messages"),
+            ToolFault::Soup(fault) => write_soup(fault, f),
+            ToolFault::Socket => f.write_str("socket failed"),
         }
+    }
+}
+
+// Why a session ended without a snapshot. What only says that the peer broke the rules is one line.
+fn write_soup<W: fmt::Write>(fault: &SoupFault, f: &mut fmt::Formatter<W>) -> fmt::Result {
+    match fault {
+        SoupFault::Rejected(code) => {
+            let letter = char::from(*code);
+            write!(f, "rejected {letter}")
+        }
+        SoupFault::EndedEarly => f.write_str("ended early"),
+        SoupFault::Frame(FrameFault::Read(_)) => f.write_str("read failed"),
+        SoupFault::Frame(FrameFault::Write { .. }) => f.write_str("write failed"),
+        SoupFault::Snapshot(
+            SnapFault::Rule {
+                reason: Refusal::OutOfMemory,
+                ..
+            },
+        ) => f.write_str("out of memory"),
+        _ => f.write_str("session fault"),
     }
 }
 

@@ -4,17 +4,32 @@
 #![tactic(auto)]
 
 mod book;
+mod canon;
 mod check;
+mod commands;
+mod compare;
+mod connection;
+mod ending;
 mod fault;
+mod fetch;
+mod job;
+mod levels;
+mod login;
+mod patient;
 mod reading;
 mod request;
 mod run;
+mod serve;
+mod show;
 mod snap;
+mod sockets;
 #[cfg(test)]
 mod tests;
+mod writing;
 
+use crate::commands::usage_fault;
 use crate::fault::{ToolFault, status, system_fault};
-use crate::request::{read_request, usage_fault};
+use crate::job::read_job;
 use crate::run::run;
 use clap::Error;
 use clap::error::ErrorKind;
@@ -26,8 +41,8 @@ use std::process::ExitCode;
 fn main(rt: HostRuntime) -> ExitCode {
     let alloc = rt.alloc();
     let status = match read_words(alloc, env::args(&rt)) {
-        Ok(words) => match read_request(alloc, words.as_slice()) {
-            Ok(request) => finish(&rt, run(&rt, request)),
+        Ok(words) => match read_job(alloc, words.as_slice()) {
+            Ok(job) => finish(&rt, run(&rt, job)),
             Err(error) => explain(&rt, error),
         },
         Err(error) => explain(&rt, error),

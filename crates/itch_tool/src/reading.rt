@@ -1,6 +1,7 @@
 //! A day file read into a market.
+ghost use Rattle.std.specs.Prelude.{None};
 ghost use Rattle.itch_frame.specs.Reading.{bytes_left};
-ghost use Rattle.itch_tool.specs.Readings.{ReadsMarket, CountsRead, LeavesDay};
+ghost use Rattle.itch_tool.specs.Readings.{ReadsMarket, CountsRead, LeavesDay, ReadsDay, LeavesMarket};
 
 use crate::fault::{Source, ToolFault};
 use itch_book::OrderBook;
@@ -46,5 +47,20 @@ fn read_whole<R: CountedRead, A: Allocator, B: OrderBook>(
     match end.stop {
         Stop::End => Ok(end.count),
         _ => Err(ToolFault::Stopped { file, end }),
+    }
+}
+
+/// The market that the messages of a day file leave.
+pub fn day_market<R: CountedRead, A: Allocator, B: OrderBook>(
+    alloc: B::Alloc,
+    reader: &mut BlockReader<R, A>,
+    file: Source,
+) -> Result<Market<B>, ToolFault>
+    ensures { LeavesMarket (ReadsDay R.remaining R.failures file None reader.old reader.new) result }
+{
+    let mut market = Market::new(alloc);
+    match read_market(reader, &mut market, None, file) {
+        Ok(_count) => Ok(market),
+        Err(fault) => Err(fault),
     }
 }

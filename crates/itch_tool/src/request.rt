@@ -1,11 +1,8 @@
 //! What the words of the command line ask for.
 
-use clap::error::ErrorKind;
-use clap::{Arg, ArgMatches, Command, Error};
-use std::alloc::{AllocError, Global};
-
-/// The most that `--after` takes.
-const MOST_AFTER: i64 = 999_999_999_999;
+use crate::commands::usage_fault;
+use clap::{ArgMatches, Error};
+use std::alloc::Global;
 
 /// What the program is asked to do. Where no file is named, it reads standard input.
 #[derive(Clone, Copy, Debug, PartialEq, Eq)]
@@ -19,35 +16,82 @@ pub enum Request<'a> {
     Check {
         file: Option<&'a str>,
     },
+    /// Show each message of a file as a line.
+    Show {
+        file: Option<&'a str>,
+    },
+    /// Write a snapshot in canonical form.
+    Canon {
+        file: Option<&'a str>,
+    },
+    /// Say whether two files leave the same market.
+    Compare {
+        first: &'a str,
+        second: &'a str,
+    },
+    /// Write the prices of a locate.
+    Book {
+        locate: u16,
+        file: Option<&'a str>,
+    },
 }
 
 impl<'a> Request<'a> {
-    /// The file that is read.
+    /// The file that is read; of two the first.
     pub fn file(&self) -> Option<&'a str> {
         match *self {
-            Request::Snap { file, .. } | Request::Check { file } => file,
+            Request::Snap { file, .. }
+            | Request::Check { file }
+            | Request::Show { file }
+            | Request::Canon { file }
+            | Request::Book { file, .. } => file,
+            Request::Compare { first, .. } => Some(first),
         }
     }
 }
 
-/// Reads the words, of which the first is the program's name.
+/// Reads what was matched of a request over files.
 ///
-/// An error is a usage fault, a request for help, or want of memory: its kind says which.
-pub fn read_request<'a>(alloc: Global, words: &'a [String]) -> Result<Request<'a>, Error> {
-    let matches = command(alloc)?.try_get_matches_from(words)?;
+/// An error is a usage fault or want of memory: its kind says which.
+pub fn read_request<'a>(alloc: Global, matches: &ArgMatches<'a>) -> Result<Request<'a>, Error> {
     match matches.subcommand() {
-        Some(("snap", options)) => {
-            let after = read_after(alloc, options)?;
-            Ok(Request::Snap {
-                file: options.get_str("FILE"),
-                after,
-            })
-        }
+        Some(("snap", options)) => read_snap(alloc, options),
         Some(("check", options)) => Ok(Request::Check {
             file: options.get_str("FILE"),
         }),
+        Some(("show", options)) => Ok(Request::Show {
+            file: options.get_str("FILE"),
+        }),
+        Some(("canon", options)) => Ok(Request::Canon {
+            file: options.get_str("SNAP"),
+        }),
+        Some(("compare", options)) => read_compare(alloc, options),
+        Some(("book", options)) => read_book(alloc, options),
         _ => Err(usage_fault(alloc, "a command is missing")?),
     }
+}
+
+fn read_snap<'a>(alloc: Global, options: &ArgMatches<'a>) -> Result<Request<'a>, Error> {
+    let after = read_after(alloc, options)?;
+    Ok(Request::Snap {
+        file: options.get_str("FILE"),
+        after,
+    })
+}
+
+fn read_compare<'a>(alloc: Global, options: &ArgMatches<'a>) -> Result<Request<'a>, Error> {
+    match (options.get_str("A"), options.get_str("B")) {
+        (Some(first), Some(second)) => Ok(Request::Compare { first, second }),
+        _ => Err(usage_fault(alloc, "compare takes two files")?),
+    }
+}
+
+fn read_book<'a>(alloc: Global, options: &ArgMatches<'a>) -> Result<Request<'a>, Error> {
+    let locate = read_locate(alloc, options)?;
+    Ok(Request::Book {
+        locate,
+        file: options.get_str("FILE"),
+    })
 }
 
 // The number behind `--after`, in decimal digits alone.
@@ -61,32 +105,13 @@ fn read_after<'a>(alloc: Global, options: &ArgMatches<'a>) -> Result<Option<u64>
     Ok(options.get_one::<u64>("after"))
 }
 
-/// The usage fault that says so.
-pub fn usage_fault(alloc: Global, message: &str) -> Result<Error, AllocError> {
-    command(alloc)?.error(ErrorKind::ValueValidation, message)
-}
-
-fn command<'a>(alloc: Global) -> Result<Command<'a>, AllocError> {
-    let after = Arg::new(alloc, "after")
-        .long("after")
-        .value_name("N")
-        .help("Stop after the first N messages")
-        .value_parser(clap::value_parser!(u64).range(0..=MOST_AFTER));
-    let snap = Command::new(alloc, "snap")
-        .about("Write the snapshot of a file of messages")
-        .arg(file(alloc))?
-        .arg(after)?;
-    let check = Command::new(alloc, "check")
-        .about("Check that a file follows the order rules")
-        .arg(file(alloc))?;
-    Command::new(alloc, "itchsnap")
-        .bin_name("itchsnap")?
-        .about("Market snapshots for TotalView-ITCH 5.0")
-        .subcommand_required(true)
-        .subcommand(snap)?
-        .subcommand(check)
-}
-
-fn file<'a>(alloc: Global) -> Arg<'a> {
-    Arg::new(alloc, "FILE").help("The file to read, or standard input where none is named")
+// The locate of a book, in decimal digits alone.
+fn read_locate<'a>(alloc: Global, options: &ArgMatches<'a>) -> Result<u16, Error> {
+    let digits = options
+        .get_str("LOCATE")
+        .is_some_and(|text| text.bytes().all(|byte| byte.is_ascii_digit()));
+    match options.get_one::<u16>("LOCATE") {
+        Some(locate) if digits => Ok(locate),
+        _ => Err(usage_fault(alloc, "LOCATE takes decimal digits")?),
+    }
 }

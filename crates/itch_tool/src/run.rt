@@ -1,22 +1,41 @@
 //! The commands over files and standard streams.
-ghost use Rattle.itch_tool.specs.Requests.{Performs};
+ghost use Rattle.itch_tool.specs.Requests.{IsOverOne, Performs};
 
+use crate::canon::canon_blocks;
 use crate::check::check_blocks;
+use crate::compare::compare_blocks;
 use crate::fault::{ToolFault, system_fault};
+use crate::job::Job;
+use crate::levels::book_blocks;
 use crate::request::Request;
+use crate::show::show_blocks;
 use crate::snap::snap_blocks;
+use crate::sockets::{run_fetch, run_serve};
 use itch_frame::BlockReader;
 use itch_frame::counted::{Buffered, Counted, CountedRead, CountedWrite};
 use std::alloc::Allocator;
 use std::fs;
 use std::io::{self, BufReader, BufWriter, Read, Write};
-use std::rt::Files;
+use std::net::{Net, TcpListener, TcpStream};
+use std::rt::{Clock, Files};
 
-// Files and streams are read and written in pieces of this many bytes.
-const PIECE: usize = 1 << 16;
+/// Files, streams and sockets are read and written in pieces of this many bytes.
+pub const PIECE: usize = 1 << 16;
 
-/// Performs a request, with its output on standard output. True is status 0, and false status 1 with the output written.
-pub fn run<R: Files + Input + Print + AllocGlobal>(
+/// Does what is asked for, with its output on standard output. True is status 0, and false status 1 with the output written.
+pub fn run<R>(rt: &R, job: Job<'_>) -> Result<bool, ToolFault>
+where
+    R: Files + Input + Print + AllocGlobal + Clock,
+    R: Net<Listener = TcpListener, Stream = TcpStream>,
+{
+    match job {
+        Job::Files(request) => run_request(rt, request),
+        Job::Serve { file, peer, count } => run_serve(rt, file, peer, count),
+        Job::Fetch(peer) => run_fetch(rt, peer),
+    }
+}
+
+fn run_request<R: Files + Input + Print + AllocGlobal>(
     rt: &R,
     request: Request<'_>,
 ) -> Result<bool, ToolFault> {
@@ -25,19 +44,50 @@ pub fn run<R: Files + Input + Print + AllocGlobal>(
         return Err(ToolFault::OutOfMemory);
     };
     let mut out = Counted::new(buffered);
-    let answer = match request.file() {
-        Some(path) => {
-            let file = match fs::open(rt, path) {
-                Ok(file) => file,
-                Err(error) => return Err(system_fault(error, ToolFault::Open)),
-            };
-            perform_over(alloc, request, file, &mut out)?
+    let answer = match request {
+        Request::Compare { first, second } => {
+            let first = open(rt, first)?;
+            let second = open(rt, second)?;
+            compare_over(alloc, first, second, &mut out)?
         }
-        None => perform_over(alloc, request, rt.reader(), &mut out)?,
+        _ => match request.file() {
+            Some(path) => perform_over(alloc, request, open(rt, path)?, &mut out)?,
+            None => perform_over(alloc, request, rt.reader(), &mut out)?,
+        },
     };
     match out.into_inner().flush() {
         Ok(()) => Ok(answer),
         Err(error) => Err(ToolFault::Write(error)),
+    }
+}
+
+fn open<R: Files + AllocGlobal>(rt: &R, path: &str) -> Result<R::File, ToolFault> {
+    match fs::open(rt, path) {
+        Ok(file) => Ok(file),
+        Err(error) => Err(system_fault(error, ToolFault::Open)),
+    }
+}
+
+// Compares two files.
+fn compare_over<A: Allocator + Copy, R: Read + Drop, W: CountedWrite>(
+    alloc: A,
+    first: R,
+    second: R,
+    out: &mut W,
+) -> Result<bool, ToolFault> {
+    let mut first = blocks(alloc, first)?;
+    let mut second = blocks(alloc, second)?;
+    compare_blocks(alloc, &mut first, &mut second, out)
+}
+
+// A reader of the blocks of a file.
+fn blocks<A: Allocator + Copy, R: Read + Drop>(
+    alloc: A,
+    reader: R,
+) -> Result<BlockReader<Buffered<R, A>, A>, ToolFault> {
+    match BufReader::with_capacity(alloc, PIECE, reader) {
+        Ok(buffered) => Ok(BlockReader::new(alloc, Buffered::new(buffered))?),
+        Err(_) => Err(ToolFault::OutOfMemory),
     }
 }
 
@@ -47,11 +97,10 @@ fn perform_over<A: Allocator + Copy, R: Read + Drop, W: CountedWrite>(
     request: Request<'_>,
     reader: R,
     out: &mut W,
-) -> Result<bool, ToolFault> {
-    let Ok(buffered) = BufReader::with_capacity(alloc, PIECE, reader) else {
-        return Err(ToolFault::OutOfMemory);
-    };
-    let mut reader = BlockReader::new(alloc, Buffered::new(buffered))?;
+) -> Result<bool, ToolFault>
+    requires { IsOverOne request }
+{
+    let mut reader = blocks(alloc, reader)?;
     perform(alloc, request, &mut reader, out)
 }
 
@@ -62,10 +111,15 @@ fn perform<R: CountedRead, B: Allocator, A: Allocator + Copy, W: CountedWrite>(
     reader: &mut BlockReader<R, B>,
     out: &mut W,
 ) -> Result<bool, ToolFault>
+    requires { IsOverOne request }
     ensures { Performs R.remaining R.failures W.contents W.failures request.entry reader.old reader.new out.old result out.new }
 {
     match request {
         Request::Snap { after, .. } => snap_blocks(alloc, reader, after, out),
         Request::Check { .. } => check_blocks(alloc, reader, out),
+        Request::Show { .. } => show_blocks(reader, out),
+        Request::Canon { .. } => canon_blocks(alloc, reader, out),
+        Request::Book { locate, .. } => book_blocks(alloc, locate, reader, out),
+        Request::Compare { .. } => unreachable!(),
     }
 }

@@ -1,20 +1,17 @@
 //! `snap`: the canonical snapshot of a file.
-ghost use Rattle.std.specs.Prelude.{◌-◌, ◌+◌, ◌≤◌, ◌^◌, ◌++◌, length, true};
-ghost use Rattle.itch_snapshot.specs.Bytes.{canon, closing};
-ghost use Rattle.itch_snapshot.specs.Snapshot.{snap as snapshot_list};
-ghost use Rattle.itch_tool.specs.Outputs.{Outputs, WritesOutput, snapshot_of};
+ghost use Rattle.std.specs.Prelude.{true};
+ghost use Rattle.itch_tool.specs.Outputs.{Outputs, snapshot_of};
 ghost use Rattle.itch_tool.specs.Readings.{ReadsDay, FromReader};
 ghost use Rattle.itch_tool.specs.declared.fault.Source.TheVariants.{Only};
 
 use crate::book::Book;
 use crate::fault::{Source, ToolFault};
 use crate::reading::read_market;
-use itch_book::OrderBook;
+use crate::writing::write_closed;
 use itch_codec::Seq;
+use itch_frame::BlockReader;
 use itch_frame::counted::{CountedRead, CountedWrite};
-use itch_frame::{BlockReader, FrameFault};
 use itch_market::Market;
-use itch_snapshot::{SnapFault, write_snapshot};
 use std::alloc::Allocator;
 
 /// Writes the canonical snapshot behind a day file's messages, or behind its first ones: the canonical bytes of the market
@@ -47,25 +44,8 @@ pub fn snap_blocks<R: CountedRead, B: Allocator, A: Allocator + Copy, W: Counted
         Ok(count) => count,
         Err(fault) => return Err(fault),
     };
-    write_market(&market, count, out)
-}
-
-// Writes the snapshot of a market behind so many messages.
-fn write_market<B: OrderBook, W: CountedWrite>(
-    market: &Market<B>,
-    count: u64,
-    out: &mut W,
-) -> Result<bool, ToolFault>
-    requires few { count ≤ 10 ^ 19 - 1 }
-    requires short { length (snapshot_list market.now) ≤ count }
-    ensures { WritesOutput W.contents W.failures (canon market.now ++ closing (count + 1)) true out.old result out.new }
-{
     let Some(next) = Seq::new(count + 1) else {
         unreachable!()
     };
-    match write_snapshot(market, next, out) {
-        Ok(_) => Ok(true),
-        Err(SnapFault::Frame(FrameFault::Write { error, .. })) => Err(ToolFault::Write(error)),
-        Err(_) => unreachable!(),
-    }
+    write_closed(&market, next, out)
 }

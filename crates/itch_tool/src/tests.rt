@@ -2,9 +2,12 @@
 ghost use Rattle.std.specs.Prelude.{◌≤◌};
 
 mod blocks;
+mod desk;
 mod failures;
 mod laws;
 mod refusals;
+mod sessions;
+mod shows;
 mod words;
 
 use crate::check::check;

@@ -92,7 +92,7 @@ impl<B: OrderBook> Market<B> {
         ensures memory { IsErr result → IsTrue (takes_memory self.old (Message.StockDirectory x)) }
     {
         let locate = x.header.locate;
-        let old = self.securities.get(&locate).copied();
+        let old = self.securities.get(locate).copied();
         self.securities.insert(locate, entered(old, x.entry))?;
         Ok(())
     }
@@ -100,20 +100,18 @@ impl<B: OrderBook> Market<B> {
     fn set_action(&mut self, x: TradingAction)
         ensures { self.new ≡ laid (effect self.old (Message.TradingAction x)) }
     {
-        if let Some(security) = self.securities.get_mut(&x.header.locate) {
-            security.action = Some(Action {
-                state: x.state,
-                reason: x.reason,
-            });
-        }
+        let reason = x.reason;
+        let action = Action {
+            state: x.state,
+            reason,
+        };
+        self.securities.set_action(x.header.locate, action);
     }
 
     fn set_sho(&mut self, x: RegSho)
         ensures { self.new ≡ laid (effect self.old (Message.RegSho x)) }
     {
-        if let Some(security) = self.securities.get_mut(&x.header.locate) {
-            security.sho = Some(x.action);
-        }
+        self.securities.set_sho(x.header.locate, x.action);
     }
 
     fn add(&mut self, x: AddOrder, mpid: Option<Alpha<4>>) -> Result<(), AllocError>

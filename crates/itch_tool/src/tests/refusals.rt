@@ -122,11 +122,12 @@ fn every_fault_has_its_line_and_status(rt: HostRuntime) -> Result<(), Fail> {
         (ToolFault::OutOfMemory, "out of memory", 4),
         (ToolFault::Open, "cannot open", 3),
     ];
-    for (fault, reason, wanted) in cases {
+    for (fault, reason, wanted) in cases.iter() {
         let line = format!(in alloc; "itchsnap: {reason}")?;
         assert_eq!(rt; format!(in alloc; "{fault}")?.as_str(), line.as_str());
-        assert_eq!(rt; status(&Err(fault)), wanted, "{reason}");
+        assert_eq!(rt; fault.status(), *wanted, "{reason}");
     }
+    assert_eq!(rt; status(&Err(ToolFault::Open)), 3);
     assert_eq!(rt; status(&Ok(true)), 0);
     assert_eq!(rt; status(&Ok(false)), 1);
     Ok(())

@@ -1,12 +1,14 @@
 //! What the words of the command line ask for.
 
-use crate::request::{Request, read_request};
+use crate::job::{Job, Peer, read_job};
+use crate::login::Login;
+use crate::request::Request;
 use std::test::Fail;
 
 #[test]
 fn words_are_read(rt: HostRuntime) -> Result<(), Fail> {
     let alloc = rt.alloc();
-    let cases: [(&str, Result<Request<'static>, i32>); 15] = [
+    let cases: [(&str, Result<Request<'static>, i32>); 30] = [
         (
             "snap",
             Ok(Request::Snap {
@@ -55,7 +57,51 @@ fn words_are_read(rt: HostRuntime) -> Result<(), Fail> {
         ("snap --after", Err(2)),
         ("snap --after 1 --after 2", Err(2)),
         ("snap one two", Err(2)),
-        ("book 1", Err(2)),
+        ("canon", Ok(Request::Canon { file: None })),
+        (
+            "canon a.snap",
+            Ok(Request::Canon {
+                file: Some("a.snap"),
+            }),
+        ),
+        ("canon a.snap b.snap", Err(2)),
+        (
+            "compare a.itch b.itch",
+            Ok(Request::Compare {
+                first: "a.itch",
+                second: "b.itch",
+            }),
+        ),
+        ("compare a.itch", Err(2)),
+        ("compare", Err(2)),
+        ("compare a.itch b.itch c.itch", Err(2)),
+        (
+            "book 1",
+            Ok(Request::Book {
+                locate: 1,
+                file: None,
+            }),
+        ),
+        (
+            "book 0065535 day.itch",
+            Ok(Request::Book {
+                locate: 65_535,
+                file: Some("day.itch"),
+            }),
+        ),
+        (
+            "book 0",
+            Ok(Request::Book {
+                locate: 0,
+                file: None,
+            }),
+        ),
+        ("book 65536", Err(2)),
+        ("book +1", Err(2)),
+        ("book -1", Err(2)),
+        ("book one", Err(2)),
+        ("book", Err(2)),
+        ("unknown 1", Err(2)),
         ("", Err(2)),
     ];
     for (line, wanted) in cases {
@@ -63,11 +109,100 @@ fn words_are_read(rt: HostRuntime) -> Result<(), Fail> {
         for word in line.split_whitespace() {
             words.push(String::from_str(alloc, word)?)?;
         }
-        match (read_request(alloc, words.as_slice()), wanted) {
-            (Ok(request), Ok(wanted)) => assert!(rt; request == wanted, "{line}"),
+        match (read_job(alloc, words.as_slice()), wanted) {
+            (Ok(Job::Files(request)), Ok(wanted)) => assert!(rt; request == wanted, "{line}"),
             (Err(error), Err(status)) => assert_eq!(rt; error.exit_code(), status, "{line}"),
             _ => assert!(rt; false, "{line}"),
         }
     }
+    Ok(())
+}
+
+#[test]
+fn words_of_sessions_are_read(rt: HostRuntime) -> Result<(), Fail> {
+    let alloc = rt.alloc();
+    let peer = Peer {
+        port: 65_535,
+        user: "user",
+        password: "secret",
+    };
+    let serve = Job::Serve {
+        file: "day.itch",
+        peer,
+        count: 1_000_000,
+    };
+    let cases: [(&str, Result<Job<'static>, i32>); 18] = [
+        (
+            "serve day.itch --port 65535 --user user --pass secret --count 1000000",
+            Ok(serve),
+        ),
+        (
+            "serve --count 01000000 --pass secret --user user --port 065535 day.itch",
+            Ok(serve),
+        ),
+        (
+            "fetch --port 65535 --user user --pass secret",
+            Ok(Job::Fetch(peer)),
+        ),
+        (
+            "fetch --port=65535 --user=user --pass=secret",
+            Ok(Job::Fetch(peer)),
+        ),
+        ("fetch --help", Err(0)),
+        ("fetch --port 0 --user user --pass secret", Err(2)),
+        ("fetch --port 65536 --user user --pass secret", Err(2)),
+        ("fetch --port +1 --user user --pass secret", Err(2)),
+        ("fetch --port 1 --port 1 --user user --pass secret", Err(2)),
+        ("fetch --user user --pass secret", Err(2)),
+        ("fetch --port 1 --pass secret", Err(2)),
+        ("fetch --port 1 --user user", Err(2)),
+        ("fetch day.itch --port 1 --user user --pass secret", Err(2)),
+        ("serve --port 1 --user user --pass secret --count 1", Err(2)),
+        ("serve day.itch --port 1 --user user --pass secret", Err(2)),
+        (
+            "serve day.itch --port 1 --user user --pass secret --count 0",
+            Err(2),
+        ),
+        (
+            "serve day.itch --port 1 --user user --pass secret --count 1000001",
+            Err(2),
+        ),
+        (
+            "serve day.itch --port 1 --user user --pass secret --count +1",
+            Err(2),
+        ),
+    ];
+    for (line, wanted) in cases {
+        let mut words: Vec<String> = vec![in alloc; String::from_str(alloc, "itchsnap")?]?;
+        for word in line.split_whitespace() {
+            words.push(String::from_str(alloc, word)?)?;
+        }
+        match (read_job(alloc, words.as_slice()), wanted) {
+            (Ok(job), Ok(wanted)) => assert!(rt; job == wanted, "{line}"),
+            (Err(error), Err(status)) => assert_eq!(rt; error.exit_code(), status, "{line}"),
+            _ => assert!(rt; false, "{line}"),
+        }
+    }
+    Ok(())
+}
+
+fn login() -> Option<Login> {
+    match Login::new("user", "secret") {
+        Ok(login) => Some(login),
+        Err(_) => None,
+    }
+}
+
+#[test]
+fn passwords_are_not_shown(rt: HostRuntime) -> Result<(), Fail> {
+    let peer = Peer {
+        port: 1,
+        user: "user",
+        password: "secret",
+    };
+    let login = login().ok_or("a login")?;
+    let shown = format!(in rt.alloc(); "{peer:?} {login:?}")?;
+    assert!(rt; shown.contains("user"));
+    assert!(rt; !shown.contains("secret"));
     Ok(())
 }

@@ -1,5 +1,6 @@
-use Rattle.std.proofs.Common.{true, refl, inl}
+use Rattle.std.proofs.Common.{◌++◌, true, refl, inl, ap, ◌∙◌, arith}
 use Rattle.itch_frame.specs.Reading.{bytes_left}
+use Rattle.itch_snapshot.specs.Bytes.{canon, closing}
 use Rattle.itch_tool.specs.declared.fault.Source.TheVariants.{Only}
 use Rattle.itch_tool.specs.Outputs.{snapshot_of}
 use Rattle.itch_tool.specs.Readings.{ReadsDay}
@@ -16,12 +17,12 @@ returns-in-Err g c = inl (
   refl,
 )
 
-pub write_market-requires-clause-short : goal.write_market-requires-clause-short
-write_market-requires-clause-short g c =
+pub write_closed-requires : goal.write_closed-requires
+write_closed-requires g c =
     let old = bytes_left g.R.CountedRead.remaining c.args.reader.now in
     let new = bytes_left g.R.CountedRead.remaining c.read_market.new.reader in
-    applied_short c.args.after old new c.in-Ok.count c.read_market.new.market
-    (read_done Only c.args.after old new c.new-market.result c.in-Ok.count c.read_market.new.market c.new-market.ensures c.in-Ok.ensures.reads)
+    let applied = read_done Only c.args.after old new c.new-market.result c.in-Ok.count c.read_market.new.market c.new-market.ensures c.in-Ok.ensures.reads in
+    omega (arith, applied.few, applied_short c.args.after old new c.in-Ok.count c.read_market.new.market applied)
 
 pub returns : goal.returns
 returns g c =
@@ -30,7 +31,7 @@ returns g c =
     let applied = read_done Only c.args.after (bytes_left g.R.CountedRead.remaining old) (bytes_left g.R.CountedRead.remaining new) c.new-market.result c.in-Ok.count c.read_market.new.market
     c.new-market.ensures c.in-Ok.ensures.reads in
     read_writes g.W.CountedWrite.contents g.W.CountedWrite.failures (ReadsDay g.R.CountedRead.remaining g.R.CountedRead.failures Only c.args.after old new) snapshot_of (λ _. true)
-    applied.payloads _ c.args.out.now c.write_market.new.out c.write_market.result
+    applied.payloads _ c.args.out.now c.write_closed.new.out c.write_closed.result
     (day_done g.R.CountedRead.remaining g.R.CountedRead.failures Only c.args.after old new c.in-Ok.count c.read_market.new.market applied c.in-Ok.ensures.failures c.in-Ok.ensures.reader)
-    (applied_snapshot c.args.after (bytes_left g.R.CountedRead.remaining old) (bytes_left g.R.CountedRead.remaining new) c.in-Ok.count c.read_market.new.market applied)
-    c.write_market.ensures
+    (ap (λ k. canon c.read_market.new.market ++ closing k) c.in-Some.ensures.number ∙ applied_snapshot c.args.after (bytes_left g.R.CountedRead.remaining old) (bytes_left g.R.CountedRead.remaining new) c.in-Ok.count c.read_market.new.market applied)
+    c.write_closed.ensures

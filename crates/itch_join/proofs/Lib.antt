@@ -1,0 +1,14 @@
+pub mod Maps
+pub mod Waits
+pub mod Draining
+pub mod Going
+pub mod Taking
+pub mod Lawful
+pub mod Feeds
+pub mod Moving
+pub mod Cases
+pub mod Keeping
+pub mod Standing
+pub mod WholeFeeds
+pub mod Premises
+pub mod Results

@@ -1,0 +1,68 @@
+-- Finite maps with numbers as keys: what is left where keys are dropped.
+use Rattle.std.proofs.Common.{T, ◌&&◌, is_lt, Ordering, Less, Equal, Greater, Bool, true, false, ◌≡◌, ℕ, ◌-◌, ◌<◌, ◌≤◌, nat_lt, not, cond, List, [], ◌∷◌, length, Some, None, is_some, refl, sym, ap, ◌∙◌, nat_cmp, eqb, arith, map}
+use Rattle.std.specs.Ordering.{eq_by_cmp}
+use Rattle.std.specs.Cmp.{nat_cmp_total, eq_by_cmp_equiv}
+use Rattle.std.specs.FinMap as finite
+use Rattle.std.specs.FinMap.{nat_cmp-IsAntisymmetric}
+use Rattle.std.specs.FinMap.Entries.{below_all, is_sorted}
+use Rattle.std.specs.Map.{keys_of}
+use Rattle.std.specs.List.{AllByRecursion}
+use Rattle.std.specs.List.Sorted.{IsStrictlySortedBy}
+use Rattle.std.proofs.lemmas.Map.Made.{length-le_from_is_member}
+use Rattle.std.proofs.lemmas.Map.Keys.{IsDistinct-from_sorted}
+use Rattle.std.proofs.lemmas.Bool.Decides.{nat_tests}
+
+pub key_tests : (q k : ℕ) → eq_by_cmp nat_cmp q k ≡ eqb q k
+key_tests q k = grind (arith, nat_tests)
+
+length-map : {A B : Type 0} (f : A → B) (xs : List A) → length (map f xs) ≡ length xs
+length-map f [] = refl
+length-map f (x ∷ xs) = omega (arith, length-map f xs)
+
+both : (a b : Bool) → T (a && b) → T a × T b
+both true b holds = (tt, holds)
+both false b holds = absurd holds
+
+less : (o : Ordering) → T (is_lt o) → o ≡ Less
+less Less holds = refl
+less Equal holds = absurd holds
+less Greater holds = absurd holds
+
+module _ {X : Type 0} where
+  below_rise : (k : ℕ) (es : List (ℕ × X)) → T (below_all nat_cmp k es) → AllByRecursion (λ q. nat_cmp k q ≡ Less) (keys_of es)
+  below_rise k [] below = tt
+  below_rise k (e ∷ es) below = let parts = both (is_lt (nat_cmp k e.0)) (below_all nat_cmp k es) below in (less (nat_cmp k e.0) parts.0, below_rise k es parts.1)
+
+  entries_rise : (es : List (ℕ × X)) → T (is_sorted nat_cmp es) → IsStrictlySortedBy nat_cmp (keys_of es)
+  unfolding IsStrictlySortedBy
+  entries_rise [] sorted = tt
+  entries_rise (e ∷ es) sorted =
+      let parts = both (below_all nat_cmp e.0 es) (is_sorted nat_cmp es) sorted in
+      (below_rise e.0 es parts.0, entries_rise es parts.1)
+
+  -- the keys of a map rise
+  keys_rise : (m : finite.FinMap nat_cmp X) → IsStrictlySortedBy nat_cmp (finite.keys m)
+  keys_rise m = entries_rise (finite.entries m) (finite.entries_sorted m)
+
+  pub get-remove : (m : finite.FinMap nat_cmp X) (k q : ℕ) → finite.get (finite.remove m k) q ≡ cond (eqb q k) None (finite.get m q)
+  get-remove m k q = finite.get-remove nat_cmp_total m k q ∙ ap (λ b. cond b None (finite.get m q)) (key_tests q k)
+
+  pub get-from : (m : finite.FinMap nat_cmp X) (n q : ℕ) → finite.get (finite.retain_keys m (λ i. not (nat_lt i n))) q ≡ cond (not (nat_lt q n)) (finite.get m q) None
+  get-from m n q = finite.get-retain_keys m (λ i. not (nat_lt i n)) q (λ x same. ap (λ i. not (nat_lt i n)) (sym (nat_cmp-IsAntisymmetric q x same)))
+
+  -- a map with no other keys is no longer
+  pub len_within : (m n : finite.FinMap nat_cmp X) → ((q : ℕ) → is_some (finite.get n q) ≡ true → is_some (finite.get m q) ≡ true) → finite.len n ≤ finite.len m
+  len_within m n within =
+      let laws = eq_by_cmp_equiv nat_cmp_total in
+      let shorter : length (finite.keys n) ≤ length (finite.keys m) =
+      length-le_from_is_member laws (finite.keys n) (finite.keys m) (IsDistinct-from_sorted nat_cmp (finite.keys n) (keys_rise n))
+      (λ q has. sym (finite.contains_key-keys m q) ∙ within q (finite.contains_key-keys n q ∙ has)) in
+      omega (arith, finite.len-entries n, finite.len-entries m, length-map (λ (e : ℕ × X). e.0) (finite.entries n), length-map (λ (e : ℕ × X). e.0) (finite.entries m))
+
+  -- to take out a key that is there makes a map shorter
+  pub len_less : (m : finite.FinMap nat_cmp X) (k : ℕ) (x : X) → finite.get m k ≡ Some x → finite.len (finite.remove m k) < finite.len m
+  len_less m k x there =
+      let some : (finite.len m ≡ 0 → ⊥) = λ none. let e : None ≡ Some x = sym (finite.get-empty nat_cmp k) ∙ ap (λ w. finite.get w k) (sym (finite.empty_of_len m none)) ∙ there in cc in
+      let less : finite.len (finite.remove m k) ≡ cond (is_some (finite.get m k)) (finite.len m - 1) (finite.len m) = finite.len-remove nat_cmp_total m k in
+      let fewer : finite.len (finite.remove m k) ≡ finite.len m - 1 = less ∙ ap (λ o. cond (is_some o) (finite.len m - 1) (finite.len m)) there in
+      omega arith

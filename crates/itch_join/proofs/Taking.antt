@@ -1,0 +1,260 @@
+-- A message of a snapshot, as its reader takes it, and as a joiner does.
+use Rattle.std.proofs.Common.{◌≡◌, ◌≢◌, ℕ, ◌+◌, ◌-◌, ◌^◌, ◌==◌, Bool, true, false, cond, nat_lt, List, Option, Some, None, is_some, Result, Ok, Err, refl, sym, ap, ◌∙◌, subst}
+use Rattle.std.specs.Option.{option_map}
+use Rattle.std.specs.FinMap as map
+use Rattle.itch_codec.specs.declared.message.Message.{Message}
+use Rattle.itch_codec.specs.declared.message.Message.TheVariants as is
+use Rattle.itch_codec.specs.declared.orders.AddOrder.{AddOrder}
+use Rattle.itch_codec.specs.Messages.{fault, message_of}
+use Rattle.itch_book.specs.declared.order.Order.{Order}
+use Rattle.itch_book.specs.Orders as book
+use Rattle.itch_market.specs.declared.security.Security.{Security}
+use Rattle.itch_market.specs.declared.refusal.Refusal.{Refusal}
+use Rattle.itch_market.specs.declared.refusal.Refusal.TheVariants.{UnknownLocate, StockMismatch, ZeroShares, DuplicateRef, UnknownRef, LocateMismatch, TooManyShares, UnexpectedEnd, OutOfMemory}
+use Rattle.itch_market.specs.Content.{Content, laid}
+use Rattle.itch_market.specs.Reasons.{reason, refuse, security_reason, order_reason, directory_reason, add_reason, take_reason, is_live}
+use Rattle.itch_market.specs.Effects as market
+use Rattle.itch_market.specs.Replays.{IsRefusal}
+use Rattle.itch_market.proofs.Causes.{no_fault, no_reason}
+use Rattle.itch_snapshot.specs.declared.fault.SnapFault.{SnapFault}
+use Rattle.itch_snapshot.specs.declared.fault.SnapFault.TheVariants.{NoEnd, Frame, Codec, Rule, AfterEnd, TooManyMessages}
+use Rattle.itch_snapshot.specs.declared.stage.Stage.{Stage}
+use Rattle.itch_snapshot.specs.declared.stage.Stage.TheVariants as stage
+use Rattle.itch_snapshot.specs.Loads.{Load, Loads, TakesAt, TakesNext, closing_number, number_by, number_in, is_full}
+use Rattle.itch_snapshot.specs.Loads as loads
+use Rattle.itch_join.specs.declared.fault.Cause.{Cause}
+use Rattle.itch_join.specs.declared.fault.Cause.TheVariants as cause
+use Rattle.itch_join.specs.declared.fault.JoinFault.{JoinFault}
+use Rattle.itch_join.specs.declared.fault.JoinFault.TheVariants as join
+use Rattle.itch_join.specs.declared.outcome.Snap.{Snap}
+use Rattle.itch_join.specs.declared.outcome.Snap.TheVariants as snap
+use Rattle.itch_join.specs.Positions.{Position}
+use Rattle.itch_join.specs.Rules.{refused_by, market_rules}
+use Rattle.itch_join.specs.States.{HalfRead, Reading, Broken, State}
+use Rattle.itch_join.specs.Steps.{SnapshotCase, SnapTakes, SnapFails, SnapBroken, payload_case, half_case, unjoined_case, unhalted_case, snapshot_case, SnapshotBy}
+use Rattle.itch_join.specs.HalfReads.{Breaks, broken_by, join_fault_of, half_at, half_of, IsOpenAt, IsOpen}
+
+-- no rule gives want of memory as its reason ------------------------------
+
+later : (b : Bool) (why : Refusal) (rest : Option Refusal) → why ≢ OutOfMemory → rest ≢ Some OutOfMemory → refuse b why rest ≢ Some OutOfMemory
+later true why rest other free h = other (cc)
+later false why rest other free h = free h
+
+none_free : ◌≡◌ {A = Option Refusal} None (Some OutOfMemory) → ⊥
+none_free h = cc
+
+of_security : (found : Option Security) (stock : List ℕ) (rest : Option Refusal) → rest ≢ Some OutOfMemory → security_reason found stock rest ≢ Some OutOfMemory
+of_security None stock rest free h = cc
+of_security (Some s) stock rest free h = later _ StockMismatch rest (λ e. cc) free h
+
+of_directory : (found : Option Security) (stock : List ℕ) → directory_reason found stock ≢ Some OutOfMemory
+of_directory None stock h = cc
+of_directory (Some s) stock h = later _ StockMismatch None (λ e. cc) (λ e. cc) h
+
+of_order : (found : Option Order) (locate : ℕ) (rest : Order → Option Refusal) → ((x : Order) → rest x ≢ Some OutOfMemory) → order_reason found locate rest ≢ Some OutOfMemory
+of_order None locate rest free h = cc
+of_order (Some x) locate rest free h = later _ LocateMismatch (rest x) (λ e. cc) (free x) h
+
+of_new : (zero live : Bool) → refuse zero ZeroShares (refuse live DuplicateRef None) ≢ Some OutOfMemory
+of_new zero live h = later zero ZeroShares _ (λ e. cc) (λ e. later live DuplicateRef None (λ e. cc) (λ e. cc) e) h
+
+of_take : (x : Order) (many : Bool) → refuse many (TooManyShares x.shares) None ≢ Some OutOfMemory
+of_take x many h = later many (TooManyShares x.shares) None (λ e. cc) (λ e. cc) h
+
+of_add : (m : Content) (x : AddOrder) → add_reason m x ≢ Some OutOfMemory
+of_add m x h =
+    of_security (map.get m.securities x.header.locate) x.stock (refuse (x.shares == 0) ZeroShares (refuse (is_live m x.reference) DuplicateRef None))
+    (of_new (x.shares == 0) (is_live m x.reference)) h
+
+of_taking : (m : Content) (locate reference shares : ℕ) → take_reason m locate reference shares ≢ Some OutOfMemory
+of_taking m locate reference shares h =
+    of_order (book.get m.orders reference) locate (λ o. refuse (nat_lt o.shares shares) (TooManyShares o.shares) None) (λ o. of_take o (nat_lt o.shares shares)) h
+
+pub reason_is_rule : (m : Content) (x : Message) → reason m x ≢ Some OutOfMemory
+reason_is_rule m (is.SystemEvent x) h = cc
+reason_is_rule m (is.StockDirectory x) h = of_directory (map.get m.securities x.header.locate) x.entry.stock h
+reason_is_rule m (is.TradingAction x) h = of_security (map.get m.securities x.header.locate) x.stock None none_free h
+reason_is_rule m (is.RegSho x) h = of_security (map.get m.securities x.header.locate) x.stock None none_free h
+reason_is_rule m (is.AddOrder x) h = of_add m x h
+reason_is_rule m (is.AttributedAddOrder x) h = of_add m x.order h
+reason_is_rule m (is.OrderExecuted x) h = of_taking m x.header.locate x.reference x.shares h
+reason_is_rule m (is.OrderExecutedWithPrice x) h = of_taking m x.execution.header.locate x.execution.reference x.execution.shares h
+reason_is_rule m (is.OrderCancel x) h = of_taking m x.header.locate x.reference x.shares h
+reason_is_rule m (is.OrderDelete x) h = of_order (book.get m.orders x.reference) x.header.locate (λ o. None) (λ o. none_free) h
+reason_is_rule m (is.OrderReplace x) h =
+    of_order (book.get m.orders x.original) x.header.locate (λ o. refuse (x.shares == 0) ZeroShares (refuse (is_live m x.reference) DuplicateRef None))
+    (λ o. of_new (x.shares == 0) (is_live m x.reference)) h
+reason_is_rule m (is.Trade x) h = cc
+reason_is_rule m (is.CrossTrade x) h = cc
+reason_is_rule m (is.BrokenTrade x) h = cc
+reason_is_rule m (is.End next) h = cc
+reason_is_rule m (is.Other payload) h = cc
+
+-- what is taken is no End of Snapshot
+pub no_end : (m : Content) (x : Message) → reason m x ≡ None → number_in x ≡ None
+no_end m (is.SystemEvent x) h = refl
+no_end m (is.StockDirectory x) h = refl
+no_end m (is.TradingAction x) h = refl
+no_end m (is.RegSho x) h = refl
+no_end m (is.AddOrder x) h = refl
+no_end m (is.AttributedAddOrder x) h = refl
+no_end m (is.OrderExecuted x) h = refl
+no_end m (is.OrderExecutedWithPrice x) h = refl
+no_end m (is.OrderCancel x) h = refl
+no_end m (is.OrderDelete x) h = refl
+no_end m (is.OrderReplace x) h = refl
+no_end m (is.Trade x) h = refl
+no_end m (is.CrossTrade x) h = refl
+no_end m (is.BrokenTrade x) h = refl
+no_end m (is.End next) h = cc
+no_end m (is.Other payload) h = refl
+
+-- the case of a message -----------------------------------------------------
+
+pub case_here : (s : State) (taken : ℕ) (m : Content) (p : List ℕ) (number : Option ℕ) (refused : Option Cause) → s.halt ≡ None → is_some s.joined ≡ false → s.half ≡ Reading taken m
+    → closing_number p ≡ number → refused_by (fault p) m p ≡ refused → snapshot_case market_rules s p ≡ payload_case taken m number refused
+case_here s taken m p number refused none apart half tells refuses =
+    ap (λ o. unhalted_case o (unjoined_case s.joined (half_case market_rules s.half p))) none
+    ∙ by_joined s.joined apart
+    ∙ ap (λ h. half_case market_rules h p) half
+    ∙ ap (λ n. payload_case taken m n (refused_by (fault p) m p)) tells
+    ∙ ap (payload_case taken m number) refuses
+  where
+    by_joined : (o : Option Position) → is_some o ≡ false → unjoined_case o (half_case market_rules s.half p) ≡ half_case market_rules s.half p
+    by_joined None e = refl
+    by_joined (Some j) e = cc
+
+case_broken : (s : State) (place : ℕ) (why : Cause) (p : List ℕ) → s.halt ≡ None → is_some s.joined ≡ false → s.half ≡ Broken place why → snapshot_case market_rules s p ≡ SnapBroken place why
+case_broken s place why p none apart half =
+    ap (λ o. unhalted_case o (unjoined_case s.joined (half_case market_rules s.half p))) none
+    ∙ by_joined s.joined apart
+    ∙ ap (λ h. half_case market_rules h p) half
+  where
+    by_joined : (o : Option Position) → is_some o ≡ false → unjoined_case o (half_case market_rules s.half p) ≡ half_case market_rules s.half p
+    by_joined None e = refl
+    by_joined (Some j) e = cc
+
+room : (taken : ℕ) (l k : SnapshotCase) → is_full taken ≡ false → cond (taken == 10 ^ 19 - 1) l k ≡ k
+room taken l k free = ap (λ b. cond b l k) free
+
+full : (taken : ℕ) (l k : SnapshotCase) → is_full taken ≡ true → cond (taken == 10 ^ 19 - 1) l k ≡ l
+full taken l k is = ap (λ b. cond b l k) is
+
+at_case : (s : State) (p : List ℕ) (l : SnapshotCase) (answer : Result Snap JoinFault) (now : State) → snapshot_case market_rules s p ≡ l → SnapshotBy market_rules s p l answer now → SnapshotBy market_rules s p (snapshot_case market_rules s p) answer now
+at_case s p l answer now kind h = subst (λ k. SnapshotBy market_rules s p k answer now) (sym kind) h
+
+reading : (l k : ℕ) (m n : Content) → l ≡ k → m ≡ n → Reading l m ≡ Reading k n
+reading l k m n one two = λ i. Reading (one i) (two i)
+
+half_there : (s : State) (h k : HalfRead) → h ≡ k → ◌≡◌ {A = State} (record s { half = h }) (record s { half = k })
+half_there s h k e = ap (λ (x : HalfRead). let t : State = record s { half = x } in t) e
+
+at_stage : (old new : Load) (st : Stage) → new.stage ≡ st → half_of new ≡ half_at st new
+at_stage old new st is = ap (λ t. half_at t new) is
+
+-- a message that was taken
+took_at : (st : Stage) (s : State) (old new : Load) (p : List ℕ) → s.halt ≡ None → is_some s.joined ≡ false → s.half ≡ half_at st old → TakesAt st old p (Ok None) new
+    → SnapshotBy market_rules s p (snapshot_case market_rules s p) (Ok snap.More) (record s { half = half_of new })
+took_at stage.Taking s old new p none apart half ((free, (clean, fits, left)), counted, goes) =
+    let m = old.market in
+    let faultless = no_fault m p clean in
+    let tells : closing_number p ≡ None = ap (λ f. number_by f p) faultless ∙ no_end m (message_of p) (no_reason m p clean) in
+    let refuses : refused_by (fault p) m p ≡ None = ap (λ f. refused_by f m p) faultless ∙ ap (option_map cause.Rule) (no_reason m p clean) in
+    at_case s p (SnapTakes old.taken m) (Ok snap.More) _
+    (case_here s old.taken m p None None none apart half tells refuses ∙ room old.taken _ _ free)
+    (refl, half_there s (half_of new) (Reading (old.taken + 1) (laid (market.effect m (message_of p)))) (at_stage old new stage.Taking goes ∙ reading _ _ _ _ counted left))
+took_at (stage.Broken fault) s old new p none apart half (answer, same) = absurd (let e = answer in cc)
+took_at (stage.Closed next) s old new p none apart half (answer, same) = absurd (let e = answer in cc)
+
+pub took : (s : State) (old new : Load) (p : List ℕ) → s.halt ≡ None → is_some s.joined ≡ false → s.half ≡ half_of old → Loads old p (Ok None) new
+    → SnapshotBy market_rules s p (snapshot_case market_rules s p) (Ok snap.More) (record s { half = half_of new })
+took s old new p none apart half h = took_at old.stage s old new p none apart half h
+
+-- a message that was not taken ------------------------------------------------
+
+-- the reason of a rule is returned, and breaks the snapshot
+record IsReported (place : ℕ) (why : Refusal) : Type 0 where
+  answer : join_fault_of (Rule place why) ≡ join.BadSnapshot place (cause.Rule why)
+  stage : loads.broken_by (Rule place why) ≡ stage.Broken (Rule place why)
+
+reported : (place : ℕ) (why : Refusal) → why ≢ OutOfMemory → IsReported place why
+reported place UnknownLocate other = record { answer = refl; stage = refl }
+reported place StockMismatch other = record { answer = refl; stage = refl }
+reported place ZeroShares other = record { answer = refl; stage = refl }
+reported place DuplicateRef other = record { answer = refl; stage = refl }
+reported place UnknownRef other = record { answer = refl; stage = refl }
+reported place LocateMismatch other = record { answer = refl; stage = refl }
+reported place (TooManyShares remain) other = record { answer = refl; stage = refl }
+reported place UnexpectedEnd other = record { answer = refl; stage = refl }
+reported place OutOfMemory other = absurd (other refl)
+
+fails_case : (s : State) (p : List ℕ) (place : ℕ) (why : Cause) (l : ℕ) (answer : JoinFault) (h : HalfRead) → snapshot_case market_rules s p ≡ SnapFails l why → place ≡ l → answer ≡ join.BadSnapshot place why → h ≡ Broken place why
+    → SnapshotBy market_rules s p (snapshot_case market_rules s p) (Err answer) (record s { half = h })
+fails_case s p place why l answer h kind here is half =
+    at_case s p (SnapFails l why) (Err answer) _ kind
+    (ap Err (is ∙ ap (λ n. join.BadSnapshot n why) here), half_there s h (Broken l why) (half ∙ ap (λ n. Broken n why) here))
+
+failed_taking : (f : SnapFault) (s : State) (old new : Load) (p : List ℕ) → s.halt ≡ None → is_some s.joined ≡ false → s.half ≡ Reading old.taken old.market
+    → TakesNext old.taken old.market p (Err f) new.market → new.taken ≡ old.taken → new.stage ≡ loads.broken_by f
+    → SnapshotBy market_rules s p (snapshot_case market_rules s p) (Err (join_fault_of f)) (record s { half = half_of new })
+failed_taking (Codec place f) s old new p none apart half (free, here, (same, is)) counted goes =
+    fails_case s p place (cause.Codec f) (old.taken + 1) _ (half_of new)
+    (case_here s old.taken old.market p None (Some (cause.Codec f)) none apart half (ap (λ o. number_by o p) is) (ap (λ o. refused_by o old.market p) is) ∙ room old.taken _ _ free)
+    here refl (at_stage old new (stage.Broken (Codec place f)) goes)
+failed_taking (Rule place why) s old new p none apart half (free, here, tells, (same, (clean, refusal))) counted goes =
+    by_reason (reason m (message_of p)) refl refusal
+  where
+    m : Content
+    m = old.market
+
+    by_reason : (r : Option Refusal) → reason old.market (message_of p) ≡ r → IsRefusal r (market.takes_memory old.market (message_of p)) why
+        → SnapshotBy market_rules s p (snapshot_case market_rules s p) (Err (join_fault_of (Rule place why))) (record s { half = half_of new })
+    by_reason None is (memory, takes) =
+        at_case s p (SnapTakes old.taken old.market) _ _
+        (case_here s old.taken old.market p None None none apart half tells (ap (λ o. refused_by o old.market p) clean ∙ ap (option_map cause.Rule) is) ∙ room old.taken _ _ free) (
+          ap (λ w. join_fault_of (Rule place w)) memory,
+          takes,
+          half_there s (half_of new) s.half
+              (at_stage old new stage.Taking (goes ∙ ap (λ w. loads.broken_by (Rule place w)) memory) ∙ reading _ _ _ _ counted same ∙ sym half),
+        )
+    by_reason (Some r) is reason_is =
+        let other : why ≢ OutOfMemory = λ e. reason_is_rule old.market (message_of p) (is ∙ ap Some (sym reason_is ∙ e)) in
+        let t = reported place why other in
+        fails_case s p place (cause.Rule why) (old.taken + 1) _ (half_of new)
+        (case_here s old.taken old.market p None (Some (cause.Rule why)) none apart half tells
+        (ap (λ o. refused_by o old.market p) clean ∙ ap (option_map cause.Rule) (is ∙ ap Some (sym reason_is))) ∙ room old.taken _ _ free)
+        here t.answer (at_stage old new (stage.Broken (Rule place why)) (goes ∙ t.stage))
+failed_taking TooManyMessages s old new p none apart half (many, tells, same) counted goes =
+    fails_case s p (10 ^ 19) cause.TooMany (10 ^ 19) _ (half_of new)
+    (case_here s old.taken old.market p None _ none apart half tells refl ∙ full old.taken _ _ many)
+    refl refl (at_stage old new (stage.Broken TooManyMessages) goes)
+failed_taking NoEnd s old new p none apart half h counted goes = absurd h
+failed_taking (Frame f) s old new p none apart half h counted goes = absurd h
+failed_taking AfterEnd s old new p none apart half h counted goes = absurd h
+
+broken_case : (s : State) (p : List ℕ) (place : ℕ) (why : Cause) (answer : JoinFault) (h : HalfRead) → s.halt ≡ None → is_some s.joined ≡ false → s.half ≡ Broken place why → answer ≡ join.BadSnapshot place why → h ≡ s.half
+    → SnapshotBy market_rules s p (snapshot_case market_rules s p) (Err answer) (record s { half = h })
+broken_case s p place why answer h none apart half is same =
+    at_case s p (SnapBroken place why) (Err answer) _ (case_broken s place why p none apart half) (ap Err is, half_there s h s.half same)
+
+failed_broken : (f : SnapFault) (s : State) (p : List ℕ) (h : HalfRead) → Breaks f → s.halt ≡ None → is_some s.joined ≡ false → s.half ≡ broken_by f → h ≡ s.half
+    → SnapshotBy market_rules s p (snapshot_case market_rules s p) (Err (join_fault_of f)) (record s { half = h })
+failed_broken (Codec place f) s p h breaks none apart half same = broken_case s p place (cause.Codec f) _ h none apart half refl same
+failed_broken (Rule place why) s p h breaks none apart half same = broken_case s p place (cause.Rule why) _ h none apart half (reported place why breaks).answer same
+failed_broken TooManyMessages s p h breaks none apart half same = broken_case s p (10 ^ 19) cause.TooMany _ h none apart half refl same
+failed_broken NoEnd s p h breaks none apart half same = absurd breaks
+failed_broken (Frame f) s p h breaks none apart half same = absurd breaks
+failed_broken AfterEnd s p h breaks none apart half same = absurd breaks
+
+failed_at : (st : Stage) (f : SnapFault) (s : State) (old new : Load) (p : List ℕ) → old.stage ≡ st → IsOpenAt st → s.halt ≡ None → is_some s.joined ≡ false → s.half ≡ half_at st old → TakesAt st old p (Err f) new
+    → SnapshotBy market_rules s p (snapshot_case market_rules s p) (Err (join_fault_of f)) (record s { half = half_of new })
+failed_at stage.Taking f s old new p is opened none apart half (next, counted, goes) = failed_taking f s old new p none apart half next counted goes
+failed_at (stage.Broken broke) f s old new p is opened none apart half (answer, same) =
+    let e : f ≡ broke = let a = answer in cc in
+    subst (λ g. SnapshotBy market_rules s p (snapshot_case market_rules s p) (Err (join_fault_of g)) (record s { half = half_of new })) (sym e)
+    (failed_broken broke s p (half_of new) opened none apart half (ap half_of same ∙ at_stage old old (stage.Broken broke) is ∙ sym half))
+failed_at (stage.Closed next) f s old new p is opened none apart half h = absurd opened
+
+pub failed : (f : SnapFault) (s : State) (old new : Load) (p : List ℕ) → IsOpen old → s.halt ≡ None → is_some s.joined ≡ false → s.half ≡ half_of old → Loads old p (Err f) new
+    → SnapshotBy market_rules s p (snapshot_case market_rules s p) (Err (join_fault_of f)) (record s { half = half_of new })
+failed f s old new p opened none apart half h = failed_at old.stage f s old new p refl opened none apart half h

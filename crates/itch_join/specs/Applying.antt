@@ -1,0 +1,96 @@
+-- Messages applied one after another, from the next number on, as far as they are there.
+use Rattle.std.specs.Prelude.{◌≡◌, ℕ, ◌+◌, Bool, true, false, not, List, [], ◌∷◌, Option, Some, None, Result, Ok, Err}
+use Rattle.std.specs.FinMap as map
+use Rattle.itch_market.specs.Content.{Content, laid}
+use Rattle.itch_join.specs.declared.fault.JoinFault.{JoinFault}
+use Rattle.itch_join.specs.declared.fault.JoinFault.TheVariants.{Halted, OutOfMemory}
+use Rattle.itch_join.specs.declared.state.Halt.{Halt}
+use Rattle.itch_join.specs.declared.state.Stopped.{Stopped}
+use Rattle.itch_join.specs.declared.state.Stopped.TheVariants.{Refused, NoMemory}
+use Rattle.itch_join.specs.Positions.{Position}
+use Rattle.itch_join.specs.Rules.{Rules, market_rules}
+use Rattle.itch_join.specs.States.{Wait, HalfRead, State}
+
+-- what applying changes: the messages that wait, the number of the next one, and the market of those before it
+pub record Front : Type 0 where
+  pub wait : Wait
+  pub next : ℕ
+  pub market : Content
+
+abbrev pub front : Wait → Position → Front
+front wait j = record { wait = wait; next = j.next; market = j.market }
+
+abbrev pub front_of : State → Position → Front
+front_of s j = front s.wait j
+
+-- the message of the next number was applied, and waits no longer
+abbrev pub advanced : Rules → Front → List ℕ → Front
+advanced R a p = record { wait = map.remove a.wait a.next; next = a.next + 1; market = laid (R.effect a.market p) }
+
+-- the message that waits under the next number
+abbrev pub at_hand : Front → Option (List ℕ)
+at_hand a = map.get a.wait a.next
+
+-- why a message is not applied: it is refused; or it takes memory, and memory was refused
+abbrev pub Stops : Rules → Content → List ℕ → Stopped → Type 0
+Stops R m p (Refused cause) = R.refused m p ≡ Some cause
+Stops R m p NoMemory = (R.refused m p ≡ None) × (R.takes_memory m p ≡ true)
+
+-- one message is applied, or not, and leaves this market
+abbrev pub AppliesOne : Rules → Content → List ℕ → Result (Unit {0}) Stopped → Content → Type 0
+AppliesOne R m p (Ok done) n = (R.refused m p ≡ None) × (n ≡ laid (R.effect m p))
+AppliesOne R m p (Err stopped) n = Stops R m p stopped × (n ≡ m)
+
+-- applying may end so at a market, where this message is at hand: none is; or one that is not applied
+abbrev pub EndsBy : Rules → Content → Option (List ℕ) → Result (Unit {0}) Stopped → Type 0
+EndsBy R m None (Ok done) = Unit {0}
+EndsBy R m None (Err stopped) = ⊥
+EndsBy R m (Some p) (Ok done) = ⊥
+EndsBy R m (Some p) (Err stopped) = Stops R m p stopped
+
+-- From a front with this message at hand, these messages are applied one after another, and applying ends so, at this front.
+abbrev pub Applies : Rules → Front → Option (List ℕ) → List (List ℕ) → Result (Unit {0}) Stopped → Front → Type 0
+Applies R a hand [] ending b = EndsBy R a.market hand ending × (b ≡ a)
+Applies R a hand (p ∷ ps) ending b =
+    (hand ≡ Some p) × (R.refused a.market p ≡ None) × Applies R (advanced R a p) (at_hand (advanced R a p)) ps ending b
+
+-- a refused message halts the joiner, at its number
+abbrev pub halt_of : Result (Unit {0}) Stopped → ℕ → Option Halt
+halt_of (Ok done) next = None
+halt_of (Err (Refused cause)) next = Some (record { number = next; cause = cause })
+halt_of (Err NoMemory) next = None
+
+-- the state in which applying has ended
+abbrev pub standing : HalfRead → Result (Unit {0}) Stopped → Front → State
+standing half ending b = record { wait = b.wait; half = half; joined = Some (record { next = b.next; market = b.market }); halt = halt_of ending b.next }
+
+-- the fault of a call that has stopped at this number
+abbrev pub fault_of : Bool → Stopped → ℕ → JoinFault
+fault_of taken (Refused cause) next = Halted next cause
+fault_of taken NoMemory next = OutOfMemory taken
+
+-- the result of a call in which applying has ended
+abbrev pub result_by : {T : Type 0} → (ℕ → T) → Bool → Result (Unit {0}) Stopped → ℕ → Result T JoinFault
+result_by done taken (Ok ended) next = Ok (done next)
+result_by done taken (Err stopped) next = Err (fault_of taken stopped next)
+
+abbrev pub is_empty : List (List ℕ) → Bool
+is_empty [] = true
+is_empty (p ∷ ps) = false
+
+-- All that is at hand is applied, as far as it goes. `taken` says whether the delivered message was taken, where any message was applied and where none was.
+pub record CatchesUp {T : Type 0} (R : Rules) (half : HalfRead) (a : Front) (hand : Option (List ℕ)) (done : ℕ → T) (taken : Bool → Bool) (result : Result T JoinFault) (now : State) : Type 0 where
+  pub payloads : List (List ℕ)
+  pub ending : Result (Unit {0}) Stopped
+  pub front : Front
+  pub applies : Applies R a hand payloads ending front
+  pub returned : result ≡ result_by done (taken (not (is_empty payloads))) ending front.next
+  pub left : now ≡ standing half ending front
+
+-- from one position to another, these messages are applied, and applying ends so
+abbrev pub Advances : Wait → Position → Option (List ℕ) → Result (Unit {0}) Stopped → Wait → Position → Type 0
+Advances wait j hand ending wait' j' = (ps : List (List ℕ)) × Applies market_rules (front wait j) hand ps ending (front wait' j')
+
+-- all that waits is applied, as far as it goes
+abbrev pub Drains : Wait → Position → Result (Unit {0}) Stopped → Wait → Position → Type 0
+Drains wait j ending wait' j' = Advances wait j (at_hand (front wait j)) ending wait' j'

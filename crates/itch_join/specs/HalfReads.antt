@@ -1,0 +1,67 @@
+-- A reader of snapshots as the half-read snapshot of a joiner.
+use Rattle.std.specs.Prelude.{◌≢◌, ◌^◌, false}
+use Rattle.itch_market.specs.declared.refusal.Refusal.TheVariants as why
+use Rattle.itch_snapshot.specs.declared.fault.SnapFault.{SnapFault}
+use Rattle.itch_snapshot.specs.declared.fault.SnapFault.TheVariants.{NoEnd, Frame, Codec, Rule, AfterEnd, TooManyMessages}
+use Rattle.itch_snapshot.specs.declared.stage.Stage.{Stage}
+use Rattle.itch_snapshot.specs.declared.stage.Stage.TheVariants as stage
+use Rattle.itch_snapshot.specs.Loads.{Load}
+use Rattle.itch_join.specs.declared.fault.Cause.TheVariants as cause
+use Rattle.itch_join.specs.declared.fault.JoinFault.{JoinFault}
+use Rattle.itch_join.specs.declared.fault.JoinFault.TheVariants as fault
+use Rattle.itch_join.specs.States.{HalfRead, Reading, Broken, unread}
+
+-- a message of a snapshot may have this fault
+abbrev pub IsOfMessage : SnapFault → Type 0
+IsOfMessage (Codec place f) = Unit {0}
+IsOfMessage (Rule place reason) = Unit {0}
+IsOfMessage TooManyMessages = Unit {0}
+IsOfMessage NoEnd = ⊥
+IsOfMessage (Frame f) = ⊥
+IsOfMessage AfterEnd = ⊥
+
+-- a message with this fault breaks the snapshot
+abbrev pub Breaks : SnapFault → Type 0
+Breaks (Codec place f) = Unit {0}
+Breaks (Rule place reason) = reason ≢ why.OutOfMemory
+Breaks TooManyMessages = Unit {0}
+Breaks NoEnd = ⊥
+Breaks (Frame f) = ⊥
+Breaks AfterEnd = ⊥
+
+-- a snapshot that this fault has broken
+abbrev pub broken_by : SnapFault → HalfRead
+broken_by (Codec place f) = Broken place (cause.Codec f)
+broken_by (Rule place reason) = Broken place (cause.Rule reason)
+broken_by TooManyMessages = Broken (10 ^ 19) cause.TooMany
+broken_by NoEnd = unread
+broken_by (Frame f) = unread
+broken_by AfterEnd = unread
+
+-- the joiner's fault where the reader has this one
+abbrev pub join_fault_of : SnapFault → JoinFault
+join_fault_of (Codec place f) = fault.BadSnapshot place (cause.Codec f)
+join_fault_of (Rule place why.OutOfMemory) = fault.OutOfMemory false
+join_fault_of (Rule place reason) = fault.BadSnapshot place (cause.Rule reason)
+join_fault_of TooManyMessages = fault.BadSnapshot (10 ^ 19) cause.TooMany
+join_fault_of NoEnd = fault.Joined
+join_fault_of (Frame f) = fault.Joined
+join_fault_of AfterEnd = fault.Joined
+
+abbrev pub half_at : Stage → Load → HalfRead
+half_at stage.Taking load = Reading load.taken load.market
+half_at (stage.Broken fault) load = broken_by fault
+half_at (stage.Closed next) load = unread
+
+-- the half-read snapshot that a reader holds
+abbrev pub half_of : Load → HalfRead
+half_of load = half_at load.stage load
+
+abbrev pub IsOpenAt : Stage → Type 0
+IsOpenAt stage.Taking = Unit {0}
+IsOpenAt (stage.Broken fault) = Breaks fault
+IsOpenAt (stage.Closed next) = ⊥
+
+-- the reader has taken no End of Snapshot, and only a message has broken it
+abbrev pub IsOpen : Load → Type 0
+IsOpen load = IsOpenAt load.stage

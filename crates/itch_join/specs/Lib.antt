@@ -1,0 +1,10 @@
+pub mod Rules
+pub mod Positions
+pub mod States
+pub mod Applying
+pub mod Steps
+pub mod Deliveries
+pub mod Stands
+pub mod Premise
+pub mod Waits
+pub mod HalfReads

@@ -1,0 +1,40 @@
+-- The state of a joiner.
+use Rattle.std.specs.Prelude.{ℕ, ◌^◌, ◌&&◌, nat_lt, Bool, List, Option, None}
+use Rattle.std.specs.Ordering.{nat_cmp}
+use Rattle.std.specs.FinMap as map
+use Rattle.itch_market.specs.Content.{Content, empty}
+use Rattle.itch_join.specs.declared.fault.Cause.{Cause}
+use Rattle.itch_join.specs.declared.state.Halt.{Halt}
+use Rattle.itch_join.specs.Positions.{Position}
+
+-- the messages that wait, by their numbers
+abbrev pub Wait : Type 0
+Wait = map.FinMap nat_cmp (List ℕ)
+
+-- a snapshot that is not read to its end: the number of its messages taken and the market that they leave; or the place of the message that is refused, and why
+pub data HalfRead : Type 0 where
+  Reading : ℕ → Content → HalfRead
+  Broken : ℕ → Cause → HalfRead
+
+pub record State : Type 0 where
+  pub wait : Wait
+  pub half : HalfRead
+  pub joined : Option Position
+  pub halt : Option Halt
+
+-- what contracts see of a joiner: how many messages may wait, and its state
+pub record Joining : Type 0 where
+  pub cap : ℕ
+  pub state : State
+
+-- a snapshot of which nothing is read
+abbrev pub unread : HalfRead
+unread = Reading 0 empty
+
+-- the state of a new joiner
+abbrev pub new : State
+new = record { wait = map.empty; half = unread; joined = None; halt = None }
+
+-- a number that a message may have: 1 to 10^19 - 1
+abbrev pub is_number : ℕ → Bool
+is_number n = nat_lt 0 n && nat_lt n (10 ^ 19)

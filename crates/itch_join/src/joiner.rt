@@ -1,0 +1,337 @@
+//! A snapshot and the live feed, joined.
+ghost use Rattle.std.specs.Prelude.{◌≡◌, ◌<◌, ◌^◌, true, Some, None, option_map};
+ghost use Rattle.std.specs.Option.{option_copied};
+ghost use Rattle.std.specs.FinMap as map;
+ghost use Rattle.itch_join.specs.Rules.{market_rules};
+ghost use Rattle.itch_join.specs.States.{new, unread};
+ghost use Rattle.itch_join.specs.Applying.{CatchesUp, at_hand, halt_of, fault_of};
+ghost use Rattle.itch_join.specs.Steps.{Step, CallLive, CallSnapshot, CallRestart, CallResume, live_case, Stores, started, NextBy};
+ghost use Rattle.itch_join.specs.HalfReads.{IsOfMessage, join_fault_of};
+
+use crate::fault::{Cause, JoinFault};
+use crate::outcome::{Live, Snap};
+use crate::position::{Position, advance, drain};
+use crate::state::{Halt, LiveCase, Stopped};
+use crate::waiting::Waiting;
+use itch_book::OrderBook;
+use itch_market::{Market, Refusal};
+use itch_snapshot::{SnapFault, SnapshotReader};
+use std::marker::Model;
+use std::mem::replace;
+
+/// Joins a snapshot and the live feed: takes the messages of the snapshot in their order and those of the feed in any, and
+/// keeps the market that the feed's messages before [`Joiner::next`] lead to.
+///
+/// The first message of the feed has the number 1. Only a message of the feed that has to wait and a market that grows take
+/// memory.
+#[derive(Drop)]
+pub struct Joiner<B: OrderBook> {
+    alloc: B::Alloc,
+    cap: usize,
+    wait: Waiting<B::Alloc>,
+    half: SnapshotReader<B>,
+    joined: Option<Position<B>>,
+    halt: Option<Halt>,
+}
+
+impl<B: OrderBook> Model for Joiner<B> {
+    ghost use Rattle.std.specs.FinMap as map;
+    ghost use Rattle.std.specs.Coded.{codes};
+    ghost use Rattle.itch_join.specs.States.{Joining};
+    ghost use Rattle.itch_join.specs.HalfReads.{half_of, IsOpen};
+
+    ghost Value = { Joining };
+
+    ghost coded = { Prim.hlevel (codes, map.code) };
+
+    ghost view = { λ j. record { cap = j.cap; state = record { wait = j.wait; half = half_of j.half; joined = j.joined; halt = j.halt } } };
+
+    ghost invariant = { λ j. IsOpen j.half };
+}
+
+// The fault of a call that has stopped at the message with this number.
+fn fault_of(taken: bool, stopped: Stopped, next: u64) -> JoinFault
+    ensures { result ≡ fault_of taken stopped next }
+{
+    match stopped {
+        Stopped::Refused(cause) => JoinFault::Halted {
+            number: next,
+            cause,
+        },
+        Stopped::NoMemory => JoinFault::OutOfMemory { taken },
+    }
+}
+
+// A refused message halts the joiner.
+fn halt_of(ended: Result<(), Stopped>, next: u64) -> Option<Halt>
+    ensures { result ≡ halt_of ended next }
+{
+    match ended {
+        Err(Stopped::Refused(cause)) => Some(Halt {
+            number: next,
+            cause,
+        }),
+        _ => None,
+    }
+}
+
+// The fault of a message of the snapshot that was not taken.
+fn join_fault_of(fault: SnapFault) -> JoinFault
+    requires { IsOfMessage fault }
+    ensures { result ≡ join_fault_of fault }
+{
+    match fault {
+        SnapFault::Codec { place, fault } => JoinFault::BadSnapshot {
+            place,
+            cause: Cause::Codec(fault),
+        },
+        SnapFault::Rule {
+            place: _,
+            reason: Refusal::OutOfMemory,
+        } => JoinFault::OutOfMemory { taken: false },
+        SnapFault::Rule { place, reason } => JoinFault::BadSnapshot {
+            place,
+            cause: Cause::Rule(reason),
+        },
+        SnapFault::TooManyMessages => JoinFault::BadSnapshot {
+            place: 10_000_000_000_000_000_000,
+            cause: Cause::TooMany,
+        },
+        SnapFault::NoEnd | SnapFault::Frame(_) | SnapFault::AfterEnd => unreachable!(),
+    }
+}
+
+impl<B: OrderBook> Joiner<B> {
+    /// A joiner in which nothing waits, and at most `cap` messages will. It takes no memory yet.
+    pub fn new(alloc: B::Alloc, cap: usize) -> Self
+        ensures { result ≡ record { cap = cap; state = new } }
+    {
+        Joiner {
+            alloc,
+            cap,
+            wait: Waiting::new(alloc),
+            half: SnapshotReader::new(alloc),
+            joined: None,
+            halt: None,
+        }
+    }
+
+    /// The number of the next message to apply, once joined.
+    pub fn next(&self) -> Option<u64>
+        ensures { result ≡ option_map (λ j. j.next) self.now.state.joined }
+    {
+        match &self.joined {
+            Some(position) => Some(position.next),
+            None => None,
+        }
+    }
+
+    /// The market of the feed's messages before the next one, once joined.
+    pub fn market(&self) -> Option<&Market<B>>
+        ensures { option_copied result ≡ option_map (λ j. j.market) self.now.state.joined }
+    {
+        match &self.joined {
+            Some(position) => Some(&position.market),
+            None => None,
+        }
+    }
+
+    /// The number of messages that wait.
+    pub fn waiting(&self) -> usize
+        ensures { result ≡ map.len self.now.state.wait }
+    {
+        self.wait.len()
+    }
+
+    // What decides a delivery of the live feed.
+    fn live_case(&self, number: u64, payload: &[u8]) -> LiveCase
+        ensures { result ≡ live_case self.now.cap self.now.state number payload.now }
+    {
+        if let Some(halt) = self.halt {
+            return LiveCase::Halted(halt);
+        }
+        if number == 0 || number >= 10_000_000_000_000_000_000 {
+            return LiveCase::BadNumber;
+        }
+        let next = self.next();
+        if let Some(next) = next {
+            if number < next {
+                return LiveCase::Old;
+            }
+        }
+        let waits = self.wait.get(number);
+        if let Some(bytes) = waits {
+            if bytes != payload {
+                return LiveCase::Conflict;
+            }
+        }
+        if let Some(next) = next {
+            if number == next {
+                return LiveCase::Next;
+            }
+        }
+        if waits.is_some() {
+            return LiveCase::Kept;
+        }
+        if self.wait.len() < self.cap {
+            return LiveCase::Stored;
+        }
+        LiveCase::Full
+    }
+
+    fn store(&mut self, number: u64, payload: &[u8]) -> Result<Live, JoinFault>
+        requires { number < 10 ^ 19 }
+        ensures stores { Stores self.old.state number payload.now result self.new.state }
+        ensures cap { self.new.cap ≡ self.old.cap }
+    {
+        match self.wait.insert(number, payload) {
+            Ok(()) => Ok(Live::Kept),
+            Err(_) => Err(JoinFault::OutOfMemory { taken: false }),
+        }
+    }
+
+    // Applies the message with the next number, and then what waits.
+    fn apply_next(&mut self, number: u64, payload: &[u8]) -> Result<Live, JoinFault>
+        requires joined { option_map (λ j. j.next) self.old.state.joined ≡ Some number }
+        requires fits { number < 10 ^ 19 }
+        requires running { self.old.state.halt ≡ None }
+        ensures goes { NextBy market_rules self.old.state number payload.now self.old.state.joined result self.new.state }
+        ensures cap { self.new.cap ≡ self.old.cap }
+    {
+        let Some(mut position) = self.joined.take() else {
+            unreachable!()
+        };
+        let waits = self.wait.has(number);
+        let ended = advance(&mut self.wait, &mut position, payload);
+        let next = position.next;
+        self.joined = Some(position);
+        self.halt = halt_of(ended, next);
+        match ended {
+            Ok(()) => Ok(Live::Applied { next }),
+            Err(stopped) => {
+                let taken = waits || next != number;
+                Err(fault_of(taken, stopped, next))
+            }
+        }
+    }
+
+    /// Takes the message with this number of the live feed. The first of these that is true decides:
+    ///
+    /// 1. a message was refused before: `Halted`, as then;
+    /// 2. no message has this number: `BadNumber`;
+    /// 3. the joiner has joined, and its market contains the message: `Old`;
+    /// 4. other bytes wait under this number: `Conflict`;
+    /// 5. the joiner has joined, and the message is the next: it is applied, without a copy of it, and then what waits, as
+    ///    far as the numbers go on: `Applied`;
+    /// 6. the message waits already: `Kept`;
+    /// 7. as many messages wait as may: `Full`;
+    /// 8. a copy of it is stored: `Kept`.
+    ///
+    /// A message that is applied and refused is `Halted`. Memory may be refused at 5, before a message that adds to the
+    /// market, and at 8: `OutOfMemory`.
+    pub fn live(&mut self, number: u64, payload: &[u8]) -> Result<Live, JoinFault>
+        ensures step { Step market_rules self.old.cap self.old.state (CallLive number payload.now result) self.new.state }
+        ensures cap { self.new.cap ≡ self.old.cap }
+    {
+        match self.live_case(number, payload) {
+            LiveCase::Halted(halt) => Err(JoinFault::Halted {
+                number: halt.number,
+                cause: halt.cause,
+            }),
+            LiveCase::BadNumber => Err(JoinFault::BadNumber),
+            LiveCase::Old => Ok(Live::Old),
+            LiveCase::Conflict => Err(JoinFault::Conflict { number }),
+            LiveCase::Next => self.apply_next(number, payload),
+            LiveCase::Kept => Ok(Live::Kept),
+            LiveCase::Full => Err(JoinFault::Full { cap: self.cap }),
+            LiveCase::Stored => self.store(number, payload),
+        }
+    }
+
+    // Starts at the end of a snapshot.
+    fn start(&mut self, next: u64, market: Market<B>) -> Result<Snap, JoinFault>
+        requires half { self.old.state.half ≡ unread }
+        requires running { self.old.state.halt ≡ None }
+        ensures goes { CatchesUp market_rules unread (started self.old.state next market) (at_hand (started self.old.state next market)) Snap.Joined (λ any. true) result self.new.state }
+        ensures cap { self.new.cap ≡ self.old.cap }
+    {
+        self.wait.keep_from(next);
+        let mut position = Position { next, market };
+        let ended = drain(&mut self.wait, &mut position);
+        let next = position.next;
+        self.joined = Some(position);
+        self.halt = halt_of(ended, next);
+        match ended {
+            Ok(()) => Ok(Snap::Joined { next }),
+            Err(stopped) => Err(fault_of(true, stopped, next)),
+        }
+    }
+
+    /// Takes a message of the snapshot; they come in their order.
+    ///
+    /// At End of Snapshot the joiner has the snapshot's market, the next number is the one that End of Snapshot has, what
+    /// waits below it is dropped, and then what waits is applied, as far as the numbers go on: `Joined`. A message that is
+    /// refused breaks the snapshot: `BadSnapshot` until `restart`. After joining it is the fault `Joined`, after a refused
+    /// message of the feed `Halted`. Where memory is refused for a message of the snapshot, it is `OutOfMemory` with `taken`
+    /// false, and the same message may follow again.
+    pub fn snapshot(&mut self, payload: &[u8]) -> Result<Snap, JoinFault>
+        ensures step { Step market_rules self.old.cap self.old.state (CallSnapshot payload.now result) self.new.state }
+        ensures cap { self.new.cap ≡ self.old.cap }
+    {
+        if let Some(halt) = self.halt {
+            return Err(JoinFault::Halted {
+                number: halt.number,
+                cause: halt.cause,
+            });
+        }
+        if self.joined.is_some() {
+            return Err(JoinFault::Joined);
+        }
+        match self.half.message(payload) {
+            Ok(None) => Ok(Snap::More),
+            Ok(Some(_)) => {
+                let half = replace(&mut self.half, SnapshotReader::new(self.alloc));
+                match half.finish() {
+                    Ok((market, next)) => self.start(next.value(), market),
+                    Err(_) => unreachable!(),
+                }
+            }
+            Err(fault) => Err(join_fault_of(fault)),
+        }
+    }
+
+    /// Drops an unfinished or broken snapshot, and keeps what waits. Once joined it changes nothing. It takes no memory.
+    pub fn restart(&mut self)
+        ensures step { Step market_rules self.old.cap self.old.state CallRestart self.new.state }
+        ensures cap { self.new.cap ≡ self.old.cap }
+    {
+        if self.joined.is_none() {
+            self.half = SnapshotReader::new(self.alloc);
+        }
+    }
+
+    /// Applies what waits, as far as the numbers go on, as after `OutOfMemory`. It returns the number of the next message,
+    /// or `None` where the joiner has not joined.
+    pub fn resume(&mut self) -> Result<Option<u64>, JoinFault>
+        ensures step { Step market_rules self.old.cap self.old.state (CallResume result) self.new.state }
+        ensures cap { self.new.cap ≡ self.old.cap }
+    {
+        if let Some(halt) = self.halt {
+            return Err(JoinFault::Halted {
+                number: halt.number,
+                cause: halt.cause,
+            });
+        }
+        let Some(mut position) = self.joined.take() else {
+            return Ok(None);
+        };
+        let ended = drain(&mut self.wait, &mut position);
+        let next = position.next;
+        self.joined = Some(position);
+        self.halt = halt_of(ended, next);
+        match ended {
+            Ok(()) => Ok(Some(next)),
+            Err(stopped) => Err(fault_of(false, stopped, next)),
+        }
+    }
+}

@@ -1,0 +1,21 @@
+//! A snapshot and the live feed, joined into one market.
+//!
+//! Who comes late to an ITCH feed asks for a snapshot, as over GLIMPSE, and meanwhile receives the live feed. A [`Joiner`]
+//! takes both: messages of the feed wait by their numbers until the snapshot ends, those that it contains are dropped, and
+//! the rest is applied in the order of the numbers, whatever is lost, repeated or out of order on the way.
+#![tactic(auto)]
+
+mod applying;
+mod fault;
+mod joiner;
+pub mod laws;
+mod outcome;
+mod position;
+mod state;
+#[cfg(test)]
+mod tests;
+mod waiting;
+
+pub use fault::{Cause, JoinFault};
+pub use joiner::Joiner;
+pub use outcome::{Live, Snap};

@@ -1,0 +1,59 @@
+//! Where a joiner stands once it has joined.
+ghost use Rattle.std.specs.Prelude.{◌<◌, ◌^◌, Some};
+ghost use Rattle.itch_join.specs.Applying.{Advances, Drains};
+
+use crate::applying::apply;
+use crate::state::Stopped;
+use crate::waiting::Waiting;
+use itch_book::OrderBook;
+use itch_market::Market;
+use std::marker::Model;
+
+/// The number of the next message, and the market of those before it.
+#[derive(Drop)]
+pub struct Position<B: OrderBook> {
+    pub(crate) next: u64,
+    pub(crate) market: Market<B>,
+}
+
+impl<B: OrderBook> Model for Position<B> {
+    ghost use Rattle.std.specs.FinMap as map;
+    ghost use Rattle.std.specs.Coded.{codes};
+    ghost use Rattle.itch_join.specs.Positions.{Position as Seen};
+
+    ghost Value = { Seen };
+
+    ghost coded = { Prim.hlevel (codes, map.code) };
+
+    ghost view = { λ j. record { next = j.next; market = j.market } };
+}
+
+// Applies what waits, as far as it goes. A message waits until it is applied.
+pub(crate) fn drain<B: OrderBook>(
+    wait: &mut Waiting<B::Alloc>,
+    position: &mut Position<B>,
+) -> Result<(), Stopped>
+    ensures { Drains wait.old position.old result wait.new position.new }
+{
+    while let Some(payload) = wait.get(position.next) {
+        apply(&mut position.market, payload)?;
+        wait.remove(position.next);
+        position.next += 1;
+    }
+    Ok(())
+}
+
+// Applies the message with the next number, and then what waits, as far as it goes.
+pub(crate) fn advance<B: OrderBook>(
+    wait: &mut Waiting<B::Alloc>,
+    position: &mut Position<B>,
+    payload: &[u8],
+) -> Result<(), Stopped>
+    requires { position.old.next < 10 ^ 19 }
+    ensures { Advances wait.old position.old (Some payload.now) result wait.new position.new }
+{
+    apply(&mut position.market, payload)?;
+    wait.remove(position.next);
+    position.next += 1;
+    drain(wait, position)
+}

@@ -1,0 +1,122 @@
+-- What the program fetches, and the lines that it writes of the connections that it serves.
+use Rattle.std.specs.Prelude.{◌≡◌, ℕ, ◌+◌, ◌-◌, ◌^◌, ◌<◌, ◌≤◌, ◌⊎◌, Bool, true, List, [], ◌∷◌, ◌++◌, length, map, take, codes, decimal, Option, Some, None, Result, Ok, Err}
+use Rattle.std.specs.List.{AllByRecursion}
+use Rattle.std.specs.Io.KnownBytes.{Appends}
+use Rattle.itch_codec.specs.Messages.{message_of}
+use Rattle.itch_frame.specs.Counting.{failed}
+use Rattle.itch_frame.specs.Reading.{Reading}
+use Rattle.itch_frame.specs.declared.tally.Failures.{Failures}
+use Rattle.itch_market.specs.Content.{Content, laid}
+use Rattle.itch_market.specs.Runs.{run}
+use Rattle.itch_snapshot.specs.Bytes.{canon, closing}
+use Rattle.itch_snapshot.specs.Snapshot.{snap}
+use Rattle.itch_soup.specs.declared.config.Credentials.{Credentials}
+use Rattle.itch_soup.specs.declared.config.ServerConfig.{ServerConfig}
+use Rattle.itch_soup.specs.declared.packet.LoginRequest.{LoginRequest}
+use Rattle.itch_soup.specs.declared.serve.Served.{Served}
+use Rattle.itch_soup.specs.declared.serve.Served.TheVariants.{Accepted, Rejected, Left}
+use Rattle.itch_soup.specs.declared.server.ServerAct.TheVariants as act
+use Rattle.itch_soup.specs.Fetching.{Fetches}
+use Rattle.itch_soup.specs.declared.fault.SoupFault.{SoupFault}
+use Rattle.itch_soup.specs.Sending.{messages_from, verdict}
+use Rattle.itch_soup.specs.Serving.{Serves}
+use Rattle.itch_tool.specs.declared.fault.ToolFault.{ToolFault}
+use Rattle.itch_tool.specs.declared.fault.ToolFault.TheVariants as tool
+use Rattle.itch_tool.specs.Outputs.{Wrote, WritesText}
+use Rattle.itch_tool.specs.Readings.{ReadsDay}
+
+module _ {R V : Type 0} (remaining : R → Option (List ℕ)) (reads : R → Failures) (contents : V → Option (List ℕ)) (writes : V → Failures) where
+  -- what is fetched from a peer: a market and its number; or the session's fault is the program's
+  abbrev pub FetchesMarket : Credentials → Reading R → V → Reading R → V → Result (Content × ℕ) ToolFault → Type 0
+  FetchesMarket credentials reader writer reader_after writer_after (Ok done) =
+      Fetches remaining reads contents writes credentials reader writer (Ok done) reader_after writer_after
+  FetchesMarket credentials reader writer reader_after writer_after (Err (tool.Soup fault)) =
+      Fetches remaining reads contents writes credentials reader writer (Err fault) reader_after writer_after
+  FetchesMarket credentials reader writer reader_after writer_after (Err fault) = ⊥
+
+-- how a connection ended, or none where it had a fault
+abbrev pub Ending : Type 0
+Ending = Option Served
+
+module _ {R V : Type 0} (remaining : R → Option (List ℕ)) (reads : R → Failures) (contents : V → Option (List ℕ)) (writes : V → Failures) where
+  -- what serving a peer returns: how it was served; or none, where that had a fault or what was written could not be flushed
+  abbrev pub ServesFlushed : Content → ℕ → ServerConfig → Reading R → V → Ending → Reading R → Type 0
+  ServesFlushed m next config reader writer (Some served) reader_after =
+      (writer_after : V) × Serves remaining reads contents writes m next config reader writer (Ok served) reader_after writer_after
+  ServesFlushed m next config reader writer None reader_after =
+      (result : Result Served SoupFault) × (writer_after : V)
+      × Serves remaining reads contents writes m next config reader writer result reader_after writer_after
+
+-- the words of an accepted login
+abbrev pub accepted_words : ℕ → ℕ → List ℕ
+accepted_words from packets = codes "accepted from " ++ decimal from ++ codes ", " ++ decimal packets ++ codes " packets"
+
+-- the words of an ending
+abbrev pub ending_words : Ending → List ℕ
+ending_words (Some (Accepted from packets)) = accepted_words from packets
+ending_words (Some (Rejected code)) = codes "rejected " ++ code ∷ []
+ending_words (Some Left) = codes "left"
+ending_words None = codes "fault"
+
+-- the line of a connection
+abbrev pub connection_line : ℕ → Ending → List ℕ
+connection_line number ending = codes "connection " ++ decimal number ++ codes ": " ++ ending_words ending ++ codes "\n"
+
+-- the lines of connections, of which the first has this number
+abbrev pub connection_lines : ℕ → List Ending → List ℕ
+connection_lines number [] = []
+connection_lines number (ending ∷ endings) = connection_line number ending ++ connection_lines (number + 1) endings
+
+-- An ending that comes of a login: its verdict accepts it from this number on, and these many messages were sent, or rejects
+-- it with this code. Of what a socket gave or took no contract can say more.
+abbrev pub IsEnding : Content → ℕ → ServerConfig → Ending → Type 0
+IsEnding m next config (Some (Accepted from packets)) =
+    (login : LoginRequest) × (verdict m next config login ≡ act.Accept from) × (packets ≡ length (messages_from from m next))
+IsEnding m next config (Some (Rejected code)) = (login : LoginRequest) × (verdict m next config login ≡ act.Reject code)
+IsEnding m next config (Some Left) = Unit {0}
+IsEnding m next config None = Unit {0}
+
+-- what serving one connection returns: its ending, or want of memory
+abbrev pub ServesPeer : Content → ℕ → ServerConfig → Result Ending ToolFault → Type 0
+ServesPeer m next config (Ok ending) = IsEnding m next config ending
+ServesPeer m next config (Err tool.OutOfMemory) = Unit {0}
+ServesPeer m next config (Err fault) = ⊥
+
+-- no connection was accepted, or there is no memory for one
+abbrev pub IsUnserved : ToolFault → Type 0
+IsUnserved tool.Socket = Unit {0}
+IsUnserved tool.OutOfMemory = Unit {0}
+IsUnserved fault = ⊥
+
+module _ {W : Type 0} (contents : W → Option (List ℕ)) (failures : W → Failures) where
+  -- the next connection is served, and its line written as far as it could be; or none is, and nothing is written
+  abbrev pub ServesNext : Content → ℕ → ServerConfig → ℕ → W → Result (Unit {0}) ToolFault → W → Type 0
+  ServesNext m next config number old result new =
+      ((ending : Ending) × IsEnding m next config ending × WritesText contents failures (connection_line number ending) old result new)
+      ⊎ ((fault : ToolFault) × (result ≡ Err fault) × IsUnserved fault × (new ≡ old))
+
+  -- these connections are served, and their lines written
+  abbrev pub ServesAll : Content → ℕ → ServerConfig → List Ending → W → W → Type 0
+  ServesAll m next config endings old new = AllByRecursion (IsEnding m next config) endings × Wrote contents failures (connection_lines 1 endings) old new
+
+  -- so many connections are served; or fewer, and then this went wrong with the next one
+  abbrev pub ServesOn : Content → ℕ → ServerConfig → ℕ → W → Result Bool ToolFault → W → Type 0
+  ServesOn m next config count old (Ok answer) new =
+      (answer ≡ true) × ((endings : List Ending) × (length endings ≡ count) × ServesAll m next config endings old new)
+  ServesOn m next config count old (Err fault) new =
+      (endings : List Ending) × (mid : W) × (length endings < count) × ServesAll m next config endings old mid
+      × ServesNext m next config (length endings + 1) mid (Err fault) new
+
+  -- a snapshot with too many messages, or a port that cannot be listened on, is not served; any other is
+  abbrev pub ServesMarket : Content → ℕ → ServerConfig → ℕ → W → Result Bool ToolFault → W → Type 0
+  ServesMarket m next config count old result new =
+      ((result ≡ Err tool.TooMany) × (10 ^ 19 - 1 ≤ length (snap m)) × (new ≡ old))
+      ⊎ ((fault : ToolFault) × (result ≡ Err fault) × IsUnserved fault × (new ≡ old))
+      ⊎ ((length (snap m) < 10 ^ 19 - 1) × ServesOn m next config count old result new)
+
+  -- a file that is refused is not served; the market of any other is, with the number of the message after its last
+  abbrev pub ServesDay : (Result (List (List ℕ)) ToolFault → Type 0) → ServerConfig → ℕ → W → Result Bool ToolFault → W → Type 0
+  ServesDay reads config count old result new =
+      ((fault : ToolFault) × (result ≡ Err fault) × reads (Err fault) × (new ≡ old))
+      ⊎ ((payloads : List (List ℕ)) × reads (Ok payloads)
+      × ServesMarket (laid (run (map message_of payloads))) (length payloads + 1) config count old result new)

@@ -1,0 +1,101 @@
+//! The words of the command line: the commands over files, and what each takes.
+
+use clap::error::ErrorKind;
+use clap::{Arg, Command, Error};
+use std::alloc::{AllocError, Global};
+
+/// The most that `--after` takes.
+const MOST_AFTER: i64 = 999_999_999_999;
+
+/// The program's words, but for those of sessions.
+pub fn command<'a>(alloc: Global) -> Result<Command<'a>, AllocError> {
+    let command = with_snapshots(alloc, program(alloc)?)?;
+    with_views(alloc, command)
+}
+
+/// The usage fault that says so.
+pub fn usage_fault(alloc: Global, message: &str) -> Result<Error, AllocError> {
+    command(alloc)?.error(ErrorKind::ValueValidation, message)
+}
+
+fn program<'a>(alloc: Global) -> Result<Command<'a>, AllocError> {
+    let program = Command::new(alloc, "itchsnap").bin_name("itchsnap")?;
+    Ok(
+        program
+            .about("Market snapshots for TotalView-ITCH 5.0")
+            .subcommand_required(true),
+    )
+}
+
+// The commands that make and compare snapshots.
+fn with_snapshots<'a>(alloc: Global, command: Command<'a>) -> Result<Command<'a>, AllocError> {
+    command
+        .subcommand(snap(alloc)?)?
+        .subcommand(check(alloc)?)?
+        .subcommand(compare(alloc)?)?
+        .subcommand(canon(alloc)?)
+}
+
+// The commands that show what is in a file.
+fn with_views<'a>(alloc: Global, command: Command<'a>) -> Result<Command<'a>, AllocError> {
+    command.subcommand(show(alloc)?)?.subcommand(book(alloc)?)
+}
+
+fn snap<'a>(alloc: Global) -> Result<Command<'a>, AllocError> {
+    let after = Arg::new(alloc, "after")
+        .long("after")
+        .value_name("N")
+        .help("Stop after the first N messages")
+        .value_parser(clap::value_parser!(u64).range(0..=MOST_AFTER));
+    Command::new(alloc, "snap")
+        .about("Write the snapshot of a file of messages")
+        .arg(file(alloc))?
+        .arg(after)
+}
+
+fn check<'a>(alloc: Global) -> Result<Command<'a>, AllocError> {
+    Command::new(alloc, "check")
+        .about("Check that a file follows the order rules")
+        .arg(file(alloc))
+}
+
+fn compare<'a>(alloc: Global) -> Result<Command<'a>, AllocError> {
+    Command::new(alloc, "compare")
+        .about("Say whether two files leave the same market")
+        .arg(named(alloc, "A", "The first file"))?
+        .arg(named(alloc, "B", "The second file"))
+}
+
+fn canon<'a>(alloc: Global) -> Result<Command<'a>, AllocError> {
+    let snapshot = Arg::new(alloc, "SNAP").help(
+        "The snapshot to read, or standard input where none is named",
+    );
+    Command::new(alloc, "canon")
+        .about("Write a snapshot in canonical form")
+        .arg(snapshot)
+}
+
+fn show<'a>(alloc: Global) -> Result<Command<'a>, AllocError> {
+    Command::new(alloc, "show")
+        .about("Show each message of a file as a line of text")
+        .arg(file(alloc))
+}
+
+fn book<'a>(alloc: Global) -> Result<Command<'a>, AllocError> {
+    let locate = Arg::new(alloc, "LOCATE")
+        .help("The locate, 0 to 65535")
+        .required(true)
+        .value_parser(clap::value_parser!(u16));
+    Command::new(alloc, "book")
+        .about("Write the prices of a locate")
+        .arg(locate)?
+        .arg(file(alloc))
+}
+
+fn named<'a>(alloc: Global, name: &'a str, help: &'a str) -> Arg<'a> {
+    Arg::new(alloc, name).help(help).required(true)
+}
+
+fn file<'a>(alloc: Global) -> Arg<'a> {
+    Arg::new(alloc, "FILE").help("The file to read, or standard input where none is named")
+}

@@ -1,0 +1,134 @@
+//! What the program is asked to do: a request over files, or a session with a peer on this machine.
+
+use crate::commands::{command, usage_fault};
+use crate::request::{Request, read_request};
+use clap::{Arg, ArgMatches, Command, Error};
+use std::alloc::{AllocError, Global};
+use std::fmt::{self, Debug, Formatter};
+
+/// What the words of the command line ask for.
+#[derive(Clone, Copy, Debug, PartialEq, Eq)]
+pub enum Job<'a> {
+    /// A request over files and standard streams.
+    Files(Request<'a>),
+    /// Serve the market of a file to so many connections.
+    Serve {
+        file: &'a str,
+        peer: Peer<'a>,
+        count: u64,
+    },
+    /// Fetch the snapshot that a server has.
+    Fetch(Peer<'a>),
+}
+
+/// The port that a server listens on, and the user name and password of a login to it, as the words have them.
+///
+/// `{:?}` leaves the password out.
+#[derive(Clone, Copy, PartialEq, Eq)]
+pub struct Peer<'a> {
+    pub port: u16,
+    pub user: &'a str,
+    pub password: &'a str,
+}
+
+impl Debug for Peer<'_> {
+    fn fmt<W: fmt::Write>(&self, f: &mut Formatter<W>) -> fmt::Result {
+        f.debug_struct("Peer")
+            .field("port", &self.port)
+            .field("user", &self.user)
+            .finish_non_exhaustive()
+    }
+}
+
+/// Reads the words, of which the first is the program's name.
+///
+/// An error is a usage fault, a request for help, or want of memory: its kind says which.
+pub fn read_job<'a>(alloc: Global, words: &'a [String]) -> Result<Job<'a>, Error> {
+    let command = command(alloc)?
+        .subcommand(serve(alloc)?)?
+        .subcommand(fetch(alloc)?)?;
+    let matches = command.try_get_matches_from(words)?;
+    match matches.subcommand() {
+        Some(("serve", options)) => read_serve(alloc, options),
+        Some(("fetch", options)) => Ok(Job::Fetch(read_peer(alloc, options)?)),
+        _ => Ok(Job::Files(read_request(alloc, &matches)?)),
+    }
+}
+
+fn read_serve<'a>(alloc: Global, options: &ArgMatches<'a>) -> Result<Job<'a>, Error> {
+    let Some(file) = options.get_str("FILE") else {
+        return Err(usage_fault(alloc, "a file is missing")?);
+    };
+    Ok(Job::Serve {
+        file,
+        peer: read_peer(alloc, options)?,
+        count: read_number(alloc, options, "count")?,
+    })
+}
+
+fn read_peer<'a>(alloc: Global, options: &ArgMatches<'a>) -> Result<Peer<'a>, Error> {
+    let Ok(port) = u16::try_from(read_number(alloc, options, "port")?) else {
+        return Err(usage_fault(alloc, "a port is from 1 to 65535")?);
+    };
+    match (options.get_str("user"), options.get_str("pass")) {
+        (Some(user), Some(password)) => Ok(Peer {
+            port,
+            user,
+            password,
+        }),
+        _ => Err(usage_fault(alloc, "a login is missing")?),
+    }
+}
+
+// The number after an option, in decimal digits alone.
+fn read_number<'a>(alloc: Global, options: &ArgMatches<'a>, name: &str) -> Result<u64, Error> {
+    match (options.get_str(name), options.get_one::<u64>(name)) {
+        (Some(text), Some(number)) if text.bytes().all(|byte| byte.is_ascii_digit()) => Ok(number),
+        _ => Err(usage_fault(alloc, "a number has decimal digits alone")?),
+    }
+}
+
+fn serve<'a>(alloc: Global) -> Result<Command<'a>, AllocError> {
+    let file = Arg::new(alloc, "FILE")
+        .required(true)
+        .help("The file of messages whose market is served");
+    let count = Arg::new(alloc, "count")
+        .long("count")
+        .value_name("N")
+        .required(true)
+        .help("Serve N connections, one after the other")
+        .value_parser(clap::value_parser!(u64).range(1..=1_000_000));
+    let command = Command::new(alloc, "serve")
+        .about("Serve the snapshot of a file over SoupBinTCP on 127.0.0.1")
+        .arg(file)?
+        .arg(count)?;
+    with_peer(alloc, command)
+}
+
+fn fetch<'a>(alloc: Global) -> Result<Command<'a>, AllocError> {
+    let command = Command::new(alloc, "fetch").about(
+        "Write the snapshot that a server on 127.0.0.1 has",
+    );
+    with_peer(alloc, command)
+}
+
+// A command with the port of a server, and a login to it.
+fn with_peer<'a>(alloc: Global, command: Command<'a>) -> Result<Command<'a>, AllocError> {
+    let port = Arg::new(alloc, "port")
+        .long("port")
+        .value_name("P")
+        .required(true)
+        .help("The port of the server")
+        .value_parser(clap::value_parser!(u64).range(1..=65_535));
+    let user = Arg::new(alloc, "user")
+        .long("user")
+        .value_name("U")
+        .required(true)
+        .help("The user name: 1 to 6 printable characters");
+    let pass = Arg::new(alloc, "pass")
+        .long("pass")
+        .value_name("W")
+        .required(true)
+        .help("The password: 1 to 10 printable characters");
+    command.arg(port)?.arg(user)?.arg(pass)
+}
