@@ -48,29 +48,17 @@ fn greatest(rt: &impl Abort) -> Fields {
     }
 }
 
+// A message of each type.
 impl Fields {
-    fn add_order(&self) -> AddOrder {
-        AddOrder {
+    fn system_event(&self) -> Message<'static> {
+        Message::SystemEvent(SystemEvent {
             header: self.header,
-            reference: self.wide,
-            side: self.side,
-            shares: self.narrow,
-            stock: self.stock,
-            price: self.narrow,
-        }
+            code: self.code,
+        })
     }
 
-    fn execution(&self) -> OrderExecuted {
-        OrderExecuted {
-            header: self.header,
-            reference: self.wide,
-            shares: self.narrow,
-            match_number: self.wide,
-        }
-    }
-
-    fn directory(&self) -> Directory {
-        Directory {
+    fn stock_directory(&self) -> Message<'static> {
+        let entry = Directory {
             stock: self.stock,
             market_category: self.code,
             financial_status: self.code,
@@ -85,7 +73,127 @@ impl Fields {
             etp_flag: self.code,
             etp_leverage_factor: self.narrow,
             inverse_indicator: self.code,
+        };
+        Message::StockDirectory(StockDirectory {
+            header: self.header,
+            entry,
+        })
+    }
+
+    fn trading_action(&self) -> Message<'static> {
+        Message::TradingAction(TradingAction {
+            header: self.header,
+            stock: self.stock,
+            state: self.code,
+            reserved: self.code,
+            reason: [self.code; 4],
+        })
+    }
+
+    fn reg_sho(&self) -> Message<'static> {
+        Message::RegSho(RegSho {
+            header: self.header,
+            stock: self.stock,
+            action: self.code,
+        })
+    }
+
+    fn order(&self) -> AddOrder {
+        AddOrder {
+            header: self.header,
+            reference: self.wide,
+            side: self.side,
+            shares: self.narrow,
+            stock: self.stock,
+            price: self.narrow,
         }
+    }
+
+    fn add_order(&self) -> Message<'static> {
+        Message::AddOrder(self.order())
+    }
+
+    fn attributed_add_order(&self) -> Message<'static> {
+        Message::AttributedAddOrder(AttributedAddOrder {
+            order: self.order(),
+            attribution: self.attribution,
+        })
+    }
+
+    fn execution(&self) -> OrderExecuted {
+        OrderExecuted {
+            header: self.header,
+            reference: self.wide,
+            shares: self.narrow,
+            match_number: self.wide,
+        }
+    }
+
+    fn order_executed(&self) -> Message<'static> {
+        Message::OrderExecuted(self.execution())
+    }
+
+    fn order_executed_with_price(&self) -> Message<'static> {
+        Message::OrderExecutedWithPrice(OrderExecutedWithPrice {
+            execution: self.execution(),
+            printable: self.code,
+            price: self.narrow,
+        })
+    }
+
+    fn order_cancel(&self) -> Message<'static> {
+        Message::OrderCancel(OrderCancel {
+            header: self.header,
+            reference: self.wide,
+            shares: self.narrow,
+        })
+    }
+
+    fn order_delete(&self) -> Message<'static> {
+        Message::OrderDelete(OrderDelete {
+            header: self.header,
+            reference: self.wide,
+        })
+    }
+
+    fn order_replace(&self) -> Message<'static> {
+        Message::OrderReplace(OrderReplace {
+            header: self.header,
+            original: self.wide,
+            reference: self.wide,
+            shares: self.narrow,
+            price: self.narrow,
+        })
+    }
+
+    fn trade(&self) -> Message<'static> {
+        Message::Trade(Trade {
+            header: self.header,
+            reference: self.wide,
+            side: self.side,
+            shares: self.narrow,
+            stock: self.stock,
+            price: self.narrow,
+            match_number: self.wide,
+        })
+    }
+
+    fn cross_trade(&self) -> Message<'static> {
+        Message::CrossTrade(CrossTrade {
+            header: self.header,
+            shares: self.wide,
+            stock: self.stock,
+            price: self.narrow,
+            match_number: self.wide,
+            cross_type: self.code,
+        })
+    }
+
+    fn broken_trade(&self) -> Message<'static> {
+        Message::BrokenTrade(BrokenTrade {
+            header: self.header,
+            match_number: self.wide,
+        })
     }
 }
 
@@ -96,211 +204,151 @@ fn shown(rt: &(impl Abort + AllocGlobal), number: u64, message: Message<'_>, exp
     assert_eq!(rt; text.as_str(), expected);
 }
 
-fn stocks_shown(
-    rt: &(impl Abort + AllocGlobal),
-    number: u64,
-    fields: &Fields,
-    expected: [&str; 4],
-) {
-    let header = fields.header;
-    let event = SystemEvent {
-        header,
-        code: fields.code,
-    };
-    shown(rt, number, Message::SystemEvent(event), expected[0]);
-    let directory = StockDirectory {
-        header,
-        entry: fields.directory(),
-    };
-    shown(rt, number, Message::StockDirectory(directory), expected[1]);
-    let action = TradingAction {
-        header,
-        stock: fields.stock,
-        state: fields.code,
-        reserved: fields.code,
-        reason: [fields.code; 4],
-    };
-    shown(rt, number, Message::TradingAction(action), expected[2]);
-    let restriction = RegSho {
-        header,
-        stock: fields.stock,
-        action: fields.code,
-    };
-    shown(rt, number, Message::RegSho(restriction), expected[3]);
-}
-
-fn orders_shown(
-    rt: &(impl Abort + AllocGlobal),
-    number: u64,
-    fields: &Fields,
-    expected: [&str; 7],
-) {
-    let header = fields.header;
-    shown(
-        rt,
-        number,
-        Message::AddOrder(fields.add_order()),
-        expected[0],
-    );
-    let attributed = AttributedAddOrder {
-        order: fields.add_order(),
-        attribution: fields.attribution,
-    };
-    shown(
-        rt,
-        number,
-        Message::AttributedAddOrder(attributed),
-        expected[1],
-    );
-    shown(
-        rt,
-        number,
-        Message::OrderExecuted(fields.execution()),
-        expected[2],
-    );
-    let with_price = OrderExecutedWithPrice {
-        execution: fields.execution(),
-        printable: fields.code,
-        price: fields.narrow,
-    };
-    shown(
-        rt,
-        number,
-        Message::OrderExecutedWithPrice(with_price),
-        expected[3],
-    );
-    let cancel = OrderCancel {
-        header,
-        reference: fields.wide,
-        shares: fields.narrow,
-    };
-    shown(rt, number, Message::OrderCancel(cancel), expected[4]);
-    let delete = OrderDelete {
-        header,
-        reference: fields.wide,
-    };
-    shown(rt, number, Message::OrderDelete(delete), expected[5]);
-    let replace = OrderReplace {
-        header,
-        original: fields.wide,
-        reference: fields.wide,
-        shares: fields.narrow,
-        price: fields.narrow,
-    };
-    shown(rt, number, Message::OrderReplace(replace), expected[6]);
-}
-
-fn trades_shown(
-    rt: &(impl Abort + AllocGlobal),
-    number: u64,
-    fields: &Fields,
-    expected: [&str; 3],
-) {
-    let header = fields.header;
-    let trade = Trade {
-        header,
-        reference: fields.wide,
-        side: fields.side,
-        shares: fields.narrow,
-        stock: fields.stock,
-        price: fields.narrow,
-        match_number: fields.wide,
-    };
-    shown(rt, number, Message::Trade(trade), expected[0]);
-    let cross = CrossTrade {
-        header,
-        shares: fields.wide,
-        stock: fields.stock,
-        price: fields.narrow,
-        match_number: fields.wide,
-        cross_type: fields.code,
-    };
-    shown(rt, number, Message::CrossTrade(cross), expected[1]);
-    let broken = BrokenTrade {
-        header,
-        match_number: fields.wide,
-    };
-    shown(rt, number, Message::BrokenTrade(broken), expected[2]);
-}
-
 #[test]
-fn smallest_values(rt: HostRuntime) {
+fn smallest_values_of_stocks(rt: HostRuntime) {
     let fields = least(&rt);
-    stocks_shown(
+    shown(&rt, 0, fields.system_event(), "0 S 0 0 0 00\n");
+    shown(
         &rt,
         0,
-        &fields,
-        [
-            "0 S 0 0 0 00\n",
-            "0 R 0 0 0 [] 00 00 0 00 00 0000 00 00 00 00 00 0 00\n",
-            "0 H 0 0 0 [] 00 00 00000000\n",
-            "0 Y 0 0 0 [] 00\n",
-        ],
+        fields.stock_directory(),
+        "0 R 0 0 0 [] 00 00 0 00 00 0000 00 00 00 00 00 0 00\n",
     );
-    orders_shown(
+    shown(
         &rt,
         0,
-        &fields,
-        [
-            "0 A 0 0 0 0 B 0 [] 0.0000\n",
-            "0 F 0 0 0 0 B 0 [] 0.0000 []\n",
-            "0 E 0 0 0 0 0 0\n",
-            "0 C 0 0 0 0 0 0 00 0.0000\n",
-            "0 X 0 0 0 0 0\n",
-            "0 D 0 0 0 0\n",
-            "0 U 0 0 0 0 0 0 0.0000\n",
-        ],
+        fields.trading_action(),
+        "0 H 0 0 0 [] 00 00 00000000\n",
     );
-    trades_shown(
+    shown(&rt, 0, fields.reg_sho(), "0 Y 0 0 0 [] 00\n");
+}
+
+#[test]
+fn smallest_values_of_orders(rt: HostRuntime) {
+    let fields = least(&rt);
+    shown(&rt, 0, fields.add_order(), "0 A 0 0 0 0 B 0 [] 0.0000\n");
+    shown(
         &rt,
         0,
-        &fields,
-        [
-            "0 P 0 0 0 0 B 0 [] 0.0000 0\n",
-            "0 Q 0 0 0 0 [] 0.0000 0 00\n",
-            "0 B 0 0 0 0\n",
-        ],
+        fields.attributed_add_order(),
+        "0 F 0 0 0 0 B 0 [] 0.0000 []\n",
+    );
+    shown(&rt, 0, fields.order_executed(), "0 E 0 0 0 0 0 0\n");
+    shown(
+        &rt,
+        0,
+        fields.order_executed_with_price(),
+        "0 C 0 0 0 0 0 0 00 0.0000\n",
+    );
+    shown(&rt, 0, fields.order_cancel(), "0 X 0 0 0 0 0\n");
+    shown(&rt, 0, fields.order_delete(), "0 D 0 0 0 0\n");
+    shown(&rt, 0, fields.order_replace(), "0 U 0 0 0 0 0 0 0.0000\n");
+}
+
+#[test]
+fn smallest_values_of_trades(rt: HostRuntime) {
+    let fields = least(&rt);
+    shown(&rt, 0, fields.trade(), "0 P 0 0 0 0 B 0 [] 0.0000 0\n");
+    shown(&rt, 0, fields.cross_trade(), "0 Q 0 0 0 0 [] 0.0000 0 00\n");
+    shown(&rt, 0, fields.broken_trade(), "0 B 0 0 0 0\n");
+}
+
+#[test]
+fn largest_values_of_stocks(rt: HostRuntime) {
+    let fields = greatest(&rt);
+    shown(
+        &rt,
+        u64::MAX,
+        fields.system_event(),
+        "18446744073709551615 S 65535 65535 281474976710655 ff\n",
+    );
+    shown(
+        &rt,
+        u64::MAX,
+        fields.stock_directory(),
+        "18446744073709551615 R 65535 65535 281474976710655 [~~~~~~~~] ff ff 4294967295 ff ff ffff ff ff ff ff ff 4294967295 ff\n",
+    );
+    shown(
+        &rt,
+        u64::MAX,
+        fields.trading_action(),
+        "18446744073709551615 H 65535 65535 281474976710655 [~~~~~~~~] ff ff ffffffff\n",
+    );
+    shown(
+        &rt,
+        u64::MAX,
+        fields.reg_sho(),
+        "18446744073709551615 Y 65535 65535 281474976710655 [~~~~~~~~] ff\n",
     );
 }
 
 #[test]
-fn largest_values(rt: HostRuntime) {
+fn largest_values_of_orders(rt: HostRuntime) {
     let fields = greatest(&rt);
-    let number = u64::MAX;
-    stocks_shown(
+    shown(
         &rt,
-        number,
-        &fields,
-        [
-            "18446744073709551615 S 65535 65535 281474976710655 ff\n",
-            "18446744073709551615 R 65535 65535 281474976710655 [~~~~~~~~] ff ff 4294967295 ff ff ffff ff ff ff ff ff 4294967295 ff\n",
-            "18446744073709551615 H 65535 65535 281474976710655 [~~~~~~~~] ff ff ffffffff\n",
-            "18446744073709551615 Y 65535 65535 281474976710655 [~~~~~~~~] ff\n",
-        ],
+        u64::MAX,
+        fields.add_order(),
+        "18446744073709551615 A 65535 65535 281474976710655 18446744073709551615 S 4294967295 [~~~~~~~~] 429496.7295\n",
     );
-    orders_shown(
+    shown(
         &rt,
-        number,
-        &fields,
-        [
-            "18446744073709551615 A 65535 65535 281474976710655 18446744073709551615 S 4294967295 [~~~~~~~~] 429496.7295\n",
-            "18446744073709551615 F 65535 65535 281474976710655 18446744073709551615 S 4294967295 [~~~~~~~~] 429496.7295 [~~~~]\n",
-            "18446744073709551615 E 65535 65535 281474976710655 18446744073709551615 4294967295 18446744073709551615\n",
-            "18446744073709551615 C 65535 65535 281474976710655 18446744073709551615 4294967295 18446744073709551615 ff 429496.7295\n",
-            "18446744073709551615 X 65535 65535 281474976710655 18446744073709551615 4294967295\n",
-            "18446744073709551615 D 65535 65535 281474976710655 18446744073709551615\n",
-            "18446744073709551615 U 65535 65535 281474976710655 18446744073709551615 18446744073709551615 4294967295 429496.7295\n",
-        ],
+        u64::MAX,
+        fields.attributed_add_order(),
+        "18446744073709551615 F 65535 65535 281474976710655 18446744073709551615 S 4294967295 [~~~~~~~~] 429496.7295 [~~~~]\n",
     );
-    trades_shown(
+    shown(
         &rt,
-        number,
-        &fields,
-        [
-            "18446744073709551615 P 65535 65535 281474976710655 18446744073709551615 S 4294967295 [~~~~~~~~] 429496.7295 18446744073709551615\n",
-            "18446744073709551615 Q 65535 65535 281474976710655 18446744073709551615 [~~~~~~~~] 429496.7295 18446744073709551615 ff\n",
-            "18446744073709551615 B 65535 65535 281474976710655 18446744073709551615\n",
-        ],
+        u64::MAX,
+        fields.order_executed(),
+        "18446744073709551615 E 65535 65535 281474976710655 18446744073709551615 4294967295 18446744073709551615\n",
+    );
+    shown(
+        &rt,
+        u64::MAX,
+        fields.order_executed_with_price(),
+        "18446744073709551615 C 65535 65535 281474976710655 18446744073709551615 4294967295 18446744073709551615 ff 429496.7295\n",
+    );
+    shown(
+        &rt,
+        u64::MAX,
+        fields.order_cancel(),
+        "18446744073709551615 X 65535 65535 281474976710655 18446744073709551615 4294967295\n",
+    );
+    shown(
+        &rt,
+        u64::MAX,
+        fields.order_delete(),
+        "18446744073709551615 D 65535 65535 281474976710655 18446744073709551615\n",
+    );
+    shown(
+        &rt,
+        u64::MAX,
+        fields.order_replace(),
+        "18446744073709551615 U 65535 65535 281474976710655 18446744073709551615 18446744073709551615 4294967295 429496.7295\n",
+    );
+}
+
+#[test]
+fn largest_values_of_trades(rt: HostRuntime) {
+    let fields = greatest(&rt);
+    shown(
+        &rt,
+        u64::MAX,
+        fields.trade(),
+        "18446744073709551615 P 65535 65535 281474976710655 18446744073709551615 S 4294967295 [~~~~~~~~] 429496.7295 18446744073709551615\n",
+    );
+    shown(
+        &rt,
+        u64::MAX,
+        fields.cross_trade(),
+        "18446744073709551615 Q 65535 65535 281474976710655 18446744073709551615 [~~~~~~~~] 429496.7295 18446744073709551615 ff\n",
+    );
+    shown(
+        &rt,
+        u64::MAX,
+        fields.broken_trade(),
+        "18446744073709551615 B 65535 65535 281474976710655 18446744073709551615\n",
     );
 }
 
