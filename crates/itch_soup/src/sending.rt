@@ -17,7 +17,7 @@ use itch_codec::{Message, Seq, encode};
 use itch_frame::counted::CountedWrite;
 use itch_frame::{FrameFault, write_block, write_part};
 use itch_market::Market;
-use itch_snapshot::SnapshotIter;
+use itch_snapshot::{SnapshotIter, snapshot_len};
 
 /// Writes the block of a sequenced data packet: the length, the type byte, and this payload, which is not copied.
 ///
@@ -57,6 +57,17 @@ fn write_acceptance<W: CountedWrite>(
     write_block(writer, &LoginAccepted::spelling(config, from))
 }
 
+/// The number of a session's messages before its End of Snapshot, which are not walked for it.
+pub(crate) fn messages_before_end<B: OrderBook>(market: &Market<B>) -> u64
+    requires { length (snap market.now) < 10 ^ 19 - 1 }
+    ensures { result ≡ length (snap market.now) }
+{
+    let Ok(len) = u64::try_from(snapshot_len(market)) else {
+        unreachable!()
+    };
+    len
+}
+
 // Passes over `count` messages of a snapshot, or over all where it has fewer.
 fn pass_over<B: OrderBook>(messages: &mut SnapshotIter<'_, B>, count: u64)
     ensures { messages.new ≡ drop count messages.old }
@@ -84,7 +95,7 @@ pub(crate) fn write_session<W: CountedWrite, B: OrderBook>(
     write_acceptance(writer, config, from)?;
     let mut messages = SnapshotIter::new(market);
     let passed = from.value() - 1;
-    let with_end = passed <= messages.remaining();
+    let with_end = passed <= messages_before_end(market);
     pass_over(&mut messages, passed);
     let count = write_messages(writer, messages)?;
     let end = write_end(writer, next, with_end)?;

@@ -9,14 +9,13 @@ use crate::fault::SoupFault;
 use crate::origin::Origin;
 use crate::packet::{LoginRequest, Packet};
 use crate::parsing::parse_packet;
-use crate::sending::write_session;
+use crate::sending::{messages_before_end, write_session};
 use crate::server::{ServerAct, ServerSession, judge};
 use itch_book::OrderBook;
 use itch_codec::Seq;
 use itch_frame::counted::{CountedRead, CountedWrite};
 use itch_frame::{BlockReader, write_block};
 use itch_market::Market;
-use itch_snapshot::SnapshotIter;
 use std::alloc::Allocator;
 
 /// How a served connection ended.
@@ -81,7 +80,7 @@ fn answer<W: CountedWrite, B: OrderBook>(
     requires { length (snap market.now) < 10 ^ 19 - 1 }
     ensures { AnswersLogin W.contents W.failures market.now next config.now login.now writer.old result writer.new }
 {
-    let total = SnapshotIter::new(market).remaining() + 1;
+    let total = messages_before_end(market) + 1;
     let (act, _) = judge(config, total, login);
     match act {
         ServerAct::Accept { next: from } => {

@@ -24,22 +24,22 @@ pub returns-in_err-count-clause-packets : goal.returns-in_err-count-clause-packe
 returns-in_err-count-clause-packets g c =
     let p = err_from_is_err_and c.from_residual-in_err-count.result c.from_residual-in_err-count.ensures.1 in
     rw (p.1, p.2)
-    (failed_at_data g.W.CountedWrite.contents g.W.CountedWrite.failures c.args.market.now c.args.next c.args.from c.args.config.now c.pass_over.new.messages (c.value-passed.result - 1) c.remaining.result
-    (c.pass_over.ensures ∙ ap (drop (c.value-passed.result - 1)) c.new-messages.ensures) (ap (λ n. n - 1) c.value-passed.ensures.value) (c.remaining.ensures ∙ ap length c.new-messages.ensures)
+    (failed_at_data g.W.CountedWrite.contents g.W.CountedWrite.failures c.args.market.now c.args.next c.args.from c.args.config.now c.pass_over.new.messages (c.value-passed.result - 1) c.messages_before_end.result
+    (c.pass_over.ensures ∙ ap (drop (c.value-passed.result - 1)) c.new-messages.ensures) (ap (λ n. n - 1) c.value-passed.ensures.value) c.messages_before_end.ensures
     (Unit {0}) ℕ c.args.writer.now c.write_acceptance.new.writer c.write_messages.new.writer tt c.in_err-count.field-0.0 c.in_ok-write_acceptance.ensures c.in_err-count.ensures.packets)
 
 pub returns-in_err-end-clause-packets : goal.returns-in_err-end-clause-packets
 returns-in_err-end-clause-packets g c =
     let p = err_from_is_err_and c.from_residual-in_err-end.result c.from_residual-in_err-end.ensures.1 in
     rw (p.1, p.2)
-    (sent_with_end g.W.CountedWrite.contents g.W.CountedWrite.failures c.args.market.now c.args.next c.args.from c.args.config.now c.pass_over.new.messages (c.value-passed.result - 1) c.remaining.result
-    (c.pass_over.ensures ∙ ap (drop (c.value-passed.result - 1)) c.new-messages.ensures) (ap (λ n. n - 1) c.value-passed.ensures.value) (c.remaining.ensures ∙ ap length c.new-messages.ensures)
+    (sent_with_end g.W.CountedWrite.contents g.W.CountedWrite.failures c.args.market.now c.args.next c.args.from c.args.config.now c.pass_over.new.messages (c.value-passed.result - 1) c.messages_before_end.result
+    (c.pass_over.ensures ∙ ap (drop (c.value-passed.result - 1)) c.new-messages.ensures) (ap (λ n. n - 1) c.value-passed.ensures.value) c.messages_before_end.ensures
     {S = Unit {0}} {T = ℕ} {U = ℕ} c.args.writer.now c.write_acceptance.new.writer c.write_messages.new.writer c.write_end.new.writer tt c.in_ok-count.count (Err c.in_err-end.field-0.0)
     c.in_ok-write_acceptance.ensures c.in_ok-count.ensures.packets c.in_err-end.ensures.packets)
 
 pub returns-clause-packets : goal.returns-clause-packets
 returns-clause-packets g c =
-    sent_with_end g.W.CountedWrite.contents g.W.CountedWrite.failures c.args.market.now c.args.next c.args.from c.args.config.now c.pass_over.new.messages (c.value-passed.result - 1) c.remaining.result
-    (c.pass_over.ensures ∙ ap (drop (c.value-passed.result - 1)) c.new-messages.ensures) (ap (λ n. n - 1) c.value-passed.ensures.value) (c.remaining.ensures ∙ ap length c.new-messages.ensures)
+    sent_with_end g.W.CountedWrite.contents g.W.CountedWrite.failures c.args.market.now c.args.next c.args.from c.args.config.now c.pass_over.new.messages (c.value-passed.result - 1) c.messages_before_end.result
+    (c.pass_over.ensures ∙ ap (drop (c.value-passed.result - 1)) c.new-messages.ensures) (ap (λ n. n - 1) c.value-passed.ensures.value) c.messages_before_end.ensures
     {S = Unit {0}} {T = ℕ} {U = ℕ} c.args.writer.now c.write_acceptance.new.writer c.write_messages.new.writer c.write_end.new.writer tt c.in_ok-count.count (Ok c.in_ok-end.end)
     c.in_ok-write_acceptance.ensures c.in_ok-count.ensures.packets c.in_ok-end.ensures.packets
