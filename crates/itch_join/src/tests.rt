@@ -1,7 +1,7 @@
 //! Joins by what their calls return and the markets that they lead to. The helpers take a joiner over any book.
 use crate::{Cause, JoinFault, Joiner, Live, Snap, laws};
 use itch_book::{IndexedBook, ListBook, OrderBook};
-use itch_codec::{CodecFault, encode};
+use itch_codec::{CodecFault, Message, encode};
 use itch_market::Refusal;
 use itch_snapshot::SnapshotIter;
 use std::alloc::{AllocError, Global};
@@ -52,6 +52,45 @@ const BEFORE_6: &[&[u8]] = &[OPENS, AAPL, ADD_1, ADD_2, ADD_3];
 // The program's joiner.
 type Indexed = Joiner<IndexedBook>;
 
+// One call and its result. These helpers have no contract, so that a proof of a test need not carry what each call leaves.
+fn live<B: OrderBook>(
+    rt: &impl Abort,
+    joiner: &mut Joiner<B>,
+    number: u64,
+    payload: &[u8],
+    want: Result<Live, JoinFault>,
+) {
+    assert_eq!(rt; joiner.live(number, payload), want, "message {number}");
+}
+
+fn snapshot<B: OrderBook>(
+    rt: &impl Abort,
+    joiner: &mut Joiner<B>,
+    payload: &[u8],
+    want: Result<Snap, JoinFault>,
+) {
+    assert_eq!(rt; joiner.snapshot(payload), want);
+}
+
+fn resume<B: OrderBook>(
+    rt: &impl Abort,
+    joiner: &mut Joiner<B>,
+    want: Result<Option<u64>, JoinFault>,
+) {
+    assert_eq!(rt; joiner.resume(), want);
+}
+
+fn restart<B: OrderBook>(joiner: &mut Joiner<B>) {
+    joiner.restart();
+}
+
+// The number that comes next, which there is once there is a market, and how many messages wait.
+fn stands<B: OrderBook>(rt: &impl Abort, joiner: &Joiner<B>, next: Option<u64>, waiting: usize) {
+    assert_eq!(rt; joiner.next(), next);
+    assert_eq!(rt; joiner.market().is_some(), next.is_some());
+    assert_eq!(rt; joiner.waiting(), waiting);
+}
+
 // Delivers messages of the live feed.
 fn deliver<B: OrderBook>(
     rt: &impl Abort,
@@ -59,14 +98,14 @@ fn deliver<B: OrderBook>(
     rows: &[(u64, &[u8], Result<Live, JoinFault>)],
 ) {
     for (number, payload, want) in rows {
-        assert_eq!(rt; joiner.live(*number, payload), *want, "message {number}");
+        live(rt, joiner, *number, payload, *want);
     }
 }
 
 // Takes messages of a snapshot, which none of them ends.
 fn read<B: OrderBook>(rt: &impl Abort, joiner: &mut Joiner<B>, payloads: &[&[u8]]) {
     for payload in payloads {
-        assert_eq!(rt; joiner.snapshot(payload), Ok(Snap::More));
+        snapshot(rt, joiner, payload, Ok(Snap::More));
     }
 }
 
@@ -75,9 +114,13 @@ fn spelled<B: OrderBook>(alloc: Global, joiner: &Joiner<B>) -> Result<Vec<u8>, F
     let market = joiner.market().ok_or("a market")?;
     let mut bytes = Vec::new(alloc);
     for message in SnapshotIter::new(market) {
-        bytes.extend_from_slice(encode(&message).bytes())?;
+        push(&mut bytes, &message)?;
     }
     Ok(bytes)
+}
+
+fn push(bytes: &mut Vec<u8>, message: &Message<'_>) -> Result<(), AllocError> {
+    bytes.extend_from_slice(encode(message).bytes())
 }
 
 fn joined_up(alloc: Global, payloads: &[&[u8]]) -> Result<Vec<u8>, AllocError> {
@@ -103,7 +146,7 @@ fn check_market<B: OrderBook>(
 fn joined_at_3(rt: &impl Abort, alloc: Global, cap: usize) -> Indexed {
     let mut joiner = Joiner::new(alloc, cap);
     read(rt, &mut joiner, &[OPENS, AAPL]);
-    assert_eq!(rt; joiner.snapshot(END_3), Ok(Snap::Joined { next: 3 }));
+    snapshot(rt, &mut joiner, END_3, Ok(Snap::Joined { next: 3 }));
     joiner
 }
 
@@ -126,8 +169,8 @@ fn check_late_join<B: OrderBook>(
     read(rt, &mut joiner, BEFORE_6);
     assert_eq!(rt; joiner.next(), None);
     assert!(rt; joiner.market().is_none());
-    assert_eq!(rt; joiner.resume(), Ok(None));
-    assert_eq!(rt; joiner.snapshot(END_6), Ok(Snap::Joined { next: 6 }));
+    resume(rt, &mut joiner, Ok(None));
+    snapshot(rt, &mut joiner, END_6, Ok(Snap::Joined { next: 6 }));
     deliver(
         rt,
         &mut joiner,
@@ -137,8 +180,7 @@ fn check_late_join<B: OrderBook>(
             (9, NAMED_5, Ok(Live::Applied { next: 10 })),
         ],
     );
-    assert_eq!(rt; joiner.next(), Some(10));
-    assert_eq!(rt; joiner.waiting(), 0);
+    stands(rt, &joiner, Some(10), 0);
     check_market(rt, global, &joiner, &[OPENS, AAPL, ADD_2, ADD_4, NAMED_5])
 }
 
@@ -171,12 +213,11 @@ fn a_refused_message_halts_for_good(rt: HostRuntime) -> Result<(), Fail> {
             (1, OPENS, Err(halted)),
         ],
     );
-    assert_eq!(rt; joiner.snapshot(END_3), Err(halted));
-    assert_eq!(rt; joiner.resume(), Err(halted));
-    joiner.restart();
-    assert_eq!(rt; joiner.resume(), Err(halted));
-    assert_eq!(rt; joiner.next(), Some(3));
-    assert_eq!(rt; joiner.waiting(), 1);
+    snapshot(&rt, &mut joiner, END_3, Err(halted));
+    resume(&rt, &mut joiner, Err(halted));
+    restart(&mut joiner);
+    resume(&rt, &mut joiner, Err(halted));
+    stands(&rt, &joiner, Some(3), 1);
     check_market(&rt, rt.alloc(), &joiner, &[OPENS, AAPL])
 }
 
@@ -197,8 +238,7 @@ fn a_waiting_message_halts(rt: HostRuntime) -> Result<(), Fail> {
             (3, ADD_1, Err(halted)),
         ],
     );
-    assert_eq!(rt; joiner.next(), Some(4));
-    assert_eq!(rt; joiner.waiting(), 2);
+    stands(&rt, &joiner, Some(4), 2);
     check_market(&rt, rt.alloc(), &joiner, &[OPENS, AAPL, ADD_1])
 }
 
@@ -209,8 +249,8 @@ fn a_broken_snapshot_is_restarted(rt: HostRuntime) -> Result<(), Fail> {
         place: 1,
         cause: Cause::Rule(Refusal::UnknownLocate),
     };
-    assert_eq!(rt; joiner.snapshot(ADD_1), Err(broken));
-    assert_eq!(rt; joiner.snapshot(END_1), Err(broken));
+    snapshot(&rt, &mut joiner, ADD_1, Err(broken));
+    snapshot(&rt, &mut joiner, END_1, Err(broken));
     deliver(
         &rt,
         &mut joiner,
@@ -223,13 +263,13 @@ fn a_broken_snapshot_is_restarted(rt: HostRuntime) -> Result<(), Fail> {
             (10_000_000_000_000_000_000, AAPL, Err(JoinFault::BadNumber)),
         ],
     );
-    joiner.restart();
+    restart(&mut joiner);
     assert_eq!(rt; joiner.waiting(), 1);
-    assert_eq!(rt; joiner.snapshot(END_1), Ok(Snap::Joined { next: 2 }));
+    snapshot(&rt, &mut joiner, END_1, Ok(Snap::Joined { next: 2 }));
     assert_eq!(rt; joiner.waiting(), 0);
-    assert_eq!(rt; joiner.snapshot(END_1), Err(JoinFault::Joined));
-    joiner.restart();
-    assert_eq!(rt; joiner.resume(), Ok(Some(2)));
+    snapshot(&rt, &mut joiner, END_1, Err(JoinFault::Joined));
+    restart(&mut joiner);
+    resume(&rt, &mut joiner, Ok(Some(2)));
     check_market(&rt, rt.alloc(), &joiner, &[OPENS])
 }
 
@@ -237,9 +277,9 @@ fn a_broken_snapshot_is_restarted(rt: HostRuntime) -> Result<(), Fail> {
 fn a_thousand_messages_wait(rt: HostRuntime) -> Result<(), Fail> {
     let mut joiner: Indexed = Joiner::new(rt.alloc(), 1000);
     for back in 0..1000u64 {
-        assert_eq!(rt; joiner.live(1000 - back, BROKEN_TRADE), Ok(Live::Kept));
+        live(&rt, &mut joiner, 1000 - back, BROKEN_TRADE, Ok(Live::Kept));
     }
-    assert_eq!(rt; joiner.snapshot(END_1), Ok(Snap::Joined { next: 1001 }));
+    snapshot(&rt, &mut joiner, END_1, Ok(Snap::Joined { next: 1001 }));
     assert_eq!(rt; joiner.waiting(), 0);
     Ok(())
 }
@@ -258,15 +298,22 @@ fn joins_a_feed_in_order(rt: HostRuntime) -> Result<(), Fail> {
             (3, ADD_1, Ok(Live::Applied { next: 4 })),
         ],
     );
-    check_market(&rt, rt.alloc(), &joiner, &[OPENS, AAPL, ADD_1])?;
-    let mut nothing_new = joined_at_3(&rt, rt.alloc(), 0);
-    deliver(&rt, &mut nothing_new, &[(1, OPENS, Ok(Live::Old))]);
-    assert_eq!(rt; nothing_new.next(), Some(3));
-    check_market(&rt, rt.alloc(), &nothing_new, &[OPENS, AAPL])?;
-    let mut unended: Indexed = Joiner::new(rt.alloc(), 0);
-    read(&rt, &mut unended, &[AAPL]);
-    assert_eq!(rt; unended.next(), None);
-    Ok(())
+    check_market(&rt, rt.alloc(), &joiner, &[OPENS, AAPL, ADD_1])
+}
+
+#[test]
+fn a_feed_with_nothing_new(rt: HostRuntime) -> Result<(), Fail> {
+    let mut joiner = joined_at_3(&rt, rt.alloc(), 0);
+    live(&rt, &mut joiner, 1, OPENS, Ok(Live::Old));
+    stands(&rt, &joiner, Some(3), 0);
+    check_market(&rt, rt.alloc(), &joiner, &[OPENS, AAPL])
+}
+
+#[test]
+fn a_snapshot_without_its_end(rt: HostRuntime) {
+    let mut joiner: Indexed = Joiner::new(rt.alloc(), 0);
+    read(&rt, &mut joiner, &[AAPL]);
+    stands(&rt, &joiner, None, 0);
 }
 
 #[test]
