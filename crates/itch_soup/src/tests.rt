@@ -11,6 +11,8 @@ use std::fmt::Debug;
 use std::process::Abort;
 use std::test::Fail;
 
+mod broken_answers;
+mod broken_logins;
 mod served;
 
 const LOGIN: &[u8; 47] = b"Luser  secret                                 3";

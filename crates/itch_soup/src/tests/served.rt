@@ -20,14 +20,14 @@ const DAY: &[u8] = b"\0\x0cS\0\0\0\0\0\0\0\0\0\0O\
     \0\x24A\0\x01\0\0\0\0\0\0\0\0\0\0\0\0\0\0\0\x02B\0\0\0\xc8AAPL    \0\x16\xe3\x60";
 
 // The answers to logins for all of it, for the orders, and for what follows the End of Snapshot.
-const FROM_1: &[u8] = b"\0\x1fA  ITCHSNAP                   1\
+pub(super) const FROM_1: &[u8] = b"\0\x1fA  ITCHSNAP                   1\
     \0\x0dSS\0\0\0\0\0\0\0\0\0\0O\
     \0\x28SR\0\x01\0\0\0\0\0\0\0\0AAPL    QN\0\0\0dNCZ PNN1N\0\0\0\0N\
     \0\x25SA\0\x01\0\0\0\0\0\0\0\0\0\0\0\0\0\0\0\x01B\0\0\0dAAPL    \0\x16\xe3\x60\
     \0\x25SA\0\x01\0\0\0\0\0\0\0\0\0\0\0\0\0\0\0\x02B\0\0\0\xc8AAPL    \0\x16\xe3\x60\
     \0\x16SG                   5\0\x01Z";
 
-const FROM_3: &[u8] = b"\0\x1fA  ITCHSNAP                   3\
+pub(super) const FROM_3: &[u8] = b"\0\x1fA  ITCHSNAP                   3\
     \0\x25SA\0\x01\0\0\0\0\0\0\0\0\0\0\0\0\0\0\0\x01B\0\0\0dAAPL    \0\x16\xe3\x60\
     \0\x25SA\0\x01\0\0\0\0\0\0\0\0\0\0\0\0\0\0\0\x02B\0\0\0\xc8AAPL    \0\x16\xe3\x60\
     \0\x16SG                   5\0\x01Z";
@@ -36,9 +36,9 @@ const FROM_6: &[u8] = b"\0\x1fA  ITCHSNAP                   6\0\x01Z";
 
 const LOGIN_1: &[u8] = b"\0\x2fLuser  secret                                 1";
 
-const LOGIN_3: &[u8] = b"\0\x2fLuser  secret                                 3";
+pub(super) const LOGIN_3: &[u8] = b"\0\x2fLuser  secret                                 3";
 
-fn config(rt: &impl Abort) -> ServerConfig {
+pub(super) fn config(rt: &impl Abort) -> ServerConfig {
     ServerConfig {
         username: alpha(rt, "user"),
         password: alpha(rt, "secret"),
@@ -55,7 +55,7 @@ fn credentials(rt: &impl Abort) -> Credentials {
 }
 
 // What the day leaves.
-fn market<A: Allocator + Copy>(alloc: A) -> Result<Market<ListBook<A>>, AllocError> {
+pub(super) fn market<A: Allocator + Copy>(alloc: A) -> Result<Market<ListBook<A>>, AllocError> {
     let mut reader = BlockReader::new(alloc, PieceReader::new(DAY, 64, None))?;
     let mut market = Market::new(alloc);
     replay(&mut reader, &mut market);
@@ -169,7 +169,7 @@ fn nothing_is_read_after_the_login(rt: HostRuntime) -> Result<(), Fail> {
 }
 
 // A fetch of what this reader gives, and whether it logged in.
-fn fetched<R: CountedRead + Drop>(
+pub(super) fn fetched<R: CountedRead + Drop>(
     rt: &impl Abort,
     alloc: Global,
     reader: R,
