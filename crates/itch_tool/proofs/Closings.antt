@@ -77,15 +77,15 @@ module _ (m : Content) (bytes : List ℕ) (seen left : List Message) (rest : Lis
     only_closing same = rest_is next same ∙ ap (λ ms. blocks (map spelling ms) ++ closing next) none
 
     none_left : (more : List ℕ) → (length more == 0) ≡ true → more ≡ []
-    none_left [] yes = refl
-    none_left (x ∷ more) yes = let some : length (x ∷ more) ≡ 0 = eqb-true (length (x ∷ more)) 0 yes in absurd (omega (arith, some))
+    none_left [] zero = refl
+    none_left (x ∷ more) zero = let some : length (x ∷ more) ≡ 0 = eqb-true (length (x ∷ more)) 0 zero in absurd (omega (arith, some))
 
     -- after the last message the closing block stands, and nothing after it
     pub matched_all : (more : List ℕ) (alone : Bool) → IsMessage (is.End next) → (IsPayload (spelling (is.End next)) → rest ≡ closing next ++ more) → alone ≡ (length more == 0)
         → (alone ≡ true) ↔ (bytes ≡ canon m ++ closing next)
     matched_all more alone fits strips says =
         let stripped : rest ≡ closing next ++ more = strips (spelling_short (is.End next) fits (λ kept. kept)) in (
-          λ yes. all_matched (stripped ∙ ap (λ b. closing next ++ b) (none_left more (sym says ∙ yes)) ∙ append-nil (closing next)),
+          λ here. all_matched (stripped ∙ ap (λ b. closing next ++ b) (none_left more (sym says ∙ here)) ∙ append-nil (closing next)),
           λ same.
               says ∙ ap (λ b. length b == 0) (append_cancel_left (closing next) more [] (sym stripped ∙ only_closing same ∙ sym (append-nil (closing next)))),
         )
