@@ -8,7 +8,7 @@ use std::test::Fail;
 #[test]
 fn words_are_read(rt: HostRuntime) -> Result<(), Fail> {
     let alloc = rt.alloc();
-    let cases: [(&str, Result<Request<'static>, i32>); 30] = [
+    let cases: [(&str, Result<Request<'static>, i32>); 35] = [
         (
             "snap",
             Ok(Request::Snap {
