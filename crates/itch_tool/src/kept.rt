@@ -81,7 +81,9 @@ fn keep_block<A: Allocator>(kept: &mut Vec<u8, A>, payload: &[u8]) -> Result<(),
 }
 
 /// Reads what follows an End of Snapshot: nothing, and true is returned, or an empty block, and false is.
-pub fn read_end<R: CountedRead, C: Allocator>(reader: &mut BlockReader<R, C>) -> Result<bool, ToolFault>
+pub fn read_end<R: CountedRead, C: Allocator>(
+    reader: &mut BlockReader<R, C>,
+) -> Result<bool, ToolFault>
     ensures step { EndsFile (bytes_left R.remaining reader.old) (bytes_left R.remaining reader.new) result }
     ensures failures { CountsSnap result (R.failures reader.old.reader) (R.failures reader.new.reader) }
 {

@@ -36,12 +36,7 @@ fn is_not(rt: &impl Abort, alloc: Global, blocks: &[&str]) -> Result<(), Fail> {
 }
 
 // The check of a file is refused for this reason, and nothing is written.
-fn refuses(
-    rt: &impl Abort,
-    alloc: Global,
-    blocks: &[&str],
-    reason: &str,
-) -> Result<(), Fail> {
+fn refuses(rt: &impl Abort, alloc: Global, blocks: &[&str], reason: &str) -> Result<(), Fail> {
     let input = file(alloc, blocks)?;
     let mut out = FuseWriter::new(alloc, 64, None);
     let reader = PieceReader::new(input.as_slice(), 64, None);
@@ -99,12 +94,7 @@ fn a_refused_snapshot_is_refused(rt: HostRuntime) -> Result<(), Fail> {
     refuses(&rt, alloc, &[], "no end of snapshot")?;
     refuses(&rt, alloc, &[START], "no end of snapshot")?;
     refuses(&rt, alloc, &[AAPL, "0000", END_2], "no end of snapshot")?;
-    refuses(
-        &rt,
-        alloc,
-        &[END_1, START],
-        "message after end of snapshot",
-    )?;
+    refuses(&rt, alloc, &[END_1, START], "message after end of snapshot")?;
     refuses(&rt, alloc, &[END_1, "00"], "truncated, 1 bytes held")?;
     refuses(&rt, alloc, &[AAPL, "002441"], "truncated, 3 bytes held")?;
     refuses(
@@ -140,17 +130,14 @@ fn each_failed_read_is_told(rt: HostRuntime) -> Result<(), Fail> {
 }
 
 // The write with this number fails, of as many as the line has bytes: a beginning of the line stands.
-fn is_cut(
-    rt: &impl Abort,
-    alloc: Global,
-    bytes: &[u8],
-    line: &str,
-    at: usize,
-) -> Result<(), Fail> {
+fn is_cut(rt: &impl Abort, alloc: Global, bytes: &[u8], line: &str, at: usize) -> Result<(), Fail> {
     let mut out = FuseWriter::new(alloc, 1, Some(at as u64 + 1));
     let answer = canon(alloc, PieceReader::new(bytes, 64, None), true, &mut out);
     assert!(rt; matches!(answer, Err(ToolFault::Write(_))), "write {at}");
-    assert!(rt; line.as_bytes().get(..at) == Some(out.written()), "write {at}");
+    assert!(rt;
+        line.as_bytes().get(..at) == Some(out.written()),
+        "write {at}"
+    );
     Ok(())
 }
 
