@@ -1,4 +1,5 @@
 //! Snapshots that are canonical, and others: what `canon --check` writes of them.
+ghost use Rattle.std.specs.Prelude.{◌<◌};
 
 use super::blocks::*;
 use super::file;
@@ -130,7 +131,9 @@ fn each_failed_read_is_told(rt: HostRuntime) -> Result<(), Fail> {
 }
 
 // The write with this number fails, of as many as the line has bytes: a beginning of the line stands.
-fn is_cut(rt: &impl Abort, alloc: Global, bytes: &[u8], line: &str, at: usize) -> Result<(), Fail> {
+fn is_cut(rt: &impl Abort, alloc: Global, bytes: &[u8], line: &str, at: usize) -> Result<(), Fail>
+    requires { at < 64 }
+{
     let mut out = FuseWriter::new(alloc, 1, Some(at as u64 + 1));
     let answer = canon(alloc, PieceReader::new(bytes, 64, None), true, &mut out);
     assert!(rt; matches!(answer, Err(ToolFault::Write(_))), "write {at}");
