@@ -144,8 +144,8 @@ module _ {R : Type 0} (remaining : R → Option (List ℕ)) (failures : R → Fa
     pub refused_after : (fault : ToolFault) → EndsFile (bytes_left remaining mid) (bytes_left remaining new) (Err fault)
         → CountsRefusal fault (failures mid.reader) (failures new.reader) → ChecksSnap remaining failures old new (Err fault)
     refused_after (tool.Stopped at end) h counts = absurd h
-    refused_after (tool.Snap at fault) (only, behind) counts =
-        let steps = later_fault empty (bytes_left remaining old) (bytes_left remaining mid) (bytes_left remaining new) n next fault refl reads.0 behind in
+    refused_after (tool.Snap at fault) (only, follows) counts =
+        let steps = later_fault empty (bytes_left remaining old) (bytes_left remaining mid) (bytes_left remaining new) n next fault refl reads.0 follows in
         (only, steps, reads_fault (bytes_left remaining old) (bytes_left remaining new) (Err fault) steps, subst (λ f. CountsFault fault f (failures new.reader)) uncounted counts)
     refused_after (tool.Short c) h counts = absurd h
     refused_after tool.UnknownLocate h counts = absurd h

@@ -20,9 +20,9 @@ use std::alloc::Allocator;
 /// Writes a snapshot file in canonical form: the canonical bytes of the market that its messages leave, and an End of
 /// Snapshot with the file's number.
 ///
-/// With `check` it only says whether the file is so already: it writes `canonical`, and true is the answer, where the file's
-/// bytes are exactly these, else `not canonical`, and false is. A block of length 0 at its end is one that they do not have.
-/// The bytes of the file are held for it.
+/// With `check` it only says whether the file is so already: it writes `canonical` and returns true where the file's bytes are
+/// exactly these, else it writes `not canonical` and returns false, as for a file with a block of length 0 at its end. The
+/// bytes of the file up to its End of Snapshot are held for it.
 pub fn canon<R: CountedRead + Drop, A: Allocator + Copy, W: CountedWrite>(
     alloc: A,
     reader: R,

@@ -68,7 +68,7 @@ fn keep_next<R: CountedRead, C: Allocator, B: OrderBook, A: Allocator>(
     }
 }
 
-// Keeps the block of a payload behind the bytes that are kept.
+// Keeps the block of a payload after the bytes that are kept.
 fn keep_block<A: Allocator>(kept: &mut Vec<u8, A>, payload: &[u8]) -> Result<(), AllocError>
     requires { IsPayload payload.now }
     ensures { OnOk result (kept.new.items ≡ kept.old.items ++ block payload.now) }
