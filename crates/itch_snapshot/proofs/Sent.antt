@@ -23,7 +23,7 @@ use Rattle.itch_snapshot.specs.Writes.{payloads, WritesSnapshot}
 use Rattle.itch_snapshot.proofs.Spelled.{IsSpelled, snap_spelled}
 
 -- the spelling of each message of a snapshot list fits a block
-message_short : (m : Content) (seen left : List Message) (x : Message) → IsGood m → snap m ≡ seen ++ x ∷ left → IsPayload (spelling x)
+pub message_short : (m : Content) (seen left : List Message) (x : Message) → IsGood m → snap m ≡ seen ++ x ∷ left → IsPayload (spelling x)
 message_short m seen left x good messages =
     let spelled : AllByRecursion IsSpelled (x ∷ left) = All-right_rec IsSpelled seen (x ∷ left) (subst (AllByRecursion IsSpelled) messages (snap_spelled m good)) in
     spelled.0.short

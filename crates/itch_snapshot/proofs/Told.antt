@@ -31,7 +31,7 @@ clean_spelled [] clean = tt
 clean_spelled (p ∷ ps) clean = (Spells-message_of p clean.0, clean_spelled ps clean.1)
 
 -- what was read up to the End of Snapshot is so in the file
-closes_here : (b c d : List ℕ) (ps : List (List ℕ)) (n : Content) (next : ℕ) → Takes empty (Some b) (Some c) ps n → length ps ≤ 10 ^ 19 - 1
+pub closes_here : (b c d : List ℕ) (ps : List (List ℕ)) (n : Content) (next : ℕ) → Takes empty (Some b) (Some c) ps n → length ps ≤ 10 ^ 19 - 1
     → ReadsPayload (Some c) (Some d) (λ p. closing_number p ≡ Some next) → ClosesBefore d b (map message_of ps) next
 closes_here b c d ps n next takes few (last, off, closes) = record {
   payloads = ps;

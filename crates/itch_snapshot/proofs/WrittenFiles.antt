@@ -17,7 +17,8 @@ use Rattle.itch_market.proofs.Goods.{run_good, laid_good}
 use Rattle.itch_market.proofs.Laid.{laid_twice}
 use Rattle.itch_snapshot.specs.Snapshot.{snap}
 use Rattle.itch_snapshot.specs.Bytes.{canon, closing}
-use Rattle.itch_snapshot.specs.Files.{AreSpelled, IsSnapshotFile, IsMarketOf}
+use Rattle.itch_snapshot.specs.Files.{AreSpelled, ClosesBefore, IsSnapshotFile, IsMarketOf}
+use Rattle.itch_snapshot.proofs.FileLemmas.{closes_once}
 use Rattle.itch_snapshot.proofs.OneFile.{file_messages, file_number}
 use Rattle.itch_snapshot.proofs.OneSnapshot.{snap_follows, run-snap}
 use Rattle.itch_snapshot.proofs.Bounds.{read_short}
@@ -66,7 +67,7 @@ written_again m next done good number few read =
     ap (λ (d : Content × ℕ). canon d.0 ++ closing d.1) (written_once m next done good number few read) ∙ ap (λ b. b ++ closing next) (canon-laid m good)
 
 -- the number in a snapshot file is a sequence number
-end_sequence : (next : ℕ) (payload : List ℕ) → Spells (is.End next) payload → IsSequence next
+pub end_sequence : (next : ℕ) (payload : List ℕ) → Spells (is.End next) payload → IsSequence next
 end_sequence next payload spells = by_field spells.fields where
   by_field : HasAll payload end_of_snapshot.columns (Number next ∷ []) → IsSequence next
   by_field (((left, digits, right, field), some), none) = record { low = some; high = field.bounded }
@@ -80,3 +81,11 @@ read_again bytes done read = found read where
       let in_order : laid done.0 ≡ done.0 = ap laid left ∙ laid_twice (run ms) ∙ sym left in
       subst (λ n. IsMarketOf (canon done.0 ++ closing done.1) (n, done.1)) in_order
       (written_market done.0 done.1 good (end_sequence done.1 file.last file.closes) (read_short bytes done read))
+
+-- and of a file with these bytes nothing follows its End of Snapshot
+pub written_alone : (bytes rest : List ℕ) (ms : List Message) (next : ℕ) (m : Content) → IsGood m → length (snap m) < 10 ^ 19 → ClosesBefore rest bytes ms next
+    → bytes ≡ canon m ++ closing next → rest ≡ []
+unfolding written_file
+written_alone bytes rest ms next m good few file same =
+    let (end, written, ends) = written_file m next good (end_sequence next file.last file.closes) few in
+    (closes_once (canon m ++ closing next) rest [] ms (snap m) next next (subst (λ b. ClosesBefore rest b ms next) same file) written).rest

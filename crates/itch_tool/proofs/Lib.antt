@@ -2,6 +2,8 @@ pub mod Parts
 pub mod Showings
 pub mod Written
 pub mod Snapshots
+pub mod Keeping
+pub mod Closings
 pub mod Fetched
 pub mod Lines
 pub mod Comparisons

@@ -1,5 +1,5 @@
 -- What the program does for each request.
-use Rattle.std.specs.Prelude.{ℕ, Bool, true, List, Option, None, Result, ⊤}
+use Rattle.std.specs.Prelude.{ℕ, Bool, true, false, List, Option, None, Result, ⊤}
 use Rattle.itch_frame.specs.Reading.{Reading}
 use Rattle.itch_frame.specs.declared.tally.Failures.{Failures}
 use Rattle.itch_tool.specs.declared.fault.ToolFault.{ToolFault}
@@ -7,6 +7,7 @@ use Rattle.itch_tool.specs.declared.fault.Source.TheVariants.{Only}
 use Rattle.itch_tool.specs.declared.request.Request.{Request}
 use Rattle.itch_tool.specs.declared.request.Request.TheVariants.{Snap, Check, Show, Canon, Compare, Book}
 use Rattle.itch_tool.specs.Readings.{ReadsDay, ReadsSnap}
+use Rattle.itch_tool.specs.Canons.{ChecksSnap, canonical_line}
 use Rattle.itch_tool.specs.Showing.{Shows}
 use Rattle.itch_tool.specs.Outputs.{Outputs, ok_line_of, snapshot_of, closed_bytes}
 use Rattle.itch_tool.specs.Books.{ReadsListed, book_of}
@@ -22,7 +23,8 @@ module _ {R W : Type 0} (remaining : R → Option (List ℕ)) (failed_reads : R 
   Performs (Snap file after) old new = Outputs contents failed_writes (ReadsDay remaining failed_reads Only after old new) snapshot_of (λ _. true)
   Performs (Check file) old new = Outputs contents failed_writes (ReadsDay remaining failed_reads Only None old new) ok_line_of (λ _. true)
   Performs (Show file) old new = Shows contents failed_writes remaining failed_reads old new
-  Performs (Canon file) old new = Outputs contents failed_writes (ReadsSnap remaining failed_reads Only old new) closed_bytes (λ _. true)
+  Performs (Canon file false) old new = Outputs contents failed_writes (ReadsSnap remaining failed_reads Only old new) closed_bytes (λ _. true)
+  Performs (Canon file true) old new = Outputs contents failed_writes (ChecksSnap remaining failed_reads old new) canonical_line (λ canonical. canonical)
   Performs (Book locate file) old new =
       Outputs contents failed_writes (ReadsListed locate (ReadsDay remaining failed_reads Only None old new)) (book_of locate) (λ _. true)
   Performs (Compare first second) old new = λ out result written. ⊥

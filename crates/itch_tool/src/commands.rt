@@ -1,7 +1,7 @@
 //! The words of the command line: the commands over files, and what each takes.
 
 use clap::error::ErrorKind;
-use clap::{Arg, Command, Error};
+use clap::{Arg, ArgAction, Command, Error};
 use std::alloc::{AllocError, Global};
 
 /// The most that `--after` takes.
@@ -70,9 +70,14 @@ fn canon<'a>(alloc: Global) -> Result<Command<'a>, AllocError> {
     let snapshot = Arg::new(alloc, "SNAP").help(
         "The snapshot to read, or standard input where none is named",
     );
+    let check = Arg::new(alloc, "check")
+        .long("check")
+        .help("Only say whether the snapshot is in canonical form")
+        .action(ArgAction::SetTrue);
     Command::new(alloc, "canon")
         .about("Write a snapshot in canonical form")
-        .arg(snapshot)
+        .arg(snapshot)?
+        .arg(check)
 }
 
 fn show<'a>(alloc: Global) -> Result<Command<'a>, AllocError> {

@@ -5,6 +5,7 @@
 
 mod book;
 mod canon;
+mod canonical;
 mod check;
 mod commands;
 mod compare;
@@ -13,6 +14,7 @@ mod ending;
 mod fault;
 mod fetch;
 mod job;
+mod kept;
 mod levels;
 mod login;
 mod patient;

@@ -20,9 +20,10 @@ pub enum Request<'a> {
     Show {
         file: Option<&'a str>,
     },
-    /// Write a snapshot in canonical form.
+    /// Write a snapshot in canonical form, or only check whether it is so.
     Canon {
         file: Option<&'a str>,
+        check: bool,
     },
     /// Say whether two files leave the same market.
     Compare {
@@ -43,7 +44,7 @@ impl<'a> Request<'a> {
             Request::Snap { file, .. }
             | Request::Check { file }
             | Request::Show { file }
-            | Request::Canon { file }
+            | Request::Canon { file, .. }
             | Request::Book { file, .. } => file,
             Request::Compare { first, .. } => Some(first),
         }
@@ -64,6 +65,7 @@ pub fn read_request<'a>(alloc: Global, matches: &ArgMatches<'a>) -> Result<Reque
         }),
         Some(("canon", options)) => Ok(Request::Canon {
             file: options.get_str("SNAP"),
+            check: options.get_flag("check"),
         }),
         Some(("compare", options)) => read_compare(alloc, options),
         Some(("book", options)) => read_book(alloc, options),

@@ -118,7 +118,7 @@ fn perform<R: CountedRead, B: Allocator, A: Allocator + Copy, W: CountedWrite>(
         Request::Snap { after, .. } => snap_blocks(alloc, reader, after, out),
         Request::Check { .. } => check_blocks(alloc, reader, out),
         Request::Show { .. } => show_blocks(reader, out),
-        Request::Canon { .. } => canon_blocks(alloc, reader, out),
+        Request::Canon { check, .. } => canon_blocks(alloc, reader, check, out),
         Request::Book { locate, .. } => book_blocks(alloc, locate, reader, out),
         Request::Compare { .. } => unreachable!(),
     }

@@ -2,6 +2,7 @@
 ghost use Rattle.std.specs.Prelude.{◌≤◌};
 
 mod blocks;
+mod canons;
 mod desk;
 mod failures;
 mod laws;

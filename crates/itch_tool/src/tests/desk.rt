@@ -142,7 +142,7 @@ fn canonical(
     bytes: &[u8],
 ) -> Result<(Result<bool, ToolFault>, Vec<u8>), std::alloc::AllocError> {
     let mut out = FuseWriter::new(alloc, 64, None);
-    let answer = canon(alloc, PieceReader::new(bytes, 7, None), &mut out);
+    let answer = canon(alloc, PieceReader::new(bytes, 7, None), false, &mut out);
     let written = out.written().to_vec(alloc)?;
     Ok((answer, written))
 }
@@ -351,7 +351,7 @@ fn failed_writes_leave_a_beginning(rt: HostRuntime) -> Result<(), Fail> {
     for at in 0..snapshot.len() {
         let mut out = FuseWriter::new(alloc, 1, Some(at as u64 + 1));
         let reader = PieceReader::new(snapshot.as_slice(), 64, None);
-        let answer = canon(alloc, reader, &mut out);
+        let answer = canon(alloc, reader, false, &mut out);
         let cut = is_cut(&answer, out.written(), snapshot.as_slice(), at);
         assert!(rt; cut, "canon, write {at}");
     }
@@ -403,6 +403,7 @@ fn failed_reads_are_told_of_their_file(rt: HostRuntime) -> Result<(), Fail> {
         let answer = canon(
             alloc,
             PieceReader::new(bytes.as_slice(), 1, Some(at)),
+            false,
             &mut out,
         );
         let fault = answer.err().ok_or("a fault")?;
@@ -438,6 +439,7 @@ fn refused_memory_is_told(rt: HostRuntime) -> Result<(), Fail> {
                 _ => canon(
                     &refusing,
                     PieceReader::new(snapshot.as_slice(), 64, None),
+                    false,
                     &mut out,
                 ),
             };

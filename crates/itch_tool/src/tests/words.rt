@@ -8,7 +8,7 @@ use std::test::Fail;
 #[test]
 fn words_are_read(rt: HostRuntime) -> Result<(), Fail> {
     let alloc = rt.alloc();
-    let cases: [(&str, Result<Request<'static>, i32>); 30] = [
+    let cases: [(&str, Result<Request<'static>, i32>); 35] = [
         (
             "snap",
             Ok(Request::Snap {
@@ -57,13 +57,43 @@ fn words_are_read(rt: HostRuntime) -> Result<(), Fail> {
         ("snap --after", Err(2)),
         ("snap --after 1 --after 2", Err(2)),
         ("snap one two", Err(2)),
-        ("canon", Ok(Request::Canon { file: None })),
+        (
+            "canon",
+            Ok(Request::Canon {
+                file: None,
+                check: false,
+            }),
+        ),
         (
             "canon a.snap",
             Ok(Request::Canon {
                 file: Some("a.snap"),
+                check: false,
             }),
         ),
+        (
+            "canon --check",
+            Ok(Request::Canon {
+                file: None,
+                check: true,
+            }),
+        ),
+        (
+            "canon a.snap --check",
+            Ok(Request::Canon {
+                file: Some("a.snap"),
+                check: true,
+            }),
+        ),
+        (
+            "canon --check a.snap",
+            Ok(Request::Canon {
+                file: Some("a.snap"),
+                check: true,
+            }),
+        ),
+        ("canon --check --check", Err(2)),
+        ("canon --check=1", Err(2)),
         ("canon a.snap b.snap", Err(2)),
         (
             "compare a.itch b.itch",

@@ -1,7 +1,7 @@
 use Rattle.std.proofs.Common.{inr}
 use Rattle.itch_frame.specs.Reading.{bytes_left}
 use Rattle.itch_tool.proofs.Snapshots.{read_short}
-use Rattle.itch_tool.proofs.canon.canon_blocks.Goals as goal
+use Rattle.itch_tool.proofs.canon.write_canon.Goals as goal
 
 pub write_closed-requires : goal.write_closed-requires
 write_closed-requires g c =
