@@ -5,6 +5,7 @@ pub mod Snapshots
 pub mod Fetched
 pub mod Lines
 pub mod Comparisons
+pub mod Deliveries
 pub mod Texts
 pub mod LevelLemmas
 pub mod LevelTexts

@@ -4,6 +4,8 @@ pub mod Outputs
 pub mod Showing
 pub mod Comparing
 pub mod Books
+pub mod Joining
+pub mod Joiners
 pub mod Requests
 pub mod Logins
 pub mod Sessions

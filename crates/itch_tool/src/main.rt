@@ -11,8 +11,10 @@ mod compare;
 mod connection;
 mod ending;
 mod fault;
+mod feed;
 mod fetch;
 mod job;
+mod join;
 mod levels;
 mod login;
 mod patient;
@@ -23,6 +25,7 @@ mod serve;
 mod show;
 mod snap;
 mod sockets;
+mod start;
 #[cfg(test)]
 mod tests;
 mod writing;
