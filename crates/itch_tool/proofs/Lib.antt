@@ -6,6 +6,8 @@ pub mod Fetched
 pub mod Lines
 pub mod Comparisons
 pub mod Deliveries
+pub mod Feeding
+pub mod FeedStops
 pub mod Texts
 pub mod LevelLemmas
 pub mod LevelTexts

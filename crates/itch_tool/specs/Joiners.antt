@@ -74,6 +74,12 @@ FeedStep count old before after (Ok done) new =
     (payload : List ℕ) × TakesOff before after payload × ((count == 10 ^ 19 - 1) ≡ false) × FeedsOne (count + 1) old payload (Ok done) new
 FeedStep count old before after (Err why) new = (IsOfMessage why → old.next ≤ count + 1) × Halts (count == 10 ^ 19 - 1) old.market before after why
 
+-- a joiner goes on after a message, and is left as it was at the end of the feed
+abbrev pub StaysJoined : State → Result (Unit {0}) Stop → State → Type 0
+StaysJoined old (Ok done) new = IsJoined new
+StaysJoined old (Err stop.End) new = new ≡ old
+StaysJoined old (Err why) new = ⊤
+
 -- a message of a snapshot may be refused so by a joiner that has not joined
 abbrev pub IsOfSnapshot : JoinFault → Type 0
 IsOfSnapshot (join.BadSnapshot place why) = ⊤

@@ -3,7 +3,7 @@ ghost use Rattle.std.specs.Prelude.{◌≡◌, ◌<◌, ◌≤◌, ◌-◌, ◌+
 ghost use Rattle.itch_frame.specs.Reading.{bytes_left};
 ghost use Rattle.itch_market.specs.Replays.{Counts, LeavesReaderFirst};
 ghost use Rattle.itch_join.specs.Positions.{Position};
-ghost use Rattle.itch_tool.specs.Joiners.{IsJoined, IsStart, DeliversAll, start_of, IsOfFeed, FeedsOne, FeedStep, FeedsJoiner, position_of, feed_stop};
+ghost use Rattle.itch_tool.specs.Joiners.{IsJoined, IsStart, DeliversAll, start_of, IsOfFeed, FeedsOne, FeedStep, FeedsJoiner, StaysJoined, position_of, feed_stop};
 ghost use Rattle.itch_tool.specs.Joining.{ReadsFeed};
 
 use crate::fault::{Source, ToolFault};
@@ -66,7 +66,7 @@ fn deliver_next<R: CountedRead, A: Allocator, B: OrderBook>(
     requires joined { IsJoined joiner.old.state }
     requires number { count < Position.next (position_of joiner.old.state) }
     ensures step { FeedStep count (position_of joiner.old.state) (bytes_left R.remaining reader.old) (bytes_left R.remaining reader.new) result (position_of joiner.new.state) }
-    ensures joined { OnOk result (IsJoined joiner.new.state) }
+    ensures joined { StaysJoined joiner.old.state result joiner.new.state }
     ensures failures { MatchResult result (λ _. R.failures reader.new.reader ≡ R.failures reader.old.reader)
         (λ stop. Counts stop (R.failures reader.old.reader) (R.failures reader.new.reader)) }
     ensures reader { MatchResult result (λ _. LeavesReaderFirst reader.old 1 None reader.new) (λ stop. LeavesReaderFirst reader.old 0 (Some stop) reader.new) }
