@@ -8,6 +8,7 @@ pub mod Comparisons
 pub mod Deliveries
 pub mod Feeding
 pub mod FeedStops
+pub mod Joinings
 pub mod Texts
 pub mod LevelLemmas
 pub mod LevelTexts

@@ -89,17 +89,17 @@ module _ {R : Type 0} (remaining : R → Option (List ℕ)) (failures : R → Fa
   ReadsStart old new (Err fault) = ⊥
 
   -- What reading a feed after a snapshot returns, and leaves of its reader: all of its payloads
-  abbrev pub ReadsFeed : Start → Reading R → Reading R → Result (List (List ℕ)) ToolFault → Type 0
-  ReadsFeed start old new (Ok payloads) =
+  abbrev pub ReadsFeed : Reading R → Reading R → Start → Result (List (List ℕ)) ToolFault → Type 0
+  ReadsFeed old new start (Ok payloads) =
       IfSome (bytes_left remaining old) (λ b. IsWhole b payloads) × EndsFeed start (bytes_left remaining old) (bytes_left remaining new) payloads stop.End
       × (failures new.reader ≡ failures old.reader) × LeavesDay (Ok (length payloads)) None old new
   -- or so many were taken, and then this stopped it; where the file alone decides, it is the first bad place of the feed
-  ReadsFeed start old new (Err (tool.Stopped at end)) =
+  ReadsFeed old new start (Err (tool.Stopped at end)) =
       (at ≡ Only) × (end.stop ≢ stop.End)
       × ((payloads : List (List ℕ)) × (length payloads ≡ end.count) × EndsFeed start (bytes_left remaining old) (bytes_left remaining new) payloads end.stop)
       × IfSome (bytes_left remaining old) (λ b. IsTold end.stop → StopsFeed start b end.count end.stop)
       × Counts end.stop (failures old.reader) (failures new.reader) × LeavesDay (Err (tool.Stopped at end)) None old new
-  ReadsFeed start old new (Err fault) = ⊥
+  ReadsFeed old new start (Err fault) = ⊥
 
 -- One reading, and then another that depends on it. Where the first is refused, what the second reads is left as it was.
 abbrev pub Then : {X Y : Type 0} → (Result X ToolFault → Type 0) → Type 0 → (X → Result Y ToolFault → Type 0) → Result (X × Y) ToolFault → Type 0

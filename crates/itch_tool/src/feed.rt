@@ -24,7 +24,7 @@ pub fn read_feed<R: CountedRead, A: Allocator, B: OrderBook>(
 ) -> Result<(), ToolFault>
     requires joined { IsJoined joiner.old.state }
     requires start { IsStart (start_of (position_of joiner.old.state)) }
-    ensures { FeedsJoiner (λ start. ReadsFeed R.remaining R.failures start reader.old reader.new) (position_of joiner.old.state) result joiner.new.state }
+    ensures { FeedsJoiner (ReadsFeed R.remaining R.failures reader.old reader.new) (position_of joiner.old.state) result joiner.new.state }
 {
     match deliver(reader, joiner) {
         ReplayEnd {

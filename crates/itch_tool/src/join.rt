@@ -2,6 +2,7 @@
 ghost use Rattle.std.specs.Prelude.{◌≡◌, true};
 ghost use Rattle.itch_codec.specs.Widths.{IsSequence};
 ghost use Rattle.itch_join.specs.Positions.{Position};
+ghost use Rattle.itch_join.specs.States.{new as fresh};
 ghost use Rattle.itch_tool.specs.Joiners.{IsJoined, WritesRoom, position_of};
 ghost use Rattle.itch_tool.specs.Joining.{ReadsStart, ReadsFeed, Then, HasRoom, joined};
 ghost use Rattle.itch_tool.specs.Outputs.{Outputs, closed_bytes};
@@ -42,7 +43,7 @@ pub fn join<R: CountedRead + Drop, S: CountedRead + Drop, A: Allocator + Copy, W
     out: &mut W,
 ) -> Result<bool, ToolFault>
     ensures { Outputs W.contents W.failures (FromReader snapshot (λ a b. FromReader feed (λ c d.
-        HasRoom (Then (ReadsStart R.remaining R.failures a b) (d ≡ c) (λ start. ReadsFeed S.remaining S.failures start c d)))))
+        HasRoom (Then (ReadsStart R.remaining R.failures a b) (d ≡ c) (ReadsFeed S.remaining S.failures c d)))))
         (λ both. closed_bytes (joined both)) (λ _. true) out.old result out.new }
 {
     let mut snapshot = BlockReader::new(alloc, snapshot)?;
@@ -66,14 +67,35 @@ pub fn join_blocks<
     out: &mut W,
 ) -> Result<bool, ToolFault>
     ensures { Outputs W.contents W.failures (HasRoom (Then (ReadsStart R.remaining R.failures snapshot.old snapshot.new) (feed.new ≡ feed.old)
-        (λ start. ReadsFeed S.remaining S.failures start feed.old feed.new))) (λ both. closed_bytes (joined both)) (λ _. true) out.old result out.new }
+        (ReadsFeed S.remaining S.failures feed.old feed.new))) (λ both. closed_bytes (joined both)) (λ _. true) out.old result out.new }
 {
     let mut joiner: Joiner<Book<A>> = Joiner::new(alloc, 0);
-    if let Err(fault) = read_start(snapshot, &mut joiner) {
+    join_with(&mut joiner, snapshot, feed, out)
+}
+
+// The same with a joiner that has taken nothing.
+fn join_with<
+    R: CountedRead,
+    S: CountedRead,
+    B: Allocator,
+    C: Allocator,
+    D: OrderBook,
+    W: CountedWrite,
+>(
+    joiner: &mut Joiner<D>,
+    snapshot: &mut BlockReader<R, B>,
+    feed: &mut BlockReader<S, C>,
+    out: &mut W,
+) -> Result<bool, ToolFault>
+    requires { joiner.old.state ≡ fresh }
+    ensures { Outputs W.contents W.failures (HasRoom (Then (ReadsStart R.remaining R.failures snapshot.old snapshot.new) (feed.new ≡ feed.old)
+        (ReadsFeed S.remaining S.failures feed.old feed.new))) (λ both. closed_bytes (joined both)) (λ _. true) out.old result out.new }
+{
+    if let Err(fault) = read_start(snapshot, joiner) {
         return Err(fault);
     }
-    match read_feed(feed, &mut joiner) {
-        Ok(()) => write_joined(&joiner, out),
+    match read_feed(feed, joiner) {
+        Ok(()) => write_joined(joiner, out),
         Err(fault) => Err(fault),
     }
 }
