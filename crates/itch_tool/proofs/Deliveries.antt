@@ -1,5 +1,5 @@
 -- What one message does to a joiner in which nothing waits.
-use Rattle.std.proofs.Common.{◌≡◌, ℕ, ◌+◌, ◌-◌, ◌^◌, ◌<◌, ◌≤◌, ◌==◌, ◌⊎◌, Bool, true, false, cond, not, nat_lt, List, [], ◌∷◌, Option, Some, None, is_some, Result, Ok, Err, refl, sym, ap, ◌∙◌, subst, inl, inr, arith}
+use Rattle.std.proofs.Common.{◌≡◌, ℕ, ◌+◌, ◌^◌, ◌<◌, ◌≤◌, ◌==◌, Bool, true, false, cond, not, nat_lt, List, [], ◌∷◌, Option, Some, None, is_some, Result, Ok, Err, refl, sym, ap, ◌∙◌, subst, inl, inr, arith}
 use Rattle.std.proofs.lemmas.Bool.Decides.{nat_tests}
 use Rattle.std.specs.Option.{option_map}
 use Rattle.std.specs.FinMap as map
@@ -13,7 +13,7 @@ use Rattle.itch_market.specs.declared.stop.Stop.TheVariants as stop
 use Rattle.itch_market.specs.Content.{Content, laid}
 use Rattle.itch_market.specs.Effects.{effect, takes_memory}
 use Rattle.itch_market.specs.Reasons.{reason}
-use Rattle.itch_market.specs.Replays.{IsRefusal, Refuses, TakesOne}
+use Rattle.itch_market.specs.Replays.{IsRefusal, TakesOne}
 use Rattle.itch_market.specs.Stops.{cause_by}
 use Rattle.itch_snapshot.specs.Loads.{TakesNext, closing_number, is_full}
 use Rattle.itch_join.specs.declared.fault.Cause.{Cause}
@@ -30,14 +30,14 @@ use Rattle.itch_join.specs.declared.state.Stopped.{Stopped}
 use Rattle.itch_join.specs.declared.state.Stopped.TheVariants.{Refused, NoMemory}
 use Rattle.itch_join.specs.Positions.{Position}
 use Rattle.itch_join.specs.Rules.{refused_by, market_rules}
-use Rattle.itch_join.specs.States.{Wait, HalfRead, Reading, State, unread, is_number}
+use Rattle.itch_join.specs.States.{Reading, State, unread, is_number}
 use Rattle.itch_join.specs.Applying.{Front, front_of, advanced, at_hand, Applies, standing, result_by}
-use Rattle.itch_join.specs.Steps.{SnapFails, SnapTakes, SnapEnds, message_case, payload_case, snapshot_case, Takes, SnapshotBy, started, live_case, LiveBy, NextBy}
+use Rattle.itch_join.specs.Steps.{SnapFails, message_case, payload_case, snapshot_case, Takes, SnapshotBy, started, live_case, LiveBy, NextBy}
 use Rattle.itch_join.proofs.Cases.{IsLiveCase, live_case_is}
 use Rattle.itch_join.proofs.Lawful.{faultless, reasonless}
 use Rattle.itch_join.proofs.Maps.{get-remove, get-from}
 use Rattle.itch_join.proofs.Taking.{case_here}
-use Rattle.itch_tool.specs.Joiners.{half_market, IsReading, position_by, position_of, IsJoined, FeedsOne, IsOfSnapshot, snapshot_fault, IsOfFeed, feed_stop}
+use Rattle.itch_tool.specs.Joiners.{half_market, IsReading, position_of, IsJoined, FeedsOne, IsOfSnapshot, snapshot_fault, IsOfFeed, feed_stop}
 
 -- why a message is refused, as a joiner and as a replay say it -----------------
 

@@ -1,11 +1,11 @@
 -- What the reading of a feed tells of a feed whose bytes are known.
-use Rattle.std.proofs.Common.{◌≡◌, ℕ, ◌+◌, ◌-◌, ◌^◌, ◌<◌, ◌≤◌, ◌==◌, ◌⊎◌, nat_lt, min, Bool, true, false, cond, List, [], ◌∷◌, ◌++◌, map, length, drop, Option, None, Some, IfSome, refl, sym, ap, subst, ◌∙◌, inl, inr, arith, length-append, eq-eqb}
+use Rattle.std.proofs.Common.{◌≡◌, ℕ, ◌+◌, ◌-◌, ◌^◌, ◌<◌, ◌≤◌, ◌==◌, nat_lt, min, Bool, true, false, cond, List, [], ◌∷◌, ◌++◌, length, Option, None, Some, IfSome, refl, sym, ap, subst, ◌∙◌, inl, inr, arith, length-append, eq-eqb}
 use Rattle.std.specs.Option.{option_map}
 use Rattle.std.specs.List.{AllByRecursion}
 use Rattle.std.proofs.lemmas.Bool.{ne_eqb, eqb-false, eqb-true}
 use Rattle.std.proofs.lemmas.Bool.Decides.{nat_tests}
 use Rattle.std.proofs.lemmas.List.{drop-append-le, length-drop}
-use Rattle.itch_codec.specs.Messages.{fault, message_of}
+use Rattle.itch_codec.specs.Messages.{message_of}
 use Rattle.itch_frame.specs.Blocks.{block, blocks, Ends, Open, IsFull, Day}
 use Rattle.itch_frame.proofs.Days.{day_on, day_behind, day_some}
 use Rattle.itch_frame.specs.declared.fault.FrameFault.TheVariants.{Read, Truncated, Write, TooLong}
@@ -15,13 +15,11 @@ use Rattle.itch_market.specs.declared.stop.Stop.TheVariants.{End, Frame, Codec, 
 use Rattle.itch_market.specs.Content.{Content}
 use Rattle.itch_market.specs.Effects.{takes_memory}
 use Rattle.itch_market.specs.Reasons.{reason}
-use Rattle.itch_market.specs.Runs.{after}
 use Rattle.itch_market.specs.Stops.{cause_by, cause, cause_at, end_of, last_stop}
 use Rattle.itch_market.specs.Replays.{NoCause, IsRefusal, Refuses, TakesOff, Halts, IsTold}
 use Rattle.itch_market.proofs.Causes.{cause_behind, cause_before}
 use Rattle.itch_market.proofs.Stopping.{chosen, passed_over, ends_stop, open_stops}
 use Rattle.itch_tool.specs.Joining.{Start, from_number, joined_market, TakesFeed, IsOfMessage, EndsFeed, feed_cause_at, feed_stop_at, StopsFeed}
-use Rattle.itch_tool.specs.Readings.{IsWhole}
 
 -- a message that is refused, and not for want of memory, is refused for its reason
 refused : (m : Content) (p : List ℕ) (why : Refusal) → IsTold (Rule why) → Refuses m p why → cause m p ≡ Some (Rule why)
@@ -161,19 +159,8 @@ module _ (start : Start) where
         let more = one_more new p off in
         full_stops b more.0 ps p more.1 takes.full off.0 (eqb-true (length ps) (10 ^ 19 - 1) full) takes.taken
 
-    whole_by : (new : Option (List ℕ)) → Halts (length ps == 10 ^ 19 - 1) (joined_market start ps) (Some c) new End → IsWhole b ps
-    whole_by new (inl at_end) = (c, record { whole = takes.bytes; each = takes.full; last = inl (inl at_end) }, inl at_end)
-    whole_by None (inr empty) = absurd empty
-    whole_by (Some d) (inr empty) = (c, record { whole = takes.bytes; each = takes.full; last = inl (inr (d, empty)) }, inr (d, empty))
-
   -- the stop is the one that the feed has
   pub feed_told : (old new : Option (List ℕ)) (ps : List (List ℕ)) (why : Stop) → EndsFeed start old new ps why → IfSome old (λ b. IsTold why → StopsFeed start b (length ps) why)
   feed_told None new ps why ends = tt
   feed_told (Some b) new ps why (None, takes, low, halts) = absurd takes.bytes
   feed_told (Some b) new ps why (Some c, takes, low, halts) = λ told. told_by b c ps takes new why low halts told
-
-  -- at its end it was read whole
-  pub feed_whole : (old new : Option (List ℕ)) (ps : List (List ℕ)) → EndsFeed start old new ps End → IfSome old (λ b. IsWhole b ps)
-  feed_whole None new ps ends = tt
-  feed_whole (Some b) new ps (None, takes, low, halts) = absurd takes.bytes
-  feed_whole (Some b) new ps (Some c, takes, low, halts) = whole_by b c ps takes new halts

@@ -1,8 +1,7 @@
 -- What a joiner has taken of a snapshot, and then of a feed, and one block more.
-use Rattle.std.proofs.Common.{◌≡◌, ℕ, ◌+◌, ◌-◌, ◌^◌, ◌<◌, ◌≤◌, ◌==◌, ◌⊎◌, max, Bool, true, false, List, [], ◌∷◌, ◌++◌, map, length, drop, Option, Some, None, IfSome, Result, Ok, Err, refl, sym, ap, ◌∙◌, subst, inl, inr, arith, length-append, append-nil}
+use Rattle.std.proofs.Common.{◌≡◌, ℕ, ◌+◌, ◌-◌, ◌^◌, ◌<◌, ◌≤◌, ◌==◌, max, false, List, [], ◌∷◌, ◌++◌, map, length, Option, Some, None, Ok, Err, refl, sym, ap, ◌∙◌, subst, inl, inr, arith, length-append, append-nil}
 use Rattle.std.proofs.lemmas.Bool.Decides.{nat_tests}
-use Rattle.std.proofs.lemmas.List.{drop_all, drop-append-le, length-map}
-use Rattle.std.specs.List.{AllByRecursion}
+use Rattle.std.proofs.lemmas.List.{drop_all, drop-append-le}
 use Rattle.std.specs.Ordering.{nat_cmp}
 use Rattle.std.specs.FinMap as finite
 use Rattle.std.specs.Io.KnownBytes.{Consumes}
@@ -26,13 +25,12 @@ use Rattle.itch_market.proofs.Causes.{cause-laid, halts-laid, no_reason, none_mo
 use Rattle.itch_market.proofs.Goods.{effect_good, empty_good, laid_good, run_good}
 use Rattle.itch_market.proofs.Laid.{effect-laid, laid_twice}
 use Rattle.itch_market.proofs.Taking.{Going, going_first}
-use Rattle.itch_snapshot.specs.declared.fault.SnapFault.{SnapFault}
 use Rattle.itch_snapshot.specs.Reads.{ReadsNext, ReadsAll}
 use Rattle.itch_snapshot.proofs.FileLemmas.{Spells-number}
 use Rattle.itch_join.specs.Positions.{Position}
 use Rattle.itch_join.specs.States.{State, new}
-use Rattle.itch_tool.specs.Joining.{Start, from_number, joined_market, joined_next, TakesFeed, IsOfMessage, EndsFeed}
-use Rattle.itch_tool.specs.Joiners.{half_market, position_of, IsReading, IsJoined, IsStart, IsAfter, FeedsOne, FeedStep, Starts, StartsAll, DeliversAll, StaysJoined, start_of}
+use Rattle.itch_tool.specs.Joining.{Start, from_number, joined_market, joined_next, TakesFeed, EndsFeed}
+use Rattle.itch_tool.specs.Joiners.{half_market, position_of, IsReading, IsJoined, IsStart, IsAfter, FeedStep, StartsAll, DeliversAll, StaysJoined, start_of}
 
 -- the snapshot -------------------------------------------------------------------
 
@@ -207,15 +205,6 @@ delivered start old mid new count s t why going joined step stays = (
   unmoved (stop.Codec f) ends stays = absurd (let no_one : ⊥ = cc in no_one)
   unmoved (stop.Rule w) ends stays = absurd (let no_one : ⊥ = cc in no_one)
   unmoved stop.TooManyMessages ends stays = absurd (let no_one : ⊥ = cc in no_one)
-
--- a message that is refused is no end of the feed
-pub stays : (number : ℕ) (s t : State) (p : List ℕ) (result : Result (Unit {0}) Stop) → FeedsOne number (position_of s) p result (position_of t) → (result ≡ Ok tt → IsJoined t) → StaysJoined s result t
-stays number s t p (Ok done) feeds joined = joined refl
-stays number s t p (Err stop.End) (here, never) joined = absurd never
-stays number s t p (Err (stop.Frame f)) feeds joined = tt
-stays number s t p (Err (stop.Codec f)) feeds joined = tt
-stays number s t p (Err (stop.Rule w)) feeds joined = tt
-stays number s t p (Err stop.TooManyMessages) feeds joined = tt
 
 module _ (start : Start) (old new : Option (List ℕ)) (count : ℕ) (j : Position) (going : Feeding start old new count j) where
   pub feeding_few : count ≤ 10 ^ 19 - 1

@@ -1,9 +1,6 @@
 -- What is written of a snapshot and the feed that was joined to it.
-use Rattle.std.proofs.Common.{◌≡◌, ℕ, ◌+◌, ◌-◌, ◌^◌, ◌<◌, ◌≤◌, max, Bool, true, List, ◌++◌, length, Option, Result, Ok, Err, refl, sym, ap, ap₂, ◌∙◌, subst, inl, inr, arith}
-use Rattle.itch_codec.specs.Widths.{IsSequence}
+use Rattle.std.proofs.Common.{◌≡◌, ℕ, ◌^◌, ◌<◌, ◌≤◌, Bool, true, List, ◌++◌, length, Option, Result, Ok, Err, refl, ap, ◌∙◌, subst, inl, inr}
 use Rattle.itch_frame.specs.declared.tally.Failures.{Failures}
-use Rattle.itch_market.specs.Content.{Content, laid}
-use Rattle.itch_market.specs.Goods.{IsGood}
 use Rattle.itch_snapshot.specs.Bytes.{canon, closing}
 use Rattle.itch_snapshot.specs.Snapshot.{snap}
 use Rattle.itch_snapshot.proofs.OneSnapshot.{snap-laid}
@@ -12,26 +9,16 @@ use Rattle.itch_join.specs.Positions.{Position}
 use Rattle.itch_join.specs.States.{State}
 use Rattle.itch_tool.specs.declared.fault.ToolFault.{ToolFault}
 use Rattle.itch_tool.specs.declared.fault.ToolFault.TheVariants as tool
-use Rattle.itch_tool.specs.Joiners.{IsStart, IsAfter, WritesRoom, position_of}
-use Rattle.itch_tool.specs.Joining.{Start, joined_market, joined_next, joined, Then, HasRoom}
+use Rattle.itch_tool.specs.Joiners.{IsAfter, WritesRoom, position_of}
+use Rattle.itch_tool.specs.Joining.{Start, joined_market, joined, Then, HasRoom}
 use Rattle.itch_tool.specs.Outputs.{WritesOutput, Outputs, closed_bytes}
-
--- the number after a feed is a sequence number
-pub next_fits : (start : Start) (payloads : List (List ℕ)) (s : State) → IsStart start → length payloads ≤ 10 ^ 19 - 1 → IsAfter start payloads s → IsSequence (Position.next (position_of s))
-next_fits start payloads s is few after = fits start.1 (length payloads) (Position.next (position_of s)) is.number.low is.number.high few after.next where
-  fits : (n l next : ℕ) → 1 ≤ n → n ≤ 10 ^ 19 → l ≤ 10 ^ 19 - 1 → next ≡ max n (l + 1) → IsSequence next
-  fits n l next low high few next_is = record { low = omega (arith, low, next_is); high = omega (arith, high, few, next_is) }
 
 module _ {W : Type 0} (contents : W → Option (List ℕ)) (failures : W → Failures) (starts : Result Start ToolFault → Type 0) (untouched : Type 0)
     (follows : Start → Result (List (List ℕ)) ToolFault → Type 0) (old new : W) (result : Result Bool ToolFault) where
   abbrev Joins : Type 0
   Joins = Outputs contents failures (HasRoom (Then starts untouched follows)) (λ both. closed_bytes (joined both)) (λ _. true) old result new
 
-  -- the snapshot is refused
-  pub start_fails : (fault : ToolFault) → result ≡ Err fault → starts (Err fault) → untouched → new ≡ old → Joins
-  start_fails fault is refused left same = inl (fault, is, inl (inl (refused, left)), same)
-
-  -- or the feed is
+  -- the feed is refused
   pub feed_fails : (fault : ToolFault) (start : Start) → result ≡ Err fault → starts (Ok start) → follows start (Err fault) → new ≡ old → Joins
   feed_fails fault start is read refused same = inl (fault, is, inl (inr (start, read, refused)), same)
 

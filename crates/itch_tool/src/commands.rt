@@ -79,12 +79,12 @@ fn canon<'a>(alloc: Global) -> Result<Command<'a>, AllocError> {
 fn join<'a>(alloc: Global) -> Result<Command<'a>, AllocError> {
     Command::new(alloc, "join")
         .about("Join a feed to a snapshot, and write the snapshot after both")
-        .arg(named(alloc, "SNAP", "The snapshot, read up to its End of Snapshot"))?
         .arg(named(
             alloc,
-            "FEED",
-            "The feed, from its first message on",
-        ))
+            "SNAP",
+            "The snapshot, read up to its End of Snapshot",
+        ))?
+        .arg(named(alloc, "FEED", "The feed, from its first message on"))
 }
 
 fn show<'a>(alloc: Global) -> Result<Command<'a>, AllocError> {

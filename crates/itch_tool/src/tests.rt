@@ -4,6 +4,7 @@ ghost use Rattle.std.specs.Prelude.{◌≤◌};
 mod blocks;
 mod desk;
 mod failures;
+mod joins;
 mod laws;
 mod refusals;
 mod sessions;
