@@ -1,12 +1,12 @@
 -- The place where what two files leave parts.
-use Rattle.std.proofs.Common.{◌≡◌, ℕ, ◌-◌, ◌<◌, ◌≤◌, ◌^◌, ◌↔◌, List, map, length, Option, Result, Ok, IsNone, IfSome, sym, ap, ◌∙◌, subst, arith}
+use Rattle.std.proofs.Common.{◌≡◌, ℕ, ◌-◌, ◌<◌, ◌^◌, ◌↔◌, List, map, length, Option, IsNone, IfSome, sym, ap, ◌∙◌, subst, arith}
 use Rattle.std.specs.List.{AllByRecursion}
 use Rattle.itch_book.proofs.Lists.{All-map_rec}
 use Rattle.itch_codec.specs.Messages.{message_of}
 use Rattle.itch_codec.specs.Widths.{IsMessage}
 use Rattle.itch_market.specs.Content.{Content, empty, laid}
 use Rattle.itch_market.specs.Goods.{IsGood}
-use Rattle.itch_market.specs.Replays.{Fits, NoCause}
+use Rattle.itch_market.specs.Replays.{Fits}
 use Rattle.itch_market.specs.Runs.{run}
 use Rattle.itch_market.specs.Sames.{Same}
 use Rattle.itch_market.proofs.Causes.{none_follows}

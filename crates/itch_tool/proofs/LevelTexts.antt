@@ -1,15 +1,15 @@
 -- The lines of a side, written one after another.
-use Rattle.std.proofs.Common.{◌≡◌, ℕ, List, [], ◌∷◌, ◌++◌, length, Option, Some, None, Result, Ok, Err, refl, sym, ap, ◌∙◌, subst}
+use Rattle.std.proofs.Common.{◌≡◌, ℕ, List, [], ◌∷◌, ◌++◌, length, Option, Some, None, Ok, Err, refl, sym, ap, ◌∙◌, subst}
 use Rattle.std.specs.List.{sum_by, flat_map}
 use Rattle.std.proofs.KnownBytes.{Appends-nil}
 use Rattle.std.proofs.lemmas.List.{flat_map_more}
 use Rattle.std.proofs.lemmas.Grind.{flat_map-append}
 use Rattle.itch_codec.specs.declared.side.Side.{Side}
 use Rattle.itch_book.specs.declared.order.Order.{Order}
-use Rattle.itch_book.specs.Orders.{is_worse, next_price, level_total, queue, IsBook}
+use Rattle.itch_book.specs.Orders.{next_price, level_total, queue, IsBook}
 use Rattle.itch_frame.specs.declared.tally.Failures.{Failures}
 use Rattle.itch_tool.specs.declared.fault.ToolFault.{ToolFault}
-use Rattle.itch_tool.specs.Books.{prices, level_line, price_line, side_lines}
+use Rattle.itch_tool.specs.Books.{level_line, price_line, side_lines}
 use Rattle.itch_tool.specs.Outputs.{WritesText}
 use Rattle.itch_tool.proofs.Texts.{text_then, text_fails}
 use Rattle.itch_tool.proofs.LevelLemmas.{DonePrices, none_done, next_parts, one_done, all_done, level_is}

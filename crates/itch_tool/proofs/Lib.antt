@@ -7,6 +7,10 @@ pub mod Closings
 pub mod Fetched
 pub mod Lines
 pub mod Comparisons
+pub mod Deliveries
+pub mod Feeding
+pub mod FeedStops
+pub mod Joinings
 pub mod Texts
 pub mod LevelLemmas
 pub mod LevelTexts

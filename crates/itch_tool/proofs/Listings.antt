@@ -1,5 +1,5 @@
 -- The book of what a file leaves.
-use Rattle.std.proofs.Common.{◌≡◌, ℕ, List, ◌++◌, map, Option, None, Some, Result, Ok, Err, sym, ap, ap₂, ◌∙◌, subst}
+use Rattle.std.proofs.Common.{◌≡◌, ℕ, List, ◌++◌, map, Option, None, Some, Result, Ok, sym, ap, ap₂, ◌∙◌, subst}
 use Rattle.std.specs.List.{AllByRecursion}
 use Rattle.std.specs.FinMap as finite
 use Rattle.itch_book.specs.declared.order.Order.{Order}

@@ -1,9 +1,8 @@
 -- What a command knows of the file that it read.
-use Rattle.std.proofs.Common.{◌≡◌, ℕ, ◌-◌, ◌^◌, ◌≤◌, ◌==◌, Bool, List, [], map, length, Option, None, Some, IsSome, IfSome, Result, Ok, Err, refl, sym, subst, ◌∙◌, inl, inr, arith}
+use Rattle.std.proofs.Common.{◌≡◌, ℕ, ◌-◌, ◌^◌, ◌≤◌, ◌==◌, Bool, List, map, length, Option, None, Some, IsSome, IfSome, Result, Ok, Err, sym, subst, ◌∙◌, inl, inr, arith}
 use Rattle.std.specs.List.{AllByRecursion}
-use Rattle.std.specs.Io.KnownBytes.{prepend_known, Consumes, IsAtEnd}
 use Rattle.itch_codec.specs.Messages.{message_of}
-use Rattle.itch_frame.specs.Blocks.{block, Ends}
+use Rattle.itch_frame.specs.Blocks.{Ends}
 use Rattle.itch_frame.specs.Reading.{Reading, bytes_left}
 use Rattle.itch_frame.specs.declared.tally.Failures.{Failures}
 use Rattle.itch_market.specs.Content.{Content, empty, laid}
@@ -11,7 +10,7 @@ use Rattle.itch_market.specs.Runs.{run}
 use Rattle.itch_market.specs.declared.stop.Stop.{Stop}
 use Rattle.itch_market.specs.declared.stop.Stop.TheVariants.{End}
 use Rattle.itch_market.specs.Stops.{Stops}
-use Rattle.itch_market.specs.Replays.{Fits, NoCause, Halts, Takes, Counts, IsTold}
+use Rattle.itch_market.specs.Replays.{Fits, Halts, Takes, IsTold}
 use Rattle.itch_market.proofs.Told.{replays_stop}
 use Rattle.itch_tool.specs.declared.fault.ToolFault.{ToolFault}
 use Rattle.itch_tool.specs.declared.fault.ToolFault.TheVariants as tool

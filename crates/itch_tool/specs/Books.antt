@@ -1,5 +1,5 @@
 -- The lines of the book at a locate.
-use Rattle.std.specs.Prelude.{◌≡◌, ℕ, ◌+◌, ◌*◌, ◌/◌, ◌%◌, ◌==◌, ◌⊎◌, not, List, [], ◌∷◌, ◌++◌, map, length, decimal, Option, None, Some, Result, Ok, Err}
+use Rattle.std.specs.Prelude.{◌≡◌, ℕ, ◌==◌, ◌⊎◌, not, List, [], ◌∷◌, ◌++◌, map, length, decimal, None, Some, Result, Ok, Err}
 use Rattle.std.specs.List.{filter, sum_by, flat_map}
 use Rattle.std.specs.FinMap as finite
 use Rattle.itch_codec.specs.Fields.{side_byte}

@@ -1,5 +1,5 @@
 -- How two files are compared.
-use Rattle.std.specs.Prelude.{◌≡◌, ℕ, ◌-◌, ◌<◌, ◌⊎◌, ◌↔◌, List, ◌++◌, map, codes, decimal, Option, None, Some, IsNone, IfSome, Result, Ok, Err}
+use Rattle.std.specs.Prelude.{ℕ, ◌-◌, ◌<◌, ◌⊎◌, ◌↔◌, List, ◌++◌, map, codes, decimal, Option, None, Some, IsNone, IfSome, Result, Ok, Err}
 use Rattle.itch_codec.specs.Messages.{message_of}
 use Rattle.itch_market.specs.Content.{Content}
 use Rattle.itch_market.specs.Runs.{run}

@@ -5,6 +5,8 @@ pub mod Canons
 pub mod Showing
 pub mod Comparing
 pub mod Books
+pub mod Joining
+pub mod Joiners
 pub mod Requests
 pub mod Logins
 pub mod Sessions

@@ -5,7 +5,7 @@ use Rattle.itch_frame.specs.declared.tally.Failures.{Failures}
 use Rattle.itch_tool.specs.declared.fault.ToolFault.{ToolFault}
 use Rattle.itch_tool.specs.declared.fault.Source.TheVariants.{Only}
 use Rattle.itch_tool.specs.declared.request.Request.{Request}
-use Rattle.itch_tool.specs.declared.request.Request.TheVariants.{Snap, Check, Show, Canon, Compare, Book}
+use Rattle.itch_tool.specs.declared.request.Request.TheVariants.{Snap, Check, Show, Canon, Compare, Book, Join}
 use Rattle.itch_tool.specs.Readings.{ReadsDay, ReadsSnap}
 use Rattle.itch_tool.specs.Canons.{ChecksSnap, canonical_line}
 use Rattle.itch_tool.specs.Showing.{Shows}
@@ -15,6 +15,7 @@ use Rattle.itch_tool.specs.Books.{ReadsListed, book_of}
 -- a request over one file
 abbrev pub IsOverOne : Request → Type 0
 IsOverOne (Compare first second) = ⊥
+IsOverOne (Join snapshot feed) = ⊥
 IsOverOne request = ⊤
 
 module _ {R W : Type 0} (remaining : R → Option (List ℕ)) (failed_reads : R → Failures) (contents : W → Option (List ℕ)) (failed_writes : W → Failures) where
@@ -28,3 +29,4 @@ module _ {R W : Type 0} (remaining : R → Option (List ℕ)) (failed_reads : R 
   Performs (Book locate file) old new =
       Outputs contents failed_writes (ReadsListed locate (ReadsDay remaining failed_reads Only None old new)) (book_of locate) (λ _. true)
   Performs (Compare first second) old new = λ out result written. ⊥
+  Performs (Join snapshot feed) old new = λ out result written. ⊥

@@ -1,14 +1,11 @@
 -- What the program fetches, and the lines that it writes of the connections that it serves.
-use Rattle.std.specs.Prelude.{◌≡◌, ℕ, ◌+◌, ◌-◌, ◌^◌, ◌<◌, ◌≤◌, ◌⊎◌, Bool, true, List, [], ◌∷◌, ◌++◌, length, map, take, codes, decimal, Option, Some, None, Result, Ok, Err}
+use Rattle.std.specs.Prelude.{◌≡◌, ℕ, ◌+◌, ◌-◌, ◌^◌, ◌<◌, ◌≤◌, ◌⊎◌, Bool, true, List, [], ◌∷◌, ◌++◌, length, map, codes, decimal, Option, Some, None, Result, Ok, Err}
 use Rattle.std.specs.List.{AllByRecursion}
-use Rattle.std.specs.Io.KnownBytes.{Appends}
 use Rattle.itch_codec.specs.Messages.{message_of}
-use Rattle.itch_frame.specs.Counting.{failed}
 use Rattle.itch_frame.specs.Reading.{Reading}
 use Rattle.itch_frame.specs.declared.tally.Failures.{Failures}
 use Rattle.itch_market.specs.Content.{Content, laid}
 use Rattle.itch_market.specs.Runs.{run}
-use Rattle.itch_snapshot.specs.Bytes.{canon, closing}
 use Rattle.itch_snapshot.specs.Snapshot.{snap}
 use Rattle.itch_soup.specs.declared.config.Credentials.{Credentials}
 use Rattle.itch_soup.specs.declared.config.ServerConfig.{ServerConfig}
@@ -23,7 +20,6 @@ use Rattle.itch_soup.specs.Serving.{Serves}
 use Rattle.itch_tool.specs.declared.fault.ToolFault.{ToolFault}
 use Rattle.itch_tool.specs.declared.fault.ToolFault.TheVariants as tool
 use Rattle.itch_tool.specs.Outputs.{Wrote, WritesText}
-use Rattle.itch_tool.specs.Readings.{ReadsDay}
 
 module _ {R V : Type 0} (remaining : R → Option (List ℕ)) (reads : R → Failures) (contents : V → Option (List ℕ)) (writes : V → Failures) where
   -- what is fetched from a peer: a market and its number; or the session's fault is the program's

@@ -33,7 +33,8 @@ fn with_snapshots<'a>(alloc: Global, command: Command<'a>) -> Result<Command<'a>
         .subcommand(snap(alloc)?)?
         .subcommand(check(alloc)?)?
         .subcommand(compare(alloc)?)?
-        .subcommand(canon(alloc)?)
+        .subcommand(canon(alloc)?)?
+        .subcommand(join(alloc)?)
 }
 
 // The commands that show what is in a file.
@@ -78,6 +79,17 @@ fn canon<'a>(alloc: Global) -> Result<Command<'a>, AllocError> {
         .about("Write a snapshot in canonical form")
         .arg(snapshot)?
         .arg(check)
+}
+
+fn join<'a>(alloc: Global) -> Result<Command<'a>, AllocError> {
+    Command::new(alloc, "join")
+        .about("Join a feed to a snapshot, and write the snapshot after both")
+        .arg(named(
+            alloc,
+            "SNAP",
+            "The snapshot, read up to its End of Snapshot",
+        ))?
+        .arg(named(alloc, "FEED", "The feed, from its first message on"))
 }
 
 fn show<'a>(alloc: Global) -> Result<Command<'a>, AllocError> {

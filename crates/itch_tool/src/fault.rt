@@ -58,7 +58,7 @@ pub enum ToolFault {
     BadUser,
     /// The password is not 1 to 10 printable characters.
     BadPassword,
-    /// A snapshot has too many messages to be served: its End of Snapshot would have no number.
+    /// A market has too many messages for a snapshot, or a snapshot too many to be served: its End of Snapshot would have no number.
     TooMany,
     /// A session ended without a snapshot.
     Soup(SoupFault),

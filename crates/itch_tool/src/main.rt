@@ -12,8 +12,10 @@ mod compare;
 mod connection;
 mod ending;
 mod fault;
+mod feed;
 mod fetch;
 mod job;
+mod join;
 mod kept;
 mod levels;
 mod login;
@@ -25,6 +27,7 @@ mod serve;
 mod show;
 mod snap;
 mod sockets;
+mod start;
 #[cfg(test)]
 mod tests;
 mod writing;

@@ -35,6 +35,11 @@ pub enum Request<'a> {
         locate: u16,
         file: Option<&'a str>,
     },
+    /// Join a feed to a snapshot, and write the snapshot after both.
+    Join {
+        snapshot: &'a str,
+        feed: &'a str,
+    },
 }
 
 impl<'a> Request<'a> {
@@ -47,6 +52,7 @@ impl<'a> Request<'a> {
             | Request::Canon { file, .. }
             | Request::Book { file, .. } => file,
             Request::Compare { first, .. } => Some(first),
+            Request::Join { snapshot, .. } => Some(snapshot),
         }
     }
 }
@@ -69,6 +75,7 @@ pub fn read_request<'a>(alloc: Global, matches: &ArgMatches<'a>) -> Result<Reque
         }),
         Some(("compare", options)) => read_compare(alloc, options),
         Some(("book", options)) => read_book(alloc, options),
+        Some(("join", options)) => read_join(alloc, options),
         _ => Err(usage_fault(alloc, "a command is missing")?),
     }
 }
@@ -85,6 +92,13 @@ fn read_compare<'a>(alloc: Global, options: &ArgMatches<'a>) -> Result<Request<'
     match (options.get_str("A"), options.get_str("B")) {
         (Some(first), Some(second)) => Ok(Request::Compare { first, second }),
         _ => Err(usage_fault(alloc, "compare takes two files")?),
+    }
+}
+
+fn read_join<'a>(alloc: Global, options: &ArgMatches<'a>) -> Result<Request<'a>, Error> {
+    match (options.get_str("SNAP"), options.get_str("FEED")) {
+        (Some(snapshot), Some(feed)) => Ok(Request::Join { snapshot, feed }),
+        _ => Err(usage_fault(alloc, "join takes a snapshot and a feed")?),
     }
 }
 

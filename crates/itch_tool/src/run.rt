@@ -6,6 +6,7 @@ use crate::check::check_blocks;
 use crate::compare::compare_blocks;
 use crate::fault::{ToolFault, system_fault};
 use crate::job::Job;
+use crate::join::join_blocks;
 use crate::levels::book_blocks;
 use crate::request::Request;
 use crate::show::show_blocks;
@@ -50,6 +51,11 @@ fn run_request<R: Files + Input + Print + AllocGlobal>(
             let second = open(rt, second)?;
             compare_over(alloc, first, second, &mut out)?
         }
+        Request::Join { snapshot, feed } => {
+            let snapshot = open(rt, snapshot)?;
+            let feed = open(rt, feed)?;
+            join_over(alloc, snapshot, feed, &mut out)?
+        }
         _ => match request.file() {
             Some(path) => perform_over(alloc, request, open(rt, path)?, &mut out)?,
             None => perform_over(alloc, request, rt.reader(), &mut out)?,
@@ -78,6 +84,18 @@ fn compare_over<A: Allocator + Copy, R: Read + Drop, W: CountedWrite>(
     let mut first = blocks(alloc, first)?;
     let mut second = blocks(alloc, second)?;
     compare_blocks(alloc, &mut first, &mut second, out)
+}
+
+// Joins a feed to a snapshot.
+fn join_over<A: Allocator + Copy, R: Read + Drop, W: CountedWrite>(
+    alloc: A,
+    snapshot: R,
+    feed: R,
+    out: &mut W,
+) -> Result<bool, ToolFault> {
+    let mut snapshot = blocks(alloc, snapshot)?;
+    let mut feed = blocks(alloc, feed)?;
+    join_blocks(alloc, &mut snapshot, &mut feed, out)
 }
 
 // A reader of the blocks of a file.
@@ -120,6 +138,6 @@ fn perform<R: CountedRead, B: Allocator, A: Allocator + Copy, W: CountedWrite>(
         Request::Show { .. } => show_blocks(reader, out),
         Request::Canon { check, .. } => canon_blocks(alloc, reader, check, out),
         Request::Book { locate, .. } => book_blocks(alloc, locate, reader, out),
-        Request::Compare { .. } => unreachable!(),
+        Request::Compare { .. } | Request::Join { .. } => unreachable!(),
     }
 }

@@ -5,6 +5,7 @@ mod blocks;
 mod canons;
 mod desk;
 mod failures;
+mod joins;
 mod laws;
 mod refusals;
 mod sessions;

@@ -8,7 +8,7 @@ use std::test::Fail;
 #[test]
 fn words_are_read(rt: HostRuntime) -> Result<(), Fail> {
     let alloc = rt.alloc();
-    let cases: [(&str, Result<Request<'static>, i32>); 35] = [
+    let cases: [(&str, Result<Request<'static>, i32>); 38] = [
         (
             "snap",
             Ok(Request::Snap {
@@ -105,6 +105,15 @@ fn words_are_read(rt: HostRuntime) -> Result<(), Fail> {
         ("compare a.itch", Err(2)),
         ("compare", Err(2)),
         ("compare a.itch b.itch c.itch", Err(2)),
+        (
+            "join a.snap b.itch",
+            Ok(Request::Join {
+                snapshot: "a.snap",
+                feed: "b.itch",
+            }),
+        ),
+        ("join a.snap", Err(2)),
+        ("join a.snap b.itch c.itch", Err(2)),
         (
             "book 1",
             Ok(Request::Book {

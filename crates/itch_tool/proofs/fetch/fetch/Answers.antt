@@ -1,5 +1,4 @@
-use Rattle.std.proofs.Common.{true, Ok, inr, sym, subst}
-use Rattle.itch_soup.specs.Fetching.{Fetches}
+use Rattle.std.proofs.Common.{inr}
 use Rattle.itch_tool.proofs.Fetched.{fetched_short}
 use Rattle.itch_tool.proofs.fetch.fetch.Goals as goal
 

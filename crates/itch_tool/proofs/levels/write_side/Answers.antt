@@ -1,7 +1,7 @@
-use Rattle.std.proofs.Common.{Some, Ok, Err, ℕ, sym, subst, ◌∙◌}
+use Rattle.std.proofs.Common.{Ok, Err, sym, subst, ◌∙◌}
 use Rattle.itch_tool.specs.Outputs.{WritesText}
 use Rattle.itch_tool.proofs.LevelLemmas.{one_fewer}
-use Rattle.itch_tool.proofs.LevelTexts.{SideSoFar, side_begun, side_more, side_fails, side_ends}
+use Rattle.itch_tool.proofs.LevelTexts.{side_begun, side_more, side_fails, side_ends}
 use Rattle.itch_tool.proofs.levels.write_side.Goals as goal
 
 pub loop-price-init : goal.loop-price-init

@@ -1,4 +1,4 @@
-use Rattle.std.proofs.Common.{length, ℕ}
+use Rattle.std.proofs.Common.{length}
 use Rattle.std.specs.List.{filter}
 use Rattle.itch_book.specs.Orders.{queue, is_worse}
 use Rattle.itch_tool.specs.Books.{prices}
