@@ -1,15 +1,23 @@
 //! Measures the lower layers on a day file from standard input, each command for one layer more: `copy` reads the bytes,
-//! `frames` counts the blocks, `decode` decodes their messages. `bench/run` times them.
+//! `frames` counts the blocks, `decode` decodes their messages. `joined` and `reversed` take a snapshot, and then the feed that
+//! it is of from its first message on, and join them: the messages come in order, or in windows of 1,000 of which the last
+//! comes first. `bench/run` times them.
 #![tactic(auto)]
 
+use itch_book::IndexedBook;
 use itch_codec::decode;
 use itch_frame::BlockReader;
 use itch_frame::counted::{Buffered, CountedRead};
+use itch_join::{Joiner, Snap};
+use std::alloc::Global;
 use std::io::{self, BufReader};
 use std::process::ExitCode;
 
 // Input is read in pieces of this many bytes.
 const PIECE: usize = 1 << 16;
+
+// As many messages are in a window, and may wait.
+const WINDOW: usize = 1000;
 
 fn main(rt: HostRuntime) -> io::Result<ExitCode> {
     let alloc = rt.alloc();
@@ -28,8 +36,16 @@ fn main(rt: HostRuntime) -> io::Result<ExitCode> {
             let messages = count_messages(&mut BlockReader::new(alloc, reader)?);
             println!(rt; "{messages} messages")?;
         }
+        Some(word) if word.as_str() == "joined" => {
+            let next = join_in_order(alloc, &mut BlockReader::new(alloc, reader)?);
+            println!(rt; "next {next}")?;
+        }
+        Some(word) if word.as_str() == "reversed" => {
+            let next = join_reversed(alloc, &mut BlockReader::new(alloc, reader)?)?;
+            println!(rt; "next {next}")?;
+        }
         _ => {
-            eprintln!(rt; "itch_bench copy|frames|decode < FILE")?;
+            eprintln!(rt; "itch_bench copy|frames|decode|joined|reversed < FILE")?;
             return Ok(ExitCode::from(2));
         }
     }
@@ -70,4 +86,62 @@ fn count_messages<R: CountedRead>(reader: &mut BlockReader<R>) -> u64 {
         }
     }
     u64::MAX
+}
+
+type Books = IndexedBook<Global>;
+
+// A joiner that has taken the snapshot.
+fn started<R: CountedRead>(alloc: Global, reader: &mut BlockReader<R>) -> Joiner<Books> {
+    let mut joiner = Joiner::new(alloc, WINDOW);
+    for _ in 0..u64::MAX {
+        match reader.next_block() {
+            Ok(Some(payload)) if matches!(joiner.snapshot(payload), Ok(Snap::More)) => {}
+            _ => break,
+        }
+    }
+    joiner
+}
+
+// The number of the next message after all of the feed, in order, or before a fault.
+fn join_in_order<R: CountedRead>(alloc: Global, reader: &mut BlockReader<R>) -> u64 {
+    let mut joiner = started(alloc, reader);
+    for number in 1..u64::MAX {
+        match reader.next_block() {
+            Ok(Some(payload)) if joiner.live(number, payload).is_ok() => {}
+            _ => break,
+        }
+    }
+    joiner.next().unwrap_or(0)
+}
+
+// The same with the last message of each window first.
+fn join_reversed<R: CountedRead>(alloc: Global, reader: &mut BlockReader<R>) -> io::Result<u64> {
+    let mut joiner = started(alloc, reader);
+    let mut window = Vec::new(alloc);
+    let mut first = 1u64;
+    for _ in 0..u64::MAX {
+        match reader.next_block() {
+            Ok(Some(payload)) if !payload.is_empty() => window.push(payload.to_vec(alloc)?)?,
+            _ => break,
+        }
+        if window.len() == WINDOW {
+            deliver(&mut joiner, &mut window, first);
+            first = first.saturating_add(WINDOW as u64);
+        }
+    }
+    deliver(&mut joiner, &mut window, first);
+    Ok(joiner.next().unwrap_or(0))
+}
+
+// Delivers a window, whose first message has this number, from its end.
+fn deliver(joiner: &mut Joiner<Books>, window: &mut Vec<Vec<u8>>, first: u64) {
+    for _ in 0..WINDOW {
+        let Some(payload) = window.pop() else {
+            return;
+        };
+        let number = first.saturating_add(window.len() as u64);
+        if joiner.live(number, payload.as_slice()).is_err() {
+            return;
+        }
+    }
 }
