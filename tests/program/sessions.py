@@ -103,6 +103,58 @@ def a_large_snapshot_is_fetched(program):
             yield from server.differences(f"accepted from 1, {messages(wanted)} packets")
 
 
+def answer(snapshot):
+    """What a login for all messages is answered: the acceptance, a packet for each block of the snapshot, the session's end."""
+    packets, at = [b"\0\x1fA  ITCHSNAP" + b"1".rjust(20)], 0
+    while at < len(snapshot):
+        length = struct.unpack_from(">H", snapshot, at)[0]
+        packets.append(struct.pack(">H", length + 1) + b"S" + snapshot[at + 2:at + 2 + length])
+        at += 2 + length
+    return b"".join(packets) + b"\0\x01Z"
+
+
+def received(peer):
+    """All that a server sends until it closes the connection."""
+    pieces = []
+    while piece := peer.recv(1 << 16):
+        pieces.append(piece)
+    return b"".join(pieces)
+
+
+def a_login_in_pieces_of_one_byte_is_answered(program):
+    wanted = snapshot(program, EXAMPLES / "opening.itch")
+    with Server(program, EXAMPLES / "opening.itch", 1) as server:
+        with connect(server.port) as peer:
+            peer.setsockopt(socket.IPPROTO_TCP, socket.TCP_NODELAY, 1)
+            for at in range(len(LOGIN)):
+                peer.sendall(LOGIN[at:at + 1])
+            if received(peer) != answer(wanted):
+                yield "another answer"
+        yield from server.differences(f"accepted from 1, {messages(wanted)} packets")
+
+
+def ten_thousand_debug_packets_are_passed_over(program):
+    wanted = snapshot(program, EXAMPLES / "opening.itch")
+    with Server(program, EXAMPLES / "opening.itch", 1) as server:
+        with connect(server.port) as peer:
+            peer.sendall(b"\0\x03+up" * 10_000 + LOGIN)
+            if received(peer) != answer(wanted):
+                yield "another answer"
+        yield from server.differences(f"accepted from 1, {messages(wanted)} packets")
+
+
+def a_peer_that_does_not_read_ends_nothing_else(program):
+    day, wanted = large.orders(200_000)
+    with tempfile.NamedTemporaryFile(suffix=".itch") as file:
+        file.write(day)
+        file.flush()
+        with Server(program, file.name, 2) as server:
+            with connect(server.port) as peer:
+                peer.sendall(LOGIN)
+            yield from fetched_differs(fetch(program, server.port), wanted)
+            yield from server.differences("fault", f"accepted from 1, {messages(wanted)} packets")
+
+
 def a_wrong_password_is_rejected(program):
     with Server(program, EXAMPLES / "opening.itch", 1) as server:
         got = fetch(program, server.port, password="wrong")
@@ -194,6 +246,9 @@ def a_slow_peer_holds_the_server_for_15_seconds(program):
 RUNS = [
     what_is_served_is_fetched,
     a_large_snapshot_is_fetched,
+    a_login_in_pieces_of_one_byte_is_answered,
+    ten_thousand_debug_packets_are_passed_over,
+    a_peer_that_does_not_read_ends_nothing_else,
     a_wrong_password_is_rejected,
     a_refused_file_is_not_served,
     a_port_in_use_is_a_failed_socket,
