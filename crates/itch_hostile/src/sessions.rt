@@ -1,5 +1,5 @@
 //! A served session that the tables use: its login, its answers, and both of its ends over memory.
-use crate::files::{AAPL, ADD_1, ADD_2, EVENT, market, seq};
+use crate::files::{AAPL, ADD_1, ADD_2, EVENT, market};
 use itch_book::ListBook;
 use itch_codec::{Alpha, Seq};
 use itch_frame::BlockReader;

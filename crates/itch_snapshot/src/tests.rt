@@ -8,8 +8,7 @@ use itch_codec::{CodecFault, Seq};
 use itch_frame::testing::{FuseWriter, PieceReader};
 use itch_frame::{BlockReader, FrameFault, write_block};
 use itch_market::{Market, Refusal, replay};
-use refusing::Refusing;
-use std::alloc::{Allocator, Global};
+use std::alloc::Global;
 use std::test::Fail;
 
 mod again;

@@ -3,10 +3,9 @@ use super::{replay, replay_first};
 use crate::market::Market;
 use crate::refusal::Refusal;
 use crate::stop::Stop;
-use itch_book::{ListBook, OrderBook};
+use itch_book::ListBook;
+use itch_frame::BlockReader;
 use itch_frame::testing::PieceReader;
-use itch_frame::{BlockReader, FrameFault};
-use refusing::Refusing;
 use std::alloc::Global;
 use std::test::Fail;
 

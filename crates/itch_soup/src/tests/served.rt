@@ -1,14 +1,13 @@
 //! One served and one fetched session over memory: the rows, each failure in turn, and the calls that take no memory.
 use super::{alpha, seq};
 use crate::{Credentials, Served, ServerConfig, SoupFault, fetch_one, laws, serve_one, write_data};
-use itch_book::{ListBook, OrderBook};
+use itch_book::ListBook;
 use itch_codec::Seq;
-use itch_frame::counted::{Counted, CountedRead};
+use itch_frame::counted::CountedRead;
 use itch_frame::testing::{FuseWriter, PieceReader};
 use itch_frame::{BlockReader, FrameFault};
-use itch_market::{Market, Refusal, replay};
-use itch_snapshot::{SnapFault, same_market, snapshot_len};
-use refusing::Refusing;
+use itch_market::{Market, replay};
+use itch_snapshot::{same_market, snapshot_len};
 use std::alloc::{AllocError, Allocator, Global};
 use std::process::Abort;
 use std::test::Fail;
