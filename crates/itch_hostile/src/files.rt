@@ -4,7 +4,7 @@ use itch_codec::{Seq, encode};
 use itch_frame::testing::{FuseWriter, PieceReader};
 use itch_frame::{BlockReader, write_block};
 use itch_market::{Market, replay};
-use itch_snapshot::{SnapshotIter, snapshot_len};
+use itch_snapshot::SnapshotIter;
 use std::alloc::Global;
 use std::process::Abort;
 use std::test::Fail;
@@ -88,11 +88,6 @@ pub(crate) fn joined_up(alloc: Global, payloads: &[&[u8]]) -> Result<Vec<u8>, Fa
         bytes.extend_from_slice(payload)?;
     }
     Ok(bytes)
-}
-
-/// A market's snapshot has fewer than ten messages, so that it may be written and compared.
-pub(crate) fn is_short<B: OrderBook>(market: &Market<B>) -> bool {
-    snapshot_len(market) < 10
 }
 
 pub(crate) fn seq(rt: &impl Abort, number: u64) -> Seq {

@@ -1,12 +1,11 @@
 //! Broken answers to a fetch: each beginning of a served session, and each of its bytes at each value.
-use crate::files::is_short;
 use crate::sessions::{FROM_1, Fetched, fetched};
 use itch_book::ListBook;
 use itch_codec::Seq;
 use itch_frame::testing::{FuseWriter, PieceReader};
 use itch_frame::{BlockReader, FrameFault, write_block};
 use itch_market::Market;
-use itch_snapshot::{read_snapshot, same_market};
+use itch_snapshot::{read_snapshot, same_market, snapshot_len};
 use itch_soup::SoupFault;
 use std::alloc::Global;
 use std::process::Abort;
@@ -66,7 +65,7 @@ fn is_spelled(
     let file = snapshot_file(alloc, answer)?;
     let mut reader = BlockReader::new(alloc, PieceReader::new(file.written(), 64, None))?;
     let (spelled, number): (Market<ListBook>, Seq) = read_snapshot(alloc, &mut reader)?;
-    assert!(rt; is_short(market));
+    assert!(rt; snapshot_len(market) < 10);
     assert!(rt; same_market(market, &spelled));
     assert_eq!(rt; next.value(), number.value());
     Ok(())

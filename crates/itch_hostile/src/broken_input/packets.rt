@@ -20,18 +20,12 @@ fn is_fault(
     Ok(())
 }
 
-// A login request with another byte at this place, or with another number.
-const LOGIN: &[u8; 47] = b"Luser  secret                                 3";
+// Login requests with a byte of the user name that is not printable, with a letter and with too high a number.
+const UNPRINTABLE: &[u8] = b"L\0ser  secret                                 3";
 
-fn with_byte(at: usize, byte: u8) -> [u8; 47] {
-    let mut login = *LOGIN;
-    if let Some(own) = login.get_mut(at) {
-        *own = byte;
-    }
-    login
-}
+const LETTER: &[u8] = b"Luser  secret                                 x";
 
-const NINES: &[u8; 47] = b"Luser  secret              99999999999999999999";
+const NINES: &[u8] = b"Luser  secret              99999999999999999999";
 
 fn wrong_length(kind: u8, want: usize, got: usize) -> SoupFault {
     SoupFault::WrongLength { kind, want, got }
@@ -50,11 +44,21 @@ fn from_a_client(rt: HostRuntime) -> Result<(), Fail> {
 #[test]
 fn logins_from_a_client(rt: HostRuntime) -> Result<(), Fail> {
     let (alloc, from) = (rt.alloc(), Origin::Client);
-    let bad_text = SoupFault::BadText { offset: 1 };
-    is_fault(&rt, alloc, &with_byte(1, 0), from, bad_text)?;
-    let bad_number = SoupFault::BadNumber { offset: 27 };
-    is_fault(&rt, alloc, &with_byte(46, b'x'), from, bad_number)?;
-    is_fault(&rt, alloc, NINES, from, bad_number)
+    is_fault(
+        &rt,
+        alloc,
+        UNPRINTABLE,
+        from,
+        SoupFault::BadText { offset: 1 },
+    )?;
+    is_fault(
+        &rt,
+        alloc,
+        LETTER,
+        from,
+        SoupFault::BadNumber { offset: 27 },
+    )?;
+    is_fault(&rt, alloc, NINES, from, SoupFault::BadNumber { offset: 27 })
 }
 
 #[test]

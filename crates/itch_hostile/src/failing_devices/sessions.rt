@@ -1,5 +1,5 @@
 //! One session served and fetched.
-use crate::files::{is_short, seq};
+use crate::files::seq;
 use crate::sessions::{
     FROM_1, FROM_3, Fetched, LOGIN_1, LOGIN_3, config, credentials, fetched, served_market,
 };
@@ -7,6 +7,7 @@ use itch_book::ListBook;
 use itch_frame::testing::{FuseWriter, PieceReader};
 use itch_frame::{BlockReader, FrameFault};
 use itch_market::Market;
+use itch_snapshot::snapshot_len;
 use itch_soup::{Served, SoupFault, fetch_one, serve_one};
 use std::alloc::Global;
 use std::process::Abort;
@@ -22,7 +23,7 @@ fn served_again(
     market: &Market<ListBook>,
     nth: u64,
 ) -> Result<(), Fail> {
-    assert!(rt; is_short(market));
+    assert!(rt; snapshot_len(market) < 10);
     let mut reader = BlockReader::new(alloc, PieceReader::new(LOGIN_3, 7, Some(nth)))?;
     let mut writer = FuseWriter::new(alloc, 64, None);
     let mut served = serve_one(&mut reader, &mut writer, market, seq(rt, 5), &config(rt));
@@ -75,7 +76,7 @@ fn served_in_part(
     market: &Market<ListBook>,
     nth: u64,
 ) -> Result<(), Fail> {
-    assert!(rt; is_short(market));
+    assert!(rt; snapshot_len(market) < 10);
     let mut reader = BlockReader::new(alloc, PieceReader::new(LOGIN_3, 64, None))?;
     let mut writer = FuseWriter::new(alloc, 7, Some(nth));
     let served = serve_one(&mut reader, &mut writer, market, seq(rt, 5), &config(rt));

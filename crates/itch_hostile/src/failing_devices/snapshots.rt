@@ -1,10 +1,10 @@
 //! A snapshot written.
-use crate::files::{ONE_ORDER, ONE_ORDER_SNAPSHOT, blocks, is_short, market, seq};
+use crate::files::{ONE_ORDER, ONE_ORDER_SNAPSHOT, blocks, market, seq};
 use itch_book::IndexedBook;
 use itch_frame::FrameFault;
 use itch_frame::testing::FuseWriter;
 use itch_market::Market;
-use itch_snapshot::{SnapFault, write_snapshot};
+use itch_snapshot::{SnapFault, snapshot_len, write_snapshot};
 use std::process::Abort;
 use std::test::Fail;
 
@@ -28,7 +28,7 @@ fn fails_at(
     nth: u64,
     whole: &[u8],
 ) {
-    assert!(rt; is_short(market));
+    assert!(rt; snapshot_len(market) < 10);
     let fault = write_snapshot(market, seq(rt, 4), writer)
         .err()
         .expect(rt, "a failed write");
@@ -55,7 +55,7 @@ fn the_whole_is_written(rt: HostRuntime) -> Result<(), Fail> {
     let market: Market<IndexedBook> = market(rt.alloc(), rt.alloc(), ONE_ORDER)?;
     let whole = blocks(rt.alloc(), ONE_ORDER_SNAPSHOT)?;
     let mut writer = FuseWriter::new(rt.alloc(), 1, Some(117));
-    assert!(rt; is_short(&market));
+    assert!(rt; snapshot_len(&market) < 10);
     assert_eq!(rt; write_snapshot(&market, seq(&rt, 4), &mut writer)?, 4);
     assert_eq!(rt; writer.written(), whole.written());
     Ok(())

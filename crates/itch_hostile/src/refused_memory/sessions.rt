@@ -1,5 +1,5 @@
 //! A session fetched, and one served, which takes no memory.
-use crate::files::{is_short, market, seq};
+use crate::files::{market, seq};
 use crate::sessions::{
     FROM_1, FROM_3, LOGIN_1, LOGIN_3, SERVED, config, credentials, served_market,
 };
@@ -9,7 +9,7 @@ use itch_frame::BlockReader;
 use itch_frame::counted::Counted;
 use itch_frame::testing::{FuseWriter, PieceReader};
 use itch_market::{Market, Refusal};
-use itch_snapshot::{SnapFault, same_market};
+use itch_snapshot::{SnapFault, same_market, snapshot_len};
 use itch_soup::{SoupFault, fetch_one, serve_one};
 use refusing::Refusing;
 use std::alloc::Global;
@@ -37,7 +37,7 @@ fn refuse_to_fetch<B: OrderBook>(
     memory: B::Alloc,
 ) -> Result<bool, Fail> {
     let want = served_market(alloc)?;
-    assert!(rt; is_short(&want));
+    assert!(rt; snapshot_len(&want) < 10);
     let mut reader = BlockReader::new(alloc, PieceReader::new(FROM_1, 64, None))?;
     let mut writer = FuseWriter::new(alloc, 64, None);
     let result: Result<(Market<B>, Seq), SoupFault> = fetch_one(
@@ -88,7 +88,7 @@ fn serve_without_memory(
     login: &[u8],
     answer: &[u8],
 ) -> Result<(), Fail> {
-    assert!(rt; is_short(market));
+    assert!(rt; snapshot_len(market) < 10);
     refusing.arm(1000);
     let mut reader = BlockReader::new(refusing, PieceReader::new(login, 64, None))?;
     let mut memory = [0; 256];

@@ -1,12 +1,12 @@
 //! The messages of a snapshot taken one by one, a snapshot file read, and what takes no memory.
-use crate::files::{REPLACED, REPLACED_SNAPSHOT, blocks, is_short, market, seq};
+use crate::files::{REPLACED, REPLACED_SNAPSHOT, blocks, market, seq};
 use itch_book::{IndexedBook, ListBook, OrderBook};
 use itch_frame::BlockReader;
 use itch_frame::counted::Counted;
 use itch_frame::testing::PieceReader;
 use itch_market::{Market, Refusal};
 use itch_snapshot::{
-    SnapFault, SnapshotReader, part_place, read_snapshot, same_market, write_snapshot,
+    SnapFault, SnapshotReader, part_place, read_snapshot, same_market, snapshot_len, write_snapshot,
 };
 use refusing::Refusing;
 use std::alloc::Global;
@@ -58,7 +58,7 @@ fn refuse_each<B: OrderBook>(
     }
     assert!(rt; refused > 1);
     let want: Market<ListBook> = market(alloc, alloc, REPLACED)?;
-    assert!(rt; is_short(&want));
+    assert!(rt; snapshot_len(&want) < 10);
     match reader.finish() {
         Ok((market, next)) => {
             assert!(rt; same_market(&want, &market));
@@ -95,7 +95,7 @@ fn refuse_to_read<B: OrderBook>(
     match read_snapshot::<_, _, B>(memory, &mut reader) {
         Ok((market, next)) => {
             assert!(rt; !refusing.has_refused());
-            assert!(rt; is_short(&market));
+            assert!(rt; snapshot_len(&market) < 10);
             assert_eq!(rt; next.value(), 5);
             Ok(false)
         }
@@ -136,7 +136,7 @@ fn no_market_is_handed_out_over_a_list(rt: HostRuntime) -> Result<(), Fail> {
 fn writing_and_comparing_take_no_memory(rt: HostRuntime) -> Result<(), Fail> {
     let refusing = Refusing::new(rt.alloc(), 1000);
     let market: Market<IndexedBook<Refused<'_>>> = market(rt.alloc(), &refusing, REPLACED)?;
-    assert!(rt; is_short(&market));
+    assert!(rt; snapshot_len(&market) < 10);
     let want = blocks(rt.alloc(), REPLACED_SNAPSHOT)?;
     let mut memory = [0; 144];
     let mut writer = Counted::new(memory.as_mut_slice());

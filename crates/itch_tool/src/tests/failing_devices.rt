@@ -13,13 +13,23 @@ use itch_frame::testing::{FuseWriter, PieceReader};
 use itch_frame::{BlockReader, FrameFault};
 use itch_market::{ReplayEnd, Stop};
 use itch_snapshot::SnapFault;
+use itch_soup::Credentials;
 use std::alloc::Global;
 use std::io::BufReader;
 use std::process::Abort;
 use std::test::Fail;
 
-// A read of this day file failed, after so many messages.
-fn is_day_fault(fault: &ToolFault, source: Source, whole: u64) -> bool {
+// What a failed read is told as.
+#[derive(Clone, Copy, Debug, PartialEq, Eq)]
+enum Failed {
+    // A read of this day file, after so many messages.
+    Day { file: Source, whole: u64 },
+    // A read of this snapshot.
+    Snapshot { file: Source },
+    Other,
+}
+
+fn read_failure(fault: &ToolFault) -> Failed {
     match fault {
         ToolFault::Stopped {
             file,
@@ -27,19 +37,15 @@ fn is_day_fault(fault: &ToolFault, source: Source, whole: u64) -> bool {
                 count,
                 stop: Stop::Frame(FrameFault::Read(_)),
             },
-        } => *file == source && *count == whole,
-        _ => false,
-    }
-}
-
-// A read of this snapshot failed.
-fn is_snapshot_fault(fault: &ToolFault, source: Source) -> bool {
-    match fault {
+        } => Failed::Day {
+            file: *file,
+            whole: *count,
+        },
         ToolFault::Snap {
             file,
             fault: SnapFault::Frame(FrameFault::Read(_)),
-        } => *file == source,
-        _ => false,
+        } => Failed::Snapshot { file: *file },
+        _ => Failed::Other,
     }
 }
 
@@ -49,13 +55,13 @@ fn whole_before(ends: &[u64], read: u64) -> u64 {
 }
 
 // Performs a command whose reads of the first or the second file fail at this one.
-fn read_fault(
+fn failed_read(
     rt: &impl Abort,
     alloc: Global,
     case: &Case,
     first: Option<u64>,
     second: Option<u64>,
-) -> Result<ToolFault, Fail> {
+) -> Result<Failed, Fail> {
     let mut out = FuseWriter::new(alloc, 64, None);
     let one = PieceReader::new(case.first.as_slice(), 1, first);
     let other = PieceReader::new(case.second.as_slice(), 1, second);
@@ -69,7 +75,7 @@ fn read_fault(
     } else {
         assert!(rt; out.written().is_empty());
     }
-    Ok(fault)
+    Ok(read_failure(&fault))
 }
 
 // Each read of a command's day file, which is its first.
@@ -81,9 +87,14 @@ fn fail_day_reads(
 ) -> Result<(), Fail> {
     let case = Case::new(alloc, command)?;
     for read in 1..=159 {
-        let fault = read_fault(rt, alloc, &case, Some(read), None)?;
-        assert!(rt;
-            is_day_fault(&fault, source, whole_before(&DAY_ENDS, read)),
+        let whole = whole_before(&DAY_ENDS, read);
+        let found = failed_read(rt, alloc, &case, Some(read), None)?;
+        assert_eq!(rt;
+            found,
+            Failed::Day {
+                file: source,
+                whole
+            },
             "read {read}"
         );
     }
@@ -115,9 +126,10 @@ fn reads_of_compare(rt: HostRuntime) -> Result<(), Fail> {
     fail_day_reads(&rt, rt.alloc(), Command::Compare, Source::First)?;
     let case = Case::new(rt.alloc(), Command::Compare)?;
     for read in 1..=80 {
-        let fault = read_fault(&rt, rt.alloc(), &case, None, Some(read))?;
         let whole = whole_before(&OTHER_ENDS, read);
-        assert!(rt; is_day_fault(&fault, Source::Second, whole), "read {read}");
+        let found = failed_read(&rt, rt.alloc(), &case, None, Some(read))?;
+        let file = Source::Second;
+        assert_eq!(rt; found, Failed::Day { file, whole }, "read {read}");
     }
     Ok(())
 }
@@ -127,13 +139,15 @@ fn reads_of_compare(rt: HostRuntime) -> Result<(), Fail> {
 fn reads_of_join(rt: HostRuntime) -> Result<(), Fail> {
     let case = Case::new(rt.alloc(), Command::Join)?;
     for read in 1..=case.first.len() as u64 {
-        let fault = read_fault(&rt, rt.alloc(), &case, Some(read), None)?;
-        assert!(rt; is_snapshot_fault(&fault, Source::Snapshot), "read {read}");
+        let found = failed_read(&rt, rt.alloc(), &case, Some(read), None)?;
+        let file = Source::Snapshot;
+        assert_eq!(rt; found, Failed::Snapshot { file }, "read {read}");
     }
     for read in 1..=159 {
-        let fault = read_fault(&rt, rt.alloc(), &case, None, Some(read))?;
         let whole = whole_before(&DAY_ENDS, read);
-        assert!(rt; is_day_fault(&fault, Source::Only, whole), "read {read}");
+        let found = failed_read(&rt, rt.alloc(), &case, None, Some(read))?;
+        let file = Source::Only;
+        assert_eq!(rt; found, Failed::Day { file, whole }, "read {read}");
     }
     Ok(())
 }
@@ -142,8 +156,9 @@ fn reads_of_join(rt: HostRuntime) -> Result<(), Fail> {
 fn fail_snapshot_reads(rt: &impl Abort, alloc: Global, command: Command) -> Result<(), Fail> {
     let case = Case::new(alloc, command)?;
     for read in 1..=145 {
-        let fault = read_fault(rt, alloc, &case, Some(read), None)?;
-        assert!(rt; is_snapshot_fault(&fault, Source::Only), "read {read}");
+        let found = failed_read(rt, alloc, &case, Some(read), None)?;
+        let file = Source::Only;
+        assert_eq!(rt; found, Failed::Snapshot { file }, "read {read}");
     }
     Ok(())
 }
@@ -196,34 +211,47 @@ fn reads_below_a_buffer(rt: HostRuntime) -> Result<(), Fail> {
             .err()
             .ok_or("a fault")?;
         let whole = whole_before(&DAY_ENDS, 50 * read - 49);
-        assert!(rt; is_day_fault(&fault, Source::Only, whole), "read {read}");
+        let file = Source::Only;
+        assert_eq!(rt;
+            read_failure(&fault),
+            Failed::Day { file, whole },
+            "read {read}"
+        );
         assert!(rt; out.written().is_empty(), "read {read}");
     }
     Ok(())
 }
 
-// A fetch over these devices, and what it wrote.
-fn fetched(
+fn credentials(rt: &impl Abort) -> Credentials {
+    let Ok(login) = Login::new("user", "secret") else {
+        panic!(rt; "a login");
+    };
+    login.credentials()
+}
+
+// A fetch over these devices fails with status 3.
+fn fetch_fails(
+    rt: &impl Abort,
     alloc: Global,
-    reader: PieceReader<'_>,
+    reader: &mut BlockReader<PieceReader<'_>, Global>,
     writer: &mut FuseWriter,
+    credentials: &Credentials,
     out: &mut FuseWriter,
-) -> Result<Result<bool, ToolFault>, Fail> {
-    let mut reader = BlockReader::new(alloc, reader)?;
-    let credentials = Login::new("user", "secret")?.credentials();
-    Ok(fetch(alloc, &mut reader, writer, &credentials, out))
+) {
+    let answer = fetch(alloc, reader, writer, credentials, out);
+    assert_eq!(rt; status(&answer), 3);
 }
 
 // The last 3 bytes are the end of the session, which is not read.
 #[test]
 fn reads_of_a_fetch(rt: HostRuntime) -> Result<(), Fail> {
     let alloc = rt.alloc();
+    let credentials = credentials(&rt);
     for read in 1..=FROM_1.len() as u64 - 3 {
+        let mut reader = BlockReader::new(alloc, PieceReader::new(FROM_1, 1, Some(read)))?;
         let mut writer = FuseWriter::new(alloc, 64, None);
         let mut out = FuseWriter::new(alloc, 64, None);
-        let reader = PieceReader::new(FROM_1, 1, Some(read));
-        let answer = fetched(alloc, reader, &mut writer, &mut out)?;
-        assert_eq!(rt; status(&answer), 3, "read {read}");
+        fetch_fails(&rt, alloc, &mut reader, &mut writer, &credentials, &mut out);
         assert!(rt; out.written().is_empty(), "read {read}");
     }
     Ok(())
@@ -232,16 +260,12 @@ fn reads_of_a_fetch(rt: HostRuntime) -> Result<(), Fail> {
 #[test]
 fn writes_of_a_login(rt: HostRuntime) -> Result<(), Fail> {
     let alloc = rt.alloc();
+    let credentials = credentials(&rt);
     for at in 0..LOGIN_1.len() {
+        let mut reader = BlockReader::new(alloc, PieceReader::new(FROM_1, 64, None))?;
         let mut writer = FuseWriter::new(alloc, 1, Some(at as u64 + 1));
         let mut out = FuseWriter::new(alloc, 64, None);
-        let answer = fetched(
-            alloc,
-            PieceReader::new(FROM_1, 64, None),
-            &mut writer,
-            &mut out,
-        )?;
-        assert_eq!(rt; status(&answer), 3, "write {at}");
+        fetch_fails(&rt, alloc, &mut reader, &mut writer, &credentials, &mut out);
         assert_eq!(rt; Some(writer.written()), LOGIN_1.get(..at), "write {at}");
         assert!(rt; out.written().is_empty(), "write {at}");
     }
@@ -251,17 +275,13 @@ fn writes_of_a_login(rt: HostRuntime) -> Result<(), Fail> {
 #[test]
 fn writes_of_a_fetched_snapshot(rt: HostRuntime) -> Result<(), Fail> {
     let alloc = rt.alloc();
+    let credentials = credentials(&rt);
     let wanted = file(alloc, &[START, AAPL, BUY_1, BUY_2_OF_200, END_5])?;
     for at in 0..wanted.len() {
+        let mut reader = BlockReader::new(alloc, PieceReader::new(FROM_1, 64, None))?;
         let mut writer = FuseWriter::new(alloc, 64, None);
         let mut out = FuseWriter::new(alloc, 1, Some((at as u64).saturating_add(1)));
-        let answer = fetched(
-            alloc,
-            PieceReader::new(FROM_1, 64, None),
-            &mut writer,
-            &mut out,
-        )?;
-        assert!(rt; matches!(answer, Err(ToolFault::Write(_))), "write {at}");
+        fetch_fails(&rt, alloc, &mut reader, &mut writer, &credentials, &mut out);
         assert_eq!(rt; Some(out.written()), wanted.get(..at), "write {at}");
     }
     Ok(())
