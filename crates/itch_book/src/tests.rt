@@ -200,5 +200,4 @@ fn indexed_book_keeps_priority(rt: HostRuntime) -> Result<(), Fail> {
     Ok(())
 }
 
-mod refusals;
 mod side_by_side;

@@ -8,7 +8,7 @@ use std::alloc::{AllocError, Global};
 use std::process::Abort;
 use std::test::Fail;
 
-mod memory;
+mod refused_memory;
 
 const OPENS: &[u8] = b"S\0\0\0\0\0\0\0\0\0\0O";
 

@@ -8,8 +8,7 @@ use itch_codec::{CodecFault, Seq};
 use itch_frame::testing::{FuseWriter, PieceReader};
 use itch_frame::{BlockReader, FrameFault, write_block};
 use itch_market::{Market, Refusal, replay};
-use refusing::Refusing;
-use std::alloc::{Allocator, Global};
+use std::alloc::Global;
 use std::test::Fail;
 
 mod again;
@@ -232,101 +231,26 @@ fn reads_snapshots(rt: HostRuntime) -> Result<(), Fail> {
     Ok(())
 }
 
+// A market is handed out after its End of Snapshot, and not before.
 #[test]
-fn tells_how_much_of_a_snapshot_was_written(rt: HostRuntime) -> Result<(), Fail> {
-    let alloc = Refusing::new(rt.alloc(), 1000);
-    let day = blocks(rt.alloc(), REPLACED)?;
-    let mut reader = BlockReader::new(rt.alloc(), PieceReader::new(day.written(), 512, None))?;
-    let mut market: Market<ListBook<&Refusing<Global>>> = Market::new(&alloc);
-    replay(&mut reader, &mut market);
-    alloc.arm(0);
-    assert!(rt; snapshot_len(&market) < 9);
-    let next = Seq::new(5).expect(&rt, "a sequence number");
-    let whole = blocks(rt.alloc(), REPLACED_SNAPSHOT)?;
-    let whole = whole.written();
-    assert_eq!(rt; whole.len(), 144);
-    // The first bytes of the four blocks.
-    let starts = [0, 41, 79, 121];
-    for fail_at in 1..=145u64 {
-        let mut writer = FuseWriter::new(rt.alloc(), 1, Some(fail_at));
-        let outcome = write_snapshot(&market, next, &mut writer);
-        let count = writer.written().len();
-        assert_eq!(rt; count as u64, fail_at - 1);
-        assert!(rt; whole.starts_with(writer.written()));
-        match outcome {
-            Ok(messages) => assert_eq!(rt; (messages, fail_at), (4, 145)),
-            Err(fault) => {
-                let start = starts.iter().copied().filter(|start| *start <= count).max();
-                assert!(rt;
-                    matches!(fault, SnapFault::Frame(FrameFault::Write { sent, .. }) if start == count.checked_sub(sent))
-                );
-            }
-        }
-    }
-    assert!(rt; !alloc.has_refused());
-    Ok(())
-}
-
-#[test]
-fn each_growth_may_be_refused(rt: HostRuntime) -> Result<(), Fail> {
+fn hands_a_market_out_at_its_end(rt: HostRuntime) -> Result<(), Fail> {
     let want = market(rt.alloc(), REPLACED)?;
     assert!(rt; snapshot_len(&want) < 9);
-    let payloads = [AAPL, ADD_2_OF_200, NAMED_3];
-    let file = blocks(rt.alloc(), REPLACED_SNAPSHOT)?;
-    let mut refused = false;
-    for nth in 0..8 {
-        let alloc = Refusing::new(rt.alloc(), nth);
-        let mut snapshot: SnapshotReader<ListBook<&Refusing<Global>>> = SnapshotReader::new(&alloc);
-        for (before, payload) in payloads.iter().enumerate() {
-            let mut answer = snapshot.message(payload);
-            if let Err(fault) = answer {
-                assert!(rt;
-                    matches!(fault, SnapFault::Rule { place, reason: Refusal::OutOfMemory } if place == before as u64 + 1)
-                );
-                assert!(rt; alloc.has_refused());
-                assert_eq!(rt; snapshot.taken(), before as u64);
-                refused = true;
-                answer = snapshot.message(payload);
-            }
-            assert!(rt; matches!(answer, Ok(None)));
-        }
-        assert_eq!(rt; snapshot.taken(), 3);
-        assert!(rt; same_market(&want, snapshot.market()));
-        let Err(mut snapshot) = snapshot.finish() else {
-            assert!(rt; false, "handed out too early");
-            return Ok(());
-        };
-        assert!(rt; matches!(snapshot.message(END_5), Ok(Some(_))));
-        assert!(rt; matches!(snapshot.message(END_5), Err(SnapFault::AfterEnd)));
-        let Ok((handed_out, next)) = snapshot.finish() else {
-            assert!(rt; false, "kept behind End of Snapshot");
-            return Ok(());
-        };
-        assert_eq!(rt; next.value(), 5);
-        assert!(rt; same_market(&want, &handed_out));
-
-        let alloc = Refusing::new(rt.alloc(), nth);
-        let mut reader = BlockReader::new(rt.alloc(), PieceReader::new(file.written(), 7, None))?;
-        match read_snapshot::<_, _, ListBook<&Refusing<Global>>>(&alloc, &mut reader) {
-            Ok((market, _)) => {
-                assert!(rt; !alloc.has_refused());
-                assert!(rt; same_market(&want, &market));
-            }
-            Err(fault) => {
-                assert!(rt; alloc.has_refused());
-                assert!(rt;
-                    matches!(
-                        fault,
-                        SnapFault::Rule {
-                            reason: Refusal::OutOfMemory,
-                            ..
-                        }
-                    )
-                );
-            }
-        }
+    let mut snapshot: SnapshotReader<ListBook> = SnapshotReader::new(rt.alloc());
+    for payload in [AAPL, ADD_2_OF_200, NAMED_3] {
+        assert!(rt; matches!(snapshot.message(payload), Ok(None)));
     }
-    assert!(rt; refused);
+    assert!(rt; same_market(&want, snapshot.market()));
+    let Err(mut snapshot) = snapshot.finish() else {
+        panic!(rt; "handed out before its end");
+    };
+    assert!(rt; matches!(snapshot.message(END_5), Ok(Some(_))));
+    assert!(rt; matches!(snapshot.message(END_5), Err(SnapFault::AfterEnd)));
+    let Ok((handed_out, next)) = snapshot.finish() else {
+        panic!(rt; "kept after its end");
+    };
+    assert_eq!(rt; next.value(), 5);
+    assert!(rt; same_market(&want, &handed_out));
     Ok(())
 }
 

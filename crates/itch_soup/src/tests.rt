@@ -11,8 +11,6 @@ use std::fmt::Debug;
 use std::process::Abort;
 use std::test::Fail;
 
-mod broken_answers;
-mod broken_logins;
 mod served;
 
 const LOGIN: &[u8; 47] = b"Luser  secret                                 3";
@@ -162,75 +160,6 @@ fn numbers_of_logins(rt: HostRuntime) {
             "{number}"
         );
     }
-}
-
-#[test]
-fn hostile_packets(rt: HostRuntime) -> Result<(), Fail> {
-    let mut unprintable = *LOGIN;
-    unprintable[1] = 0;
-    let mut letter = *LOGIN;
-    letter[46] = b'x';
-    let mut nines = *LOGIN;
-    nines[27..].copy_from_slice(b"99999999999999999999");
-    let rows: [(&[u8], Origin, SoupFault); 12] = [
-        (b"", Origin::Client, SoupFault::EmptyPacket),
-        (b"*", Origin::Client, SoupFault::UnknownType(42)),
-        (b"S", Origin::Client, SoupFault::WrongSide(83)),
-        (
-            b"L",
-            Origin::Client,
-            SoupFault::WrongLength {
-                kind: b'L',
-                want: 47,
-                got: 1,
-            },
-        ),
-        (
-            b"RR",
-            Origin::Client,
-            SoupFault::WrongLength {
-                kind: b'R',
-                want: 1,
-                got: 2,
-            },
-        ),
-        (
-            &unprintable,
-            Origin::Client,
-            SoupFault::BadText { offset: 1 },
-        ),
-        (&letter, Origin::Client, SoupFault::BadNumber { offset: 27 }),
-        (&nines, Origin::Client, SoupFault::BadNumber { offset: 27 }),
-        (b"R", Origin::Server, SoupFault::WrongSide(82)),
-        (
-            b"J  ",
-            Origin::Server,
-            SoupFault::WrongLength {
-                kind: b'J',
-                want: 2,
-                got: 3,
-            },
-        ),
-        (
-            b"A  ITCHSNAP                   0",
-            Origin::Server,
-            SoupFault::BadNumber { offset: 11 },
-        ),
-        (
-            b"A\t ITCHSNAP                   x",
-            Origin::Server,
-            SoupFault::BadText { offset: 1 },
-        ),
-    ];
-    for (block, from, fault) in rows {
-        let found = parse_packet(block, from).err().expect(&rt, "a fault");
-        assert_eq!(rt;
-            shown(rt.alloc(), &found)?,
-            shown(rt.alloc(), &fault)?,
-            "{block:?}"
-        );
-    }
-    Ok(())
 }
 
 #[test]

@@ -2,12 +2,15 @@
 ghost use Rattle.std.specs.Prelude.{◌≤◌};
 
 mod blocks;
+mod broken_input;
 mod canons;
+mod cases;
 mod desk;
-mod failures;
+mod failing_devices;
 mod joins;
 mod laws;
 mod refusals;
+mod refused_memory;
 mod sessions;
 mod shows;
 mod words;

@@ -1,6 +1,5 @@
 //! Markets by what their calls answer. The helpers take a market over any book.
 mod content;
-mod memory;
 mod messages;
 
 use self::content::references;

@@ -3,10 +3,9 @@ use super::{replay, replay_first};
 use crate::market::Market;
 use crate::refusal::Refusal;
 use crate::stop::Stop;
-use itch_book::{ListBook, OrderBook};
+use itch_book::ListBook;
+use itch_frame::BlockReader;
 use itch_frame::testing::PieceReader;
-use itch_frame::{BlockReader, FrameFault};
-use refusing::Refusing;
 use std::alloc::Global;
 use std::test::Fail;
 
@@ -32,32 +31,6 @@ fn day(alloc: Global, blocks: &[&[u8]]) -> Result<Vec<u8>, Fail> {
 }
 
 #[test]
-fn a_replay_goes_on_behind_a_failed_read(rt: HostRuntime) -> Result<(), Fail> {
-    let alloc = rt.alloc();
-    let bytes = day(alloc, &[AAPL, ATTRIBUTED_1, BUY_2, REPLACE_1_BY_3])?;
-    assert_eq!(rt; bytes.len(), 158);
-    // Where the four blocks end.
-    let ends = [41usize, 83, 121, 158];
-    for at in 0..bytes.len() {
-        let reader = PieceReader::new(bytes.as_slice(), 1, Some(at as u64 + 1));
-        let mut reader = BlockReader::new(alloc, reader)?;
-        let mut market: Market<ListBook> = Market::new(alloc);
-        let first = replay(&mut reader, &mut market);
-        let whole = ends.iter().filter(|end| **end <= at).count();
-        assert!(rt;
-            matches!(first.stop, Stop::Frame(FrameFault::Read(_))),
-            "byte {at}"
-        );
-        assert_eq!(rt; first.count, whole as u64, "byte {at}");
-        let second = replay(&mut reader, &mut market);
-        assert!(rt; matches!(second.stop, Stop::End), "byte {at}");
-        assert_eq!(rt; second.count, 4 - whole as u64, "byte {at}");
-        assert_eq!(rt; market.book().len(), 2);
-    }
-    Ok(())
-}
-
-#[test]
 fn a_refused_message_is_read_and_not_counted(rt: HostRuntime) -> Result<(), Fail> {
     let alloc = rt.alloc();
     let bytes = day(alloc, &[AAPL, BUY_2, BUY_2, AAPL])?;
@@ -74,37 +47,5 @@ fn a_refused_message_is_read_and_not_counted(rt: HostRuntime) -> Result<(), Fail
     let (count, stop) = replay_first(&mut reader, &mut market, 2);
     assert_eq!(rt; count, 2);
     assert!(rt; stop.is_none());
-    Ok(())
-}
-
-#[test]
-fn refused_memory_stops_at_its_message(rt: HostRuntime) -> Result<(), Fail> {
-    let alloc = rt.alloc();
-    let bytes = day(alloc, &[AAPL, ATTRIBUTED_1, BUY_2, REPLACE_1_BY_3])?;
-    let mut refusals = 0u32;
-    for nth in 0..16 {
-        let refusing = Refusing::new(alloc, nth);
-        let mut reader = BlockReader::new(alloc, PieceReader::new(bytes.as_slice(), 64, None))?;
-        let mut market: Market<ListBook<&Refusing<Global>>> = Market::new(&refusing);
-        let end = replay(&mut reader, &mut market);
-        if refusing.has_refused() {
-            refusals = refusals.saturating_add(1);
-            assert!(rt;
-                matches!(end.stop, Stop::Rule(Refusal::OutOfMemory)),
-                "allocation {nth}"
-            );
-            assert_eq!(rt;
-                market.book().len() as u64,
-                end.count.saturating_sub(1),
-                "allocation {nth}"
-            );
-        } else {
-            assert!(rt; matches!(end.stop, Stop::End), "allocation {nth}");
-            assert_eq!(rt; end.count, 4, "allocation {nth}");
-            assert_eq!(rt; market.book().len(), 2, "allocation {nth}");
-        }
-    }
-    // The directory's first entry and the book's first order each take memory.
-    assert!(rt; refusals >= 2);
     Ok(())
 }

@@ -1,14 +1,13 @@
 //! One served and one fetched session over memory: the rows, each failure in turn, and the calls that take no memory.
 use super::{alpha, seq};
 use crate::{Credentials, Served, ServerConfig, SoupFault, fetch_one, laws, serve_one, write_data};
-use itch_book::{ListBook, OrderBook};
+use itch_book::ListBook;
 use itch_codec::Seq;
-use itch_frame::counted::{Counted, CountedRead};
+use itch_frame::counted::CountedRead;
 use itch_frame::testing::{FuseWriter, PieceReader};
 use itch_frame::{BlockReader, FrameFault};
-use itch_market::{Market, Refusal, replay};
-use itch_snapshot::{SnapFault, same_market, snapshot_len};
-use refusing::Refusing;
+use itch_market::{Market, replay};
+use itch_snapshot::{same_market, snapshot_len};
 use std::alloc::{AllocError, Allocator, Global};
 use std::process::Abort;
 use std::test::Fail;
@@ -20,14 +19,14 @@ const DAY: &[u8] = b"\0\x0cS\0\0\0\0\0\0\0\0\0\0O\
     \0\x24A\0\x01\0\0\0\0\0\0\0\0\0\0\0\0\0\0\0\x02B\0\0\0\xc8AAPL    \0\x16\xe3\x60";
 
 // The answers to logins for all of it, for the orders, and for what follows the End of Snapshot.
-pub(super) const FROM_1: &[u8] = b"\0\x1fA  ITCHSNAP                   1\
+const FROM_1: &[u8] = b"\0\x1fA  ITCHSNAP                   1\
     \0\x0dSS\0\0\0\0\0\0\0\0\0\0O\
     \0\x28SR\0\x01\0\0\0\0\0\0\0\0AAPL    QN\0\0\0dNCZ PNN1N\0\0\0\0N\
     \0\x25SA\0\x01\0\0\0\0\0\0\0\0\0\0\0\0\0\0\0\x01B\0\0\0dAAPL    \0\x16\xe3\x60\
     \0\x25SA\0\x01\0\0\0\0\0\0\0\0\0\0\0\0\0\0\0\x02B\0\0\0\xc8AAPL    \0\x16\xe3\x60\
     \0\x16SG                   5\0\x01Z";
 
-pub(super) const FROM_3: &[u8] = b"\0\x1fA  ITCHSNAP                   3\
+const FROM_3: &[u8] = b"\0\x1fA  ITCHSNAP                   3\
     \0\x25SA\0\x01\0\0\0\0\0\0\0\0\0\0\0\0\0\0\0\x01B\0\0\0dAAPL    \0\x16\xe3\x60\
     \0\x25SA\0\x01\0\0\0\0\0\0\0\0\0\0\0\0\0\0\0\x02B\0\0\0\xc8AAPL    \0\x16\xe3\x60\
     \0\x16SG                   5\0\x01Z";
@@ -36,9 +35,9 @@ const FROM_6: &[u8] = b"\0\x1fA  ITCHSNAP                   6\0\x01Z";
 
 const LOGIN_1: &[u8] = b"\0\x2fLuser  secret                                 1";
 
-pub(super) const LOGIN_3: &[u8] = b"\0\x2fLuser  secret                                 3";
+const LOGIN_3: &[u8] = b"\0\x2fLuser  secret                                 3";
 
-pub(super) fn config(rt: &impl Abort) -> ServerConfig {
+fn config(rt: &impl Abort) -> ServerConfig {
     ServerConfig {
         username: alpha(rt, "user"),
         password: alpha(rt, "secret"),
@@ -55,7 +54,7 @@ fn credentials(rt: &impl Abort) -> Credentials {
 }
 
 // What the day leaves.
-pub(super) fn market<A: Allocator + Copy>(alloc: A) -> Result<Market<ListBook<A>>, AllocError> {
+fn market<A: Allocator + Copy>(alloc: A) -> Result<Market<ListBook<A>>, AllocError> {
     let mut reader = BlockReader::new(alloc, PieceReader::new(DAY, 64, None))?;
     let mut market = Market::new(alloc);
     replay(&mut reader, &mut market);
@@ -169,7 +168,7 @@ fn nothing_is_read_after_the_login(rt: HostRuntime) -> Result<(), Fail> {
 }
 
 // A fetch of what this reader gives, and whether it logged in.
-pub(super) fn fetched<R: CountedRead + Drop>(
+fn fetched<R: CountedRead + Drop>(
     rt: &impl Abort,
     alloc: Global,
     reader: R,
@@ -236,144 +235,6 @@ fn other_answers_are_faults(rt: HostRuntime) -> Result<(), Fail> {
             .expect(&rt, "a fault");
         assert_eq!(rt; fault.to_string(rt.alloc())?.as_str(), want);
     }
-    Ok(())
-}
-
-#[test]
-fn each_read_may_fail(rt: HostRuntime) -> Result<(), Fail> {
-    let market = market(rt.alloc())?;
-    assert!(rt; snapshot_len(&market) < 9);
-    // The length, and by sevens the 47 bytes.
-    let reads = 1 + 7;
-    for nth in 1..20 {
-        let mut reader = BlockReader::new(rt.alloc(), PieceReader::new(LOGIN_3, 7, Some(nth)))?;
-        let mut writer = FuseWriter::new(rt.alloc(), 64, None);
-        let mut served = serve_one(&mut reader, &mut writer, &market, seq(&rt, 5), &config(&rt));
-        assert_eq!(rt; served.is_err(), nth <= reads);
-        if served.is_err() {
-            assert!(rt; matches!(served, Err(SoupFault::Frame(FrameFault::Read(_)))));
-            assert_eq!(rt; writer.written(), b"".as_slice());
-            served = serve_one(&mut reader, &mut writer, &market, seq(&rt, 5), &config(&rt));
-        }
-        assert!(rt; matches!(served, Ok(Served::Accepted { packets: 3, .. })));
-        assert_eq!(rt; writer.written(), FROM_3);
-    }
-
-    // The length of each packet, and by sevens its 31, 13, 40, 37, 37 and 22 bytes.
-    let reads = 6 + 5 + 2 + 6 + 6 + 6 + 4;
-    for nth in 1..60 {
-        let result = fetched(&rt, rt.alloc(), PieceReader::new(FROM_1, 7, Some(nth)))?;
-        assert_eq!(rt; result.is_err(), nth <= reads);
-        if result.is_err() {
-            assert!(rt; matches!(result, Err(SoupFault::Frame(FrameFault::Read(_)))));
-        }
-    }
-    Ok(())
-}
-
-#[test]
-fn each_write_may_fail(rt: HostRuntime) -> Result<(), Fail> {
-    let market = market(rt.alloc())?;
-    assert!(rt; snapshot_len(&market) < 9);
-    // By sevens: 2 and 31 bytes, two orders of 3 and 36, 3 and 20, and 2 and 1.
-    let writes = (1 + 5) + (1 + 6) + (1 + 6) + (1 + 3) + (1 + 1);
-    for nth in 1..50 {
-        let mut reader = BlockReader::new(rt.alloc(), PieceReader::new(LOGIN_3, 64, None))?;
-        let mut writer = FuseWriter::new(rt.alloc(), 7, Some(nth));
-        let served = serve_one(&mut reader, &mut writer, &market, seq(&rt, 5), &config(&rt));
-        assert_eq!(rt; served.is_err(), nth <= writes);
-        match served {
-            Ok(_) => assert_eq!(rt; writer.written(), FROM_3),
-            Err(fault) => {
-                assert!(rt; matches!(fault, SoupFault::Frame(FrameFault::Write { .. })));
-                let len = writer.written().len();
-                assert!(rt; len < FROM_3.len());
-                assert_eq!(rt; writer.written(), &FROM_3[..len]);
-            }
-        }
-    }
-
-    // The length, and by sevens the 47 bytes.
-    let writes = 1 + 7;
-    for nth in 1..20 {
-        let mut reader = BlockReader::new(rt.alloc(), PieceReader::new(FROM_1, 64, None))?;
-        let mut writer = FuseWriter::new(rt.alloc(), 7, Some(nth));
-        let result: Result<(Market<ListBook>, Seq), SoupFault> = fetch_one(
-            rt.alloc(),
-            &mut reader,
-            &mut writer,
-            &credentials(&rt),
-        );
-        assert_eq!(rt; result.is_err(), nth <= writes);
-        if result.is_err() {
-            assert!(rt; matches!(result, Err(SoupFault::Frame(FrameFault::Write { .. }))));
-            let len = writer.written().len();
-            assert!(rt; len < LOGIN_1.len());
-            assert_eq!(rt; writer.written(), &LOGIN_1[..len]);
-            assert_eq!(rt; reader.next_block()?.expect(&rt, "a block").len(), 31);
-        }
-    }
-    Ok(())
-}
-
-#[test]
-fn serving_takes_no_memory(rt: HostRuntime) -> Result<(), Fail> {
-    let alloc = Refusing::new(rt.alloc(), 1000);
-    let market = market(&alloc)?;
-    assert!(rt; snapshot_len(&market) < 9);
-    for (input, want, bytes) in logins(&rt) {
-        let mut reader = BlockReader::new(&alloc, PieceReader::new(input, 64, None))?;
-        let mut memory = [0; 256];
-        let mut writer = Counted::new(memory.as_mut_slice());
-        alloc.arm(0);
-        let served = serve_one(&mut reader, &mut writer, &market, seq(&rt, 5), &config(&rt));
-        assert!(rt; !alloc.has_refused());
-        alloc.arm(1000);
-        let left = writer.into_inner().len();
-        assert_eq!(rt; served.ok(), Some(want));
-        assert!(rt; left <= 256);
-        assert_eq!(rt; &memory[..256 - left], bytes);
-    }
-    Ok(())
-}
-
-#[test]
-fn each_growth_of_a_fetched_market_may_be_refused(rt: HostRuntime) -> Result<(), Fail> {
-    let want = market(rt.alloc())?;
-    assert!(rt; snapshot_len(&want) < 9);
-    let mut refused = false;
-    for nth in 0..8 {
-        let alloc = Refusing::new(rt.alloc(), nth);
-        let mut reader = BlockReader::new(rt.alloc(), PieceReader::new(FROM_1, 64, None))?;
-        let mut writer = FuseWriter::new(rt.alloc(), 64, None);
-        let result: Result<(Market<ListBook<&Refusing<Global>>>, Seq), SoupFault> = fetch_one(
-            &alloc,
-            &mut reader,
-            &mut writer,
-            &credentials(&rt),
-        );
-        match result {
-            Ok((found, next)) => {
-                assert!(rt; !alloc.has_refused());
-                assert!(rt; same_market(&want, &found));
-                assert_eq!(rt; next.value(), 5);
-            }
-            Err(fault) => {
-                assert!(rt; alloc.has_refused());
-                assert!(rt;
-                    matches!(
-                        fault,
-                        SoupFault::Snapshot(SnapFault::Rule {
-                            reason: Refusal::OutOfMemory,
-                            ..
-                        })
-                    )
-                );
-                refused = true;
-            }
-        }
-    }
-    assert!(rt; refused);
     Ok(())
 }
 

@@ -1,12 +1,9 @@
 //! Snapshots that are canonical, and others: what `canon --check` writes of them.
-ghost use Rattle.std.specs.Prelude.{◌<◌};
-
 use super::blocks::*;
 use super::file;
 use crate::canon::canon;
-use crate::fault::{ToolFault, status};
+use crate::fault::status;
 use itch_frame::testing::{FuseWriter, PieceReader};
-use refusing::Refusing;
 use std::alloc::Global;
 use std::process::Abort;
 use std::test::Fail;
@@ -110,92 +107,4 @@ fn a_refused_snapshot_is_refused(rt: HostRuntime) -> Result<(), Fail> {
         &[SHORT_AAPL, END_2],
         "message 1: wrong length for R: want 39, got 38",
     )
-}
-
-#[test]
-fn each_failed_read_is_told(rt: HostRuntime) -> Result<(), Fail> {
-    let alloc = rt.alloc();
-    let bytes = file(alloc, &[AAPL, BUY_1, END_1])?;
-    for at in 1..=103u64 {
-        let mut out = FuseWriter::new(alloc, 64, None);
-        let reader = PieceReader::new(bytes.as_slice(), 1, Some(at));
-        let fault = canon(alloc, reader, true, &mut out).err().ok_or("a fault")?;
-        assert_eq!(rt;
-            format!(in alloc; "{fault}")?.as_str(),
-            "itchsnap: read failed"
-        );
-        assert_eq!(rt; fault.status(), 3, "read {at}");
-        assert!(rt; out.written().is_empty(), "read {at}");
-    }
-    Ok(())
-}
-
-// The write with this number fails, of as many as the line has bytes: a beginning of the line stands.
-fn is_cut(rt: &impl Abort, alloc: Global, bytes: &[u8], line: &str, at: usize) -> Result<(), Fail>
-    requires { at < 64 }
-{
-    let mut out = FuseWriter::new(alloc, 1, Some(at as u64 + 1));
-    let answer = canon(alloc, PieceReader::new(bytes, 64, None), true, &mut out);
-    assert!(rt; matches!(answer, Err(ToolFault::Write(_))), "write {at}");
-    assert!(rt;
-        line.as_bytes().get(..at) == Some(out.written()),
-        "write {at}"
-    );
-    Ok(())
-}
-
-#[test]
-fn each_failed_write_leaves_a_beginning(rt: HostRuntime) -> Result<(), Fail> {
-    let alloc = rt.alloc();
-    let canonical = file(alloc, &[START, AAPL, BUY_1, END_4])?;
-    for at in 0..10usize {
-        is_cut(&rt, alloc, canonical.as_slice(), "canonical\n", at)?;
-    }
-    let other = file(alloc, &[AAPL, START, BUY_1, END_4])?;
-    for at in 0..14usize {
-        is_cut(&rt, alloc, other.as_slice(), "not canonical\n", at)?;
-    }
-    Ok(())
-}
-
-// Each allocation is refused in its turn: the status is 4 and nothing is written. How many there are is returned.
-fn refusals(
-    rt: &impl Abort,
-    alloc: Global,
-    bytes: &[u8],
-    wanted: &str,
-    code: u8,
-) -> Result<u32, Fail> {
-    let mut count = 0u32;
-    for nth in 0..64 {
-        let refusing = Refusing::new(alloc, nth);
-        let mut out = FuseWriter::new(alloc, 64, None);
-        let answer = canon(&refusing, PieceReader::new(bytes, 64, None), true, &mut out);
-        let found = status(&answer);
-        if refusing.has_refused() {
-            count = count.saturating_add(1);
-            assert_eq!(rt; found, 4, "allocation {nth}");
-            assert!(rt; out.written().is_empty(), "allocation {nth}");
-        } else {
-            assert_eq!(rt; found, code, "allocation {nth}");
-            assert_eq!(rt; out.written(), wanted.as_bytes(), "allocation {nth}");
-        }
-    }
-    Ok(count)
-}
-
-#[test]
-fn each_refused_allocation_is_told(rt: HostRuntime) -> Result<(), Fail> {
-    let alloc = rt.alloc();
-    let canonical = file(alloc, &[AAPL, BUY_2_OF_200, ATTRIBUTED_3, END_5])?;
-    let count = refusals(&rt, alloc, canonical.as_slice(), "canonical\n", 0)?;
-    assert!(rt; count >= 4, "{count} allocations");
-    // A market without orders and securities takes no memory: the block reader's is one, and those of what is kept.
-    let closing = file(alloc, &[END_1])?;
-    let count = refusals(&rt, alloc, closing.as_slice(), "canonical\n", 0)?;
-    assert!(rt; count >= 2, "{count} allocations");
-    let other = file(alloc, &[AAPL, BUY_1, BUY_2_HIGH, END_3])?;
-    let count = refusals(&rt, alloc, other.as_slice(), "not canonical\n", 1)?;
-    assert!(rt; count >= 4, "{count} allocations");
-    Ok(())
 }

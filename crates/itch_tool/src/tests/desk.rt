@@ -9,9 +9,8 @@ use crate::levels::book;
 use itch_codec::CodecFault;
 use itch_frame::FrameFault;
 use itch_frame::testing::{FuseWriter, PieceReader};
-use itch_market::{Refusal, ReplayEnd, Stop};
+use itch_market::Refusal;
 use itch_snapshot::SnapFault;
-use refusing::Refusing;
 use std::alloc::Global;
 use std::io;
 use std::process::Abort;
@@ -172,31 +171,6 @@ fn canon_writes_a_snapshot_in_order(rt: HostRuntime) -> Result<(), Fail> {
 }
 
 #[test]
-fn each_beginning_of_a_snapshot_is_refused(rt: HostRuntime) -> Result<(), Fail> {
-    let alloc = rt.alloc();
-    let whole = file(alloc, &[START, AAPL, BUY_1, END_4])?;
-    for len in 0..whole.len() {
-        let bytes = whole.get(..len).ok_or("a beginning")?;
-        let start = [93, 55, 14, 0]
-            .iter()
-            .find(|start| **start <= len)
-            .ok_or("a start")?;
-        let held = len.saturating_sub(*start);
-        let line = if held == 0 {
-            format!(in alloc; "itchsnap: no end of snapshot")?
-        } else {
-            format!(in alloc; "itchsnap: truncated, {held} bytes held")?
-        };
-        let (answer, written) = canonical(alloc, bytes)?;
-        let fault = answer.err().ok_or("a refusal")?;
-        assert_eq!(rt; format!(in alloc; "{fault}")?.as_str(), line.as_str());
-        assert_eq!(rt; fault.status(), 1, "{len} bytes");
-        assert!(rt; written.is_empty(), "{len} bytes");
-    }
-    Ok(())
-}
-
-#[test]
 fn a_refused_snapshot_has_its_line_and_status(rt: HostRuntime) -> Result<(), Fail> {
     let alloc = rt.alloc();
     let cases: [(&[&str], &str); 6] = [
@@ -318,143 +292,6 @@ fn faults_of_snapshots_have_their_lines_and_statuses(rt: HostRuntime) -> Result<
             assert_eq!(rt; format!(in alloc; "{fault}")?.as_str(), line.as_str());
             assert_eq!(rt; fault.status(), status, "{reason}");
         }
-    }
-    Ok(())
-}
-
-// Whether the write at this place failed, and those before it left their beginning.
-fn is_cut(answer: &Result<bool, ToolFault>, written: &[u8], wanted: &[u8], at: usize) -> bool {
-    matches!(answer, Err(ToolFault::Write(_))) && wanted.get(..at) == Some(written)
-}
-
-#[test]
-fn failed_writes_leave_a_beginning(rt: HostRuntime) -> Result<(), Fail> {
-    let alloc = rt.alloc();
-    let one = file(alloc, &[AAPL, BUY_1])?;
-    let other = file(alloc, &[AAPL, BUY_2])?;
-    for at in 0..15usize {
-        let mut out = FuseWriter::new(alloc, 1, Some(at as u64 + 1));
-        let first = PieceReader::new(one.as_slice(), 64, None);
-        let second = PieceReader::new(other.as_slice(), 64, None);
-        let answer = compare(alloc, first, second, &mut out);
-        let cut = is_cut(&answer, out.written(), b"different at 2\n", at);
-        assert!(rt; cut, "compare, write {at}");
-    }
-    for at in 0..24usize {
-        let mut out = FuseWriter::new(alloc, 1, Some(at as u64 + 1));
-        let reader = PieceReader::new(one.as_slice(), 64, None);
-        let answer = book(alloc, 1, reader, &mut out);
-        let cut = is_cut(&answer, out.written(), b"1 AAPL\nB 150.0000 100 1\n", at);
-        assert!(rt; cut, "book, write {at}");
-    }
-    let snapshot = file(alloc, &[START, AAPL, BUY_1, END_4])?;
-    for at in 0..snapshot.len() {
-        let mut out = FuseWriter::new(alloc, 1, Some(at as u64 + 1));
-        let reader = PieceReader::new(snapshot.as_slice(), 64, None);
-        let answer = canon(alloc, reader, false, &mut out);
-        let cut = is_cut(&answer, out.written(), snapshot.as_slice(), at);
-        assert!(rt; cut, "canon, write {at}");
-    }
-    Ok(())
-}
-
-#[test]
-fn failed_reads_are_told_of_their_file(rt: HostRuntime) -> Result<(), Fail> {
-    let alloc = rt.alloc();
-    let bytes = file(alloc, &[AAPL, BUY_1, END_1])?;
-    // Where the two messages of a day file end.
-    let day = bytes.get(..79).ok_or("a day file")?;
-    for at in 1..=80u64 {
-        let count = [41u64, 79].iter().filter(|end| **end < at).count() as u64;
-        for (first, second) in [(Some(at), None), (None, Some(at))] {
-            let mut out = FuseWriter::new(alloc, 64, None);
-            let one = PieceReader::new(day, 1, first);
-            let other = PieceReader::new(day, 1, second);
-            let source = if first.is_some() {
-                Source::First
-            } else {
-                Source::Second
-            };
-            let found = match compare(alloc, one, other, &mut out) {
-                Err(
-                    ToolFault::Stopped {
-                        file,
-                        end: ReplayEnd {
-                            count,
-                            stop: Stop::Frame(FrameFault::Read(_)),
-                        },
-                    },
-                ) if file == source => count,
-                _ => u64::MAX,
-            };
-            assert_eq!(rt; found, count, "read {at}");
-            assert!(rt; out.written().is_empty(), "read {at}");
-        }
-        let mut out = FuseWriter::new(alloc, 64, None);
-        let answer = book(alloc, 1, PieceReader::new(day, 1, Some(at)), &mut out);
-        assert!(rt;
-            matches!(answer, Err(ToolFault::Stopped { .. })),
-            "read {at}"
-        );
-        assert!(rt; out.written().is_empty(), "read {at}");
-    }
-    for at in 1..=103u64 {
-        let mut out = FuseWriter::new(alloc, 64, None);
-        let answer = canon(
-            alloc,
-            PieceReader::new(bytes.as_slice(), 1, Some(at)),
-            false,
-            &mut out,
-        );
-        let fault = answer.err().ok_or("a fault")?;
-        assert_eq!(rt;
-            format!(in alloc; "{fault}")?.as_str(),
-            "itchsnap: read failed"
-        );
-        assert_eq!(rt; fault.status(), 3, "read {at}");
-        assert!(rt; out.written().is_empty(), "read {at}");
-    }
-    Ok(())
-}
-
-#[test]
-fn refused_memory_is_told(rt: HostRuntime) -> Result<(), Fail> {
-    let alloc = rt.alloc();
-    let day = file(alloc, &[AAPL, ATTRIBUTED_1, BUY_2_OF_200, REPLACE_1_BY_3])?;
-    let snapshot = file(alloc, &[AAPL, BUY_2_OF_200, ATTRIBUTED_3, END_5])?;
-    let mut refusals = [0u32; 3];
-    for (command, count) in refusals.iter_mut().enumerate() {
-        for nth in 0..64 {
-            let refusing = Refusing::new(alloc, nth);
-            let reader = PieceReader::new(day.as_slice(), 64, None);
-            let mut out = FuseWriter::new(alloc, 64, None);
-            let answer = match command {
-                0 => compare(
-                    &refusing,
-                    reader,
-                    PieceReader::new(day.as_slice(), 64, None),
-                    &mut out,
-                ),
-                1 => book(&refusing, 1, reader, &mut out),
-                _ => canon(
-                    &refusing,
-                    PieceReader::new(snapshot.as_slice(), 64, None),
-                    false,
-                    &mut out,
-                ),
-            };
-            if refusing.has_refused() {
-                *count = count.saturating_add(1);
-                let fault = answer.err().ok_or("a fault")?;
-                assert_eq!(rt; fault.status(), 4, "allocation {nth}");
-                assert!(rt; out.written().is_empty(), "allocation {nth}");
-            } else {
-                assert!(rt; matches!(answer, Ok(true)), "allocation {nth}");
-            }
-        }
-    }
-    for count in refusals {
-        assert!(rt; count >= 3);
     }
     Ok(())
 }

@@ -2,13 +2,8 @@
 
 use super::blocks::*;
 use super::file;
-use crate::fault::{Source, ToolFault};
 use crate::join::join;
-use itch_frame::FrameFault;
 use itch_frame::testing::{FuseWriter, PieceReader};
-use itch_market::{ReplayEnd, Stop};
-use itch_snapshot::SnapFault;
-use refusing::Refusing;
 use std::alloc::Global;
 use std::process::Abort;
 use std::test::Fail;
@@ -154,104 +149,4 @@ fn a_refused_snapshot_is_told_as_one(rt: HostRuntime) -> Result<(), Fail> {
     refused(&rt, alloc, start.as_slice(), &[], line)?;
     let line = "itchsnap: snapshot: truncated, 1 bytes held";
     refused(&rt, alloc, &[0], &[], line)
-}
-
-// The place of a failed read of the feed, from 0.
-fn read_failed_at(answer: &Result<bool, ToolFault>) -> Option<u64> {
-    match answer {
-        Err(
-            ToolFault::Stopped {
-                file: Source::Only,
-                end: ReplayEnd {
-                    count,
-                    stop: Stop::Frame(FrameFault::Read(_)),
-                },
-            },
-        ) => Some(*count),
-        _ => None,
-    }
-}
-
-#[test]
-fn each_read_may_fail(rt: HostRuntime) -> Result<(), Fail> {
-    let alloc = rt.alloc();
-    let start = file(alloc, &[AAPL, END_2])?;
-    let feed = file(alloc, &[AAPL, BUY_1])?;
-    for at in 1..=64u64 {
-        let mut out = FuseWriter::new(alloc, 64, None);
-        let one = PieceReader::new(start.as_slice(), 1, Some(at));
-        let other = PieceReader::new(feed.as_slice(), 1, None);
-        let answer = join(alloc, one, other, &mut out);
-        let told = matches!(
-            answer,
-            Err(ToolFault::Snap {
-                file: Source::Snapshot,
-                fault: SnapFault::Frame(FrameFault::Read(_)),
-            })
-        );
-        assert!(rt; told, "read {at} of the snapshot");
-        assert!(rt; out.written().is_empty(), "read {at} of the snapshot");
-    }
-    for at in 1..=80u64 {
-        let count = [41u64, 79].iter().filter(|end| **end < at).count() as u64;
-        let mut out = FuseWriter::new(alloc, 64, None);
-        let one = PieceReader::new(start.as_slice(), 1, None);
-        let other = PieceReader::new(feed.as_slice(), 1, Some(at));
-        let answer = join(alloc, one, other, &mut out);
-        assert_eq!(rt;
-            read_failed_at(&answer),
-            Some(count),
-            "read {at} of the feed"
-        );
-        assert!(rt; out.written().is_empty(), "read {at} of the feed");
-    }
-    Ok(())
-}
-
-#[test]
-fn each_write_may_fail(rt: HostRuntime) -> Result<(), Fail> {
-    let alloc = rt.alloc();
-    let start = file(alloc, &[START, AAPL, END_3])?;
-    let feed = file(alloc, &[START, AAPL, BUY_1])?;
-    let wanted = file(alloc, &[START, AAPL, BUY_1, END_4])?;
-    for at in 0..wanted.len() {
-        let mut out = FuseWriter::new(alloc, 1, Some(at as u64 + 1));
-        let one = PieceReader::new(start.as_slice(), 64, None);
-        let other = PieceReader::new(feed.as_slice(), 64, None);
-        let answer = join(alloc, one, other, &mut out);
-        assert!(rt; matches!(answer, Err(ToolFault::Write(_))), "write {at}");
-        assert_eq!(rt; Some(out.written()), wanted.get(..at), "write {at}");
-    }
-    Ok(())
-}
-
-#[test]
-fn each_allocation_may_be_refused(rt: HostRuntime) -> Result<(), Fail> {
-    let alloc = rt.alloc();
-    let start = file(alloc, &[AAPL, ATTRIBUTED_1, END_3])?;
-    let feed = file(
-        alloc,
-        &[AAPL, ATTRIBUTED_1, MSFT, BUY_2_OF_200, REPLACE_1_BY_3],
-    )?;
-    let wanted = file(alloc, &[AAPL, BUY_2_OF_200, ATTRIBUTED_3, MSFT, END_6])?;
-    let mut refusals = 0u32;
-    for nth in 0..64 {
-        let refusing = Refusing::new(alloc, nth);
-        let mut out = FuseWriter::new(alloc, 64, None);
-        let one = PieceReader::new(start.as_slice(), 64, None);
-        let other = PieceReader::new(feed.as_slice(), 64, None);
-        let answer = join(&refusing, one, other, &mut out);
-        if refusing.has_refused() {
-            refusals = refusals.saturating_add(1);
-            let fault = answer.err().ok_or("a fault")?;
-            assert_eq!(rt; fault.status(), 4, "allocation {nth}");
-            assert!(rt; out.written().is_empty(), "allocation {nth}");
-        } else {
-            assert!(rt; matches!(answer, Ok(true)), "allocation {nth}");
-            assert_eq!(rt; out.written(), wanted.as_slice(), "allocation {nth}");
-        }
-    }
-    // The blocks of both files, the snapshot's first entry and its first order each take memory.
-    assert!(rt; refusals >= 4);
-    Ok(())
 }

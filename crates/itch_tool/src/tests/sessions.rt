@@ -10,7 +10,6 @@ use crate::patient::Patient;
 use crate::serve::serve_on;
 use itch_codec::Seq;
 use itch_frame::BlockReader;
-use itch_frame::counted::Counted;
 use itch_frame::testing::{FuseWriter, PieceReader};
 use itch_market::{Market, Refusal, replay};
 use itch_snapshot::{SnapFault, snapshot_len};
@@ -26,14 +25,14 @@ use std::test::Fail;
 use std::time::Duration;
 
 // Logins for all messages and for those from the third on, and one with another password.
-const LOGIN_1: &[u8] = b"\0\x2fLuser  secret                                 1";
+pub(super) const LOGIN_1: &[u8] = b"\0\x2fLuser  secret                                 1";
 
 const LOGIN_3: &[u8] = b"\0\x2fLuser  secret                                 3";
 
 const WRONG: &[u8] = b"\0\x2fLuser  wrong                                  3";
 
 // What the day is answered by, from the first and from the third message on.
-const FROM_1: &[u8] = b"\0\x1fA  ITCHSNAP                   1\
+pub(super) const FROM_1: &[u8] = b"\0\x1fA  ITCHSNAP                   1\
     \0\x0dSS\0\0\0\0\0\0\0\0\0\0O\
     \0\x28SR\0\x01\0\0\0\0\0\0\0\0AAPL    QN\0\0\0dNCZ PNN1N\0\0\0\0N\
     \0\x25SA\0\x01\0\0\0\0\0\0\0\0\0\0\0\0\0\0\0\x01B\0\0\0dAAPL    \0\x16\xe3\x60\
@@ -253,90 +252,6 @@ fn fetch_without_a_snapshot_writes_nothing(rt: HostRuntime) -> Result<(), Fail> 
         assert_eq!(rt; fault.status(), 1, "{reason}");
         assert!(rt; written.is_empty(), "{reason}");
     }
-    Ok(())
-}
-
-#[test]
-fn each_read_and_write_of_a_fetch_fails_in_turn(rt: HostRuntime) -> Result<(), Fail> {
-    let alloc = rt.alloc();
-    let credentials = Login::new("user", "secret")?.credentials();
-    let wanted = file(alloc, &[START, AAPL, BUY_1, BUY_2_OF_200, END_5])?;
-    for at in 1..=FROM_1.len() as u64 {
-        let mut reader = BlockReader::new(alloc, PieceReader::new(FROM_1, 1, Some(at)))?;
-        let mut writer = FuseWriter::new(alloc, 64, None);
-        let mut out = FuseWriter::new(alloc, 4096, None);
-        let answer = fetch(alloc, &mut reader, &mut writer, &credentials, &mut out);
-        // The last 3 bytes are the end of the session, which is not read.
-        if at + 3 > FROM_1.len() as u64 {
-            assert!(rt; matches!(answer, Ok(true)), "read {at}");
-            assert_eq!(rt; out.written(), wanted.as_slice(), "read {at}");
-        } else {
-            let fault = answer.err().ok_or("a fault")?;
-            assert_eq!(rt;
-                format!(in alloc; "{fault}")?.as_str(),
-                "itchsnap: read failed"
-            );
-            assert_eq!(rt; fault.status(), 3, "read {at}");
-            assert!(rt; out.written().is_empty(), "read {at}");
-        }
-    }
-    for at in 1..=LOGIN_1.len() as u64 {
-        let mut reader = BlockReader::new(alloc, PieceReader::new(FROM_1, 64, None))?;
-        let mut writer = FuseWriter::new(alloc, 1, Some(at));
-        let mut out = FuseWriter::new(alloc, 4096, None);
-        let answer = fetch(alloc, &mut reader, &mut writer, &credentials, &mut out);
-        let fault = answer.err().ok_or("a fault")?;
-        assert_eq!(rt;
-            format!(in alloc; "{fault}")?.as_str(),
-            "itchsnap: write failed"
-        );
-        assert_eq!(rt; fault.status(), 3, "write {at}");
-        assert!(rt; out.written().is_empty(), "write {at}");
-        let sent = LOGIN_1.get(..at as usize - 1).ok_or("a beginning")?;
-        assert_eq!(rt; writer.written(), sent, "write {at}");
-    }
-    for at in 1..=wanted.len() as u64 {
-        let mut reader = BlockReader::new(alloc, PieceReader::new(FROM_1, 64, None))?;
-        let mut writer = FuseWriter::new(alloc, 64, None);
-        let mut out = FuseWriter::new(alloc, 1, Some(at));
-        let answer = fetch(alloc, &mut reader, &mut writer, &credentials, &mut out);
-        assert!(rt; matches!(answer, Err(ToolFault::Write(_))), "output {at}");
-        let beginning = wanted
-            .as_slice()
-            .get(..at as usize - 1)
-            .ok_or("a beginning")?;
-        assert_eq!(rt; out.written(), beginning, "output {at}");
-    }
-    Ok(())
-}
-
-#[test]
-fn a_fetch_without_memory_has_status_4(rt: HostRuntime) -> Result<(), Fail> {
-    let alloc = rt.alloc();
-    let credentials = Login::new("user", "secret")?.credentials();
-    let wanted = file(alloc, &[START, AAPL, BUY_1, BUY_2_OF_200, END_5])?;
-    let mut refusals = 0u32;
-    for nth in 0..64 {
-        let refusing = Refusing::new(alloc, nth);
-        let mut reader = BlockReader::new(alloc, PieceReader::new(FROM_1, 64, None))?;
-        let mut writer = Counted::new(io::sink());
-        let mut out = FuseWriter::new(alloc, 4096, None);
-        let answer = fetch(&refusing, &mut reader, &mut writer, &credentials, &mut out);
-        if refusing.has_refused() {
-            refusals = refusals.saturating_add(1);
-            let fault = answer.err().ok_or("a fault")?;
-            assert_eq!(rt;
-                format!(in alloc; "{fault}")?.as_str(),
-                "itchsnap: out of memory"
-            );
-            assert_eq!(rt; fault.status(), 4, "allocation {nth}");
-            assert!(rt; out.written().is_empty(), "allocation {nth}");
-        } else {
-            assert!(rt; matches!(answer, Ok(true)), "allocation {nth}");
-            assert_eq!(rt; out.written(), wanted.as_slice(), "allocation {nth}");
-        }
-    }
-    assert!(rt; refusals >= 2);
     Ok(())
 }
 

@@ -9,7 +9,6 @@ use itch_codec::CodecFault;
 use itch_frame::FrameFault;
 use itch_frame::testing::{FuseWriter, PieceReader};
 use itch_market::{ReplayEnd, Stop};
-use refusing::Refusing;
 use std::alloc::{AllocError, Allocator, Global};
 use std::process::Abort;
 use std::test::Fail;
@@ -106,53 +105,5 @@ fn the_lines_before_a_fault_stand(rt: HostRuntime) -> Result<(), Fail> {
         )
     );
     assert_eq!(rt; text.as_str(), "1 S 0 0 0 4f\n2 S 0 0 0 4f\n");
-    Ok(())
-}
-
-#[test]
-fn each_read_and_write_fails_in_turn(rt: HostRuntime) -> Result<(), Fail> {
-    let alloc = rt.alloc();
-    let bytes = file(alloc, &[START, BUY_1])?;
-    let expected = "1 S 0 0 0 4f\n2 A 1 0 0 1 B 100 [AAPL] 150.0000\n";
-    for at in 0..bytes.len() {
-        let reader = PieceReader::new(bytes.as_slice(), 1, Some(at as u64 + 1));
-        let mut out = FuseWriter::new(alloc, 4096, None);
-        let answer = show(alloc, reader, &mut out);
-        let whole = if at < 14 { 0 } else { 1 };
-        assert!(rt;
-            matches!(
-                answer,
-                Err(ToolFault::Stopped { end: ReplayEnd { count, stop: Stop::Frame(FrameFault::Read(_)) }, .. }) if count == whole
-            ),
-            "byte {at}"
-        );
-        let lines = if at < 14 { "" } else { "1 S 0 0 0 4f\n" };
-        assert_eq!(rt; out.written(), lines.as_bytes(), "byte {at}");
-    }
-    for sent in 0..expected.len() {
-        let reader = PieceReader::new(bytes.as_slice(), 64, None);
-        let mut out = FuseWriter::new(alloc, 1, Some(sent as u64 + 1));
-        let answer = show(alloc, reader, &mut out);
-        assert!(rt; matches!(answer, Err(ToolFault::Write(_))), "byte {sent}");
-        assert_eq!(rt; out.written(), &expected.as_bytes()[..sent], "byte {sent}");
-    }
-    Ok(())
-}
-
-#[test]
-fn memory_is_wanted_before_anything_is_read(rt: HostRuntime) -> Result<(), Fail> {
-    let alloc = rt.alloc();
-    let bytes = file(alloc, &[START, BUY_1])?;
-    let refusing = Refusing::new(alloc, 0);
-    let (answer, text) = shown(alloc, &refusing, bytes.as_slice(), 64)?;
-    assert!(rt; matches!(answer, Err(ToolFault::OutOfMemory)));
-    assert_eq!(rt; text.as_str(), "");
-    refusing.arm(1);
-    let (answer, text) = shown(alloc, &refusing, bytes.as_slice(), 64)?;
-    assert!(rt; matches!(answer, Ok(true)));
-    assert_eq!(rt;
-        text.as_str(),
-        "1 S 0 0 0 4f\n2 A 1 0 0 1 B 100 [AAPL] 150.0000\n"
-    );
     Ok(())
 }

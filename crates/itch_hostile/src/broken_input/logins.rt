@@ -1,12 +1,12 @@
 //! Broken logins: each beginning of a login, each of its bytes at each value, and what may come before it.
-use super::served::{FROM_3, LOGIN_3, config, market};
-use super::{seq, shown};
-use crate::{Served, SoupFault, serve_one};
+use crate::files::seq;
+use crate::sessions::{FROM_3, LOGIN_3, config, served_market};
 use itch_book::ListBook;
 use itch_frame::testing::{FuseWriter, PieceReader};
 use itch_frame::{BlockReader, FrameFault};
 use itch_market::Market;
 use itch_snapshot::snapshot_len;
+use itch_soup::{Served, SoupFault, serve_one};
 use std::alloc::Global;
 use std::process::Abort;
 use std::test::Fail;
@@ -18,7 +18,7 @@ fn answer(
     market: &Market<ListBook>,
     input: &[u8],
 ) -> Result<Result<Served, SoupFault>, Fail> {
-    assert!(rt; snapshot_len(market) < 9);
+    assert!(rt; snapshot_len(market) < 10);
     let mut reader = BlockReader::new(alloc, PieceReader::new(input, 64, None))?;
     let mut writer = FuseWriter::new(alloc, 64, None);
     let served = serve_one(&mut reader, &mut writer, market, seq(rt, 5), &config(rt));
@@ -36,7 +36,11 @@ fn is_answered(
     want: &Result<Served, SoupFault>,
 ) -> Result<(), Fail> {
     let found = answer(rt, alloc, market, input)?;
-    assert_eq!(rt; shown(alloc, &found)?, shown(alloc, want)?, "{input:?}");
+    assert_eq!(rt;
+        format!(in alloc; "{found:?}")?,
+        format!(in alloc; "{want:?}")?,
+        "{input:?}"
+    );
     Ok(())
 }
 
@@ -53,7 +57,7 @@ fn truncated(held: usize) -> Result<Served, SoupFault> {
 
 #[test]
 fn each_beginning_of_a_login(rt: HostRuntime) -> Result<(), Fail> {
-    let market = market(rt.alloc())?;
+    let market = served_market(rt.alloc())?;
     is_answered(&rt, rt.alloc(), &market, b"", &Ok(Served::Left))?;
     for len in 1..LOGIN_3.len() {
         is_answered(&rt, rt.alloc(), &market, &LOGIN_3[..len], &truncated(len))?;
@@ -132,7 +136,7 @@ fn wanted(rt: &impl Abort, at: usize, byte: u8, own: u8) -> Result<Served, SoupF
 
 #[test]
 fn each_byte_of_a_login(rt: HostRuntime) -> Result<(), Fail> {
-    let market = market(rt.alloc())?;
+    let market = served_market(rt.alloc())?;
     let mut login = [0; 49];
     login.copy_from_slice(LOGIN_3);
     for at in 0..49 {
@@ -152,7 +156,7 @@ fn each_byte_of_a_login(rt: HostRuntime) -> Result<(), Fail> {
 // Packets that a server passes over.
 #[test]
 fn ten_thousand_debug_packets_before_a_login(rt: HostRuntime) -> Result<(), Fail> {
-    let market = market(rt.alloc())?;
+    let market = served_market(rt.alloc())?;
     let mut input = Vec::new(rt.alloc());
     for _packet in 0..10_000 {
         input.extend_from_slice(b"\0\x03+up")?;
@@ -165,8 +169,8 @@ fn ten_thousand_debug_packets_before_a_login(rt: HostRuntime) -> Result<(), Fail
 // Bytes that come one at a time.
 #[test]
 fn a_login_in_pieces_of_one_byte(rt: HostRuntime) -> Result<(), Fail> {
-    let market = market(rt.alloc())?;
-    assert!(rt; snapshot_len(&market) < 9);
+    let market = served_market(rt.alloc())?;
+    assert!(rt; snapshot_len(&market) < 10);
     let mut reader = BlockReader::new(rt.alloc(), PieceReader::new(LOGIN_3, 1, None))?;
     let mut writer = FuseWriter::new(rt.alloc(), 1, None);
     serve_one(&mut reader, &mut writer, &market, seq(&rt, 5), &config(&rt))?;

@@ -1,17 +1,15 @@
 //! Broken answers to a fetch: each beginning of a served session, and each of its bytes at each value.
-use super::served::{FROM_1, fetched};
-use crate::SoupFault;
+use crate::sessions::{FROM_1, Fetched, fetched};
 use itch_book::ListBook;
 use itch_codec::Seq;
 use itch_frame::testing::{FuseWriter, PieceReader};
 use itch_frame::{BlockReader, FrameFault, write_block};
 use itch_market::Market;
 use itch_snapshot::{read_snapshot, same_market, snapshot_len};
+use itch_soup::SoupFault;
 use std::alloc::Global;
 use std::process::Abort;
 use std::test::Fail;
-
-type Fetched = Result<(Market<ListBook>, Seq), SoupFault>;
 
 // Where the blocks of the answer begin, and where the last one that is read ends.
 const STARTS: [usize; 6] = [0, 33, 48, 90, 129, 168];
@@ -67,7 +65,7 @@ fn is_spelled(
     let file = snapshot_file(alloc, answer)?;
     let mut reader = BlockReader::new(alloc, PieceReader::new(file.written(), 64, None))?;
     let (spelled, number): (Market<ListBook>, Seq) = read_snapshot(alloc, &mut reader)?;
-    assert!(rt; snapshot_len(market) < 9);
+    assert!(rt; snapshot_len(market) < 10);
     assert!(rt; same_market(market, &spelled));
     assert_eq!(rt; next.value(), number.value());
     Ok(())

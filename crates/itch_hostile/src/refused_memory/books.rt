@@ -1,14 +1,22 @@
-//! Books whose memory is refused: the call leaves the book as it was, and succeeds once there is memory.
-use super::{add, order, replace};
-use crate::book::OrderBook;
-use crate::indexed_book::IndexedBook;
-use crate::list_book::ListBook;
-use crate::order::Order;
+//! Orders added and replaced.
+use itch_book::{IndexedBook, ListBook, Order, OrderBook};
 use itch_codec::Side;
 use refusing::Refusing;
 use std::alloc::{AllocError, Global};
 use std::process::Abort;
 use std::test::Fail;
+
+// An order to buy at locate 1.
+fn bid(reference: u64, shares: u32, price: u32) -> Order {
+    Order {
+        reference,
+        locate: 1,
+        side: Side::Buy,
+        shares,
+        price,
+        mpid: None,
+    }
+}
 
 // A call that may grow a book.
 #[derive(Clone, Copy)]
@@ -21,11 +29,13 @@ struct Growth {
 impl Growth {
     fn call<B: OrderBook>(&self, rt: &impl Abort, book: &mut B) -> Result<(), AllocError> {
         let order = self.order;
+        assert!(rt; order.shares > 0);
+        assert!(rt; book.get(order.reference).is_none());
         match self.original {
-            None => add(rt, book, order),
+            None => book.add(order),
             Some(original) => {
-                let (reference, shares, price) = (order.reference, order.shares, order.price);
-                replace(rt, book, original, reference, shares, price)
+                assert!(rt; book.get(original).is_some());
+                book.replace(original, order.reference, order.shares, order.price)
             }
         }
     }
@@ -94,7 +104,7 @@ fn grow<B: OrderBook>(
         let price = 1500000u32.wrapping_add(step.wrapping_mul(2 * number as u32));
         let added = Growth {
             original: None,
-            order: order(number, Side::Buy, 10, price),
+            order: bid(number, 10, price),
         };
         additions = additions.saturating_add(refuse_each(rt, alloc, refusing, book, added)?);
         if number.checked_rem(every) != Some(0) {
@@ -102,7 +112,7 @@ fn grow<B: OrderBook>(
         }
         let replaced = Growth {
             original: Some(number),
-            order: order(100 + number, Side::Buy, 20, price.wrapping_add(step)),
+            order: bid(100 + number, 20, price.wrapping_add(step)),
         };
         replacements = replacements.saturating_add(refuse_each(
             rt, alloc, refusing, book, replaced,
@@ -114,7 +124,7 @@ fn grow<B: OrderBook>(
 }
 
 #[test]
-fn list_book_stays_as_it_was(rt: HostRuntime) -> Result<(), Fail> {
+fn a_list_book_stays_as_it_was(rt: HostRuntime) -> Result<(), Fail> {
     for (step, every) in [(0, 1), (0, 3), (100, 1), (100, 3)] {
         let refusing = Refusing::new(rt.alloc(), 0);
         let mut book: ListBook<&Refusing<Global>> = ListBook::new(&refusing);
@@ -129,7 +139,7 @@ fn list_book_stays_as_it_was(rt: HostRuntime) -> Result<(), Fail> {
 // The first order takes four allocations. A replacement of every order takes the ones that follow,
 // a replacement of every third leaves them to the additions.
 #[test]
-fn indexed_book_stays_as_it_was(rt: HostRuntime) -> Result<(), Fail> {
+fn an_indexed_book_stays_as_it_was(rt: HostRuntime) -> Result<(), Fail> {
     for (step, every) in [(0, 1), (0, 3), (100, 1), (100, 3)] {
         let refusing = Refusing::new(rt.alloc(), 0);
         let mut book: IndexedBook<&Refusing<Global>> = IndexedBook::new(&refusing);

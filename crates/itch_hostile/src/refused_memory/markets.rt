@@ -1,0 +1,159 @@
+//! Messages applied to a market, and a day file replayed.
+use crate::files::{REPLACED, blocks, spelled};
+use itch_book::{IndexedBook, ListBook, OrderBook};
+use itch_codec::{Message, decode};
+use itch_frame::BlockReader;
+use itch_frame::testing::PieceReader;
+use itch_market::{Market, Refusal, Stop, replay};
+use refusing::Refusing;
+use std::alloc::Global;
+use std::process::Abort;
+use std::test::Fail;
+
+type Refused<'a> = &'a Refusing<Global>;
+
+// Applies a message with each of its allocations refused in turn, and then with memory. Returns how many were refused.
+fn refuse_to_apply<B: OrderBook>(
+    rt: &impl Abort,
+    alloc: Global,
+    refusing: &Refusing<Global>,
+    market: &mut Market<B>,
+    message: &Message<'_>,
+) -> Result<u64, Fail> {
+    let before = spelled(alloc, market)?;
+    for nth in 0..16 {
+        refusing.arm(nth);
+        let result = market.apply(message);
+        if !refusing.has_refused() {
+            assert_eq!(rt; result, Ok(()));
+            return Ok(nth);
+        }
+        assert_eq!(rt; result, Err(Refusal::OutOfMemory));
+        assert_eq!(rt; spelled(alloc, market)?, before);
+    }
+    panic!(rt; "more than 16 allocations")
+}
+
+// The same of forty messages: that of `payload`, whose numbers at these places count up from 1.
+fn refuse_forty<B: OrderBook>(
+    rt: &impl Abort,
+    alloc: Global,
+    refusing: &Refusing<Global>,
+    market: &mut Market<B>,
+    payload: &[u8],
+    places: &[usize],
+) -> Result<u64, Fail> {
+    let mut refused = 0u64;
+    for number in 1..41u8 {
+        let mut payload = Vec::from_slice(alloc, payload)?;
+        for place in places {
+            if let Some(byte) = payload.get_mut(*place) {
+                *byte = byte.wrapping_add(number);
+            }
+        }
+        let message = decode(&payload)?;
+        let one = refuse_to_apply(rt, alloc, refusing, market, &message)?;
+        refused = refused.saturating_add(one);
+    }
+    Ok(refused)
+}
+
+// Directory entries of locates 2 to 41.
+const LISTS: &[u8] = b"R\0\x01\0\0\0\0\0\0\0\0AAPL    QN\0\0\0dNCZ PNN1N\0\0\0\0N";
+
+// Orders 1 to 40 at as many prices, and with attribution 65 to 104.
+const ADDS: &[u8] = b"A\0\x02\0\0\0\0\0\0\0\0\0\0\0\0\0\0\0\0B\0\0\0dAAPL    \0\x16\xe3\0";
+
+const NAMES: &[u8] = b"F\0\x02\0\0\0\0\0\0\0\0\0\0\0\0\0\0\0\x40S\0\0\0dAAPL    \0\x26\xe3\0ABCD";
+
+// Orders 129 to 168 in place of 1 to 40, at other prices.
+const REPLACES: &[u8] =
+    b"U\0\x02\0\0\0\0\0\0\0\0\0\0\0\0\0\0\0\0\0\0\0\0\0\0\0\x80\0\0\0d\0\x17\xe3\0";
+
+// Returns how many allocations of the replacements were refused.
+fn refuse_each_growth<B: OrderBook>(
+    rt: &impl Abort,
+    alloc: Global,
+    refusing: &Refusing<Global>,
+    market: &mut Market<B>,
+) -> Result<u64, Fail> {
+    assert!(rt; refuse_forty(rt, alloc, refusing, market, LISTS, &[2])? > 0);
+    assert!(rt; refuse_forty(rt, alloc, refusing, market, ADDS, &[18, 35])? > 0);
+    assert!(rt; refuse_forty(rt, alloc, refusing, market, NAMES, &[18, 35])? > 0);
+    let refused = refuse_forty(rt, alloc, refusing, market, REPLACES, &[18, 26, 34])?;
+    assert_eq!(rt; market.book().len(), 80);
+    Ok(refused)
+}
+
+// The order that is replaced leaves room.
+#[test]
+fn a_market_of_a_list_stays_as_it_was(rt: HostRuntime) -> Result<(), Fail> {
+    let refusing = Refusing::new(rt.alloc(), 0);
+    let mut market: Market<ListBook<Refused<'_>>> = Market::new(&refusing);
+    assert_eq!(rt;
+        refuse_each_growth(&rt, rt.alloc(), &refusing, &mut market)?,
+        0
+    );
+    Ok(())
+}
+
+#[test]
+fn a_market_of_an_index_stays_as_it_was(rt: HostRuntime) -> Result<(), Fail> {
+    let refusing = Refusing::new(rt.alloc(), 0);
+    let mut market: Market<IndexedBook<Refused<'_>>> = Market::new(&refusing);
+    assert!(rt; refuse_each_growth(&rt, rt.alloc(), &refusing, &mut market)? > 0);
+    Ok(())
+}
+
+// A replay whose memory is refused once stops there, with the message read and not counted. Returns whether it was.
+fn refuse_to_replay<B: OrderBook>(
+    rt: &impl Abort,
+    alloc: Global,
+    market: &mut Market<B>,
+    refusing: &Refusing<Global>,
+) -> Result<bool, Fail> {
+    let day = blocks(alloc, REPLACED)?;
+    let mut reader = BlockReader::new(alloc, PieceReader::new(day.written(), 64, None))?;
+    let end = replay(&mut reader, market);
+    if !refusing.has_refused() {
+        assert!(rt; matches!(end.stop, Stop::End));
+        assert_eq!(rt; end.count, 4);
+        return Ok(false);
+    }
+    assert!(rt; matches!(end.stop, Stop::Rule(Refusal::OutOfMemory)));
+    assert_eq!(rt; market.book().len() as u64, end.count.saturating_sub(1));
+    let block = reader.next_block()?;
+    assert_eq!(rt;
+        block,
+        REPLACED
+            .get((end.count as usize).saturating_add(1))
+            .copied()
+    );
+    Ok(true)
+}
+
+#[test]
+fn a_replay_stops_at_the_message(rt: HostRuntime) -> Result<(), Fail> {
+    for nth in 0..16 {
+        let refusing = Refusing::new(rt.alloc(), nth);
+        let mut market: Market<IndexedBook<Refused<'_>>> = Market::new(&refusing);
+        if !refuse_to_replay(&rt, rt.alloc(), &mut market, &refusing)? {
+            assert!(rt; nth > 1);
+            return Ok(());
+        }
+    }
+    panic!(rt; "more than 16 allocations")
+}
+
+#[test]
+fn a_replay_over_a_list_stops_at_the_message(rt: HostRuntime) -> Result<(), Fail> {
+    for nth in 0..16 {
+        let refusing = Refusing::new(rt.alloc(), nth);
+        let mut market: Market<ListBook<Refused<'_>>> = Market::new(&refusing);
+        if !refuse_to_replay(&rt, rt.alloc(), &mut market, &refusing)? {
+            assert!(rt; nth > 1);
+            return Ok(());
+        }
+    }
+    panic!(rt; "more than 16 allocations")
+}
