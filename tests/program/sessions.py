@@ -143,7 +143,8 @@ def ten_thousand_debug_packets_are_passed_over(program):
         yield from server.differences(f"accepted from 1, {messages(wanted)} packets")
 
 
-def a_peer_that_does_not_read_ends_nothing_else(program):
+def served_after(program, leave):
+    """A large snapshot served to a peer that logs in and leaves so, and then to another one."""
     day, wanted = large.orders(200_000)
     with tempfile.NamedTemporaryFile(suffix=".itch") as file:
         file.write(day)
@@ -151,8 +152,22 @@ def a_peer_that_does_not_read_ends_nothing_else(program):
         with Server(program, file.name, 2) as server:
             with connect(server.port) as peer:
                 peer.sendall(LOGIN)
+                leave(peer)
             yield from fetched_differs(fetch(program, server.port), wanted)
             yield from server.differences("fault", f"accepted from 1, {messages(wanted)} packets")
+
+
+def a_peer_that_does_not_read_ends_nothing_else(program):
+    yield from served_after(program, lambda peer: None)
+
+
+def a_peer_killed_in_mid_answer_ends_nothing_else(program):
+    def reset(peer):
+        peer.recv(1000)
+        # Closed so, it resets the connection.
+        peer.setsockopt(socket.SOL_SOCKET, socket.SO_LINGER, struct.pack("ii", 1, 0))
+
+    yield from served_after(program, reset)
 
 
 def a_wrong_password_is_rejected(program):
@@ -206,21 +221,6 @@ def a_server_that_ends_early_gives_nothing(program):
                 output, error = client.communicate(timeout=60)
         if (login, client.returncode, output, error) != (LOGIN, 1, b"", b"itchsnap: " + reason + b"\n"):
             yield f"after {answer!r}: {login!r}, {client.returncode}, {output!r}, {error!r}"
-
-
-def a_peer_killed_in_mid_answer_ends_nothing_else(program):
-    day, wanted = large.orders(200_000)
-    with tempfile.NamedTemporaryFile(suffix=".itch") as file:
-        file.write(day)
-        file.flush()
-        with Server(program, file.name, 2) as server:
-            with connect(server.port) as peer:
-                peer.sendall(LOGIN)
-                peer.recv(1000)
-                # Closed so, it resets the connection.
-                peer.setsockopt(socket.SOL_SOCKET, socket.SO_LINGER, struct.pack("ii", 1, 0))
-            yield from fetched_differs(fetch(program, server.port), wanted)
-            yield from server.differences("fault", f"accepted from 1, {messages(wanted)} packets")
 
 
 def a_slow_peer_holds_the_server_for_15_seconds(program):

@@ -81,15 +81,6 @@ pub(crate) fn spelled<B: OrderBook>(alloc: Global, market: &Market<B>) -> Result
     Ok(bytes)
 }
 
-/// These payloads, one after another.
-pub(crate) fn joined_up(alloc: Global, payloads: &[&[u8]]) -> Result<Vec<u8>, Fail> {
-    let mut bytes = Vec::new(alloc);
-    for payload in payloads {
-        bytes.extend_from_slice(payload)?;
-    }
-    Ok(bytes)
-}
-
 pub(crate) fn seq(rt: &impl Abort, number: u64) -> Seq {
     Seq::new(number).expect(rt, "a sequence number")
 }

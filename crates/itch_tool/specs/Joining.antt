@@ -78,7 +78,7 @@ pub record StopsFeed (start : Start) (bytes : List ℕ) (k : ℕ) (why : Stop) :
   pub first : IsFirst (feed_stop_at start payloads rest) k why
 
 module _ {R : Type 0} (remaining : R → Option (List ℕ)) (failures : R → Failures) where
-  -- What reading a snapshot up to its End of Snapshot returns, and leaves of its reader: nothing behind that is read.
+  -- What reading a snapshot up to its End of Snapshot returns, and leaves of its reader: nothing after that is read.
   abbrev pub ReadsStart : Reading R → Reading R → Result Start ToolFault → Type 0
   ReadsStart old new (Ok start) =
       ReadsAll empty (bytes_left remaining old) (bytes_left remaining new) (Ok start.1) start.0 × (failures new.reader ≡ failures old.reader)

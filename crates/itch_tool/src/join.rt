@@ -51,7 +51,7 @@ pub fn join<R: CountedRead + Drop, S: CountedRead + Drop, A: Allocator + Copy, W
     join_blocks(alloc, &mut snapshot, &mut feed, out)
 }
 
-/// The same over readers of blocks, which are left where the reading ended: that of the snapshot behind its End of Snapshot.
+/// The same over readers of blocks, which are left where the reading ended: that of the snapshot after its End of Snapshot.
 /// Where the snapshot is refused, nothing is read of the feed.
 pub fn join_blocks<
     R: CountedRead,

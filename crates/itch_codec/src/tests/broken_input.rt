@@ -14,7 +14,7 @@ fn is_fault_at(fault: CodecFault, at: usize, byte: u8) -> bool {
     }
 }
 
-// Sets each byte behind the first to each value in turn, and counts the faults.
+// Sets each byte after the first to each value in turn, and counts the faults.
 fn faults_of_bytes(rt: &impl Abort, vector: &[u8]) -> u32 {
     assert!(rt; vector.len() <= 48);
     let mut payload = [0; 48];

@@ -88,7 +88,7 @@ fn a_shorter_feed_leaves_the_snapshot(rt: HostRuntime) -> Result<(), Fail> {
         start.as_slice(),
     )?;
     joined(&rt, alloc, start.as_slice(), &[], start.as_slice())?;
-    // Nothing is read behind End of Snapshot.
+    // Nothing is read after End of Snapshot.
     let longer = file(alloc, &[START, AAPL, END_3, "00"])?;
     joined(&rt, alloc, longer.as_slice(), &[], start.as_slice())
 }
