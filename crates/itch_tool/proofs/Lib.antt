@@ -1,17 +1,2 @@
-pub mod Parts
-pub mod Showings
-pub mod Written
-pub mod Snapshots
-pub mod Keeping
-pub mod Closings
 pub mod Fetched
 pub mod Lines
-pub mod Comparisons
-pub mod Deliveries
-pub mod Feeding
-pub mod FeedStops
-pub mod Joinings
-pub mod Texts
-pub mod LevelLemmas
-pub mod LevelTexts
-pub mod Listings

@@ -1,12 +1,3 @@
-pub mod Statuses
-pub mod Readings
-pub mod Outputs
-pub mod Canons
-pub mod Showing
-pub mod Comparing
-pub mod Books
-pub mod Joining
-pub mod Joiners
 pub mod Requests
 pub mod Logins
 pub mod Sessions

@@ -1,8 +1,8 @@
 -- The user name and the password of the command line.
 use Rattle.std.specs.Prelude.{◌≡◌, ℕ, ◌≤◌, List, length, Result, Ok, Err}
 use Rattle.itch_codec.specs.Text.{IsPrintable, padded_to}
-use Rattle.itch_tool.specs.declared.fault.ToolFault.{ToolFault}
-use Rattle.itch_tool.specs.declared.fault.ToolFault.TheVariants as tool
+use Rattle.itch_commands.specs.declared.fault.ToolFault.{ToolFault}
+use Rattle.itch_commands.specs.declared.fault.ToolFault.TheVariants as tool
 use Rattle.itch_tool.specs.declared.login.Login.{Login}
 
 -- at least one character, no more than the field has, all printable

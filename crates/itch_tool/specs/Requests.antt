@@ -2,15 +2,15 @@
 use Rattle.std.specs.Prelude.{ℕ, Bool, true, false, List, Option, None, Result, ⊤}
 use Rattle.itch_frame.specs.Reading.{Reading}
 use Rattle.itch_frame.specs.declared.tally.Failures.{Failures}
-use Rattle.itch_tool.specs.declared.fault.ToolFault.{ToolFault}
-use Rattle.itch_tool.specs.declared.fault.Source.TheVariants.{Only}
+use Rattle.itch_commands.specs.declared.fault.ToolFault.{ToolFault}
+use Rattle.itch_commands.specs.declared.fault.Source.TheVariants.{Only}
 use Rattle.itch_tool.specs.declared.request.Request.{Request}
 use Rattle.itch_tool.specs.declared.request.Request.TheVariants.{Snap, Check, Show, Canon, Compare, Book, Join}
-use Rattle.itch_tool.specs.Readings.{ReadsDay, ReadsSnap}
-use Rattle.itch_tool.specs.Canons.{ChecksSnap, canonical_line}
-use Rattle.itch_tool.specs.Showing.{Shows}
-use Rattle.itch_tool.specs.Outputs.{Outputs, ok_line_of, snapshot_of, closed_bytes}
-use Rattle.itch_tool.specs.Books.{ReadsListed, book_of}
+use Rattle.itch_commands.specs.Readings.{ReadsDay, ReadsSnap}
+use Rattle.itch_commands.specs.Canons.{ChecksSnap, canonical_line}
+use Rattle.itch_commands.specs.Showing.{Shows}
+use Rattle.itch_commands.specs.Outputs.{Outputs, ok_line_of, snapshot_of, closed_bytes}
+use Rattle.itch_commands.specs.Books.{ReadsListed, book_of}
 
 -- a request over one file
 abbrev pub IsOverOne : Request → Type 0

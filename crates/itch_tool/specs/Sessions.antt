@@ -17,9 +17,9 @@ use Rattle.itch_soup.specs.Fetching.{Fetches}
 use Rattle.itch_soup.specs.declared.fault.SoupFault.{SoupFault}
 use Rattle.itch_soup.specs.Sending.{messages_from, verdict}
 use Rattle.itch_soup.specs.Serving.{Serves}
-use Rattle.itch_tool.specs.declared.fault.ToolFault.{ToolFault}
-use Rattle.itch_tool.specs.declared.fault.ToolFault.TheVariants as tool
-use Rattle.itch_tool.specs.Outputs.{Wrote, WritesText}
+use Rattle.itch_commands.specs.declared.fault.ToolFault.{ToolFault}
+use Rattle.itch_commands.specs.declared.fault.ToolFault.TheVariants as tool
+use Rattle.itch_commands.specs.Outputs.{Wrote, WritesText}
 
 module _ {R V : Type 0} (remaining : R → Option (List ℕ)) (reads : R → Failures) (contents : V → Option (List ℕ)) (writes : V → Failures) where
   -- what is fetched from a peer: a market and its number; or the session's fault is the program's

@@ -4,11 +4,11 @@ ghost use Rattle.itch_snapshot.specs.Snapshot.{snap};
 ghost use Rattle.itch_tool.specs.Sessions.{ServesPeer, ServesFlushed};
 
 use crate::ending::Ending;
-use crate::fault::ToolFault;
 use crate::patient::{Patient, hang_up};
 use crate::run::PIECE;
 use itch_book::OrderBook;
 use itch_codec::Seq;
+use itch_commands::ToolFault;
 use itch_frame::BlockReader;
 use itch_frame::counted::{Buffered, Counted, CountedRead};
 use itch_market::Market;

@@ -1,12 +1,11 @@
 //! How a served connection ended, and its line.
 ghost use Rattle.std.specs.Prelude.{◌≡◌, ◌≤◌};
 ghost use Rattle.arrayvec.specs.ArrayVec.{array_vec_len};
-ghost use Rattle.itch_tool.specs.Outputs.{WritesText};
+ghost use Rattle.itch_commands.specs.Outputs.{WritesText};
 ghost use Rattle.itch_tool.specs.Sessions.{accepted_words, ending_words, connection_line};
 
-use crate::fault::ToolFault;
-use crate::writing::write_text;
 use arrayvec::ArrayVec;
+use itch_commands::{ToolFault, write_text};
 use itch_frame::counted::CountedWrite;
 use itch_soup::Served;
 use itoa::Buffer;

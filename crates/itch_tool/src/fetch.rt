@@ -1,12 +1,10 @@
 //! `fetch`: the snapshot that a server sends.
 ghost use Rattle.std.specs.Prelude.{true};
-ghost use Rattle.itch_tool.specs.Outputs.{Outputs, closed_bytes};
+ghost use Rattle.itch_commands.specs.Outputs.{Outputs, closed_bytes};
 ghost use Rattle.itch_tool.specs.Sessions.{FetchesMarket};
 
-use crate::book::Book;
-use crate::fault::ToolFault;
-use crate::writing::write_closed;
 use itch_codec::Seq;
+use itch_commands::{Book, ToolFault, write_closed};
 use itch_frame::BlockReader;
 use itch_frame::counted::{CountedRead, CountedWrite};
 use itch_market::Market;

@@ -3,8 +3,8 @@ ghost use Rattle.std.specs.Prelude.{◌≡◌, ◌↔◌, IsSome, IfSome, [], co
 ghost use Rattle.itch_codec.specs.Text.{padded_to};
 ghost use Rattle.itch_tool.specs.Logins.{IsWord, ReadsLogin};
 
-use crate::fault::ToolFault;
 use itch_codec::Alpha;
+use itch_commands::ToolFault;
 use itch_soup::{Credentials, ServerConfig};
 use std::fmt::{self, Debug, Formatter};
 

@@ -1,43 +1,29 @@
 //! `itchsnap`: market snapshots from day files of TotalView-ITCH 5.0 messages.
 //!
-//! Each command is one public function over readers and writers; `run` opens files and standard streams for them.
+//! The commands over files are those of `itch_commands`; `run` opens files and standard streams for them. `serve` and `fetch` are
+//! the two ends of a SoupBinTCP 3.00 session, over sockets of this machine.
 #![tactic(auto)]
 
-mod book;
-mod canon;
-mod canonical;
-mod check;
 mod commands;
-mod compare;
 mod connection;
 mod ending;
-mod fault;
-mod feed;
 mod fetch;
 mod job;
-mod join;
-mod kept;
-mod levels;
 mod login;
 mod patient;
-mod reading;
 mod request;
 mod run;
 mod serve;
-mod show;
-mod snap;
 mod sockets;
-mod start;
 #[cfg(test)]
 mod tests;
-mod writing;
 
 use crate::commands::usage_fault;
-use crate::fault::{ToolFault, status, system_fault};
 use crate::job::read_job;
 use crate::run::run;
 use clap::Error;
 use clap::error::ErrorKind;
+use itch_commands::{ToolFault, status, system_fault};
 use std::alloc::{AllocError, Global};
 use std::env::{self, Args};
 use std::io;

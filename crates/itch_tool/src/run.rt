@@ -1,17 +1,17 @@
 //! The commands over files and standard streams.
 ghost use Rattle.itch_tool.specs.Requests.{IsOverOne, Performs};
 
-use crate::canon::canon_blocks;
-use crate::check::check_blocks;
-use crate::compare::compare_blocks;
-use crate::fault::{ToolFault, system_fault};
 use crate::job::Job;
-use crate::join::join_blocks;
-use crate::levels::book_blocks;
 use crate::request::Request;
-use crate::show::show_blocks;
-use crate::snap::snap_blocks;
 use crate::sockets::{run_fetch, run_serve};
+use itch_commands::canon::canon_blocks;
+use itch_commands::check::check_blocks;
+use itch_commands::compare::compare_blocks;
+use itch_commands::join::join_blocks;
+use itch_commands::levels::book_blocks;
+use itch_commands::show::show_blocks;
+use itch_commands::snap::snap_blocks;
+use itch_commands::{ToolFault, system_fault};
 use itch_frame::BlockReader;
 use itch_frame::counted::{Buffered, Counted, CountedRead, CountedWrite};
 use std::alloc::Allocator;

@@ -1,17 +1,15 @@
 //! `serve`: a market served to one connection after another.
 ghost use Rattle.std.specs.Prelude.{◌≡◌, ◌<◌, ◌-◌, ◌+◌, ◌^◌, length, None, IfErr};
 ghost use Rattle.itch_snapshot.specs.Snapshot.{snap};
-ghost use Rattle.itch_tool.specs.declared.fault.Source.TheVariants.{Only};
+ghost use Rattle.itch_commands.specs.declared.fault.Source.TheVariants.{Only};
 ghost use Rattle.itch_tool.specs.Sessions.{IsUnserved, ServesNext, ServesOn, ServesMarket, ServesDay};
-ghost use Rattle.itch_tool.specs.Readings.{ReadsDay};
+ghost use Rattle.itch_commands.specs.Readings.{ReadsDay};
 
-use crate::book::Book;
 use crate::connection::serve_stream;
 use crate::ending::write_ending;
-use crate::fault::{Source, ToolFault, system_fault};
-use crate::reading::read_market;
 use itch_book::OrderBook;
 use itch_codec::Seq;
+use itch_commands::{Book, Source, ToolFault, read_market, system_fault};
 use itch_frame::BlockReader;
 use itch_frame::counted::{CountedRead, CountedWrite};
 use itch_market::Market;

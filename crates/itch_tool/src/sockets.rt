@@ -1,11 +1,11 @@
 //! The two ends of a session on this machine.
 
-use crate::fault::{ToolFault, system_fault};
 use crate::fetch::fetch;
 use crate::job::Peer;
 use crate::login::Login;
 use crate::run::PIECE;
 use crate::serve::serve_blocks;
+use itch_commands::{ToolFault, system_fault};
 use itch_frame::BlockReader;
 use itch_frame::counted::{Buffered, Counted};
 use std::fs;

@@ -1,130 +1,22 @@
-//! Each allocation of each command refused in turn: the status is 4, and nothing is on the output.
-use super::blocks::*;
-use super::cases::{Case, Command};
-use super::file;
-use super::sessions::{FROM_1, LOGIN_1};
-use crate::fault::{ToolFault, status};
+//! Each allocation of `fetch` refused in turn, and of a served connection: the status is 4, and nothing is on the output.
+use super::sessions::{FROM_1, LOGIN_1, LOGIN_3, SNAPSHOT, market};
 use crate::fetch::fetch;
 use crate::login::Login;
+use crate::serve::serve_on;
+use itch_codec::Seq;
+use itch_commands::{ToolFault, status};
 use itch_frame::BlockReader;
 use itch_frame::testing::{FuseWriter, PieceReader};
+use itch_snapshot::snapshot_len;
 use refusing::Refusing;
 use std::alloc::Global;
+use std::io::Write;
+use std::net::{TcpListener, TcpStream};
 use std::process::Abort;
 use std::test::Fail;
 
-// A command was performed so, with an allocation refused or none. Returns whether one was.
-fn is_refused(
-    rt: &impl Abort,
-    refusing: &Refusing<Global>,
-    answer: &Result<bool, ToolFault>,
-    written: &[u8],
-    wanted: &[u8],
-    is_true: bool,
-) -> bool {
-    if refusing.has_refused() {
-        assert!(rt; answer.is_err());
-        assert_eq!(rt; status(answer), 4);
-        assert!(rt; written.is_empty());
-    } else {
-        assert!(rt; matches!(answer, Ok(verdict) if *verdict == is_true));
-        assert_eq!(rt; written, wanted);
-    }
-    refusing.has_refused()
-}
-
-fn refuse(rt: &impl Abort, alloc: Global, case: &Case, nth: u64) -> bool {
-    let refusing = Refusing::new(alloc, nth);
-    let mut out = FuseWriter::new(alloc, 64, None);
-    let first = PieceReader::new(case.first.as_slice(), 64, None);
-    let second = PieceReader::new(case.second.as_slice(), 64, None);
-    let answer = case.perform(&refusing, first, second, &mut out);
-    let (written, wanted) = (out.written(), case.wanted.as_slice());
-    is_refused(rt, &refusing, &answer, written, wanted, case.is_true())
-}
-
-// At least so many allocations are refused, each in its turn.
-fn refuse_each(rt: &impl Abort, alloc: Global, case: &Case, least: u64) {
-    for nth in 0..64 {
-        if !refuse(rt, alloc, case, nth) {
-            assert!(rt; nth >= least);
-            return;
-        }
-    }
-    panic!(rt; "more than 64 allocations")
-}
-
-// A block of the file, the directory's first entry and the book's first order each take memory.
-#[test]
-fn check(rt: HostRuntime) -> Result<(), Fail> {
-    refuse_each(&rt, rt.alloc(), &Case::new(rt.alloc(), Command::Check)?, 3);
-    Ok(())
-}
-
-#[test]
-fn snap(rt: HostRuntime) -> Result<(), Fail> {
-    refuse_each(&rt, rt.alloc(), &Case::new(rt.alloc(), Command::Snap)?, 3);
-    Ok(())
-}
-
-#[test]
-fn compare(rt: HostRuntime) -> Result<(), Fail> {
-    refuse_each(
-        &rt,
-        rt.alloc(),
-        &Case::new(rt.alloc(), Command::Compare)?,
-        6,
-    );
-    Ok(())
-}
-
-#[test]
-fn canon(rt: HostRuntime) -> Result<(), Fail> {
-    refuse_each(&rt, rt.alloc(), &Case::new(rt.alloc(), Command::Canon)?, 3);
-    Ok(())
-}
-
-// The bytes that are kept take memory too.
-#[test]
-fn canon_check(rt: HostRuntime) -> Result<(), Fail> {
-    refuse_each(
-        &rt,
-        rt.alloc(),
-        &Case::new(rt.alloc(), Command::CanonCheck)?,
-        4,
-    );
-    Ok(())
-}
-
-// A market without orders and securities takes none.
-#[test]
-fn canon_check_of_an_end(rt: HostRuntime) -> Result<(), Fail> {
-    let mut case = Case::new(rt.alloc(), Command::CanonCheck)?;
-    case.first = file(rt.alloc(), &[END_1])?;
-    refuse_each(&rt, rt.alloc(), &case, 2);
-    Ok(())
-}
-
-#[test]
-fn join(rt: HostRuntime) -> Result<(), Fail> {
-    refuse_each(&rt, rt.alloc(), &Case::new(rt.alloc(), Command::Join)?, 4);
-    Ok(())
-}
-
-// Only a block of the file takes memory, before anything is read.
-#[test]
-fn show(rt: HostRuntime) -> Result<(), Fail> {
-    refuse_each(&rt, rt.alloc(), &Case::new(rt.alloc(), Command::Show)?, 1);
-    Ok(())
-}
-
-#[test]
-fn book(rt: HostRuntime) -> Result<(), Fail> {
-    refuse_each(&rt, rt.alloc(), &Case::new(rt.alloc(), Command::Book)?, 3);
-    Ok(())
-}
-
-fn refuse_fetch(rt: &impl Abort, alloc: Global, nth: u64, wanted: &[u8]) -> Result<bool, Fail> {
+// Fetches with this allocation refused. Returns whether one was.
+fn refuse(rt: &impl Abort, alloc: Global, nth: u64) -> Result<bool, Fail> {
     let refusing = Refusing::new(alloc, nth);
     let mut reader = BlockReader::new(alloc, PieceReader::new(FROM_1, 64, None))?;
     let mut writer = FuseWriter::new(alloc, 64, None);
@@ -132,17 +24,53 @@ fn refuse_fetch(rt: &impl Abort, alloc: Global, nth: u64, wanted: &[u8]) -> Resu
     let credentials = Login::new("user", "secret")?.credentials();
     let answer = fetch(&refusing, &mut reader, &mut writer, &credentials, &mut out);
     assert_eq!(rt; writer.written(), LOGIN_1);
-    Ok(is_refused(rt, &refusing, &answer, out.written(), wanted, true))
+    if refusing.has_refused() {
+        assert_eq!(rt; status(&answer), 4);
+        assert!(rt; out.written().is_empty());
+    } else {
+        assert!(rt; matches!(answer, Ok(true)));
+        assert_eq!(rt; out.written(), SNAPSHOT);
+    }
+    Ok(refusing.has_refused())
 }
 
 #[test]
 fn a_fetch(rt: HostRuntime) -> Result<(), Fail> {
-    let wanted = file(rt.alloc(), &[START, AAPL, BUY_1, BUY_2_OF_200, END_5])?;
     for nth in 0..64 {
-        if !refuse_fetch(&rt, rt.alloc(), nth, wanted.as_slice())? {
+        if !refuse(&rt, rt.alloc(), nth)? {
             assert!(rt; nth >= 2);
             return Ok(());
         }
     }
     panic!(rt; "more than 64 allocations")
+}
+
+#[test]
+fn a_connection_without_memory_ends_the_serving(rt: HostRuntime) -> Result<(), Fail> {
+    let alloc = rt.alloc();
+    let market = market(alloc)?;
+    let next = Seq::new(5).ok_or("a number")?;
+    let config = Login::new("user", "secret")?.config();
+    assert!(rt; snapshot_len(&market) < 100);
+    let listener = TcpListener::bind(&rt, "127.0.0.1:0")?;
+    let address = listener.local_addr()?;
+    for nth in 0..8 {
+        let refusing = Refusing::new(alloc, nth);
+        let mut client = TcpStream::connect(&rt, address)?;
+        client.write_all(LOGIN_3)?;
+        let mut out = FuseWriter::new(alloc, 4096, None);
+        let pair = (&rt, &refusing);
+        let served = serve_on(&pair, &listener, &market, next, &config, 1, &mut out);
+        // The buffers of the reader, of its blocks and of the writer.
+        if nth < 3 {
+            assert!(rt;
+                matches!(served, Err(ToolFault::OutOfMemory)),
+                "allocation {nth}"
+            );
+            assert!(rt; out.written().is_empty(), "allocation {nth}");
+        } else {
+            assert!(rt; matches!(served, Ok(true)), "allocation {nth}");
+        }
+    }
+    Ok(())
 }

@@ -1,20 +1,16 @@
 //! A market served over loopback, and a snapshot fetched over memory.
 
-use super::blocks::{AAPL, BUY_1, BUY_2_OF_200, END_5, START};
-use super::file;
-use crate::book::Book;
-use crate::fault::ToolFault;
 use crate::fetch::fetch;
 use crate::login::Login;
 use crate::patient::Patient;
 use crate::serve::serve_on;
 use itch_codec::Seq;
+use itch_commands::{Book, ToolFault};
 use itch_frame::BlockReader;
 use itch_frame::testing::{FuseWriter, PieceReader};
 use itch_market::{Market, Refusal, replay};
 use itch_snapshot::{SnapFault, snapshot_len};
 use itch_soup::SoupFault;
-use refusing::Refusing;
 use std::alloc::Global;
 use std::cell::Cell;
 use std::io::{self, Read, Write};
@@ -27,7 +23,7 @@ use std::time::Duration;
 // Logins for all messages and for those from the third on, and one with another password.
 pub(super) const LOGIN_1: &[u8] = b"\0\x2fLuser  secret                                 1";
 
-const LOGIN_3: &[u8] = b"\0\x2fLuser  secret                                 3";
+pub(super) const LOGIN_3: &[u8] = b"\0\x2fLuser  secret                                 3";
 
 const WRONG: &[u8] = b"\0\x2fLuser  wrong                                  3";
 
@@ -44,20 +40,31 @@ const FROM_3: &[u8] = b"\0\x1fA  ITCHSNAP                   3\
     \0\x25SA\0\x01\0\0\0\0\0\0\0\0\0\0\0\0\0\0\0\x02B\0\0\0\xc8AAPL    \0\x16\xe3\x60\
     \0\x16SG                   5\0\x01Z";
 
+// A day with an event, a directory and two orders, and its snapshot. The next message is the fifth.
+const DAY: &[u8] = b"\0\x0cS\0\0\0\0\0\0\0\0\0\0O\
+    \0\x27R\0\x01\0\0\0\0\0\0\0\0AAPL    QN\0\0\0dNCZ PNN1N\0\0\0\0N\
+    \0\x24A\0\x01\0\0\0\0\0\0\0\0\0\0\0\0\0\0\0\x01B\0\0\0dAAPL    \0\x16\xe3\x60\
+    \0\x24A\0\x01\0\0\0\0\0\0\0\0\0\0\0\0\0\0\0\x02B\0\0\0\xc8AAPL    \0\x16\xe3\x60";
+
+pub(super) const SNAPSHOT: &[u8] = b"\0\x0cS\0\0\0\0\0\0\0\0\0\0O\
+    \0\x27R\0\x01\0\0\0\0\0\0\0\0AAPL    QN\0\0\0dNCZ PNN1N\0\0\0\0N\
+    \0\x24A\0\x01\0\0\0\0\0\0\0\0\0\0\0\0\0\0\0\x01B\0\0\0dAAPL    \0\x16\xe3\x60\
+    \0\x24A\0\x01\0\0\0\0\0\0\0\0\0\0\0\0\0\0\0\x02B\0\0\0\xc8AAPL    \0\x16\xe3\x60\
+    \0\x15G                   5";
+
 // An acceptance of all messages, of which none comes.
 const NOTHING_FROM_1: &[u8] = b"\0\x1fA  ITCHSNAP                   1\0\x01Z";
 
-// The market of a day: an event, a directory, and two orders. The next message is the fifth.
-fn market(alloc: Global) -> Result<Market<Book<Global>>, Fail> {
-    let bytes = file(alloc, &[START, AAPL, BUY_1, BUY_2_OF_200])?;
-    let mut reader = BlockReader::new(alloc, PieceReader::new(bytes.as_slice(), 64, None))?;
+// The market of the day.
+pub(super) fn market(alloc: Global) -> Result<Market<Book<Global>>, Fail> {
+    let mut reader = BlockReader::new(alloc, PieceReader::new(DAY, 64, None))?;
     let mut market = Market::new(alloc);
     replay(&mut reader, &mut market);
     Ok(market)
 }
 
-// The lines of what clients that have said so much are served.
-fn lines<R: Clock + AllocGlobal + Abort>(
+// Serves as many connections as clients have made, and returns their lines.
+pub(super) fn lines<R: Clock + AllocGlobal + Abort>(
     rt: &R,
     listener: &TcpListener,
     count: u64,
@@ -101,22 +108,6 @@ fn connections_are_served_in_turn(rt: HostRuntime) -> Result<(), Fail> {
 }
 
 #[test]
-fn a_fault_ends_one_connection_alone(rt: HostRuntime) -> Result<(), Fail> {
-    let listener = TcpListener::bind(&rt, "127.0.0.1:0")?;
-    let address = listener.local_addr()?;
-    let mut first = TcpStream::connect(&rt, address)?;
-    first.write_all(b"\0\0")?;
-    let mut second = TcpStream::connect(&rt, address)?;
-    second.write_all(LOGIN_3)?;
-    let written = lines(&rt, &listener, 2)?;
-    assert_eq!(rt;
-        written.as_slice(),
-        b"connection 1: fault\nconnection 2: accepted from 3, 3 packets\n".as_slice()
-    );
-    Ok(())
-}
-
-#[test]
 fn a_client_that_says_more_has_its_answer(rt: HostRuntime) -> Result<(), Fail> {
     let listener = TcpListener::bind(&rt, "127.0.0.1:0")?;
     let mut client = TcpStream::connect(&rt, listener.local_addr()?)?;
@@ -131,36 +122,6 @@ fn a_client_that_says_more_has_its_answer(rt: HostRuntime) -> Result<(), Fail> {
     let mut answer = Vec::new(rt.alloc());
     client.read_to_end(&mut answer)?;
     assert_eq!(rt; answer.as_slice(), FROM_3);
-    Ok(())
-}
-
-#[test]
-fn a_connection_without_memory_ends_the_serving(rt: HostRuntime) -> Result<(), Fail> {
-    let alloc = rt.alloc();
-    let market = market(alloc)?;
-    let next = Seq::new(5).ok_or("a number")?;
-    let config = Login::new("user", "secret")?.config();
-    assert!(rt; snapshot_len(&market) < 100);
-    let listener = TcpListener::bind(&rt, "127.0.0.1:0")?;
-    let address = listener.local_addr()?;
-    for nth in 0..8 {
-        let refusing = Refusing::new(alloc, nth);
-        let mut client = TcpStream::connect(&rt, address)?;
-        client.write_all(LOGIN_3)?;
-        let mut out = FuseWriter::new(alloc, 4096, None);
-        let pair = (&rt, &refusing);
-        let served = serve_on(&pair, &listener, &market, next, &config, 1, &mut out);
-        // The buffers of the reader, of its blocks and of the writer.
-        if nth < 3 {
-            assert!(rt;
-                matches!(served, Err(ToolFault::OutOfMemory)),
-                "allocation {nth}"
-            );
-            assert!(rt; out.written().is_empty(), "allocation {nth}");
-        } else {
-            assert!(rt; matches!(served, Ok(true)), "allocation {nth}");
-        }
-    }
     Ok(())
 }
 
@@ -222,11 +183,9 @@ fn fetched(
 
 #[test]
 fn fetch_writes_the_canonical_snapshot(rt: HostRuntime) -> Result<(), Fail> {
-    let alloc = rt.alloc();
-    let wanted = file(alloc, &[START, AAPL, BUY_1, BUY_2_OF_200, END_5])?;
-    let (answer, written, login) = fetched(alloc, FROM_1)?;
+    let (answer, written, login) = fetched(rt.alloc(), FROM_1)?;
     assert!(rt; matches!(answer, Ok(true)));
-    assert_eq!(rt; written.as_slice(), wanted.as_slice());
+    assert_eq!(rt; written.as_slice(), SNAPSHOT);
     assert_eq!(rt; login.as_slice(), LOGIN_1);
     Ok(())
 }

@@ -1,9 +1,9 @@
 use Rattle.std.proofs.Common.{None, refl, inl}
 use Rattle.itch_frame.specs.Reading.{bytes_left}
-use Rattle.itch_tool.specs.declared.fault.Source.TheVariants.{Only}
-use Rattle.itch_tool.specs.Readings.{ReadsDay}
+use Rattle.itch_commands.specs.declared.fault.Source.TheVariants.{Only}
+use Rattle.itch_commands.specs.Readings.{ReadsDay}
 use Rattle.itch_tool.proofs.Lines.{day_served}
-use Rattle.itch_tool.proofs.Parts.{read_done, day_done, day_fails}
+use Rattle.itch_commands.proofs.Parts.{read_done, day_done, day_fails}
 use Rattle.itch_tool.proofs.serve.serve_blocks.Goals as goal
 
 pub returns-in-Err : goal.returns-in-Err

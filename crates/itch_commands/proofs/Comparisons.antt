@@ -1,0 +1,44 @@
+-- The place where what two files leave parts.
+use Rattle.std.proofs.Common.{◌≡◌, ℕ, ◌-◌, ◌<◌, ◌^◌, ◌↔◌, List, map, length, Option, IsNone, IfSome, sym, ap, ◌∙◌, subst, arith}
+use Rattle.std.specs.List.{AllByRecursion}
+use Rattle.itch_book.proofs.Lists.{All-map_rec}
+use Rattle.itch_codec.specs.Messages.{message_of}
+use Rattle.itch_codec.specs.Widths.{IsMessage}
+use Rattle.itch_market.specs.Content.{Content, empty, laid}
+use Rattle.itch_market.specs.Goods.{IsGood}
+use Rattle.itch_market.specs.Replays.{Fits}
+use Rattle.itch_market.specs.Runs.{run}
+use Rattle.itch_market.specs.Sames.{Same}
+use Rattle.itch_market.proofs.Causes.{none_follows}
+use Rattle.itch_market.proofs.Goods.{run_good, laid_good}
+use Rattle.itch_snapshot.specs.Parting.{IsParting}
+use Rattle.itch_snapshot.specs.Snapshot.{snap}
+use Rattle.itch_snapshot.proofs.OneSnapshot.{snap_same, same_snap, snap-laid}
+use Rattle.itch_commands.specs.Comparing.{IsPartPlace}
+use Rattle.itch_commands.specs.Readings.{AreTaken}
+use Rattle.itch_commands.proofs.Snapshots.{taken_short}
+
+-- what was taken leaves a good market
+pub taken_good : (after : Option ℕ) (ps : List (List ℕ)) → AllByRecursion Fits ps → AreTaken after ps → IsGood (run (map message_of ps))
+taken_good after ps fits taken = run_good (map message_of ps) (All-map_rec IsMessage message_of ps fits) (none_follows empty ps taken.taken)
+
+-- which can be written
+pub taken_few : (after : Option ℕ) (ps : List (List ℕ)) (n : Content) → AllByRecursion Fits ps → AreTaken after ps → n ≡ laid (run (map message_of ps)) → length (snap n) < 10 ^ 19
+taken_few after ps n fits taken left = omega (arith, taken_short ps n fits taken.taken left, taken.few)
+
+-- markets part where they do in any order of their orders
+pub parts-laid : (m n one other : Content) (place : Option ℕ) → IsGood m → IsGood n → one ≡ laid m → other ≡ laid n
+    → IfSome place (λ k. (0 < k) × IsParting (snap one) (snap other) (k - 1)) → IsNone place ↔ Same one other → IsPartPlace m n place
+parts-laid m n one other place good fine left right parting none = record {
+  same = (
+    λ is. same_snap m n good fine (sym first ∙ snap_same one other (none.0 is) ∙ second),
+    λ same. none.1 (same_snap one other (subst IsGood (sym left) (laid_good m good)) (subst IsGood (sym right) (laid_good n fine)) (first ∙ snap_same m n same ∙ sym second)),
+  );
+  parts = subst (λ xs. IfSome place (λ k. (0 < k) × IsParting xs (snap n) (k - 1))) first
+      (subst (λ ys. IfSome place (λ k. (0 < k) × IsParting (snap one) ys (k - 1))) second parting);
+} where
+  first : snap one ≡ snap m
+  first = ap snap left ∙ snap-laid m good
+
+  second : snap other ≡ snap n
+  second = ap snap right ∙ snap-laid n fine

@@ -1,0 +1,237 @@
+-- What one message does to a joiner in which nothing waits.
+use Rattle.std.proofs.Common.{◌≡◌, ℕ, ◌+◌, ◌^◌, ◌<◌, ◌≤◌, ◌==◌, Bool, true, false, cond, not, nat_lt, List, [], ◌∷◌, Option, Some, None, is_some, Result, Ok, Err, refl, sym, ap, ◌∙◌, subst, inl, inr, arith}
+use Rattle.std.proofs.lemmas.Bool.Decides.{nat_tests}
+use Rattle.std.specs.Option.{option_map}
+use Rattle.std.specs.FinMap as map
+use Rattle.itch_codec.specs.declared.fault.CodecFault.{CodecFault}
+use Rattle.itch_codec.specs.Fields.{AreBytes}
+use Rattle.itch_codec.specs.Messages.{fault, message_of}
+use Rattle.itch_codec.proofs.Spelling.{IsMessage-Spells, Spells-message_of}
+use Rattle.itch_market.specs.declared.refusal.Refusal.{Refusal}
+use Rattle.itch_market.specs.declared.refusal.Refusal.TheVariants as why
+use Rattle.itch_market.specs.declared.stop.Stop.TheVariants as stop
+use Rattle.itch_market.specs.Content.{Content, laid}
+use Rattle.itch_market.specs.Effects.{effect, takes_memory}
+use Rattle.itch_market.specs.Reasons.{reason}
+use Rattle.itch_market.specs.Replays.{IsRefusal, TakesOne}
+use Rattle.itch_market.specs.Stops.{cause_by}
+use Rattle.itch_snapshot.specs.Loads.{TakesNext, closing_number, is_full}
+use Rattle.itch_join.specs.declared.fault.Cause.{Cause}
+use Rattle.itch_join.specs.declared.fault.Cause.TheVariants as cause
+use Rattle.itch_join.specs.declared.fault.JoinFault.{JoinFault}
+use Rattle.itch_join.specs.declared.fault.JoinFault.TheVariants as join
+use Rattle.itch_join.specs.declared.outcome.Live.{Live}
+use Rattle.itch_join.specs.declared.outcome.Live.TheVariants as hears
+use Rattle.itch_join.specs.declared.outcome.Snap.{Snap}
+use Rattle.itch_join.specs.declared.outcome.Snap.TheVariants as snap
+use Rattle.itch_join.specs.declared.state.LiveCase.{LiveCase}
+use Rattle.itch_join.specs.declared.state.LiveCase.TheVariants as live
+use Rattle.itch_join.specs.declared.state.Stopped.{Stopped}
+use Rattle.itch_join.specs.declared.state.Stopped.TheVariants.{Refused, NoMemory}
+use Rattle.itch_join.specs.Positions.{Position}
+use Rattle.itch_join.specs.Rules.{refused_by, market_rules}
+use Rattle.itch_join.specs.States.{Reading, State, unread, is_number}
+use Rattle.itch_join.specs.Applying.{Front, front_of, advanced, at_hand, Applies, standing, result_by}
+use Rattle.itch_join.specs.Steps.{SnapFails, message_case, payload_case, snapshot_case, Takes, SnapshotBy, started, live_case, LiveBy, NextBy}
+use Rattle.itch_join.proofs.Cases.{IsLiveCase, live_case_is}
+use Rattle.itch_join.proofs.Lawful.{faultless, reasonless}
+use Rattle.itch_join.proofs.Maps.{get-remove, get-from}
+use Rattle.itch_join.proofs.Taking.{case_here}
+use Rattle.itch_commands.specs.Joiners.{half_market, IsReading, position_of, IsJoined, FeedsOne, IsOfSnapshot, snapshot_fault, IsOfFeed, feed_stop}
+
+-- why a message is refused, as a joiner and as a replay say it -----------------
+
+module _ (m : Content) (p : List ℕ) where
+  no_rule : (r : Option Refusal) → option_map cause.Rule r ≡ None → option_map stop.Rule r ≡ None
+  no_rule None h = refl
+  no_rule (Some r) h = cc
+
+  no_cause : (f : Option CodecFault) → refused_by f m p ≡ None → cause_by f m p ≡ None
+  no_cause None h = no_rule (reason m (message_of p)) h
+  no_cause (Some f) h = cc
+
+  one_taken : AreBytes p → refused_by (fault p) m p ≡ None → TakesOne m p (Ok tt) (laid (effect m (message_of p)))
+  one_taken bytes none = (no_cause (fault p) none, IsMessage-Spells (message_of p) p bytes (Spells-message_of p (faultless m p (fault p) none)), refl)
+
+  is_fault : (f : Option CodecFault) (g : CodecFault) → refused_by f m p ≡ Some (cause.Codec g) → f ≡ Some g
+  is_fault (Some f) g h = cc
+  is_fault None g h = absurd (by_reason (reason m (message_of p)) h) where
+    by_reason : (r : Option Refusal) → option_map cause.Rule r ≡ Some (cause.Codec g) → ⊥
+    by_reason None h = cc
+    by_reason (Some r) h = cc
+
+  one_faulty : (g : CodecFault) → refused_by (fault p) m p ≡ Some (cause.Codec g) → TakesOne m p (Err (stop.Codec g)) m
+  one_faulty g h = (refl, is_fault (fault p) g h)
+
+  refusal_by : (f : Option CodecFault) (r : Refusal) → refused_by f m p ≡ Some (cause.Rule r)
+      → (f ≡ None) × IsRefusal (reason m (message_of p)) (takes_memory m (message_of p)) r
+  refusal_by (Some f) r h = absurd (let no_one : ⊥ = cc in no_one)
+  refusal_by None r h = (refl, by_reason (reason m (message_of p)) h) where
+    by_reason : (o : Option Refusal) → option_map cause.Rule o ≡ Some (cause.Rule r) → IsRefusal o (takes_memory m (message_of p)) r
+    by_reason None h = absurd (let no_one : ⊥ = cc in no_one)
+    by_reason (Some q) h = cc
+
+  one_refused : (r : Refusal) → refused_by (fault p) m p ≡ Some (cause.Rule r) → TakesOne m p (Err (stop.Rule r)) m
+  one_refused r h = let refusal = refusal_by (fault p) r h in (refl, refusal)
+
+  never_many : (f : Option CodecFault) → refused_by f m p ≡ Some cause.TooMany → ⊥
+  never_many (Some f) h = cc
+  never_many None h = by_reason (reason m (message_of p)) h where
+    by_reason : (o : Option Refusal) → option_map cause.Rule o ≡ Some cause.TooMany → ⊥
+    by_reason None h = cc
+    by_reason (Some q) h = cc
+
+  one_unmade : refused_by (fault p) m p ≡ None → takes_memory m (message_of p) ≡ true → TakesOne m p (Err (stop.Rule why.OutOfMemory)) m
+  one_unmade none memory = (
+    refl,
+    (
+      faultless m p (fault p) none,
+      subst (λ r. IsRefusal r (takes_memory m (message_of p)) why.OutOfMemory) (sym (reasonless m p (fault p) none))
+          (refl, memory),
+    ),
+  )
+
+none_there : (b : Bool) (o : Option (List ℕ)) → o ≡ None → cond b o None ≡ None
+none_there true o none = none
+none_there false o none = refl
+
+none_left : (b : Bool) (o : Option (List ℕ)) → o ≡ None → cond b None o ≡ None
+none_left true o none = refl
+none_left false o none = none
+
+-- a message of the snapshot ----------------------------------------------------
+
+module _ (s : State) (taken : ℕ) (p : List ℕ) (is : IsReading taken s) (bytes : AreBytes p) where
+  abbrev m : Content
+  m = half_market s.half
+
+  abbrev pub Given : Result Snap JoinFault → State → Type 0
+  Given (Ok snap.More) now = TakesNext taken (half_market s.half) p (Ok None) (half_market now.half) × IsReading (taken + 1) now
+  Given (Ok (snap.Joined next)) now =
+      TakesNext taken (half_market s.half) p (Ok (Some next)) (half_market s.half)
+      × (IsJoined now × (position_of now ≡ record { next = next; market = half_market s.half }))
+  Given (Err f) now = IsOfSnapshot f × TakesNext taken (half_market s.half) p (Err (snapshot_fault f (taken + 1))) (half_market s.half)
+
+  given_by : (result r : Result Snap JoinFault) (now n : State) → result ≡ r → now ≡ n → Given r n → Given result now
+  given_by result r now n one two g = subst (λ x. Given x now) (sym one) (subst (Given r) (sym two) g)
+
+  one_more : (result : Result Snap JoinFault) (now : State) → is_full taken ≡ false → closing_number p ≡ None → refused_by (fault p) m p ≡ None
+      → Takes market_rules s taken m p result now → Given result now
+  one_more (Ok outcome) now room unclosed none (more, left) =
+      given_by (Ok outcome) (Ok snap.More) now (record s { half = Reading (taken + 1) (laid (effect m (message_of p))) }) (ap Ok more) left
+      ((room, one_taken m p bytes none), record { waits = is.waits; half = refl; unjoined = is.unjoined; running = is.running })
+  one_more (Err f) now room unclosed none (memory, takes, left) =
+      given_by (Err f) (Err (join.OutOfMemory false)) now s (ap Err memory) left (tt, (room, refl, unclosed, one_unmade m p none takes))
+
+  one_fails : (place : ℕ) (c : Cause) (now : State) → place ≡ taken + 1 → is_full taken ≡ false → closing_number p ≡ None → refused_by (fault p) m p ≡ Some c
+      → Given (Err (join.BadSnapshot place c)) now
+  one_fails place (cause.Codec f) now here room unclosed some = (tt, (room, here, one_faulty m p f some))
+  one_fails place (cause.Rule r) now here room unclosed some = (tt, (room, here, unclosed, one_refused m p r some))
+  one_fails place cause.TooMany now here room unclosed some = absurd (never_many m p (fault p) some)
+
+  by_refused : (o : Option Cause) (result : Result Snap JoinFault) (now : State) → is_full taken ≡ false → closing_number p ≡ None → refused_by (fault p) m p ≡ o
+      → SnapshotBy market_rules s p (message_case taken m o) result now → Given result now
+  by_refused None result now room unclosed none h = one_more result now room unclosed none h
+  by_refused (Some c) result now room unclosed some (answer, left) =
+      subst (λ r. Given r now) (sym answer) (one_fails (taken + 1) c now refl room unclosed some)
+
+  by_full : (b : Bool) (result : Result Snap JoinFault) (now : State) → is_full taken ≡ b → closing_number p ≡ None
+      → SnapshotBy market_rules s p (cond b (SnapFails (10 ^ 19) cause.TooMany) (message_case taken m (refused_by (fault p) m p))) result now → Given result now
+  by_full true result now full unclosed (answer, left) = subst (λ r. Given r now) (sym answer) (tt, (full, unclosed, refl))
+  by_full false result now room unclosed h = by_refused (refused_by (fault p) m p) result now room unclosed refl h
+
+  abbrev start_at : ℕ → Front
+  start_at next = started s next m
+
+  ends_by : (next : ℕ) (ps : List (List ℕ)) (ending : Result (Unit {0}) Stopped) (b : Front) (result : Result Snap JoinFault) (now : State) → closing_number p ≡ Some next
+      → Applies market_rules (start_at next) None ps ending b → result ≡ result_by snap.Joined true ending b.next → now ≡ standing unread ending b → Given result now
+  ends_by next [] (Ok done) b result now closes (ends, same) answer left =
+      given_by result (Ok (snap.Joined b.next)) now (standing unread (Ok done) b) answer left
+      (subst (λ (f : Front). Given (Ok (snap.Joined f.next)) (standing unread (Ok done) f)) (sym same) (
+        (refl, closes),
+        (record { waits = λ i. get-from s.wait next i ∙ none_there (not (nat_lt i next)) (map.get s.wait i) (is.waits i); joined = refl; running = refl }, refl),
+      ))
+  ends_by next [] (Err stopped) b result now closes (ends, same) answer left = absurd ends
+  ends_by next (q ∷ ps) ending b result now closes (hand, clean, rest) answer left = absurd (let no_one : ⊥ = cc in no_one)
+
+  by_number : (o : Option ℕ) (result : Result Snap JoinFault) (now : State) → closing_number p ≡ o
+      → SnapshotBy market_rules s p (payload_case taken m o (refused_by (fault p) m p)) result now → Given result now
+  by_number (Some next) result now closes h =
+      let none : at_hand (start_at next) ≡ None = get-from s.wait next next ∙ none_there (not (nat_lt next next)) (map.get s.wait next) (is.waits next) in
+      ends_by next h.payloads h.ending h.front result now closes (subst (λ o. Applies market_rules (start_at next) o h.payloads h.ending h.front) none h.applies) h.returned h.left
+  by_number None result now unclosed h = by_full (is_full taken) result now refl unclosed h
+
+  pub given : (result : Result Snap JoinFault) (now : State) → SnapshotBy market_rules s p (snapshot_case market_rules s p) result now → Given result now
+  given result now h =
+      by_number (closing_number p) result now refl
+      (subst (λ k. SnapshotBy market_rules s p k result now)
+      (case_here s taken m p (closing_number p) (refused_by (fault p) m p) is.running (ap is_some is.unjoined) is.half refl refl) h)
+
+-- a message of the feed --------------------------------------------------------
+
+module _ (cap number : ℕ) (s : State) (p : List ℕ) (is : IsJoined s) (low : 0 < number) (high : number < 10 ^ 19) (within : number ≤ Position.next (position_of s)) (bytes : AreBytes p) where
+  abbrev j : Position
+  j = position_of s
+
+  abbrev pub Heard : Result Live JoinFault → State → Type 0
+  Heard (Ok outcome) now = FeedsOne number (position_of s) p (Ok tt) (position_of now) × IsJoined now
+  Heard (Err f) now = IsOfFeed f × FeedsOne number (position_of s) p (Err (feed_stop f)) (position_of now)
+
+  heard_by : (result r : Result Live JoinFault) (now n : State) → result ≡ r → now ≡ n → Heard r n → Heard result now
+  heard_by result r now n one two g = subst (λ x. Heard x now) (sym one) (subst (Heard r) (sym two) g)
+
+  refused_one : (c : Cause) (next : ℕ) (now : State) → j.next ≡ number → refused_by (fault p) j.market p ≡ Some c → Heard (Err (join.Halted next c)) now
+  refused_one (cause.Codec f) next now here some = (tt, (here, one_faulty j.market p f some))
+  refused_one (cause.Rule r) next now here some = (tt, (here, one_refused j.market p r some))
+  refused_one cause.TooMany next now here some = absurd (never_many j.market p (fault p) some)
+
+  after_one : (taken : Bool) (q : List ℕ) (qs : List (List ℕ)) (ending : Result (Unit {0}) Stopped) (b : Front) (result : Result Live JoinFault) (now : State) → j.next ≡ number
+      → q ≡ p → refused_by (fault p) j.market p ≡ None → Applies market_rules (advanced market_rules (front_of s j) p) None qs ending b
+      → result ≡ result_by hears.Applied taken ending b.next → now ≡ standing s.half ending b → Heard result now
+  after_one taken q [] (Ok done) b result now here this none (ends, same) answer left =
+      heard_by result (Ok (hears.Applied b.next)) now (standing s.half (Ok done) b) answer left
+      (subst (λ (f : Front). Heard (Ok (hears.Applied f.next)) (standing s.half (Ok done) f)) (sym same) (
+        inr (here, one_taken j.market p bytes none, ap (λ n. n + 1) here),
+        record { waits = λ i. get-remove s.wait j.next i ∙ none_left (i == j.next) (map.get s.wait i) (is.waits i); joined = refl; running = refl },
+      ))
+  after_one taken q [] (Err stopped) b result now here this none (ends, same) answer left = absurd ends
+  after_one taken q (r ∷ qs) ending b result now here this none (hand, clean, rest) answer left = absurd (let no_one : ⊥ = cc in no_one)
+
+  applied : (taken : Bool) (ps : List (List ℕ)) (ending : Result (Unit {0}) Stopped) (b : Front) (result : Result Live JoinFault) (now : State) → j.next ≡ number
+      → Applies market_rules (front_of s j) (Some p) ps ending b
+      → result ≡ result_by hears.Applied taken ending b.next → now ≡ standing s.half ending b → Heard result now
+  applied taken [] (Ok done) b result now here (ends, same) answer left = absurd ends
+  applied taken [] (Err (Refused c)) b result now here (ends, same) answer left =
+      subst (λ r. Heard r now) (sym answer) (refused_one c b.next now here ends)
+  applied taken [] (Err NoMemory) b result now here (ends, same) answer left =
+      subst (λ r. Heard r now) (sym answer) (tt, (here, one_unmade j.market p ends.0 ends.1))
+  applied taken (q ∷ ps) ending b result now here (hand, none, rest) answer left =
+      let this : q ≡ p = cc in
+      let clean : refused_by (fault p) j.market p ≡ None = subst (λ x. refused_by (fault x) j.market x ≡ None) this none in
+      let on : Applies market_rules (advanced market_rules (front_of s j) p) (at_hand (advanced market_rules (front_of s j) p)) ps ending b =
+      subst (λ x. Applies market_rules (advanced market_rules (front_of s j) x) (at_hand (advanced market_rules (front_of s j) x)) ps ending b) this rest in
+      let gone : at_hand (advanced market_rules (front_of s j) p) ≡ None =
+      get-remove s.wait j.next (j.next + 1) ∙ none_left (j.next + 1 == j.next) (map.get s.wait (j.next + 1)) (is.waits (j.next + 1)) in
+      after_one taken q ps ending b result now here this clean (subst (λ o. Applies market_rules (advanced market_rules (front_of s j) p) o ps ending b) gone on) answer left
+
+  numbered : is_number number ≡ true
+  numbered = grind (arith, nat_tests)
+
+  by_kind : (kind : LiveCase) (result : Result Live JoinFault) (now : State) → IsLiveCase cap s number p kind → LiveBy market_rules cap s number p kind result now → Heard result now
+  by_kind (live.Halted h) result now halted by = absurd (let no : None ≡ Some h = sym is.running ∙ halted in let no_one : ⊥ = cc in no_one)
+  by_kind live.BadNumber result now (none, bad) by = absurd (let no : true ≡ false = sym numbered ∙ bad in let no_one : ⊥ = cc in no_one)
+  by_kind live.Old result now (none, k, there, below) (answer, left) =
+      let same : k ≡ j = let e : Some k ≡ Some j = sym there ∙ is.joined in cc in
+      heard_by result (Ok hears.Old) now s answer left (inl (subst (λ (i : Position). number < i.next) same below, refl), is)
+  by_kind live.Conflict result now (none, w, there, other) by = absurd (let no : None ≡ Some w = sym (is.waits number) ∙ there in let no_one : ⊥ = cc in no_one)
+  by_kind live.Next result now (none, num, k, there, at) by =
+      let same : k ≡ j = let e : Some k ≡ Some j = sym there ∙ is.joined in cc in
+      let here : j.next ≡ number = ap (λ (i : Position). i.next) (sym same) ∙ sym at in
+      let goes = subst (λ o. NextBy market_rules s number p o result now) is.joined by in
+      applied _ goes.payloads goes.ending goes.front result now here goes.applies goes.returned goes.left
+  by_kind live.Kept result now (none, waits, above) by = absurd (let less : j.next < number = above j is.joined in omega arith)
+  by_kind live.Full result now (none, full, above) by = absurd (let less : j.next < number = above j is.joined in omega arith)
+  by_kind live.Stored result now (none, num, room, free, above) by = absurd (let less : j.next < number = above j is.joined in omega arith)
+
+  pub heard : (result : Result Live JoinFault) (now : State) → LiveBy market_rules cap s number p (live_case cap s number p) result now → Heard result now
+  heard result now h = by_kind (live_case cap s number p) result now (live_case_is cap s number p) h

@@ -1,0 +1,56 @@
+-- The snapshot of what a file's messages leave.
+use Rattle.std.proofs.Common.{◌≡◌, ℕ, ◌+◌, ◌<◌, ◌≤◌, ◌^◌, List, ◌++◌, map, length, Option, Ok, sym, ap, ◌∙◌, arith}
+use Rattle.std.specs.List.{AllByRecursion}
+use Rattle.std.proofs.lemmas.List.{length-map}
+use Rattle.itch_book.proofs.Lists.{All-map_rec}
+use Rattle.itch_codec.specs.Messages.{message_of}
+use Rattle.itch_codec.specs.Widths.{IsMessage}
+use Rattle.itch_market.specs.Content.{Content, empty, laid}
+use Rattle.itch_market.specs.Goods.{IsGood}
+use Rattle.itch_market.specs.Runs.{AreMessages, run, Follows}
+use Rattle.itch_market.specs.Replays.{Fits, NoCause}
+use Rattle.itch_market.proofs.Causes.{none_follows}
+use Rattle.itch_market.proofs.Goods.{run_good}
+use Rattle.itch_market.proofs.Sames.{laid_is_same}
+use Rattle.itch_snapshot.specs.Bytes.{canon, closing}
+use Rattle.itch_snapshot.specs.Snapshot.{snap}
+use Rattle.itch_snapshot.specs.Reads.{ReadsSnapshot}
+use Rattle.itch_snapshot.proofs.OneSnapshot.{snap_same}
+use Rattle.itch_snapshot.proofs.Sizes.{short_snap}
+use Rattle.itch_snapshot.proofs.Wires.{canon-laid}
+use Rattle.itch_commands.specs.Outputs.{snapshot_of}
+use Rattle.itch_commands.proofs.Parts.{Applied}
+
+-- what was taken from the empty market has no more messages than were taken
+pub taken_short : (ps : List (List ℕ)) (n : Content) → AllByRecursion Fits ps → NoCause empty ps → n ≡ laid (run (map message_of ps)) → length (snap n) ≤ length ps
+taken_short ps n fits none left =
+    let ms = map message_of ps in
+    let fit : AreMessages ms = All-map_rec IsMessage message_of ps fits in
+    let follow : Follows ms = none_follows empty ps none in
+    let same : snap n ≡ snap (run ms) = ap snap left ∙ snap_same (laid (run ms)) (run ms) (laid_is_same (run ms) (run_good ms fit follow)) in
+    omega (arith, ap length same, short_snap ms fit follow, length-map ps message_of)
+
+-- what a snapshot file was read as can be written
+pub read_short : (old new : Option (List ℕ)) (done : Content × ℕ) → ReadsSnapshot old new (Ok done) → length (snap done.0) < 10 ^ 19
+read_short old new done (mid, (ps, at, takes, few, closes), ends) = omega (arith, few, taken_short ps done.0 takes.fits takes.none takes.left)
+
+module _ (after : Option ℕ) (bytes new : Option (List ℕ)) (count : ℕ) (n : Content) (applied : Applied after bytes new count n) where
+  fit : AreMessages (map message_of applied.payloads)
+  fit = All-map_rec IsMessage message_of applied.payloads applied.fits
+
+  follow : Follows (map message_of applied.payloads)
+  follow = none_follows empty applied.payloads applied.taken.taken
+
+  good : IsGood (run (map message_of applied.payloads))
+  good = run_good (map message_of applied.payloads) fit follow
+
+  -- it has no more messages than the file
+  pub applied_short : length (snap n) ≤ count
+  applied_short = omega (arith, taken_short applied.payloads n applied.fits applied.taken.taken applied.left, applied.counted)
+
+  -- and is the snapshot of the messages
+  pub applied_snapshot : canon n ++ closing (count + 1) ≡ snapshot_of applied.payloads
+  applied_snapshot =
+      let ms = map message_of applied.payloads in
+      ap (λ bytes. bytes ++ closing (count + 1)) (ap canon applied.left ∙ canon-laid (run ms) good)
+      ∙ ap (λ k. canon (run ms) ++ closing (k + 1)) (sym applied.counted)

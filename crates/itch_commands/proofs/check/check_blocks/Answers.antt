@@ -1,0 +1,27 @@
+use Rattle.std.proofs.Common.{None, true, ap, sym, refl, inl}
+use Rattle.itch_frame.specs.Reading.{bytes_left}
+use Rattle.itch_commands.specs.declared.fault.Source.TheVariants.{Only}
+use Rattle.itch_commands.specs.Outputs.{ok_line, ok_line_of}
+use Rattle.itch_commands.specs.Readings.{ReadsDay}
+use Rattle.itch_commands.proofs.Parts.{read_done, day_done, day_fails, read_writes}
+use Rattle.itch_commands.proofs.check.check_blocks.Goals as goal
+
+pub returns-in-Err : goal.returns-in-Err
+returns-in-Err g c = inl (
+  c.in-Err.fault,
+  refl,
+  day_fails g.R.CountedRead.remaining g.R.CountedRead.failures Only None c.args.reader.now c.read_market.new.reader c.in-Err.fault c.new-market.result c.read_market.new.market
+      c.new-market.ensures c.in-Err.ensures.reads c.in-Err.ensures.failures c.in-Err.ensures.reader,
+  refl,
+)
+
+pub returns : goal.returns
+returns g c =
+    let old = c.args.reader.now in
+    let new = c.read_market.new.reader in
+    let applied = read_done Only None (bytes_left g.R.CountedRead.remaining old) (bytes_left g.R.CountedRead.remaining new) c.new-market.result c.in-Ok.count c.read_market.new.market
+    c.new-market.ensures c.in-Ok.ensures.reads in
+    read_writes g.W.CountedWrite.contents g.W.CountedWrite.failures (ReadsDay g.R.CountedRead.remaining g.R.CountedRead.failures Only None old new) ok_line_of (λ _. true)
+    applied.payloads (ok_line c.in-Ok.count) c.args.out.now c.write_count.new.out c.write_count.result
+    (day_done g.R.CountedRead.remaining g.R.CountedRead.failures Only None old new c.in-Ok.count c.read_market.new.market applied c.in-Ok.ensures.failures c.in-Ok.ensures.reader)
+    (ap ok_line (sym applied.counted)) c.write_count.ensures

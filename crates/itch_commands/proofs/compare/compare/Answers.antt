@@ -1,0 +1,27 @@
+use Rattle.std.proofs.Common.{◌≡◌, None, is_none, inr}
+use Rattle.itch_commands.specs.declared.fault.Source.TheVariants.{First, Second}
+use Rattle.itch_commands.specs.Comparing.{ReadsBoth, PartsAt, place_line}
+use Rattle.itch_commands.specs.Readings.{ReadsDay, FromReader}
+use Rattle.itch_commands.proofs.Parts.{Outputs-weaker}
+use Rattle.itch_commands.proofs.compare.compare.Goals as goal
+
+pub returns : goal.returns
+returns g c =
+    let one = ReadsDay g.R.CountedRead.remaining g.R.CountedRead.failures First None in
+    let other = ReadsDay g.S.CountedRead.remaining g.S.CountedRead.failures Second None in
+    let a = c.in_ok-first.first in
+    let b = c.compare_blocks.new.first in
+    let x = c.in_ok-second.second in
+    let y = c.compare_blocks.new.second in
+    Outputs-weaker g.W.CountedWrite.contents g.W.CountedWrite.failures (PartsAt (ReadsBoth (one a b) (y ≡ x) (other x y)))
+    (FromReader c.args.first (λ i j. FromReader c.args.second (λ k l. PartsAt (ReadsBoth (one i j) (l ≡ k) (other k l))))) place_line is_none
+    c.args.out.now c.compare_blocks.new.out c.compare_blocks.result
+    (λ r read. inr (
+      a,
+      b,
+      c.in_ok-first.ensures.0,
+      c.in_ok-first.ensures.1,
+      c.in_ok-first.ensures.2,
+      inr (x, y, c.in_ok-second.ensures.0, c.in_ok-second.ensures.1, c.in_ok-second.ensures.2, read),
+    ))
+    c.compare_blocks.ensures

@@ -1,0 +1,27 @@
+use Rattle.std.proofs.Common.{◌≡◌, true, inr}
+use Rattle.itch_commands.specs.Joining.{ReadsStart, ReadsFeed, Then, HasRoom, joined}
+use Rattle.itch_commands.specs.Outputs.{closed_bytes}
+use Rattle.itch_commands.specs.Readings.{FromReader}
+use Rattle.itch_commands.proofs.Parts.{Outputs-weaker}
+use Rattle.itch_commands.proofs.join.join.Goals as goal
+
+pub returns : goal.returns
+returns g c =
+    let starts = ReadsStart g.R.CountedRead.remaining g.R.CountedRead.failures in
+    let follows = ReadsFeed g.S.CountedRead.remaining g.S.CountedRead.failures in
+    let a = c.in_ok-snapshot.snapshot in
+    let b = c.join_blocks.new.snapshot in
+    let x = c.in_ok-feed.feed in
+    let y = c.join_blocks.new.feed in
+    Outputs-weaker g.W.CountedWrite.contents g.W.CountedWrite.failures (HasRoom (Then (starts a b) (y ≡ x) (follows x y)))
+    (FromReader c.args.snapshot (λ i j. FromReader c.args.feed (λ k l. HasRoom (Then (starts i j) (l ≡ k) (follows k l))))) (λ both. closed_bytes (joined both)) (λ _. true)
+    c.args.out.now c.join_blocks.new.out c.join_blocks.result
+    (λ r read. inr (
+      a,
+      b,
+      c.in_ok-snapshot.ensures.0,
+      c.in_ok-snapshot.ensures.1,
+      c.in_ok-snapshot.ensures.2,
+      inr (x, y, c.in_ok-feed.ensures.0, c.in_ok-feed.ensures.1, c.in_ok-feed.ensures.2, read),
+    ))
+    c.join_blocks.ensures

@@ -1,0 +1,37 @@
+use Rattle.std.proofs.Common.{◌++◌, true, refl, inl, ap, ◌∙◌, arith}
+use Rattle.itch_frame.specs.Reading.{bytes_left}
+use Rattle.itch_snapshot.specs.Bytes.{canon, closing}
+use Rattle.itch_commands.specs.declared.fault.Source.TheVariants.{Only}
+use Rattle.itch_commands.specs.Outputs.{snapshot_of}
+use Rattle.itch_commands.specs.Readings.{ReadsDay}
+use Rattle.itch_commands.proofs.Parts.{read_done, day_done, day_fails, read_writes}
+use Rattle.itch_commands.proofs.Snapshots.{applied_short, applied_snapshot}
+use Rattle.itch_commands.proofs.snap.snap_blocks.Goals as goal
+
+pub returns-in-Err : goal.returns-in-Err
+returns-in-Err g c = inl (
+  c.in-Err.fault,
+  refl,
+  day_fails g.R.CountedRead.remaining g.R.CountedRead.failures Only c.args.after c.args.reader.now c.read_market.new.reader c.in-Err.fault c.new-market.result c.read_market.new.market
+      c.new-market.ensures c.in-Err.ensures.reads c.in-Err.ensures.failures c.in-Err.ensures.reader,
+  refl,
+)
+
+pub write_closed-requires : goal.write_closed-requires
+write_closed-requires g c =
+    let old = bytes_left g.R.CountedRead.remaining c.args.reader.now in
+    let new = bytes_left g.R.CountedRead.remaining c.read_market.new.reader in
+    let applied = read_done Only c.args.after old new c.new-market.result c.in-Ok.count c.read_market.new.market c.new-market.ensures c.in-Ok.ensures.reads in
+    omega (arith, applied.few, applied_short c.args.after old new c.in-Ok.count c.read_market.new.market applied)
+
+pub returns : goal.returns
+returns g c =
+    let old = c.args.reader.now in
+    let new = c.read_market.new.reader in
+    let applied = read_done Only c.args.after (bytes_left g.R.CountedRead.remaining old) (bytes_left g.R.CountedRead.remaining new) c.new-market.result c.in-Ok.count c.read_market.new.market
+    c.new-market.ensures c.in-Ok.ensures.reads in
+    read_writes g.W.CountedWrite.contents g.W.CountedWrite.failures (ReadsDay g.R.CountedRead.remaining g.R.CountedRead.failures Only c.args.after old new) snapshot_of (λ _. true)
+    applied.payloads _ c.args.out.now c.write_closed.new.out c.write_closed.result
+    (day_done g.R.CountedRead.remaining g.R.CountedRead.failures Only c.args.after old new c.in-Ok.count c.read_market.new.market applied c.in-Ok.ensures.failures c.in-Ok.ensures.reader)
+    (ap (λ k. canon c.read_market.new.market ++ closing k) c.in-Some.ensures.number ∙ applied_snapshot c.args.after (bytes_left g.R.CountedRead.remaining old) (bytes_left g.R.CountedRead.remaining new) c.in-Ok.count c.read_market.new.market applied)
+    c.write_closed.ensures

@@ -1,0 +1,59 @@
+-- The lines of the book at a locate.
+use Rattle.std.specs.Prelude.{◌≡◌, ℕ, ◌==◌, ◌⊎◌, not, List, [], ◌∷◌, ◌++◌, map, length, decimal, None, Some, Result, Ok, Err}
+use Rattle.std.specs.List.{filter, sum_by, flat_map}
+use Rattle.std.specs.FinMap as finite
+use Rattle.itch_codec.specs.Fields.{side_byte}
+use Rattle.itch_codec.specs.Lines.{price_text}
+use Rattle.itch_codec.specs.Messages.{message_of}
+use Rattle.itch_codec.specs.Text.{IsTextOf}
+use Rattle.itch_codec.specs.declared.side.Side.{Side}
+use Rattle.itch_codec.specs.declared.side.Side.TheVariants.{Buy, Sell}
+use Rattle.itch_book.specs.declared.order.Order.{Order}
+use Rattle.itch_book.specs.Orders.{queue, is_at_price}
+use Rattle.itch_market.specs.Content.{Content}
+use Rattle.itch_market.specs.Runs.{run}
+use Rattle.itch_market.specs.declared.security.Security.{Security}
+use Rattle.itch_commands.specs.declared.fault.ToolFault.{ToolFault}
+use Rattle.itch_commands.specs.declared.fault.ToolFault.TheVariants as tool
+
+-- the prices of these orders, each once, as they first come
+abbrev pub prices : List Order → List ℕ
+prices [] = []
+prices (x ∷ xs) = x.price ∷ filter (λ price. not (price == x.price)) (prices xs)
+
+-- the line `SIDE PRICE SHARES ORDERS`
+abbrev pub level_line : Side → ℕ → ℕ → ℕ → List ℕ
+level_line side price shares orders =
+    side_byte side ∷ 32 ∷ (price_text price ++ 32 ∷ (decimal shares ++ 32 ∷ (decimal orders ++ 10 ∷ [])))
+
+-- the line of a price: all shares of the orders at it, and their number
+abbrev pub price_line : Side → List Order → ℕ → List ℕ
+price_line side orders price =
+    level_line side price (sum_by (λ x. x.shares) (filter (is_at_price price) orders)) (length (filter (is_at_price price) orders))
+
+-- the lines of a side, whose orders stand by priority: the best price first
+abbrev pub side_lines : Side → List Order → List ℕ
+side_lines side orders = flat_map (price_line side orders) (prices orders)
+
+-- the line `LOCATE STOCK`
+abbrev pub title_line : ℕ → List ℕ → List ℕ
+title_line locate stock = decimal locate ++ 32 ∷ (stock ++ 10 ∷ [])
+
+-- the lines of a book: its title, the bids, and the asks
+abbrev pub book_lines : ℕ → List ℕ → List Order → List ℕ
+book_lines locate stock orders =
+    title_line locate stock ++ (side_lines Buy (queue orders locate Buy) ++ side_lines Sell (queue orders locate Sell))
+
+-- the same of what the messages of a file leave
+abbrev pub book_of : ℕ → List (List ℕ) × List ℕ → List ℕ
+book_of locate read = let m : Content = run (map message_of read.0) in book_lines locate read.1 m.orders
+
+-- a file is read in which a locate has a directory entry, with this stock; or the file is refused, or has no such entry
+abbrev pub ReadsListed : ℕ → (Result (List (List ℕ)) ToolFault → Type 0) → Result (List (List ℕ) × List ℕ) ToolFault → Type 0
+ReadsListed locate reads (Ok read) =
+    reads (Ok read.0)
+    × ((s : Security) × (finite.get (Content.securities (run (map message_of read.0))) locate ≡ Some s) × IsTextOf s.entry.stock read.1)
+ReadsListed locate reads (Err fault) =
+    reads (Err fault)
+    ⊎ ((fault ≡ tool.UnknownLocate)
+    × ((payloads : List (List ℕ)) × reads (Ok payloads) × (finite.get (Content.securities (run (map message_of payloads))) locate ≡ None)))

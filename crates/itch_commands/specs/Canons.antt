@@ -1,0 +1,73 @@
+-- Whether a snapshot file is canonical: its bytes, all of them, are the snapshot of the market that its messages leave, closed
+-- with its number.
+use Rattle.std.specs.Prelude.{◌≡◌, ◌≢◌, ℕ, ◌-◌, ◌<◌, ◌≤◌, ◌^◌, ◌⊎◌, ◌↔◌, Bool, true, false, List, [], ◌++◌, length, codes, MatchOption, MatchResult, Option, IfSome, Result, Ok, Err}
+use Rattle.std.specs.Borrow.{Bor}
+use Rattle.std.specs.Io.KnownBytes.{Consumes, IsAtEnd}
+use Rattle.itch_frame.specs.Blocks.{block}
+use Rattle.itch_frame.specs.Reading.{Reading, bytes_left}
+use Rattle.itch_frame.specs.declared.tally.Failures.{Failures}
+use Rattle.itch_market.specs.Content.{Content, empty}
+use Rattle.itch_market.specs.Replays.{Takes}
+use Rattle.itch_snapshot.specs.Reads.{ReadsNext, ReadsAll, ReadsEnd, CountsFault}
+use Rattle.itch_commands.specs.Outputs.{closed_bytes}
+use Rattle.itch_commands.specs.Readings.{ReadsSnap}
+use Rattle.itch_commands.specs.declared.fault.Source.TheVariants.{Only}
+use Rattle.itch_commands.specs.declared.fault.ToolFault.{ToolFault}
+use Rattle.itch_commands.specs.declared.fault.ToolFault.TheVariants as tool
+
+-- the line that tells whether a file is canonical
+abbrev pub canonical_line : Bool → List ℕ
+canonical_line true = codes "canonical\n"
+canonical_line false = codes "not canonical\n"
+
+-- the bytes after these at the front, or none where they do not stand there
+abbrev pub StripsFront : List ℕ → List ℕ → Option (Bor (List ℕ)) → Type 0
+StripsFront bytes front rest = MatchOption rest ((more : List ℕ) → bytes ≢ front ++ more) (λ r. bytes ≡ front ++ r.now)
+
+-- a failed read is counted with its error, and nothing else is
+abbrev pub CountsRefusal : ToolFault → Failures → Failures → Type 0
+CountsRefusal (tool.Snap at fault) old new = CountsFault fault old new
+CountsRefusal fault old new = new ≡ old
+
+abbrev pub CountsSnap : {X : Type 0} → Result X ToolFault → Failures → Failures → Type 0
+CountsSnap result old new = MatchResult result (λ _. new ≡ old) (λ fault. CountsRefusal fault old new)
+
+-- The next message is taken, or End of Snapshot is, and the bytes of its block are kept; or it is refused; or memory for these
+-- bytes is, once it was taken.
+abbrev pub KeepsNext : ℕ → Content → Option (List ℕ) → Option (List ℕ) → List ℕ → Result (Option ℕ) ToolFault → Content → List ℕ → Type 0
+KeepsNext taken m old new kept (Ok found) n more =
+    ReadsNext taken m old new (Ok found) n × ((bytes : List ℕ) × Consumes old new bytes × (more ≡ kept ++ bytes))
+KeepsNext taken m old new kept (Err (tool.Snap at fault)) n more = (at ≡ Only) × ReadsNext taken m old new (Err fault) n
+KeepsNext taken m old new kept (Err tool.OutOfMemory) n more = (found : Option ℕ) × ReadsNext taken m old new (Ok found) n
+KeepsNext taken m old new kept (Err fault) n more = ⊥
+
+-- messages were taken, at least one, or End of Snapshot was after them: it was the last block for which memory was refused
+abbrev pub LacksRoom : Option (List ℕ) → Option (List ℕ) → Type 0
+LacksRoom old new =
+    ((payloads : List (List ℕ)) × (n : Content) × Takes empty old new payloads n × (0 < length payloads) × (length payloads ≤ 10 ^ 19 - 1))
+    ⊎ ((next : ℕ) × (n : Content) × ReadsAll empty old new (Ok next) n)
+
+-- the messages of a snapshot are taken up to its End of Snapshot, and all bytes up to there are kept
+abbrev pub KeepsAll : Option (List ℕ) → Option (List ℕ) → Result ℕ ToolFault → Content → List ℕ → Type 0
+KeepsAll old new (Ok next) n kept = ReadsAll empty old new (Ok next) n × Consumes old new kept
+KeepsAll old new (Err (tool.Snap at fault)) n kept = (at ≡ Only) × ReadsAll empty old new (Err fault) n
+KeepsAll old new (Err tool.OutOfMemory) n kept = LacksRoom old new
+KeepsAll old new (Err fault) n kept = ⊥
+
+-- after End of Snapshot the input is at its end, or an empty block comes off the front
+abbrev pub EndsFile : Option (List ℕ) → Option (List ℕ) → Result Bool ToolFault → Type 0
+EndsFile old new (Ok true) = IsAtEnd old
+EndsFile old new (Ok false) = Consumes old new (block [])
+EndsFile old new (Err (tool.Snap at fault)) = (at ≡ Only) × ReadsEnd old new (Err fault)
+EndsFile old new (Err fault) = ⊥
+
+module _ {R : Type 0} (remaining : R → Option (List ℕ)) (failures : R → Failures) where
+  -- What reading a snapshot file tells of its bytes, and leaves of its reader. It is refused as any reading of it is; and
+  -- memory may be, for the bytes of the messages taken, all of which are kept.
+  abbrev pub ChecksSnap : Reading R → Reading R → Result Bool ToolFault → Type 0
+  ChecksSnap old new (Ok canonical) =
+      (done : Content × ℕ) × ReadsSnap remaining failures Only old new (Ok done)
+      × IfSome (bytes_left remaining old) (λ bytes. (canonical ≡ true) ↔ (bytes ≡ closed_bytes done))
+  ChecksSnap old new (Err tool.OutOfMemory) =
+      LacksRoom (bytes_left remaining old) (bytes_left remaining new) × (failures new.reader ≡ failures old.reader)
+  ChecksSnap old new (Err fault) = ReadsSnap remaining failures Only old new (Err fault)

@@ -1,0 +1,31 @@
+-- How two files are compared.
+use Rattle.std.specs.Prelude.{ℕ, ◌-◌, ◌<◌, ◌⊎◌, ◌↔◌, List, ◌++◌, map, codes, decimal, Option, None, Some, IsNone, IfSome, Result, Ok, Err}
+use Rattle.itch_codec.specs.Messages.{message_of}
+use Rattle.itch_market.specs.Content.{Content}
+use Rattle.itch_market.specs.Runs.{run}
+use Rattle.itch_market.specs.Sames.{Same}
+use Rattle.itch_snapshot.specs.Parting.{IsParting}
+use Rattle.itch_snapshot.specs.Snapshot.{snap}
+use Rattle.itch_commands.specs.declared.fault.ToolFault.{ToolFault}
+
+-- What is read of two files, the first wholly before the second. Where the first is refused, the second is left as it was.
+abbrev pub ReadsBoth : {X Y : Type 0} → (Result X ToolFault → Type 0) → Type 0 → (Result Y ToolFault → Type 0) → Result (X × Y) ToolFault → Type 0
+ReadsBoth first untouched second (Ok both) = first (Ok both.0) × second (Ok both.1)
+ReadsBoth {X} first untouched second (Err fault) = (first (Err fault) × untouched) ⊎ ((x : X) × first (Ok x) × second (Err fault))
+
+-- the place, counted from 1, of the first message in which the snapshots of two markets differ, or the shorter length and 1;
+-- none exactly where the markets are the same
+pub record IsPartPlace (m n : Content) (place : Option ℕ) : Type 0 where
+  pub same : IsNone place ↔ Same m n
+  pub parts : IfSome place (λ k. (0 < k) × IsParting (snap m) (snap n) (k - 1))
+
+-- where the markets that two files leave part
+abbrev pub PartsAt : (Result (List (List ℕ) × List (List ℕ)) ToolFault → Type 0) → Result (Option ℕ) ToolFault → Type 0
+PartsAt reads (Ok place) =
+    (both : List (List ℕ) × List (List ℕ)) × reads (Ok both) × IsPartPlace (run (map message_of both.0)) (run (map message_of both.1)) place
+PartsAt reads (Err fault) = reads (Err fault)
+
+-- the line that says where, or that the markets are the same
+abbrev pub place_line : Option ℕ → List ℕ
+place_line None = codes "same\n"
+place_line (Some place) = codes "different at " ++ decimal place ++ codes "\n"

@@ -1,0 +1,154 @@
+-- A joiner in which nothing waits: while it reads a snapshot, and once it has joined.
+use Rattle.std.specs.Prelude.{◌≡◌, ℕ, ◌+◌, ◌-◌, ◌<◌, ◌≤◌, ◌^◌, ◌==◌, ◌⊎◌, true, false, Bool, List, length, ⊤, Option, Some, None, Result, Ok, Err}
+use Rattle.std.specs.FinMap as map
+use Rattle.itch_codec.specs.Widths.{IsSequence}
+use Rattle.itch_frame.specs.declared.tally.Failures.{Failures}
+use Rattle.itch_market.specs.Content.{Content, empty, laid}
+use Rattle.itch_market.specs.Goods.{IsGood}
+use Rattle.itch_market.specs.Replays.{TakesOne, TakesOff, Halts}
+use Rattle.itch_market.specs.declared.refusal.Refusal.TheVariants as why
+use Rattle.itch_market.specs.declared.stop.ReplayEnd.{ReplayEnd}
+use Rattle.itch_market.specs.declared.stop.Stop.{Stop}
+use Rattle.itch_market.specs.declared.stop.Stop.TheVariants as stop
+use Rattle.itch_snapshot.specs.declared.fault.SnapFault.{SnapFault}
+use Rattle.itch_snapshot.specs.declared.fault.SnapFault.TheVariants as snapshot
+use Rattle.itch_snapshot.specs.Reads.{ReadsAll}
+use Rattle.itch_snapshot.specs.Snapshot.{snap}
+use Rattle.itch_join.specs.Positions.{Position}
+use Rattle.itch_join.specs.States.{HalfRead, Reading, Broken, State}
+use Rattle.itch_join.specs.declared.fault.Cause.TheVariants as cause
+use Rattle.itch_join.specs.declared.fault.JoinFault.{JoinFault}
+use Rattle.itch_join.specs.declared.fault.JoinFault.TheVariants as join
+use Rattle.itch_commands.specs.declared.fault.ToolFault.{ToolFault}
+use Rattle.itch_commands.specs.declared.fault.ToolFault.TheVariants as tool
+use Rattle.itch_commands.specs.Joining.{Start, IsOfMessage, EndsFeed, joined_market, joined_next}
+use Rattle.itch_commands.specs.Outputs.{WritesOutput, closed_bytes}
+
+-- the market that a half-read snapshot leaves
+abbrev pub half_market : HalfRead → Content
+half_market (Reading taken m) = m
+half_market (Broken place why) = empty
+
+-- nothing but so many messages of a snapshot was taken
+pub record IsReading (taken : ℕ) (s : State) : Type 0 where
+  pub waits : (i : ℕ) → map.get s.wait i ≡ None
+  pub half : s.half ≡ Reading taken (half_market s.half)
+  pub unjoined : s.joined ≡ None
+  pub running : s.halt ≡ None
+
+abbrev pub position_by : Option Position → Position
+position_by None = record { next = 0; market = empty }
+position_by (Some j) = j
+
+-- where a joiner stands
+abbrev pub position_of : State → Position
+position_of s = position_by s.joined
+
+-- a joiner has joined, and stands there
+pub record IsJoined (s : State) : Type 0 where
+  pub waits : (i : ℕ) → map.get s.wait i ≡ None
+  pub joined : s.joined ≡ Some (position_of s)
+  pub running : s.halt ≡ None
+
+-- the market of a snapshot after one message: it is taken, it is End of Snapshot, or it is refused
+abbrev pub started_market : State → Result (Option ℕ) SnapFault → State → Content
+started_market old (Ok None) new = half_market new.half
+started_market old (Ok (Some next)) new = half_market old.half
+started_market old (Err fault) new = half_market old.half
+
+-- what one message of a snapshot leaves of a joiner that has taken so many
+abbrev pub Starts : ℕ → State → Result (Option ℕ) SnapFault → State → Type 0
+Starts taken old (Ok None) new = IsReading (taken + 1) new
+Starts taken old (Ok (Some next)) new = IsJoined new × (position_of new ≡ record { next = next; market = half_market old.half })
+Starts taken old (Err fault) new = ⊤
+
+-- the message of a feed with this number is below the joiner's, or it is applied, or refused
+abbrev pub FeedsOne : ℕ → Position → List ℕ → Result (Unit {0}) Stop → Position → Type 0
+FeedsOne number old payload (Ok done) new =
+    ((number < old.next) × (new ≡ old)) ⊎ ((old.next ≡ number) × TakesOne old.market payload (Ok done) new.market × (new.next ≡ number + 1))
+FeedsOne number old payload (Err why) new = (old.next ≡ number) × TakesOne old.market payload (Err why) old.market
+
+-- what the block after so many of a feed does: its message is taken, or the reading stops
+abbrev pub FeedStep : ℕ → Position → Option (List ℕ) → Option (List ℕ) → Result (Unit {0}) Stop → Position → Type 0
+FeedStep count old before after (Ok done) new =
+    (payload : List ℕ) × TakesOff before after payload × ((count == 10 ^ 19 - 1) ≡ false) × FeedsOne (count + 1) old payload (Ok done) new
+FeedStep count old before after (Err why) new = (IsOfMessage why → old.next ≤ count + 1) × Halts (count == 10 ^ 19 - 1) old.market before after why
+
+-- a joiner goes on after a message, and is left as it was at the end of the feed
+abbrev pub StaysJoined : State → Result (Unit {0}) Stop → State → Type 0
+StaysJoined old (Ok done) new = IsJoined new
+StaysJoined old (Err stop.End) new = new ≡ old
+StaysJoined old (Err why) new = ⊤
+
+-- a message of a snapshot may be refused so by a joiner that has not joined
+abbrev pub IsOfSnapshot : JoinFault → Type 0
+IsOfSnapshot (join.BadSnapshot place why) = ⊤
+IsOfSnapshot (join.OutOfMemory taken) = ⊤
+IsOfSnapshot fault = ⊥
+
+-- and the fault of the snapshot is then this, where the message stands at this place
+abbrev pub snapshot_fault : JoinFault → ℕ → SnapFault
+snapshot_fault (join.BadSnapshot at (cause.Codec f)) place = snapshot.Codec at f
+snapshot_fault (join.BadSnapshot at (cause.Rule reason)) place = snapshot.Rule at reason
+snapshot_fault (join.BadSnapshot at cause.TooMany) place = snapshot.TooManyMessages
+snapshot_fault fault place = snapshot.Rule place why.OutOfMemory
+
+-- the next message of a feed may be refused so
+abbrev pub IsOfFeed : JoinFault → Type 0
+IsOfFeed (join.Halted number (cause.Codec f)) = ⊤
+IsOfFeed (join.Halted number (cause.Rule reason)) = ⊤
+IsOfFeed (join.OutOfMemory taken) = ⊤
+IsOfFeed fault = ⊥
+
+-- and this then stops the reading of the feed
+abbrev pub feed_stop : JoinFault → Stop
+feed_stop (join.Halted number (cause.Codec f)) = stop.Codec f
+feed_stop (join.Halted number (cause.Rule reason)) = stop.Rule reason
+feed_stop fault = stop.Rule why.OutOfMemory
+
+-- the market and the number where a joiner stands
+abbrev pub start_of : Position → Start
+start_of j = (j.market, j.next)
+
+-- a snapshot's market and number
+pub record IsStart (start : Start) : Type 0 where
+  pub good : IsGood start.0
+  pub in_order : laid start.0 ≡ start.0
+  pub number : IsSequence start.1
+
+-- a joiner was given the messages of a snapshot, up to its End of Snapshot
+abbrev pub StartsAll : Option (List ℕ) → Option (List ℕ) → Result ℕ SnapFault → State → Type 0
+StartsAll before after (Ok next) now =
+    ReadsAll empty before after (Ok next) (Position.market (position_of now)) × (Position.next (position_of now) ≡ next) × IsJoined now
+StartsAll before after (Err fault) now = (n : Content) × ReadsAll empty before after (Err fault) n
+
+-- a joiner starts from the snapshot that was read
+abbrev pub StartsJoiner : (Result Start ToolFault → Type 0) → Result (Unit {0}) ToolFault → State → Type 0
+StartsJoiner reads (Ok done) now = reads (Ok (start_of (position_of now))) × IsJoined now × IsStart (start_of (position_of now))
+StartsJoiner reads (Err fault) now = reads (Err fault)
+
+-- a joiner stands after these payloads of a feed
+pub record IsAfter (start : Start) (payloads : List (List ℕ)) (s : State) : Type 0 where
+  pub joined : IsJoined s
+  pub good : IsGood (joined_market start payloads)
+  pub market : Position.market (position_of s) ≡ laid (joined_market start payloads)
+  pub next : Position.next (position_of s) ≡ joined_next start payloads
+
+-- a joiner was given the messages of a feed, as far as they were taken
+abbrev pub DeliversAll : Start → Option (List ℕ) → Option (List ℕ) → ReplayEnd → State → Type 0
+DeliversAll start before after end now =
+    (payloads : List (List ℕ)) × (length payloads ≡ end.count) × EndsFeed start before after payloads end.stop
+    × (end.stop ≡ stop.End → IsAfter start payloads now)
+
+-- a joiner has the market of the feed that was read
+abbrev pub FeedsJoiner : (Start → Result (List (List ℕ)) ToolFault → Type 0) → Position → Result (Unit {0}) ToolFault → State → Type 0
+FeedsJoiner reads old (Ok done) now =
+    (payloads : List (List ℕ)) × reads (start_of old) (Ok payloads) × IsAfter (start_of old) payloads now
+FeedsJoiner reads old (Err fault) now = reads (start_of old) (Err fault)
+
+module _ {W : Type 0} (contents : W → Option (List ℕ)) (failures : W → Failures) where
+  -- the snapshot of a market is written where it has room for its End of Snapshot
+  abbrev pub WritesRoom : Position → W → Result Bool ToolFault → W → Type 0
+  WritesRoom j old result new =
+      ((result ≡ Err tool.TooMany) × (10 ^ 19 ≤ length (snap j.market)) × (new ≡ old))
+      ⊎ ((length (snap j.market) < 10 ^ 19) × WritesOutput contents failures (closed_bytes (j.market, j.next)) true old result new)

@@ -1,0 +1,9 @@
+pub mod Statuses
+pub mod Readings
+pub mod Outputs
+pub mod Canons
+pub mod Showing
+pub mod Comparing
+pub mod Books
+pub mod Joining
+pub mod Joiners

@@ -1,0 +1,119 @@
+//! `canon`: a snapshot in canonical form.
+ghost use Rattle.std.specs.Prelude.{◌≡◌, Bool, true, false};
+ghost use Rattle.itch_commands.specs.Canons.{ChecksSnap, canonical_line};
+ghost use Rattle.itch_commands.specs.Outputs.{Outputs, WritesOutput, closed_bytes};
+ghost use Rattle.itch_commands.specs.Readings.{ReadsSnap, FromReader};
+ghost use Rattle.itch_commands.specs.declared.fault.Source.TheVariants.{Only};
+
+use crate::book::Book;
+use crate::canonical::is_closed;
+use crate::fault::{Source, ToolFault};
+use crate::kept::{read_end, read_kept};
+use crate::writing::{write_closed, write_text};
+use itch_codec::Seq;
+use itch_frame::BlockReader;
+use itch_frame::counted::{CountedRead, CountedWrite};
+use itch_market::Market;
+use itch_snapshot::{SnapshotReader, read_snapshot};
+use std::alloc::Allocator;
+
+/// Writes a snapshot file in canonical form: the canonical bytes of the market that its messages leave, and an End of
+/// Snapshot with the file's number.
+///
+/// With `check` it only says whether the file is so already: it writes `canonical` and returns true where the file's bytes are
+/// exactly these, else it writes `not canonical` and returns false, as for a file with a block of length 0 at its end. The
+/// bytes of the file up to its End of Snapshot are held for it.
+pub fn canon<R: CountedRead + Drop, A: Allocator + Copy, W: CountedWrite>(
+    alloc: A,
+    reader: R,
+    check: bool,
+    out: &mut W,
+) -> Result<bool, ToolFault>
+    ensures writes { check ≡ false → Outputs W.contents W.failures (FromReader reader (ReadsSnap R.remaining R.failures Only)) closed_bytes (λ _. true) out.old result out.new }
+    ensures checks { check ≡ true → Outputs W.contents W.failures (FromReader reader (ChecksSnap R.remaining R.failures)) canonical_line (λ canonical. canonical) out.old result out.new }
+{
+    let mut reader = BlockReader::new(alloc, reader)?;
+    canon_blocks(alloc, &mut reader, check, out)
+}
+
+/// The same over a reader of blocks, which is left where the reading ended.
+pub fn canon_blocks<R: CountedRead, B: Allocator, A: Allocator + Copy, W: CountedWrite>(
+    alloc: A,
+    reader: &mut BlockReader<R, B>,
+    check: bool,
+    out: &mut W,
+) -> Result<bool, ToolFault>
+    ensures writes { check ≡ false → Outputs W.contents W.failures (ReadsSnap R.remaining R.failures Only reader.old reader.new) closed_bytes (λ _. true) out.old result out.new }
+    ensures checks { check ≡ true → Outputs W.contents W.failures (ChecksSnap R.remaining R.failures reader.old reader.new) canonical_line (λ canonical. canonical) out.old result out.new }
+{
+    if check {
+        return check_canon(alloc, reader, out);
+    }
+    write_canon(alloc, reader, out)
+}
+
+fn write_canon<R: CountedRead, B: Allocator, A: Allocator + Copy, W: CountedWrite>(
+    alloc: A,
+    reader: &mut BlockReader<R, B>,
+    out: &mut W,
+) -> Result<bool, ToolFault>
+    ensures { Outputs W.contents W.failures (ReadsSnap R.remaining R.failures Only reader.old reader.new) closed_bytes (λ _. true) out.old result out.new }
+{
+    let read: Result<(Market<Book<A>>, Seq), _> = read_snapshot(alloc, reader);
+    let (market, next) = match read {
+        Ok(done) => done,
+        Err(fault) => {
+            return Err(ToolFault::Snap {
+                file: Source::Only,
+                fault,
+            });
+        }
+    };
+    write_closed(&market, next, out)
+}
+
+fn check_canon<R: CountedRead, B: Allocator, A: Allocator + Copy, W: CountedWrite>(
+    alloc: A,
+    reader: &mut BlockReader<R, B>,
+    out: &mut W,
+) -> Result<bool, ToolFault>
+    ensures { Outputs W.contents W.failures (ChecksSnap R.remaining R.failures reader.old reader.new) canonical_line (λ canonical. canonical) out.old result out.new }
+{
+    match is_canonical(alloc, reader) {
+        Ok(canonical) => write_verdict(canonical, out),
+        Err(fault) => Err(fault),
+    }
+}
+
+// Whether a snapshot file's bytes, all of them, are the canonical bytes of its market and the closing block of its number.
+fn is_canonical<R: CountedRead, B: Allocator, A: Allocator + Copy>(
+    alloc: A,
+    reader: &mut BlockReader<R, B>,
+) -> Result<bool, ToolFault>
+    ensures { ChecksSnap R.remaining R.failures reader.old reader.new result }
+{
+    let mut loader: SnapshotReader<Book<A>> = SnapshotReader::new(alloc);
+    let mut kept = Vec::new(alloc);
+    let next = match read_kept(reader, &mut loader, &mut kept) {
+        Ok(next) => next,
+        Err(fault) => return Err(fault),
+    };
+    match read_end(reader) {
+        Ok(true) => Ok(is_closed(kept.as_slice(), loader.market(), next)),
+        Ok(false) => Ok(false),
+        Err(fault) => Err(fault),
+    }
+}
+
+fn write_verdict<W: CountedWrite>(canonical: bool, out: &mut W) -> Result<bool, ToolFault>
+    ensures { WritesOutput W.contents W.failures (canonical_line canonical) canonical out.old result out.new }
+{
+    let line = match canonical {
+        true => "canonical\n",
+        false => "not canonical\n",
+    };
+    match write_text(line.as_bytes(), out) {
+        Ok(()) => Ok(canonical),
+        Err(fault) => Err(fault),
+    }
+}

@@ -1,0 +1,72 @@
+//! Whether bytes are those of a market's snapshot.
+ghost use Rattle.std.specs.Prelude.{◌≡◌, ◌≢◌, ◌↔◌, ◌<◌, ◌++◌, List, length, MatchOption, true};
+ghost use Rattle.std.specs.Int.{bytes_high_first};
+ghost use Rattle.itch_codec.specs.Messages.{spelling};
+ghost use Rattle.itch_codec.specs.Widths.{IsMessage};
+ghost use Rattle.itch_frame.specs.Blocks.{IsPayload, block};
+ghost use Rattle.itch_snapshot.specs.Bytes.{canon, closing};
+ghost use Rattle.itch_commands.specs.Canons.{StripsFront};
+
+use itch_book::OrderBook;
+use itch_codec::{Message, Seq, encode};
+use itch_market::Market;
+use itch_snapshot::SnapshotIter;
+
+/// Whether bytes are exactly the canonical bytes of a market and the block of an End of Snapshot with this number.
+///
+/// No snapshot is made for it: each message is spelled, and compared where it should stand.
+pub fn is_closed<B: OrderBook>(bytes: &[u8], market: &Market<B>, next: Seq) -> bool
+    ensures { (result ≡ true) ↔ (bytes.now ≡ canon market.now ++ closing next) }
+{
+    market.recall_invariant();
+    let mut rest = bytes;
+    for message in SnapshotIter::new(market) {
+        match after_message(rest, &message) {
+            Some(more) => rest = more,
+            None => return false,
+        }
+    }
+    match after_message(rest, &Message::End { next }) {
+        Some(more) => more.is_empty(),
+        None => false,
+    }
+}
+
+// The bytes after the block of a message's spelling, where they begin with it.
+fn after_message<'a>(bytes: &'a [u8], message: &Message<'_>) -> Option<&'a [u8]>
+    ensures strips { IsPayload (spelling message.now) → StripsFront bytes.now (block (spelling message.now)) result }
+    ensures fits { IsMessage message.now }
+{
+    let payload = encode(message);
+    after_block(bytes, payload.bytes())
+}
+
+// The bytes after the block of a payload, where they begin with it.
+fn after_block<'a>(bytes: &'a [u8], payload: &[u8]) -> Option<&'a [u8]>
+    ensures { IsPayload payload.now → StripsFront bytes.now (block payload.now) result }
+{
+    let len = match length_bytes(payload) {
+        Some(len) => len,
+        None => return None,
+    };
+    match after_front(bytes, &len) {
+        Some(rest) => after_front(rest, payload),
+        None => None,
+    }
+}
+
+fn after_front<'a>(bytes: &'a [u8], front: &[u8]) -> Option<&'a [u8]>
+    ensures { StripsFront bytes.now front.now result }
+{
+    bytes.strip_prefix(front)
+}
+
+/// The two bytes that say how long the payload of a block is, unless it is longer than they can say.
+pub fn length_bytes(payload: &[u8]) -> Option<[u8; 2]>
+    ensures { MatchOption result (¬ IsPayload payload.now) (λ bytes. IsPayload payload.now × (bytes ≡ bytes_high_first 2 (length payload.now))) }
+{
+    match u16::try_from(payload.len()) {
+        Ok(len) => Some(len.to_be_bytes()),
+        Err(_) => None,
+    }
+}

@@ -1,0 +1,67 @@
+//! `check`: whether a file follows the order rules.
+ghost use Rattle.std.specs.Prelude.{◌≡◌, ◌<◌, ◌≤◌, ◌^◌, None, true};
+ghost use Rattle.arrayvec.specs.ArrayVec.{array_vec_len};
+ghost use Rattle.itch_commands.specs.Outputs.{Outputs, WritesOutput, ok_line, ok_line_of};
+ghost use Rattle.itch_commands.specs.Readings.{ReadsDay, FromReader};
+ghost use Rattle.itch_commands.specs.declared.fault.Source.TheVariants.{Only};
+
+use crate::book::Book;
+use crate::fault::{Source, ToolFault};
+use crate::reading::read_market;
+use crate::writing::write_text;
+use arrayvec::ArrayVec;
+use itch_frame::BlockReader;
+use itch_frame::counted::{CountedRead, CountedWrite};
+use itch_market::Market;
+use itoa::Buffer;
+use std::alloc::Allocator;
+
+/// Writes `ok N messages` where the file's N messages follow the order rules.
+pub fn check<R: CountedRead + Drop, A: Allocator + Copy, W: CountedWrite>(
+    alloc: A,
+    reader: R,
+    out: &mut W,
+) -> Result<bool, ToolFault>
+    ensures { Outputs W.contents W.failures (FromReader reader (ReadsDay R.remaining R.failures Only None)) ok_line_of (λ _. true) out.old result out.new }
+{
+    let mut reader = BlockReader::new(alloc, reader)?;
+    check_blocks(alloc, &mut reader, out)
+}
+
+/// The same over a reader of blocks, which is left where the reading ended.
+pub fn check_blocks<R: CountedRead, B: Allocator, A: Allocator + Copy, W: CountedWrite>(
+    alloc: A,
+    reader: &mut BlockReader<R, B>,
+    out: &mut W,
+) -> Result<bool, ToolFault>
+    ensures { Outputs W.contents W.failures (ReadsDay R.remaining R.failures Only None reader.old reader.new) ok_line_of (λ _. true) out.old result out.new }
+{
+    let mut market: Market<Book<A>> = Market::new(alloc);
+    let count = match read_market(reader, &mut market, None, Source::Only) {
+        Ok(count) => count,
+        Err(fault) => return Err(fault),
+    };
+    write_count(count, out)
+}
+
+fn write_count<W: CountedWrite>(count: u64, out: &mut W) -> Result<bool, ToolFault>
+    ensures { WritesOutput W.contents W.failures (ok_line count) true out.old result out.new }
+{
+    match write_text(&ok_line(count), out) {
+        Ok(()) => Ok(true),
+        Err(fault) => Err(fault),
+    }
+}
+
+fn ok_line(count: u64) -> ArrayVec<u8, 48>
+    ensures line { result.items ≡ ok_line count }
+    ensures short { array_vec_len result ≤ 48 }
+{
+    let mut digits = Buffer::new();
+    let mut line = ArrayVec::new();
+    line.try_extend_from_slice(b"ok ").unwrap();
+    line.try_extend_from_slice(digits.format(count).as_bytes())
+        .unwrap();
+    line.try_extend_from_slice(b" messages\n").unwrap();
+    line
+}

@@ -1,0 +1,95 @@
+//! `compare`: whether two files leave the same market.
+ghost use Rattle.std.specs.Prelude.{◌≡◌, ◌≤◌, None, is_none};
+ghost use Rattle.arrayvec.specs.ArrayVec.{array_vec_len};
+ghost use Rattle.itch_commands.specs.Comparing.{ReadsBoth, PartsAt, place_line};
+ghost use Rattle.itch_commands.specs.Outputs.{Outputs, WritesOutput};
+ghost use Rattle.itch_commands.specs.Readings.{ReadsDay, FromReader};
+ghost use Rattle.itch_commands.specs.declared.fault.Source.TheVariants.{First, Second};
+
+use crate::book::Book;
+use crate::fault::{Source, ToolFault};
+use crate::reading::day_market;
+use crate::writing::write_text;
+use arrayvec::ArrayVec;
+use itch_frame::BlockReader;
+use itch_frame::counted::{CountedRead, CountedWrite};
+use itch_market::Market;
+use itch_snapshot::part_place;
+use itoa::Buffer;
+use std::alloc::Allocator;
+
+/// Writes `same` where two day files leave the same market, and true is the answer. Else it writes `different at N`, N being
+/// the place of the first message, counted from 1, in which the snapshots of the two markets differ, or the shorter length
+/// and 1.
+///
+/// The first file is read wholly before the second.
+pub fn compare<R: CountedRead + Drop, S: CountedRead + Drop, A: Allocator + Copy, W: CountedWrite>(
+    alloc: A,
+    first: R,
+    second: S,
+    out: &mut W,
+) -> Result<bool, ToolFault>
+    ensures { Outputs W.contents W.failures (FromReader first (λ a b. FromReader second (λ c d.
+        PartsAt (ReadsBoth (ReadsDay R.remaining R.failures First None a b) (d ≡ c) (ReadsDay S.remaining S.failures Second None c d)))))
+        place_line is_none out.old result out.new }
+{
+    let mut first = BlockReader::new(alloc, first)?;
+    let mut second = BlockReader::new(alloc, second)?;
+    compare_blocks(alloc, &mut first, &mut second, out)
+}
+
+/// The same over readers of blocks, which are left where the reading ended. Where the first file is refused, nothing is read
+/// of the second.
+pub fn compare_blocks<
+    R: CountedRead,
+    S: CountedRead,
+    B: Allocator,
+    C: Allocator,
+    A: Allocator + Copy,
+    W: CountedWrite,
+>(
+    alloc: A,
+    first: &mut BlockReader<R, B>,
+    second: &mut BlockReader<S, C>,
+    out: &mut W,
+) -> Result<bool, ToolFault>
+    ensures { Outputs W.contents W.failures (PartsAt (ReadsBoth (ReadsDay R.remaining R.failures First None first.old first.new) (second.new ≡ second.old)
+        (ReadsDay S.remaining S.failures Second None second.old second.new))) place_line is_none out.old result out.new }
+{
+    let one: Market<Book<A>> = match day_market(alloc, first, Source::First) {
+        Ok(market) => market,
+        Err(fault) => return Err(fault),
+    };
+    let other: Market<Book<A>> = match day_market(alloc, second, Source::Second) {
+        Ok(market) => market,
+        Err(fault) => return Err(fault),
+    };
+    write_place(part_place(&one, &other), out)
+}
+
+fn write_place<W: CountedWrite>(place: Option<u64>, out: &mut W) -> Result<bool, ToolFault>
+    ensures { WritesOutput W.contents W.failures (place_line place) (is_none place) out.old result out.new }
+{
+    match write_text(&place_text(place), out) {
+        Ok(()) => Ok(place.is_none()),
+        Err(fault) => Err(fault),
+    }
+}
+
+fn place_text(place: Option<u64>) -> ArrayVec<u8, 48>
+    ensures line { result.items ≡ place_line place }
+    ensures short { array_vec_len result ≤ 48 }
+{
+    let mut line = ArrayVec::new();
+    match place {
+        None => line.try_extend_from_slice(b"same\n").unwrap(),
+        Some(place) => {
+            let mut digits = Buffer::new();
+            line.try_extend_from_slice(b"different at ").unwrap();
+            line.try_extend_from_slice(digits.format(place).as_bytes())
+                .unwrap();
+            line.try_extend_from_slice(b"\n").unwrap();
+        }
+    }
+    line
+}

@@ -1,0 +1,125 @@
+//! The feed that goes on after a snapshot.
+ghost use Rattle.std.specs.Prelude.{◌≡◌, ◌<◌, ◌≤◌, ◌-◌, ◌+◌, ◌^◌, None, Some, OnOk, MatchResult};
+ghost use Rattle.itch_frame.specs.Reading.{bytes_left};
+ghost use Rattle.itch_market.specs.Replays.{Counts, LeavesReaderFirst};
+ghost use Rattle.itch_join.specs.Positions.{Position};
+ghost use Rattle.itch_commands.specs.Joiners.{IsJoined, IsStart, DeliversAll, start_of, IsOfFeed, FeedsOne, FeedStep, FeedsJoiner, StaysJoined, position_of, feed_stop};
+ghost use Rattle.itch_commands.specs.Joining.{ReadsFeed};
+
+use crate::fault::{Source, ToolFault};
+use itch_book::OrderBook;
+use itch_frame::BlockReader;
+use itch_frame::counted::CountedRead;
+use itch_join::{Cause, JoinFault, Joiner};
+use itch_market::{Refusal, ReplayEnd, Stop};
+use std::alloc::Allocator;
+
+/// As many messages as a feed may have: 10^19 - 1.
+const MOST: u64 = 9_999_999_999_999_999_999;
+
+/// Delivers the messages of a feed to a joiner that has joined, numbered from 1, up to the first that is not taken.
+pub fn read_feed<R: CountedRead, A: Allocator, B: OrderBook>(
+    reader: &mut BlockReader<R, A>,
+    joiner: &mut Joiner<B>,
+) -> Result<(), ToolFault>
+    requires joined { IsJoined joiner.old.state }
+    requires start { IsStart (start_of (position_of joiner.old.state)) }
+    ensures { FeedsJoiner (ReadsFeed R.remaining R.failures reader.old reader.new) (position_of joiner.old.state) result joiner.new.state }
+{
+    match deliver(reader, joiner) {
+        ReplayEnd {
+            stop: Stop::End,
+            ..
+        } => Ok(()),
+        end => Err(ToolFault::Stopped {
+            file: Source::Only,
+            end,
+        }),
+    }
+}
+
+fn deliver<R: CountedRead, A: Allocator, B: OrderBook>(
+    reader: &mut BlockReader<R, A>,
+    joiner: &mut Joiner<B>,
+) -> ReplayEnd
+    requires joined { IsJoined joiner.old.state }
+    requires start { IsStart (start_of (position_of joiner.old.state)) }
+    ensures steps { DeliversAll (start_of (position_of joiner.old.state)) (bytes_left R.remaining reader.old) (bytes_left R.remaining reader.new) result joiner.new.state }
+    ensures failures { Counts result.stop (R.failures reader.old.reader) (R.failures reader.new.reader) }
+    ensures reader { LeavesReaderFirst reader.old result.count (Some result.stop) reader.new }
+{
+    for count in 0..u64::MAX {
+        if let Err(stop) = deliver_next(reader, joiner, count) {
+            return ReplayEnd { count, stop };
+        }
+    }
+    unreachable!()
+}
+
+// Delivers the message of the next block, after so many others.
+fn deliver_next<R: CountedRead, A: Allocator, B: OrderBook>(
+    reader: &mut BlockReader<R, A>,
+    joiner: &mut Joiner<B>,
+    count: u64,
+) -> Result<(), Stop>
+    requires room { count ≤ 10 ^ 19 - 1 }
+    requires joined { IsJoined joiner.old.state }
+    requires number { count < Position.next (position_of joiner.old.state) }
+    ensures step { FeedStep count (position_of joiner.old.state) (bytes_left R.remaining reader.old) (bytes_left R.remaining reader.new) result (position_of joiner.new.state) }
+    ensures joined { StaysJoined joiner.old.state result joiner.new.state }
+    ensures failures { MatchResult result (λ _. R.failures reader.new.reader ≡ R.failures reader.old.reader)
+        (λ stop. Counts stop (R.failures reader.old.reader) (R.failures reader.new.reader)) }
+    ensures reader { MatchResult result (λ _. LeavesReaderFirst reader.old 1 None reader.new) (λ stop. LeavesReaderFirst reader.old 0 (Some stop) reader.new) }
+{
+    match reader.next_block() {
+        Ok(Some(payload)) => {
+            if payload.is_empty() {
+                return Err(Stop::End);
+            }
+            if count == MOST {
+                return Err(Stop::TooManyMessages);
+            }
+            deliver_message(joiner, payload, count + 1)
+        }
+        Ok(None) => Err(Stop::End),
+        Err(fault) => Err(Stop::Frame(fault)),
+    }
+}
+
+// Delivers the message with this number.
+fn deliver_message<B: OrderBook>(
+    joiner: &mut Joiner<B>,
+    payload: &[u8],
+    number: u64,
+) -> Result<(), Stop>
+    requires some { 0 < number }
+    requires room { number < 10 ^ 19 }
+    requires joined { IsJoined joiner.old.state }
+    requires number { number ≤ Position.next (position_of joiner.old.state) }
+    ensures feeds { FeedsOne number (position_of joiner.old.state) payload.now result (position_of joiner.new.state) }
+    ensures joined { OnOk result (IsJoined joiner.new.state) }
+{
+    match joiner.live(number, payload) {
+        Ok(_taken) => Ok(()),
+        Err(fault) => Err(feed_stop(fault)),
+    }
+}
+
+// The stop where a joiner refuses the next message.
+fn feed_stop(fault: JoinFault) -> Stop
+    requires { IsOfFeed fault }
+    ensures { result ≡ feed_stop fault }
+{
+    match fault {
+        JoinFault::Halted {
+            cause: Cause::Codec(fault),
+            ..
+        } => Stop::Codec(fault),
+        JoinFault::Halted {
+            cause: Cause::Rule(reason),
+            ..
+        } => Stop::Rule(reason),
+        JoinFault::OutOfMemory { .. } => Stop::Rule(Refusal::OutOfMemory),
+        _ => unreachable!(),
+    }
+}

@@ -1,0 +1,122 @@
+//! `join`: a snapshot, and the feed that goes on after it.
+ghost use Rattle.std.specs.Prelude.{◌≡◌, true};
+ghost use Rattle.itch_codec.specs.Widths.{IsSequence};
+ghost use Rattle.itch_join.specs.Positions.{Position};
+ghost use Rattle.itch_join.specs.States.{new as fresh};
+ghost use Rattle.itch_commands.specs.Joiners.{IsJoined, WritesRoom, position_of};
+ghost use Rattle.itch_commands.specs.Joining.{ReadsStart, ReadsFeed, Then, HasRoom, joined};
+ghost use Rattle.itch_commands.specs.Outputs.{Outputs, closed_bytes};
+ghost use Rattle.itch_commands.specs.Readings.{FromReader};
+
+use crate::book::Book;
+use crate::fault::ToolFault;
+use crate::feed::read_feed;
+use crate::start::read_start;
+use crate::writing::write_closed;
+use itch_book::OrderBook;
+use itch_codec::Seq;
+use itch_frame::BlockReader;
+use itch_frame::counted::{CountedRead, CountedWrite};
+use itch_join::Joiner;
+use itch_snapshot::snapshot_len;
+use std::alloc::Allocator;
+
+/// As many messages as a snapshot may have before its End of Snapshot: 10^19 - 1.
+const MOST: u128 = 9_999_999_999_999_999_999;
+
+/// Joins a feed to a snapshot, and writes the snapshot after both: the canonical bytes of the market that the snapshot's
+/// messages leave, and then the feed's from the snapshot's number on, and an End of Snapshot with the number of the first
+/// message that is not contained.
+///
+/// The snapshot is read up to its End of Snapshot, before anything of the feed. The feed's messages are numbered from 1, and
+/// those below the snapshot's number are not decoded. A feed that ends before that number leaves the snapshot as it is.
+///
+/// # Faults
+///
+/// `Snap` for the snapshot, `Stopped` for the feed, with the count of the messages before; in both, want of memory at a message
+/// is the rule `OutOfMemory`. `TooMany` where the market has more than 10^19 - 1 messages. `OutOfMemory` where there is no
+/// memory for a block of each file.
+pub fn join<R: CountedRead + Drop, S: CountedRead + Drop, A: Allocator + Copy, W: CountedWrite>(
+    alloc: A,
+    snapshot: R,
+    feed: S,
+    out: &mut W,
+) -> Result<bool, ToolFault>
+    ensures { Outputs W.contents W.failures (FromReader snapshot (λ a b. FromReader feed (λ c d.
+        HasRoom (Then (ReadsStart R.remaining R.failures a b) (d ≡ c) (ReadsFeed S.remaining S.failures c d)))))
+        (λ both. closed_bytes (joined both)) (λ _. true) out.old result out.new }
+{
+    let mut snapshot = BlockReader::new(alloc, snapshot)?;
+    let mut feed = BlockReader::new(alloc, feed)?;
+    join_blocks(alloc, &mut snapshot, &mut feed, out)
+}
+
+/// The same over readers of blocks, which are left where the reading ended: that of the snapshot after its End of Snapshot.
+/// Where the snapshot is refused, nothing is read of the feed.
+pub fn join_blocks<
+    R: CountedRead,
+    S: CountedRead,
+    B: Allocator,
+    C: Allocator,
+    A: Allocator + Copy,
+    W: CountedWrite,
+>(
+    alloc: A,
+    snapshot: &mut BlockReader<R, B>,
+    feed: &mut BlockReader<S, C>,
+    out: &mut W,
+) -> Result<bool, ToolFault>
+    ensures { Outputs W.contents W.failures (HasRoom (Then (ReadsStart R.remaining R.failures snapshot.old snapshot.new) (feed.new ≡ feed.old)
+        (ReadsFeed S.remaining S.failures feed.old feed.new))) (λ both. closed_bytes (joined both)) (λ _. true) out.old result out.new }
+{
+    let mut joiner: Joiner<Book<A>> = Joiner::new(alloc, 0);
+    join_with(&mut joiner, snapshot, feed, out)
+}
+
+// The same with a joiner that has taken nothing.
+fn join_with<
+    R: CountedRead,
+    S: CountedRead,
+    B: Allocator,
+    C: Allocator,
+    D: OrderBook,
+    W: CountedWrite,
+>(
+    joiner: &mut Joiner<D>,
+    snapshot: &mut BlockReader<R, B>,
+    feed: &mut BlockReader<S, C>,
+    out: &mut W,
+) -> Result<bool, ToolFault>
+    requires { joiner.old.state ≡ fresh }
+    ensures { Outputs W.contents W.failures (HasRoom (Then (ReadsStart R.remaining R.failures snapshot.old snapshot.new) (feed.new ≡ feed.old)
+        (ReadsFeed S.remaining S.failures feed.old feed.new))) (λ both. closed_bytes (joined both)) (λ _. true) out.old result out.new }
+{
+    if let Err(fault) = read_start(snapshot, joiner) {
+        return Err(fault);
+    }
+    match read_feed(feed, joiner) {
+        Ok(()) => write_joined(joiner, out),
+        Err(fault) => Err(fault),
+    }
+}
+
+// Writes the snapshot of a joiner's market, if it is one.
+fn write_joined<B: OrderBook, W: CountedWrite>(
+    joiner: &Joiner<B>,
+    out: &mut W,
+) -> Result<bool, ToolFault>
+    requires joined { IsJoined joiner.now.state }
+    requires number { IsSequence (Position.next (position_of joiner.now.state)) }
+    ensures { WritesRoom W.contents W.failures (position_of joiner.now.state) out.old result out.new }
+{
+    let (Some(market), Some(next)) = (joiner.market(), joiner.next()) else {
+        unreachable!()
+    };
+    if snapshot_len(market) > MOST {
+        return Err(ToolFault::TooMany);
+    }
+    let Some(next) = Seq::new(next) else {
+        unreachable!()
+    };
+    write_closed(market, next, out)
+}

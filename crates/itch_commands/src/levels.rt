@@ -1,0 +1,166 @@
+//! `book`: the prices of a locate.
+ghost use Rattle.std.specs.Prelude.{◌≡◌, ◌≤◌, None, true, [], ◌∷◌, length};
+ghost use Rattle.itch_codec.specs.Fields.{side_byte};
+ghost use Rattle.itch_codec.specs.Lines.{price_text};
+ghost use Rattle.arrayvec.specs.ArrayVec.{array_vec_len};
+ghost use Rattle.itch_book.specs.Orders.{queue};
+ghost use Rattle.itch_commands.specs.Books.{level_line, side_lines, title_line, book_lines, book_of, ReadsListed};
+ghost use Rattle.itch_commands.specs.Outputs.{Outputs, WritesText};
+ghost use Rattle.itch_commands.specs.Readings.{ReadsDay, FromReader};
+ghost use Rattle.itch_commands.specs.declared.fault.Source.TheVariants.{Only};
+
+use crate::book::Book;
+use crate::fault::{Source, ToolFault};
+use crate::reading::day_market;
+use crate::writing::write_text;
+use arrayvec::ArrayVec;
+use itch_book::OrderBook;
+use itch_codec::Side;
+use itch_frame::BlockReader;
+use itch_frame::counted::{CountedRead, CountedWrite};
+use itch_market::Market;
+use itoa::Buffer;
+use std::alloc::Allocator;
+
+/// Writes the book of a locate after a day file's messages: a line `LOCATE STOCK`, and then a line `SIDE PRICE SHARES ORDERS`
+/// for each price, bids before asks, the best price first. A price has four decimals.
+///
+/// `UnknownLocate` where the directory has no such locate.
+pub fn book<R: CountedRead + Drop, A: Allocator + Copy, W: CountedWrite>(
+    alloc: A,
+    locate: u16,
+    reader: R,
+    out: &mut W,
+) -> Result<bool, ToolFault>
+    ensures { Outputs W.contents W.failures (FromReader reader (λ a b. ReadsListed locate (ReadsDay R.remaining R.failures Only None a b))) (book_of locate) (λ _. true)
+        out.old result out.new }
+{
+    let mut reader = BlockReader::new(alloc, reader)?;
+    book_blocks(alloc, locate, &mut reader, out)
+}
+
+/// The same over a reader of blocks, which is left where the reading ended.
+pub fn book_blocks<R: CountedRead, B: Allocator, A: Allocator + Copy, W: CountedWrite>(
+    alloc: A,
+    locate: u16,
+    reader: &mut BlockReader<R, B>,
+    out: &mut W,
+) -> Result<bool, ToolFault>
+    ensures { Outputs W.contents W.failures (ReadsListed locate (ReadsDay R.remaining R.failures Only None reader.old reader.new)) (book_of locate) (λ _. true)
+        out.old result out.new }
+{
+    let market: Market<Book<A>> = match day_market(alloc, reader, Source::Only) {
+        Ok(market) => market,
+        Err(fault) => return Err(fault),
+    };
+    let Some(security) = market.security(locate) else {
+        return Err(ToolFault::UnknownLocate);
+    };
+    let stock = security.entry.stock;
+    stock.recall_invariant();
+    match write_book(market.book(), locate, stock.text(), out) {
+        Ok(()) => Ok(true),
+        Err(fault) => Err(fault),
+    }
+}
+
+// Writes the title of a book and its prices.
+fn write_book<B: OrderBook, W: CountedWrite>(
+    book: &B,
+    locate: u16,
+    stock: &str,
+    out: &mut W,
+) -> Result<(), ToolFault>
+    requires { length stock.now ≤ 8 }
+    ensures { WritesText W.contents W.failures (book_lines locate stock.now (B.orders book.now)) out.old result out.new }
+{
+    match write_text(&title_line(locate, stock), out) {
+        Ok(()) => {}
+        Err(fault) => return Err(fault),
+    }
+    match write_side(book, locate, Side::Buy, out) {
+        Ok(()) => write_side(book, locate, Side::Sell, out),
+        Err(fault) => Err(fault),
+    }
+}
+
+// Writes the line of each price of a side, the best price first.
+fn write_side<B: OrderBook, W: CountedWrite>(
+    book: &B,
+    locate: u16,
+    side: Side,
+    out: &mut W,
+) -> Result<(), ToolFault>
+    ensures { WritesText W.contents W.failures (side_lines side (queue (B.orders book.now) locate side)) out.old result out.new }
+{
+    let mut last = None;
+    while let Some(price) = book.next_price(locate, side, last) {
+        let (shares, orders) = book.level_total(locate, side, price);
+        match write_text(&level_line(side, price, shares, orders), out) {
+            Ok(()) => last = Some(price),
+            Err(fault) => return Err(fault),
+        }
+    }
+    Ok(())
+}
+
+fn title_line(locate: u16, stock: &str) -> ArrayVec<u8, 64>
+    requires { length stock.now ≤ 8 }
+    ensures line { result.items ≡ title_line locate stock.now }
+    ensures short { array_vec_len result ≤ 64 }
+{
+    let mut digits = Buffer::new();
+    let mut line = ArrayVec::new();
+    line.try_extend_from_slice(digits.format(locate).as_bytes())
+        .unwrap();
+    line.try_extend_from_slice(b" ").unwrap();
+    line.try_extend_from_slice(stock.as_bytes()).unwrap();
+    line.try_extend_from_slice(b"\n").unwrap();
+    line
+}
+
+fn level_line(side: Side, price: u32, shares: u128, orders: u64) -> ArrayVec<u8, 192>
+    ensures line { result.items ≡ level_line side price shares orders }
+    ensures short { array_vec_len result ≤ 192 }
+{
+    let mut digits = Buffer::new();
+    let mut line = ArrayVec::new();
+    line.try_extend_from_slice(side_text(side)).unwrap();
+    line.try_extend_from_slice(&price_text(price)).unwrap();
+    line.try_extend_from_slice(b" ").unwrap();
+    line.try_extend_from_slice(digits.format(shares).as_bytes())
+        .unwrap();
+    line.try_extend_from_slice(b" ").unwrap();
+    line.try_extend_from_slice(digits.format(orders).as_bytes())
+        .unwrap();
+    line.try_extend_from_slice(b"\n").unwrap();
+    line
+}
+
+fn side_text(side: Side) -> &'static [u8]
+    ensures { result.now ≡ side_byte side ∷ 32 ∷ [] }
+{
+    match side {
+        Side::Buy => b"B ",
+        Side::Sell => b"S ",
+    }
+}
+
+fn price_text(price: u32) -> ArrayVec<u8, 48>
+    ensures text { result.items ≡ price_text price }
+    ensures short { array_vec_len result ≤ 48 }
+{
+    let rest = [
+        b'.',
+        b'0' + (price / 1_000 % 10) as u8,
+        b'0' + (price / 100 % 10) as u8,
+        b'0' + (price / 10 % 10) as u8,
+        b'0' + (price % 10) as u8,
+    ];
+    let mut digits = Buffer::new();
+    let mut text = ArrayVec::new();
+    text.try_extend_from_slice(digits.format(price / 10_000).as_bytes())
+        .unwrap();
+    text.try_extend_from_slice(&rest).unwrap();
+    text
+}

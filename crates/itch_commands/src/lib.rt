@@ -1,0 +1,30 @@
+//! The commands over files: each is a public function over readers and a writer.
+//!
+//! A command has a module of its own, with two functions. One takes a reader of bytes and makes the reader of their blocks, for
+//! which it wants memory; the other, with `_blocks` in its name, takes the readers of blocks. Both return true, or false where
+//! `compare` finds two markets that differ and `canon` a file that is not canonical. A [`ToolFault`] says why a command failed,
+//! and has the line that tells it and the status that a program ends with.
+#![tactic(auto)]
+
+mod book;
+pub mod canon;
+mod canonical;
+pub mod check;
+pub mod compare;
+mod fault;
+mod feed;
+pub mod join;
+mod kept;
+pub mod levels;
+mod reading;
+pub mod show;
+pub mod snap;
+mod start;
+#[cfg(test)]
+mod tests;
+mod writing;
+
+pub use book::Book;
+pub use fault::{Source, ToolFault, status, system_fault};
+pub use reading::read_market;
+pub use writing::{write_closed, write_text};

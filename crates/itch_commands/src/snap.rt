@@ -1,0 +1,51 @@
+//! `snap`: the canonical snapshot of a file.
+ghost use Rattle.std.specs.Prelude.{true};
+ghost use Rattle.itch_commands.specs.Outputs.{Outputs, snapshot_of};
+ghost use Rattle.itch_commands.specs.Readings.{ReadsDay, FromReader};
+ghost use Rattle.itch_commands.specs.declared.fault.Source.TheVariants.{Only};
+
+use crate::book::Book;
+use crate::fault::{Source, ToolFault};
+use crate::reading::read_market;
+use crate::writing::write_closed;
+use itch_codec::Seq;
+use itch_frame::BlockReader;
+use itch_frame::counted::{CountedRead, CountedWrite};
+use itch_market::Market;
+use std::alloc::Allocator;
+
+/// Writes the canonical snapshot behind a day file's messages, or behind its first ones: the canonical bytes of the market
+/// that they leave, and an End of Snapshot with the number of the first message that it does not contain.
+///
+/// With `after`, reading stops behind that many messages. A fault before is answered as such, and an earlier end as `Short`.
+pub fn snap<R: CountedRead + Drop, A: Allocator + Copy, W: CountedWrite>(
+    alloc: A,
+    reader: R,
+    after: Option<u64>,
+    out: &mut W,
+) -> Result<bool, ToolFault>
+    ensures { Outputs W.contents W.failures (FromReader reader (ReadsDay R.remaining R.failures Only after)) snapshot_of (λ _. true) out.old result out.new }
+{
+    let mut reader = BlockReader::new(alloc, reader)?;
+    snap_blocks(alloc, &mut reader, after, out)
+}
+
+/// The same over a reader of blocks, which is left where the reading ended: after the first messages, where those are wanted.
+pub fn snap_blocks<R: CountedRead, B: Allocator, A: Allocator + Copy, W: CountedWrite>(
+    alloc: A,
+    reader: &mut BlockReader<R, B>,
+    after: Option<u64>,
+    out: &mut W,
+) -> Result<bool, ToolFault>
+    ensures { Outputs W.contents W.failures (ReadsDay R.remaining R.failures Only after reader.old reader.new) snapshot_of (λ _. true) out.old result out.new }
+{
+    let mut market: Market<Book<A>> = Market::new(alloc);
+    let count = match read_market(reader, &mut market, after, Source::Only) {
+        Ok(count) => count,
+        Err(fault) => return Err(fault),
+    };
+    let Some(next) = Seq::new(count + 1) else {
+        unreachable!()
+    };
+    write_closed(&market, next, out)
+}
