@@ -6,7 +6,7 @@ use Rattle.std.proofs.lemmas.Bool.Decides.{nat_tests}
 use Rattle.itch_codec.specs.declared.fault.CodecFault.{CodecFault}
 use Rattle.itch_codec.specs.declared.message.Message.{Message}
 use Rattle.itch_codec.specs.declared.message.Message.TheVariants as is
-use Rattle.itch_codec.specs.Layouts.{Layout, table, layout_in, layout_of, IsUndecoded, end_of_snapshot, system_event, stock_directory, trading_action, reg_sho, add_order, attributed_add_order, order_executed, order_executed_with_price, order_cancel, order_delete, order_replace, trade, cross_trade, broken_trade}
+use Rattle.itch_codec.specs.Layouts.{Layout, table, layout_in, layout_of, IsUndecoded, end_of_snapshot, system_event, stock_directory, trading_action, reg_sho, operational_halt, participant_position, add_order, attributed_add_order, order_executed, order_executed_with_price, order_cancel, order_delete, order_replace, trade, cross_trade, broken_trade}
 use Rattle.itch_codec.specs.Fields.{AreBytes, Value, FitAll, value_at, first_fault, Reads}
 use Rattle.itch_codec.specs.Widths.{IsMessage, IsOther}
 use Rattle.itch_codec.specs.Messages.{Shape, Fields, Payload, shape, IsLaid, HasShape, Spells, bytes_of_shape, spelling, IsEnd, IsKeptWhole, laid_fault, fault_by_layout, fault, made, message_by_layout, message_of}
@@ -35,6 +35,12 @@ trading_action_row = record { known = refl; gapless = refl; short = omega arith;
 
 reg_sho_row : IsRow reg_sho
 reg_sho_row = record { known = refl; gapless = refl; short = omega arith; makes = λ payload. refl }
+
+operational_halt_row : IsRow operational_halt
+operational_halt_row = record { known = refl; gapless = refl; short = omega arith; makes = λ payload. refl }
+
+participant_position_row : IsRow participant_position
+participant_position_row = record { known = refl; gapless = refl; short = omega arith; makes = λ payload. refl }
 
 add_order_row : IsRow add_order
 add_order_row = record { known = refl; gapless = refl; short = omega arith; makes = λ payload. refl }
@@ -70,7 +76,7 @@ end_of_snapshot_row : IsRow end_of_snapshot
 end_of_snapshot_row = record { known = refl; gapless = refl; short = omega arith; makes = λ payload. refl }
 
 rows : AllByRecursion IsRow table
-rows = (system_event_row, (stock_directory_row, (trading_action_row, (reg_sho_row, (add_order_row, (attributed_add_order_row, (order_executed_row, (order_executed_with_price_row, (order_cancel_row, (order_delete_row, (order_replace_row, (trade_row, (cross_trade_row, (broken_trade_row, (end_of_snapshot_row, tt)))))))))))))))
+rows = (system_event_row, (stock_directory_row, (trading_action_row, (reg_sho_row, (operational_halt_row, (participant_position_row, (add_order_row, (attributed_add_order_row, (order_executed_row, (order_executed_with_price_row, (order_cancel_row, (order_delete_row, (order_replace_row, (trade_row, (cross_trade_row, (broken_trade_row, (end_of_snapshot_row, tt)))))))))))))))))
 
 -- what is found in the table is a row of it, with the type that was sought
 row_in : (layouts : List Layout) (kind : ℕ) (layout : Layout) → AllByRecursion IsRow layouts → layout_in layouts kind ≡ Some layout
@@ -101,6 +107,8 @@ makes (is.SystemEvent m) = (system_event_row, refl)
 makes (is.StockDirectory m) = (stock_directory_row, refl)
 makes (is.TradingAction m) = (trading_action_row, refl)
 makes (is.RegSho m) = (reg_sho_row, refl)
+makes (is.Halt m) = (operational_halt_row, refl)
+makes (is.Position m) = (participant_position_row, refl)
 makes (is.AddOrder m) = (add_order_row, refl)
 makes (is.AttributedAddOrder m) = (attributed_add_order_row, refl)
 makes (is.OrderExecuted m) = (order_executed_row, refl)
@@ -187,6 +195,8 @@ fits (is.SystemEvent m) h = assumption h
 fits (is.StockDirectory m) h = assumption h
 fits (is.TradingAction m) h = assumption h
 fits (is.RegSho m) h = assumption h
+fits (is.Halt m) h = assumption h
+fits (is.Position m) h = assumption h
 fits (is.AddOrder m) h = assumption h
 fits (is.AttributedAddOrder m) h = assumption h
 fits (is.OrderExecuted m) h = assumption h
@@ -205,6 +215,8 @@ fitting (is.SystemEvent m) h = assumption h
 fitting (is.StockDirectory m) h = assumption h
 fitting (is.TradingAction m) h = assumption h
 fitting (is.RegSho m) h = assumption h
+fitting (is.Halt m) h = assumption h
+fitting (is.Position m) h = assumption h
 fitting (is.AddOrder m) h = assumption h
 fitting (is.AttributedAddOrder m) h = assumption h
 fitting (is.OrderExecuted m) h = assumption h
@@ -255,6 +267,8 @@ not_kept (is.SystemEvent m) n h = h
 not_kept (is.StockDirectory m) n h = h
 not_kept (is.TradingAction m) n h = h
 not_kept (is.RegSho m) n h = h
+not_kept (is.Halt m) n h = h
+not_kept (is.Position m) n h = h
 not_kept (is.AddOrder m) n h = h
 not_kept (is.AttributedAddOrder m) n h = h
 not_kept (is.OrderExecuted m) n h = h
@@ -291,6 +305,8 @@ one_spelling (is.SystemEvent m) h = refl
 one_spelling (is.StockDirectory m) h = refl
 one_spelling (is.TradingAction m) h = refl
 one_spelling (is.RegSho m) h = refl
+one_spelling (is.Halt m) h = refl
+one_spelling (is.Position m) h = refl
 one_spelling (is.AddOrder m) h = refl
 one_spelling (is.AttributedAddOrder m) h = refl
 one_spelling (is.OrderExecuted m) h = refl

@@ -1,3 +1,4 @@
+pub mod Trees
 pub mod Maps
 pub mod Slots
 pub mod Bytes
