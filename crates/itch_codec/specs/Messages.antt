@@ -70,9 +70,12 @@ IsEnd (is.End next) = Unit {0}
 IsEnd m = ⊥
 
 -- the message is a payload that is not decoded
+abbrev pub IsWhole : Shape → Type 0
+IsWhole (Payload bytes) = Unit {0}
+IsWhole (Fields layout values) = ⊥
+
 abbrev pub IsKeptWhole : Message → Type 0
-IsKeptWhole (is.Other bytes) = Unit {0}
-IsKeptWhole m = ⊥
+IsKeptWhole m = IsWhole (shape m)
 
 -- the fault of a payload of this layout: its length, or that of the first field that has one
 abbrev pub laid_fault : Layout → List ℕ → Option CodecFault

@@ -8,10 +8,9 @@ use Rattle.itch_codec.specs.declared.orders.AddOrder.{AddOrder}
 use Rattle.itch_codec.specs.Messages.{fault, message_of}
 use Rattle.itch_book.specs.declared.order.Order.{Order}
 use Rattle.itch_book.specs.Orders as book
-use Rattle.itch_market.specs.declared.security.Security.{Security}
 use Rattle.itch_market.specs.declared.refusal.Refusal.{Refusal}
 use Rattle.itch_market.specs.declared.refusal.Refusal.TheVariants.{UnknownLocate, StockMismatch, ZeroShares, DuplicateRef, UnknownRef, LocateMismatch, TooManyShares, UnexpectedEnd, OutOfMemory}
-use Rattle.itch_market.specs.Content.{Content, laid}
+use Rattle.itch_market.specs.Content.{Content, laid, Listing}
 use Rattle.itch_market.specs.Reasons.{reason, refuse, security_reason, order_reason, directory_reason, add_reason, take_reason, is_live}
 use Rattle.itch_market.specs.Effects as market
 use Rattle.itch_market.specs.Replays.{IsRefusal}
@@ -43,11 +42,11 @@ later false why rest other free h = free h
 none_free : ◌≡◌ {A = Option Refusal} None (Some OutOfMemory) → ⊥
 none_free h = cc
 
-of_security : (found : Option Security) (stock : List ℕ) (rest : Option Refusal) → rest ≢ Some OutOfMemory → security_reason found stock rest ≢ Some OutOfMemory
+of_security : (found : Option Listing) (stock : List ℕ) (rest : Option Refusal) → rest ≢ Some OutOfMemory → security_reason found stock rest ≢ Some OutOfMemory
 of_security None stock rest free h = cc
 of_security (Some s) stock rest free h = later _ StockMismatch rest (λ e. cc) free h
 
-of_directory : (found : Option Security) (stock : List ℕ) → directory_reason found stock ≢ Some OutOfMemory
+of_directory : (found : Option Listing) (stock : List ℕ) → directory_reason found stock ≢ Some OutOfMemory
 of_directory None stock h = cc
 of_directory (Some s) stock h = later _ StockMismatch None (λ e. cc) (λ e. cc) h
 

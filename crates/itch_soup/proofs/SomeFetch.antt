@@ -20,9 +20,8 @@ use Rattle.itch_book.specs.Orders as book
 use Rattle.itch_book.proofs.Lists.{All-left_rec, All-right_rec}
 use Rattle.itch_market.specs.declared.refusal.Refusal.{Refusal}
 use Rattle.itch_market.specs.declared.refusal.Refusal.TheVariants.{StockMismatch, ZeroShares, DuplicateRef, LocateMismatch, TooManyShares}
-use Rattle.itch_market.specs.declared.security.Security.{Security}
 use Rattle.itch_market.specs.declared.stop.Stop.TheVariants as stop
-use Rattle.itch_market.specs.Content.{Content, laid}
+use Rattle.itch_market.specs.Content.{Content, laid, Listing}
 use Rattle.itch_market.specs.Effects.{effect, takes_memory}
 use Rattle.itch_market.specs.Reasons.{reason, refuse, is_other_stock, security_reason, directory_reason, order_reason, add_reason, take_reason, is_live}
 use Rattle.itch_market.specs.Replays.{IsRefusal, IsTold}
@@ -129,11 +128,11 @@ refuse_told : (b : Bool) (why : Refusal) (later : Option Refusal) → IsTold (st
 refuse_told true why later h k = h
 refuse_told false why later h k = k
 
-directory_told : (s : Option Security) (stock : List ℕ) → Reasoned (directory_reason s stock)
+directory_told : (s : Option Listing) (stock : List ℕ) → Reasoned (directory_reason s stock)
 directory_told None stock = tt
 directory_told (Some s) stock = refuse_told (is_other_stock s stock) StockMismatch None tt tt
 
-security_told : (s : Option Security) (stock : List ℕ) (later : Option Refusal) → Reasoned later → Reasoned (security_reason s stock later)
+security_told : (s : Option Listing) (stock : List ℕ) (later : Option Refusal) → Reasoned later → Reasoned (security_reason s stock later)
 security_told None stock later h = tt
 security_told (Some s) stock later h = refuse_told (is_other_stock s stock) StockMismatch later tt h
 
@@ -152,6 +151,8 @@ reason_told m (message.SystemEvent x) = tt
 reason_told m (message.StockDirectory x) = directory_told (finite.get m.securities x.header.locate) x.entry.stock
 reason_told m (message.TradingAction x) = security_told (finite.get m.securities x.header.locate) x.stock None tt
 reason_told m (message.RegSho x) = security_told (finite.get m.securities x.header.locate) x.stock None tt
+reason_told m (message.Halt x) = security_told (finite.get m.securities x.header.locate) x.stock None tt
+reason_told m (message.Position x) = security_told (finite.get m.securities x.header.locate) x.stock None tt
 reason_told m (message.AddOrder x) = add_told m x
 reason_told m (message.AttributedAddOrder x) = add_told m x.order
 reason_told m (message.OrderExecuted x) = take_told m x.header.locate x.reference x.shares

@@ -25,7 +25,7 @@ pub(super) struct Kept {
     pub(super) positions: Vec<(Alpha<4>, [u8; 3])>,
 }
 
-fn kept<A: Allocator>(
+fn kept_at<A: Allocator>(
     alloc: Global,
     locate: u16,
     security: &Security<A>,
@@ -68,7 +68,7 @@ pub(super) fn content_of<B: OrderBook>(
     let mut orders = Vec::new(alloc);
     for locate in market.locates() {
         if let Some(security) = market.security(locate) {
-            securities.push(kept(alloc, locate, security)?)?;
+            securities.push(kept_at(alloc, locate, security)?)?;
         }
         push_orders(rt, market.book(), locate, &mut orders)?;
     }
