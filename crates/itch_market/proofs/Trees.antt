@@ -1,5 +1,5 @@
 -- Finite maps with keys in any total order that tells keys apart: what a `BTreeMap` holds of one, and what its entries make.
-use Rattle.std.proofs.Common.{T, ◌&&◌, is_lt, is_eq, Ordering, Less, Equal, Greater, ◌≡◌, ℕ, Bool, true, false, cond, List, [], ◌∷◌, Option, Some, None, refl, sym, ap, ◌∙◌, subst, arith, length}
+use Rattle.std.proofs.Common.{T, ◌&&◌, is_lt, is_eq, Ordering, Less, Equal, Greater, ◌≡◌, Bool, true, false, cond, List, [], ◌∷◌, Option, Some, None, refl, sym, ap, ◌∙◌, subst, arith, length}
 use Rattle.std.specs.Ordering.{eq_by_cmp}
 use Rattle.std.specs.Cmp.{IsTotalOrder, eq_by_cmp_equiv, tied_itself}
 use Rattle.std.specs.FinMap as map

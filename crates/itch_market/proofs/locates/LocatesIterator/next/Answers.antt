@@ -1,4 +1,4 @@
-use Rattle.std.proofs.Common.{rules, ◌≡◌, ℕ, suc, ◌+◌, ◌∷◌, length, arith, sym, ap, ◌∙◌}
+use Rattle.std.proofs.Common.{rules, ◌≡◌, suc, ◌+◌, ◌∷◌, length, arith, sym, ap, ◌∙◌}
 use Rattle.itch_market.specs.Slots.{locates_from}
 use Rattle.itch_market.proofs.locates.LocatesIterator.next.Goals as goal
 

@@ -1,4 +1,4 @@
-use Rattle.std.proofs.Common.{◌<◌, sym, rules}
+use Rattle.std.proofs.Common.{sym, rules}
 use Rattle.itch_market.specs.Effects.{with_halt}
 use Rattle.itch_market.proofs.Goods.{changed_good, new_halt}
 use Rattle.itch_market.proofs.Laid.{laid_already}

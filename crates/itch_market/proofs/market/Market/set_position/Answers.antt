@@ -1,4 +1,4 @@
-use Rattle.std.proofs.Common.{◌<◌, sym, rules}
+use Rattle.std.proofs.Common.{sym}
 use Rattle.itch_market.specs.Effects.{with_position, position_of}
 use Rattle.itch_market.proofs.Goods.{changed_good, new_position}
 use Rattle.itch_market.proofs.Laid.{laid_already}
