@@ -100,7 +100,12 @@ impl<A: Allocator + Copy> Securities<A> {
     }
 
     /// Changes the action at a market code of a locate, if a security is there. Where memory is refused, nothing changes.
-    pub(crate) fn set_halt(&mut self, locate: u16, market_code: u8, action: u8) -> Result<(), AllocError>
+    pub(crate) fn set_halt(
+        &mut self,
+        locate: u16,
+        market_code: u8,
+        action: u8,
+    ) -> Result<(), AllocError>
         ensures ok { OnOk result (self.new ≡ changed (with_halt market_code action) locate self.old) }
         ensures err { OnErr result (self.new ≡ self.old) }
         ensures memory { IsErr result → IsTrue (lacks_halt (map.get self.old locate) market_code) }
@@ -115,7 +120,12 @@ impl<A: Allocator + Copy> Securities<A> {
     }
 
     /// Changes a market participant's position at a locate, if a security is there. Where memory is refused, nothing changes.
-    pub(crate) fn set_position(&mut self, locate: u16, mpid: Alpha<4>, position: [u8; 3]) -> Result<(), AllocError>
+    pub(crate) fn set_position(
+        &mut self,
+        locate: u16,
+        mpid: Alpha<4>,
+        position: [u8; 3],
+    ) -> Result<(), AllocError>
         ensures ok { OnOk result (self.new ≡ changed (with_position mpid position) locate self.old) }
         ensures err { OnErr result (self.new ≡ self.old) }
         ensures memory { IsErr result → IsTrue (lacks_position (map.get self.old locate) mpid) }

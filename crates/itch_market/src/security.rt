@@ -44,11 +44,11 @@ impl<A: Allocator> Model for Security<A> {
     ghost coded = { Prim.hlevel (codes, map.code) };
 
     ghost view = { λ s. record {
-        entry = s.entry;
-        action = s.action;
-        sho = s.sho;
-        halts = map.from_entries s.halts.entries;
-        positions = map.from_entries s.positions.entries;
+      entry = s.entry;
+      action = s.action;
+      sho = s.sho;
+      halts = map.from_entries s.halts.entries;
+      positions = map.from_entries s.positions.entries;
     } };
 }
 

@@ -8,8 +8,7 @@ pub(super) const TRADING_ACTION: &[u8] = b"H\x00\x01\x00\x00\x00\x00\x00\x00\x00
 
 pub(super) const REG_SHO: &[u8] = b"Y\x00\x01\x00\x00\x00\x00\x00\x00\x00\x00AAPL    0";
 
-pub(super) const OPERATIONAL_HALT: &[u8] =
-    b"h\x00\x01\x00\x00\x00\x00\x00\x00\x00\x00AAPL    QH";
+pub(super) const OPERATIONAL_HALT: &[u8] = b"h\x00\x01\x00\x00\x00\x00\x00\x00\x00\x00AAPL    QH";
 
 pub(super) const PARTICIPANT_POSITION: &[u8] =
     b"L\x00\x01\x00\x00\x00\x00\x00\x00\x00\x00ABCDAAPL    NNA";

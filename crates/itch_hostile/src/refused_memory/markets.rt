@@ -86,7 +86,10 @@ fn refuse_each_growth<B: OrderBook>(
     for growing in [(HALTS, 19), (POSITIONS, 14)] {
         assert!(rt; refuse_forty(rt, alloc, refusing, market, growing.0, &[growing.1])? > 0);
         // What is there already takes none.
-        assert_eq!(rt; refuse_forty(rt, alloc, refusing, market, growing.0, &[growing.1])?, 0);
+        assert_eq!(rt;
+            refuse_forty(rt, alloc, refusing, market, growing.0, &[growing.1])?,
+            0
+        );
     }
     assert!(rt; refuse_forty(rt, alloc, refusing, market, ADDS, &[18, 35])? > 0);
     assert!(rt; refuse_forty(rt, alloc, refusing, market, NAMES, &[18, 35])? > 0);
