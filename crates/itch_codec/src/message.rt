@@ -5,9 +5,7 @@ use crate::orders::{
     AddOrder, AttributedAddOrder, OrderCancel, OrderDelete, OrderExecuted, OrderExecutedWithPrice,
     OrderReplace,
 };
-use crate::stocks::{
-    OperationalHalt, ParticipantPosition, RegSho, StockDirectory, SystemEvent, TradingAction,
-};
+use crate::stocks::{RegSho, StockDirectory, SystemEvent, TradingAction};
 use crate::trades::{BrokenTrade, CrossTrade, Trade};
 use crate::undecoded::Undecoded;
 
@@ -18,8 +16,6 @@ pub enum Message<'a> {
     StockDirectory(StockDirectory),
     TradingAction(TradingAction),
     RegSho(RegSho),
-    Halt(OperationalHalt),
-    Position(ParticipantPosition),
     AddOrder(AddOrder),
     AttributedAddOrder(AttributedAddOrder),
     OrderExecuted(OrderExecuted),

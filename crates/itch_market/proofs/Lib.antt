@@ -1,4 +1,3 @@
-pub mod Trees
 pub mod Maps
 pub mod Slots
 pub mod Bytes
@@ -11,7 +10,6 @@ pub mod DayFiles
 pub mod Taking
 pub mod Stopping
 pub mod Places
-pub mod Rules
 pub mod Told
 pub mod Searches
 pub mod OneStop

@@ -4,18 +4,17 @@ ghost use Rattle.std.specs.Iterator.{YieldsFirst, item_count};
 ghost use Rattle.itch_market.specs.Slots.{locates_from, IsFirstFrom};
 
 use crate::security::Security;
-use std::alloc::Allocator;
 use std::marker::Model;
 
 /// The locates of the directory, rising.
 #[derive(Drop)]
-pub struct Locates<'a, A: Allocator> {
-    slots: &'a [Option<Security<A>>],
+pub struct Locates<'a> {
+    slots: &'a [Option<Security>],
     // The first locate that was not looked at.
     next: usize,
 }
 
-impl<'a, A: Allocator> Model for Locates<'a, A> {
+impl<'a> Model for Locates<'a> {
     ghost use Rattle.std.specs.Prelude.{◌≤◌, List, ℕ, length};
     ghost use Rattle.itch_market.specs.Slots.{locates_from};
 
@@ -26,9 +25,9 @@ impl<'a, A: Allocator> Model for Locates<'a, A> {
     ghost invariant = { λ l. length l.slots.now ≤ 65536 };
 }
 
-impl<'a, A: Allocator> Locates<'a, A> {
+impl<'a> Locates<'a> {
     /// The locates at which slots have a security.
-    pub(crate) fn new(slots: &'a [Option<Security<A>>]) -> Locates<'a, A>
+    pub(crate) fn new(slots: &'a [Option<Security>]) -> Locates<'a>
         requires { length slots.now ≤ 65536 }
         ensures { result ≡ locates_from 0 slots.now }
     {
@@ -36,7 +35,7 @@ impl<'a, A: Allocator> Locates<'a, A> {
     }
 
     /// A second iterator over the locates that are left.
-    pub fn again(&self) -> Locates<'a, A>
+    pub fn again(&self) -> Locates<'a>
         ensures { result ≡ self.now }
     {
         Locates {
@@ -46,7 +45,7 @@ impl<'a, A: Allocator> Locates<'a, A> {
     }
 }
 
-impl<A: Allocator> Iterator for Locates<'_, A> {
+impl Iterator for Locates<'_> {
     type Item = u16;
 
     ghost next_gives = { YieldsFirst (λ l. l) };
@@ -61,7 +60,7 @@ impl<A: Allocator> Iterator for Locates<'_, A> {
 }
 
 // The first locate with a security, from one on.
-fn first_from<A: Allocator>(slots: &[Option<Security<A>>], from: usize) -> Option<usize>
+fn first_from(slots: &[Option<Security>], from: usize) -> Option<usize>
     ensures { IsFirstFrom from slots.now result }
 {
     for locate in from..slots.len() {

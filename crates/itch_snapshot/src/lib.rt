@@ -11,7 +11,6 @@ mod parts;
 mod read;
 mod reader;
 mod stage;
-mod states;
 #[cfg(test)]
 mod tests;
 mod write;
