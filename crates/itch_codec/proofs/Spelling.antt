@@ -6,10 +6,10 @@ use Rattle.std.proofs.lemmas.Bool.Decides.{nat_tests}
 use Rattle.itch_codec.specs.declared.fault.CodecFault.{CodecFault}
 use Rattle.itch_codec.specs.declared.message.Message.{Message}
 use Rattle.itch_codec.specs.declared.message.Message.TheVariants as is
-use Rattle.itch_codec.specs.Layouts.{Layout, table, layout_in, layout_of, IsUndecoded, end_of_snapshot, system_event, stock_directory, trading_action, reg_sho, add_order, attributed_add_order, order_executed, order_executed_with_price, order_cancel, order_delete, order_replace, trade, cross_trade, broken_trade}
+use Rattle.itch_codec.specs.Layouts.{Layout, table, layout_in, layout_of, IsUndecoded, end_of_snapshot, system_event, stock_directory, trading_action, reg_sho, operational_halt, participant_position, add_order, attributed_add_order, order_executed, order_executed_with_price, order_cancel, order_delete, order_replace, trade, cross_trade, broken_trade}
 use Rattle.itch_codec.specs.Fields.{AreBytes, Value, FitAll, value_at, first_fault, Reads}
 use Rattle.itch_codec.specs.Widths.{IsMessage, IsOther}
-use Rattle.itch_codec.specs.Messages.{Shape, Fields, Payload, shape, IsLaid, HasShape, Spells, bytes_of_shape, spelling, IsEnd, IsKeptWhole, laid_fault, fault_by_layout, fault, made, message_by_layout, message_of}
+use Rattle.itch_codec.specs.Messages.{Shape, Fields, Payload, shape, IsLaid, HasShape, Spells, bytes_of_shape, spelling, IsEnd, IsWhole, IsKeptWhole, laid_fault, fault_by_layout, fault, made, message_by_layout, message_of}
 use Rattle.itch_codec.proofs.Tables.{all_values, all_none, none_all}
 use Rattle.itch_codec.proofs.Joined.{is_gapless, gapless_le, has_no_digits, joined_has, joined_len, has_joined, all_fit}
 
@@ -21,7 +21,7 @@ values_at layout payload = map (value_at payload) layout.columns
 pub record IsRow (layout : Layout) : Type 0 where
   pub known : layout_of layout.kind ≡ Some layout
   pub gapless : is_gapless 1 layout.size layout.columns ≡ true
-  pub short : layout.size < 65536
+  pub short : layout.size < 65535
   pub makes : (payload : List ℕ) → shape (made layout.kind (values_at layout payload)) ≡ Fields layout (values_at layout payload)
 
 system_event_row : IsRow system_event
@@ -35,6 +35,12 @@ trading_action_row = record { known = refl; gapless = refl; short = omega arith;
 
 reg_sho_row : IsRow reg_sho
 reg_sho_row = record { known = refl; gapless = refl; short = omega arith; makes = λ payload. refl }
+
+operational_halt_row : IsRow operational_halt
+operational_halt_row = record { known = refl; gapless = refl; short = omega arith; makes = λ payload. refl }
+
+participant_position_row : IsRow participant_position
+participant_position_row = record { known = refl; gapless = refl; short = omega arith; makes = λ payload. refl }
 
 add_order_row : IsRow add_order
 add_order_row = record { known = refl; gapless = refl; short = omega arith; makes = λ payload. refl }
@@ -70,7 +76,7 @@ end_of_snapshot_row : IsRow end_of_snapshot
 end_of_snapshot_row = record { known = refl; gapless = refl; short = omega arith; makes = λ payload. refl }
 
 rows : AllByRecursion IsRow table
-rows = (system_event_row, (stock_directory_row, (trading_action_row, (reg_sho_row, (add_order_row, (attributed_add_order_row, (order_executed_row, (order_executed_with_price_row, (order_cancel_row, (order_delete_row, (order_replace_row, (trade_row, (cross_trade_row, (broken_trade_row, (end_of_snapshot_row, tt)))))))))))))))
+rows = (system_event_row, (stock_directory_row, (trading_action_row, (reg_sho_row, (operational_halt_row, (participant_position_row, (add_order_row, (attributed_add_order_row, (order_executed_row, (order_executed_with_price_row, (order_cancel_row, (order_delete_row, (order_replace_row, (trade_row, (cross_trade_row, (broken_trade_row, (end_of_snapshot_row, tt)))))))))))))))))
 
 -- what is found in the table is a row of it, with the type that was sought
 row_in : (layouts : List Layout) (kind : ℕ) (layout : Layout) → AllByRecursion IsRow layouts → layout_in layouts kind ≡ Some layout
@@ -101,6 +107,8 @@ makes (is.SystemEvent m) = (system_event_row, refl)
 makes (is.StockDirectory m) = (stock_directory_row, refl)
 makes (is.TradingAction m) = (trading_action_row, refl)
 makes (is.RegSho m) = (reg_sho_row, refl)
+makes (is.Halt m) = (operational_halt_row, refl)
+makes (is.Position m) = (participant_position_row, refl)
 makes (is.AddOrder m) = (add_order_row, refl)
 makes (is.AttributedAddOrder m) = (attributed_add_order_row, refl)
 makes (is.OrderExecuted m) = (order_executed_row, refl)
@@ -187,6 +195,8 @@ fits (is.SystemEvent m) h = assumption h
 fits (is.StockDirectory m) h = assumption h
 fits (is.TradingAction m) h = assumption h
 fits (is.RegSho m) h = assumption h
+fits (is.Halt m) h = assumption h
+fits (is.Position m) h = assumption h
 fits (is.AddOrder m) h = assumption h
 fits (is.AttributedAddOrder m) h = assumption h
 fits (is.OrderExecuted m) h = assumption h
@@ -205,6 +215,8 @@ fitting (is.SystemEvent m) h = assumption h
 fitting (is.StockDirectory m) h = assumption h
 fitting (is.TradingAction m) h = assumption h
 fitting (is.RegSho m) h = assumption h
+fitting (is.Halt m) h = assumption h
+fitting (is.Position m) h = assumption h
 fitting (is.AddOrder m) h = assumption h
 fitting (is.AttributedAddOrder m) h = assumption h
 fitting (is.OrderExecuted m) h = assumption h
@@ -233,7 +245,7 @@ Spells-spelling m h = shape_spelled (shape m) m (makes m) (fits m h)
 
 -- a spelling is not empty, and where the message is not kept as it is it is short
 abbrev ShortShape : Shape → Type 0
-ShortShape (Fields layout values) = length (bytes_of_shape (Fields layout values)) < 65536
+ShortShape (Fields layout values) = length (bytes_of_shape (Fields layout values)) < 65535
 ShortShape (Payload bytes) = Unit {0}
 
 shape_short : (s : Shape) (m : Message) → Makes s m → ShapeFits s → ShortShape s
@@ -250,32 +262,22 @@ shape_some : (s : Shape) (m : Message) → Makes s m → ShapeFits s → 0 < len
 shape_some (Fields layout values) m from h = omega arith
 shape_some (Payload bytes) m from h = kept_some bytes h.undecoded
 
-not_kept : (m : Message) → (IsKeptWhole m → ⊥) → ShortShape (shape m) → length (bytes_of_shape (shape m)) < 65536
-not_kept (is.SystemEvent m) n h = h
-not_kept (is.StockDirectory m) n h = h
-not_kept (is.TradingAction m) n h = h
-not_kept (is.RegSho m) n h = h
-not_kept (is.AddOrder m) n h = h
-not_kept (is.AttributedAddOrder m) n h = h
-not_kept (is.OrderExecuted m) n h = h
-not_kept (is.OrderExecutedWithPrice m) n h = h
-not_kept (is.OrderCancel m) n h = h
-not_kept (is.OrderDelete m) n h = h
-not_kept (is.OrderReplace m) n h = h
-not_kept (is.Trade m) n h = h
-not_kept (is.CrossTrade m) n h = h
-not_kept (is.BrokenTrade m) n h = h
-not_kept (is.End next) n h = h
-not_kept (is.Other bytes) n h = absurd (n tt)
+not_kept : (s : Shape) → (IsWhole s → ⊥) → ShortShape s → length (bytes_of_shape s) < 65535
+not_kept (Fields layout values) n h = h
+not_kept (Payload bytes) n h = absurd (n tt)
 
 -- a spelling is not empty
 pub spelling_some : (m : Message) → IsMessage m → 0 < length (spelling m)
 unfolding spelling
 spelling_some m h = shape_some (shape m) m (makes m) (fits m h)
 
-pub spelling_short : (m : Message) → IsMessage m → (IsKeptWhole m → ⊥) → length (spelling m) < 65536
+-- nor is that of a message that is decoded as long as a block can be
+pub spelling_small : (m : Message) → IsMessage m → (IsKeptWhole m → ⊥) → length (spelling m) < 65535
 unfolding spelling
-spelling_short m h n = not_kept m n (shape_short (shape m) m (makes m) (fits m h))
+spelling_small m h n = not_kept (shape m) n (shape_short (shape m) m (makes m) (fits m h))
+
+pub spelling_short : (m : Message) → IsMessage m → (IsKeptWhole m → ⊥) → length (spelling m) < 65536
+spelling_short m h n = let small = spelling_small m h n in omega arith
 
 -- the spelling of a message that is decoded fits a block
 pub spelling_size : (m : Message) → IsMessage m → (IsKeptWhole m → ⊥) → (0 < length (spelling m)) × (length (spelling m) < 65536)
@@ -291,6 +293,8 @@ one_spelling (is.SystemEvent m) h = refl
 one_spelling (is.StockDirectory m) h = refl
 one_spelling (is.TradingAction m) h = refl
 one_spelling (is.RegSho m) h = refl
+one_spelling (is.Halt m) h = refl
+one_spelling (is.Position m) h = refl
 one_spelling (is.AddOrder m) h = refl
 one_spelling (is.AttributedAddOrder m) h = refl
 one_spelling (is.OrderExecuted m) h = refl

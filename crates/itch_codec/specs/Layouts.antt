@@ -57,6 +57,15 @@ trading_action = message_type 72 25 (column 11 8 Text ∷ column 19 1 Code ∷ c
 abbrev pub reg_sho : Layout
 reg_sho = message_type 89 20 (column 11 8 Text ∷ column 19 1 Code ∷ [])
 
+-- Operational Halt, h: stock, market code, action
+abbrev pub operational_halt : Layout
+operational_halt = message_type 104 21 (column 11 8 Text ∷ column 19 1 Code ∷ column 20 1 Code ∷ [])
+
+-- Market Participant Position, L: MPID, stock, primary market maker, mode, state
+abbrev pub participant_position : Layout
+participant_position =
+    message_type 76 26 (column 11 4 Text ∷ column 15 8 Text ∷ column 23 1 Code ∷ column 24 1 Code ∷ column 25 1 Code ∷ [])
+
 -- the fields of a new order
 abbrev pub order_columns : List Column → List Column
 order_columns columns =
@@ -113,7 +122,7 @@ end_of_snapshot = record { kind = 71; size = 21; columns = column 1 20 Digits �
 -- every message type that is decoded
 abbrev pub table : List Layout
 table =
-    system_event ∷ stock_directory ∷ trading_action ∷ reg_sho ∷ add_order ∷ attributed_add_order ∷ order_executed ∷ order_executed_with_price
+    system_event ∷ stock_directory ∷ trading_action ∷ reg_sho ∷ operational_halt ∷ participant_position ∷ add_order ∷ attributed_add_order ∷ order_executed ∷ order_executed_with_price
     ∷ order_cancel ∷ order_delete ∷ order_replace ∷ trade ∷ cross_trade ∷ broken_trade ∷ end_of_snapshot ∷ []
 
 -- the first layout in a list with this first byte

@@ -4,10 +4,10 @@ use Rattle.itch_codec.specs.declared.fault.CodecFault.{CodecFault}
 use Rattle.itch_codec.specs.declared.fault.CodecFault.TheVariants.{Empty, WrongLength}
 use Rattle.itch_codec.specs.declared.message.Message.{Message}
 use Rattle.itch_codec.specs.declared.message.Message.TheVariants as is
-use Rattle.itch_codec.specs.Layouts.{Layout, layout_of, IsUndecoded, end_of_snapshot, system_event, stock_directory, trading_action, reg_sho, add_order, attributed_add_order, order_executed, order_executed_with_price, order_cancel, order_delete, order_replace, trade, cross_trade, broken_trade}
+use Rattle.itch_codec.specs.Layouts.{Layout, layout_of, IsUndecoded, end_of_snapshot, system_event, stock_directory, trading_action, reg_sho, operational_halt, participant_position, add_order, attributed_add_order, order_executed, order_executed_with_price, order_cancel, order_delete, order_replace, trade, cross_trade, broken_trade}
 use Rattle.itch_codec.specs.Numbers.{byte_at}
 use Rattle.itch_codec.specs.Fields.{Value, Number, HasAll, joined, value_at, first_fault}
-use Rattle.itch_codec.specs.Values.{number, system_event_values, system_event_of, stock_directory_values, stock_directory_of, trading_action_values, trading_action_of, reg_sho_values, reg_sho_of, add_order_values, add_order_of, attributed_add_order_values, attributed_add_order_of, order_executed_values, order_executed_of, order_executed_with_price_values, order_executed_with_price_of, order_cancel_values, order_cancel_of, order_delete_values, order_delete_of, order_replace_values, order_replace_of, trade_values, trade_of, cross_trade_values, cross_trade_of, broken_trade_values, broken_trade_of}
+use Rattle.itch_codec.specs.Values.{number, system_event_values, system_event_of, stock_directory_values, stock_directory_of, trading_action_values, trading_action_of, reg_sho_values, reg_sho_of, operational_halt_values, operational_halt_of, participant_position_values, participant_position_of, add_order_values, add_order_of, attributed_add_order_values, attributed_add_order_of, order_executed_values, order_executed_of, order_executed_with_price_values, order_executed_with_price_of, order_cancel_values, order_cancel_of, order_delete_values, order_delete_of, order_replace_values, order_replace_of, trade_values, trade_of, cross_trade_values, cross_trade_of, broken_trade_values, broken_trade_of}
 
 -- how a message is spelled: by the fields of its layout, or by the whole payload
 pub data Shape : Type 0 where
@@ -20,6 +20,8 @@ shape (is.SystemEvent m) = Fields system_event (system_event_values m)
 shape (is.StockDirectory m) = Fields stock_directory (stock_directory_values m)
 shape (is.TradingAction m) = Fields trading_action (trading_action_values m)
 shape (is.RegSho m) = Fields reg_sho (reg_sho_values m)
+shape (is.Halt m) = Fields operational_halt (operational_halt_values m)
+shape (is.Position m) = Fields participant_position (participant_position_values m)
 shape (is.AddOrder m) = Fields add_order (add_order_values m)
 shape (is.AttributedAddOrder m) = Fields attributed_add_order (attributed_add_order_values m)
 shape (is.OrderExecuted m) = Fields order_executed (order_executed_values m)
@@ -68,9 +70,12 @@ IsEnd (is.End next) = Unit {0}
 IsEnd m = ⊥
 
 -- the message is a payload that is not decoded
+abbrev pub IsWhole : Shape → Type 0
+IsWhole (Payload bytes) = Unit {0}
+IsWhole (Fields layout values) = ⊥
+
 abbrev pub IsKeptWhole : Message → Type 0
-IsKeptWhole (is.Other bytes) = Unit {0}
-IsKeptWhole m = ⊥
+IsKeptWhole m = IsWhole (shape m)
 
 -- the fault of a payload of this layout: its length, or that of the first field that has one
 abbrev pub laid_fault : Layout → List ℕ → Option CodecFault
@@ -96,6 +101,8 @@ made kind values =
     if kind == stock_directory.kind then is.StockDirectory (stock_directory_of values) else (
     if kind == trading_action.kind then is.TradingAction (trading_action_of values) else (
     if kind == reg_sho.kind then is.RegSho (reg_sho_of values) else (
+    if kind == operational_halt.kind then is.Halt (operational_halt_of values) else (
+    if kind == participant_position.kind then is.Position (participant_position_of values) else (
     if kind == add_order.kind then is.AddOrder (add_order_of values) else (
     if kind == attributed_add_order.kind then is.AttributedAddOrder (attributed_add_order_of values) else (
     if kind == order_executed.kind then is.OrderExecuted (order_executed_of values) else (
@@ -106,7 +113,7 @@ made kind values =
     if kind == trade.kind then is.Trade (trade_of values) else (
     if kind == cross_trade.kind then is.CrossTrade (cross_trade_of values) else (
     if kind == broken_trade.kind then is.BrokenTrade (broken_trade_of values) else (
-    is.End (number 0 values)))))))))))))))
+    is.End (number 0 values)))))))))))))))))
 
 -- the message of a payload of this layout, or the payload where its type is not in the table
 abbrev pub message_by_layout : Option Layout → List ℕ → Message

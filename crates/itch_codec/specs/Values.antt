@@ -8,6 +8,8 @@ use Rattle.itch_codec.specs.declared.stocks.Directory.{Directory}
 use Rattle.itch_codec.specs.declared.stocks.StockDirectory.{StockDirectory}
 use Rattle.itch_codec.specs.declared.stocks.TradingAction.{TradingAction}
 use Rattle.itch_codec.specs.declared.stocks.RegSho.{RegSho}
+use Rattle.itch_codec.specs.declared.stocks.OperationalHalt.{OperationalHalt}
+use Rattle.itch_codec.specs.declared.stocks.ParticipantPosition.{ParticipantPosition}
 use Rattle.itch_codec.specs.declared.orders.AddOrder.{AddOrder}
 use Rattle.itch_codec.specs.declared.orders.AttributedAddOrder.{AttributedAddOrder}
 use Rattle.itch_codec.specs.declared.orders.OrderExecuted.{OrderExecuted}
@@ -47,6 +49,15 @@ trading_action_values m =
 -- the values of a Reg SHO Restriction
 abbrev pub reg_sho_values : RegSho → List Value
 reg_sho_values m = header_values m.header (Bytes m.stock ∷ Number m.action ∷ [])
+
+-- the values of an Operational Halt
+abbrev pub operational_halt_values : OperationalHalt → List Value
+operational_halt_values m = header_values m.header (Bytes m.stock ∷ Number m.market_code ∷ Number m.action ∷ [])
+
+-- the values of a Market Participant Position
+abbrev pub participant_position_values : ParticipantPosition → List Value
+participant_position_values m =
+    header_values m.header (Bytes m.mpid ∷ Bytes m.stock ∷ Number m.primary_market_maker ∷ Number m.mode ∷ Number m.state ∷ [])
 
 -- the values of a new order, and those behind it
 abbrev pub order_values : AddOrder → List Value → List Value
@@ -166,6 +177,15 @@ trading_action_of vs =
 -- a Reg SHO Restriction with these values
 abbrev pub reg_sho_of : List Value → RegSho
 reg_sho_of vs = record { header = header_of vs; stock = bytes 3 vs; action = number 4 vs }
+
+-- an Operational Halt with these values
+abbrev pub operational_halt_of : List Value → OperationalHalt
+operational_halt_of vs = record { header = header_of vs; stock = bytes 3 vs; market_code = number 4 vs; action = number 5 vs }
+
+-- a Market Participant Position with these values
+abbrev pub participant_position_of : List Value → ParticipantPosition
+participant_position_of vs =
+    record { header = header_of vs; mpid = bytes 3 vs; stock = bytes 4 vs; primary_market_maker = number 5 vs; mode = number 6 vs; state = number 7 vs }
 
 -- an Add Order with these values
 abbrev pub add_order_of : List Value → AddOrder

@@ -8,6 +8,8 @@ use Rattle.itch_codec.specs.declared.stocks.SystemEvent.{SystemEvent}
 use Rattle.itch_codec.specs.declared.stocks.StockDirectory.{StockDirectory}
 use Rattle.itch_codec.specs.declared.stocks.TradingAction.{TradingAction}
 use Rattle.itch_codec.specs.declared.stocks.RegSho.{RegSho}
+use Rattle.itch_codec.specs.declared.stocks.OperationalHalt.{OperationalHalt}
+use Rattle.itch_codec.specs.declared.stocks.ParticipantPosition.{ParticipantPosition}
 use Rattle.itch_codec.specs.declared.orders.AddOrder.{AddOrder}
 use Rattle.itch_codec.specs.declared.orders.AttributedAddOrder.{AttributedAddOrder}
 use Rattle.itch_codec.specs.declared.orders.OrderExecuted.{OrderExecuted}
@@ -67,6 +69,22 @@ pub record IsRegSho (m : RegSho) : Type 0 where
   pub header : IsHeader m.header
   pub stock : IsAlpha 8 m.stock
   pub action : m.action < 256
+
+-- the fields of an Operational Halt fit
+pub record IsOperationalHalt (m : OperationalHalt) : Type 0 where
+  pub header : IsHeader m.header
+  pub stock : IsAlpha 8 m.stock
+  pub market_code : m.market_code < 256
+  pub action : m.action < 256
+
+-- the fields of a Market Participant Position fit
+pub record IsParticipantPosition (m : ParticipantPosition) : Type 0 where
+  pub header : IsHeader m.header
+  pub mpid : IsAlpha 4 m.mpid
+  pub stock : IsAlpha 8 m.stock
+  pub primary_market_maker : m.primary_market_maker < 256
+  pub mode : m.mode < 256
+  pub state : m.state < 256
 
 -- the fields of an Add Order fit
 pub record IsAddOrder (m : AddOrder) : Type 0 where
@@ -152,6 +170,8 @@ IsMessage (is.SystemEvent m) = IsSystemEvent m
 IsMessage (is.StockDirectory m) = IsStockDirectory m
 IsMessage (is.TradingAction m) = IsTradingAction m
 IsMessage (is.RegSho m) = IsRegSho m
+IsMessage (is.Halt m) = IsOperationalHalt m
+IsMessage (is.Position m) = IsParticipantPosition m
 IsMessage (is.AddOrder m) = IsAddOrder m
 IsMessage (is.AttributedAddOrder m) = IsAttributedAddOrder m
 IsMessage (is.OrderExecuted m) = IsOrderExecuted m

@@ -12,7 +12,9 @@ use crate::orders::{
     AddOrder, AttributedAddOrder, OrderCancel, OrderDelete, OrderExecuted, OrderExecutedWithPrice,
     OrderReplace,
 };
-use crate::stocks::{RegSho, StockDirectory, SystemEvent, TradingAction};
+use crate::stocks::{
+    OperationalHalt, ParticipantPosition, RegSho, StockDirectory, SystemEvent, TradingAction,
+};
 use crate::trades::{BrokenTrade, CrossTrade, Trade};
 use crate::types::size_of_type;
 use crate::undecoded::Undecoded;
@@ -52,6 +54,8 @@ fn read(payload: &[u8]) -> Result<Message<'_>, CodecFault>
         b'R' => Ok(Message::StockDirectory(StockDirectory::decode(payload)?)),
         b'H' => Ok(Message::TradingAction(TradingAction::decode(payload)?)),
         b'Y' => Ok(Message::RegSho(RegSho::decode(payload)?)),
+        b'h' => Ok(Message::Halt(OperationalHalt::decode(payload)?)),
+        b'L' => Ok(Message::Position(ParticipantPosition::decode(payload)?)),
         b'A' => Ok(Message::AddOrder(AddOrder::decode(payload)?)),
         b'F' => Ok(Message::AttributedAddOrder(AttributedAddOrder::decode(payload)?)),
         b'E' => Ok(Message::OrderExecuted(OrderExecuted::decode(payload))),

@@ -28,6 +28,8 @@ fn write<'a>(message: &Message<'a>) -> Encoded<'a>
         Message::StockDirectory(m) => Encoded::built(m.encode()),
         Message::TradingAction(m) => Encoded::built(m.encode()),
         Message::RegSho(m) => Encoded::built(m.encode()),
+        Message::Halt(m) => Encoded::built(m.encode()),
+        Message::Position(m) => Encoded::built(m.encode()),
         Message::AddOrder(m) => Encoded::built(m.encode()),
         Message::AttributedAddOrder(m) => Encoded::built(m.encode()),
         Message::OrderExecuted(m) => Encoded::built(m.encode()),

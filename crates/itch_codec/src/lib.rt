@@ -35,7 +35,10 @@ pub use orders::{
 };
 pub use showing::{LineText, line, show};
 pub use side::Side;
-pub use stocks::{Directory, RegSho, StockDirectory, SystemEvent, TradingAction};
+pub use stocks::{
+    Directory, OperationalHalt, ParticipantPosition, RegSho, StockDirectory, SystemEvent,
+    TradingAction,
+};
 pub use text::{Alpha, AlphaFault};
 pub use trades::{BrokenTrade, CrossTrade, Trade};
 pub use undecoded::Undecoded;

@@ -5,7 +5,9 @@ use crate::orders::{
     AddOrder, AttributedAddOrder, OrderCancel, OrderDelete, OrderExecuted, OrderExecutedWithPrice,
     OrderReplace,
 };
-use crate::stocks::{RegSho, StockDirectory, SystemEvent, TradingAction};
+use crate::stocks::{
+    OperationalHalt, ParticipantPosition, RegSho, StockDirectory, SystemEvent, TradingAction,
+};
 use crate::trades::{BrokenTrade, CrossTrade, Trade};
 use crate::undecoded::Undecoded;
 
@@ -16,6 +18,8 @@ pub enum Message<'a> {
     StockDirectory(StockDirectory),
     TradingAction(TradingAction),
     RegSho(RegSho),
+    Halt(OperationalHalt),
+    Position(ParticipantPosition),
     AddOrder(AddOrder),
     AttributedAddOrder(AttributedAddOrder),
     OrderExecuted(OrderExecuted),

@@ -75,6 +75,8 @@ fn show_words(message: &Message<'_>, line: &mut Words)
         Message::StockDirectory(m) => m.show(line),
         Message::TradingAction(m) => m.show(line),
         Message::RegSho(m) => m.show(line),
+        Message::Halt(m) => m.show(line),
+        Message::Position(m) => m.show(line),
         Message::AddOrder(m) => m.show(line),
         Message::AttributedAddOrder(m) => m.show(line),
         Message::OrderExecuted(m) => m.show(line),

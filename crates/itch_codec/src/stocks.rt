@@ -2,11 +2,11 @@
 ghost use Rattle.std.specs.Prelude.{◌≡◌, ◌≤◌, [], ◌∷◌, ◌++◌, length};
 ghost use Rattle.arrayvec.specs.ArrayString.{array_string_len};
 ghost use Rattle.arrayvec.specs.ArrayVec.{array_vec_len};
-ghost use Rattle.itch_codec.specs.Layouts.{system_event, directory_columns, stock_directory, trading_action, reg_sho};
+ghost use Rattle.itch_codec.specs.Layouts.{system_event, directory_columns, stock_directory, trading_action, reg_sho, operational_halt, participant_position};
 ghost use Rattle.itch_codec.specs.Fields.{HasAll, joined, first_fault, Reads};
 ghost use Rattle.itch_codec.specs.Lines.{words};
-ghost use Rattle.itch_codec.specs.Values.{system_event_values, directory_values, stock_directory_values, trading_action_values, reg_sho_values};
-ghost use Rattle.itch_codec.specs.Widths.{IsSystemEvent, IsDirectory, IsStockDirectory, IsTradingAction, IsRegSho};
+ghost use Rattle.itch_codec.specs.Values.{system_event_values, directory_values, stock_directory_values, trading_action_values, reg_sho_values, operational_halt_values, participant_position_values};
+ghost use Rattle.itch_codec.specs.Widths.{IsSystemEvent, IsDirectory, IsStockDirectory, IsTradingAction, IsRegSho, IsOperationalHalt, IsParticipantPosition};
 
 use crate::fault::CodecFault;
 use crate::fields::{Buffer, codes_at, put_code, put_codes, put_text, put_u32, text_at, u32_at};
@@ -283,5 +283,114 @@ impl RegSho {
         self.header.show(line, "Y");
         show_text(line, &self.stock);
         show_code(line, self.action);
+    }
+}
+
+/// Operational Halt, `h` (TotalView-ITCH 5.0, "Operational Halt").
+#[derive(Clone, Copy, Debug, PartialEq, Eq)]
+pub struct OperationalHalt {
+    pub header: Header,
+    pub stock: Alpha<8>,
+    /// The market that is halted or trades again, as `Q` for Nasdaq. Any byte.
+    pub market_code: u8,
+    /// `H` for halted, `T` for trading again. Any byte.
+    pub action: u8,
+}
+
+impl OperationalHalt {
+    pub(crate) fn decode(payload: &[u8]) -> Result<OperationalHalt, CodecFault>
+        requires { length payload.now ≡ 21 }
+        ensures { Reads (λ m. HasAll payload.now operational_halt.columns (operational_halt_values m)) (first_fault payload.now operational_halt.columns) result }
+    {
+        Ok(OperationalHalt {
+            header: Header::decode(payload),
+            stock: text_at(payload, 11)?,
+            market_code: payload[19],
+            action: payload[20],
+        })
+    }
+
+    #[tactic(auto, using(crate::proofs::Joining::joining), unfolding(crate::specs::Fields::joined))]
+    pub(crate) fn encode(&self) -> Buffer
+        ensures bytes { result.items ≡ operational_halt.kind ∷ joined operational_halt.columns (operational_halt_values self.now) }
+        ensures fits { IsOperationalHalt self.now }
+    {
+        let mut out = self.header.encode(b'h');
+        put_text(&mut out, &self.stock);
+        put_code(&mut out, self.market_code);
+        put_code(&mut out, self.action);
+        out
+    }
+
+    /// The type and the fields, as words of a line that has a number so far.
+    #[tactic(auto, using(crate::proofs::Joining::joining), unfolding(crate::specs::Lines::words))]
+    pub(crate) fn show(&self, line: &mut Words)
+        requires { array_string_len line.old ≤ 21 }
+        ensures bytes { line.new.bytes ≡ line.old.bytes ++ operational_halt.kind ∷ words operational_halt.columns (operational_halt_values self.now) }
+        ensures len { array_string_len line.new ≤ 191 }
+    {
+        self.header.show(line, "h");
+        show_text(line, &self.stock);
+        show_code(line, self.market_code);
+        show_code(line, self.action);
+    }
+}
+
+/// Market Participant Position, `L` (TotalView-ITCH 5.0, "Market Participant Position").
+#[derive(Clone, Copy, Debug, PartialEq, Eq)]
+pub struct ParticipantPosition {
+    pub header: Header,
+    pub mpid: Alpha<4>,
+    pub stock: Alpha<8>,
+    /// Whether the participant is a primary market maker, as `Y` or `N`. Any byte.
+    pub primary_market_maker: u8,
+    /// The market maker's mode, as `N` for normal. Any byte.
+    pub mode: u8,
+    /// The participant's state, as `A` for active. Any byte.
+    pub state: u8,
+}
+
+impl ParticipantPosition {
+    pub(crate) fn decode(payload: &[u8]) -> Result<ParticipantPosition, CodecFault>
+        requires { length payload.now ≡ 26 }
+        ensures { Reads (λ m. HasAll payload.now participant_position.columns (participant_position_values m)) (first_fault payload.now participant_position.columns) result }
+    {
+        Ok(ParticipantPosition {
+            header: Header::decode(payload),
+            mpid: text_at(payload, 11)?,
+            stock: text_at(payload, 15)?,
+            primary_market_maker: payload[23],
+            mode: payload[24],
+            state: payload[25],
+        })
+    }
+
+    #[tactic(auto, using(crate::proofs::Joining::joining), unfolding(crate::specs::Fields::joined))]
+    pub(crate) fn encode(&self) -> Buffer
+        ensures bytes { result.items ≡ participant_position.kind ∷ joined participant_position.columns (participant_position_values self.now) }
+        ensures fits { IsParticipantPosition self.now }
+    {
+        let mut out = self.header.encode(b'L');
+        put_text(&mut out, &self.mpid);
+        put_text(&mut out, &self.stock);
+        put_code(&mut out, self.primary_market_maker);
+        put_code(&mut out, self.mode);
+        put_code(&mut out, self.state);
+        out
+    }
+
+    /// The type and the fields, as words of a line that has a number so far.
+    #[tactic(auto, using(crate::proofs::Joining::joining), unfolding(crate::specs::Lines::words))]
+    pub(crate) fn show(&self, line: &mut Words)
+        requires { array_string_len line.old ≤ 21 }
+        ensures bytes { line.new.bytes ≡ line.old.bytes ++ participant_position.kind ∷ words participant_position.columns (participant_position_values self.now) }
+        ensures len { array_string_len line.new ≤ 191 }
+    {
+        self.header.show(line, "L");
+        show_text(line, &self.mpid);
+        show_text(line, &self.stock);
+        show_code(line, self.primary_market_maker);
+        show_code(line, self.mode);
+        show_code(line, self.state);
     }
 }

@@ -1,9 +1,10 @@
 //! Vectors of the public standard's layouts, both ways, and what no contract says.
 use crate::{
     AddOrder, Alpha, AlphaFault, AttributedAddOrder, BrokenTrade, CodecFault, CrossTrade,
-    Directory, Header, Message, OrderCancel, OrderDelete, OrderExecuted, OrderExecutedWithPrice,
-    OrderReplace, RegSho, Seq, Side, Stamp, StockDirectory, SystemEvent, Trade, TradingAction,
-    Undecoded, decode, encode, number20, read_number20,
+    Directory, Header, Message, OperationalHalt, OrderCancel, OrderDelete, OrderExecuted,
+    OrderExecutedWithPrice, OrderReplace, ParticipantPosition, RegSho, Seq, Side, Stamp,
+    StockDirectory, SystemEvent, Trade, TradingAction, Undecoded, decode, encode, number20,
+    read_number20,
 };
 use std::process::Abort;
 use std::test::Fail;
@@ -107,6 +108,28 @@ fn stocks(rt: HostRuntime) {
             header: header(&rt, 1),
             stock: alpha(&rt, "AAPL"),
             action: b'0',
+        }),
+    );
+    agree(
+        &rt,
+        OPERATIONAL_HALT,
+        Message::Halt(OperationalHalt {
+            header: header(&rt, 1),
+            stock: alpha(&rt, "AAPL"),
+            market_code: b'Q',
+            action: b'H',
+        }),
+    );
+    agree(
+        &rt,
+        PARTICIPANT_POSITION,
+        Message::Position(ParticipantPosition {
+            header: header(&rt, 1),
+            mpid: alpha(&rt, "ABCD"),
+            stock: alpha(&rt, "AAPL"),
+            primary_market_maker: b'N',
+            mode: b'N',
+            state: b'A',
         }),
     );
 }
@@ -223,7 +246,7 @@ fn end_and_undecoded(rt: HostRuntime) {
     let other = Undecoded::new(UNDECODED).expect(&rt, "a type that is not decoded");
     assert_eq!(rt; (other.kind(), other.payload()), (b'N', UNDECODED));
     agree(&rt, UNDECODED, Message::Other(other));
-    for kind in b"SRHYAFECXDUPQBG" {
+    for kind in b"SRHYhLAFECXDUPQBG" {
         assert!(rt; Undecoded::new(&[*kind]).is_none(), "{kind} is decoded");
     }
     assert!(rt; Undecoded::new(b"").is_none());
@@ -232,7 +255,7 @@ fn end_and_undecoded(rt: HostRuntime) {
 #[test]
 fn faults(rt: HostRuntime) {
     let wrong = |kind, want, got| CodecFault::WrongLength { kind, want, got };
-    let rows: [(&[u8], CodecFault); 10] = [
+    let rows: [(&[u8], CodecFault); 12] = [
         (b"", CodecFault::Empty),
         (
             b"A\x00\x01\x00\x00\x00\x00\x00\x00\x00\x00\x00\x00\x00\x00\x00\x00\x00\x01B\x00\x00\x00dAAPL    \x00\x16\xe3",
@@ -245,6 +268,14 @@ fn faults(rt: HostRuntime) {
         (
             b"R\x00\x01\x00\x00\x00\x00\x00\x00\x00\x00AAPL    QN\x00\x00\x00dNCZ PNN1N\x00\x00\x00\x00",
             wrong(b'R', 39, 38),
+        ),
+        (
+            b"h\x00\x01\x00\x00\x00\x00\x00\x00\x00\x00AAPL    Q",
+            wrong(b'h', 21, 20),
+        ),
+        (
+            b"L\x00\x01\x00\x00\x00\x00\x00\x00\x00\x00AB\x7fDAAPL    NNA",
+            CodecFault::BadText { offset: 13 },
         ),
         (
             b"A\x00\x01\x00\x00\x00\x00\x00\x00\x00\x00\x00\x00\x00\x00\x00\x00\x00\x01b\x00\x00\x00dAAPL    \x00\x16\xe3`",

@@ -11,6 +11,8 @@ pub(crate) fn size_of_type(kind: u8) -> Option<usize>
         b'R' => 39,
         b'H' => 25,
         b'Y' => 20,
+        b'h' => 21,
+        b'L' => 26,
         b'A' => 36,
         b'F' => 40,
         b'E' => 31,

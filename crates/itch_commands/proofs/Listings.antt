@@ -10,11 +10,10 @@ use Rattle.itch_codec.specs.Messages.{message_of}
 use Rattle.itch_codec.specs.Text.{IsTextOf}
 use Rattle.itch_codec.specs.declared.side.Side.TheVariants.{Buy, Sell}
 use Rattle.itch_frame.specs.declared.tally.Failures.{Failures}
-use Rattle.itch_market.specs.Content.{Content, laid}
+use Rattle.itch_market.specs.Content.{Content, laid, Listing}
 use Rattle.itch_market.specs.Goods.{IsGood}
 use Rattle.itch_market.specs.Replays.{Fits}
 use Rattle.itch_market.specs.Runs.{run}
-use Rattle.itch_market.specs.declared.security.Security.{Security}
 use Rattle.itch_commands.specs.declared.fault.ToolFault.{ToolFault}
 use Rattle.itch_commands.specs.Books.{title_line, side_lines, book_lines, book_of, ReadsListed}
 use Rattle.itch_commands.specs.Outputs.{WritesText}
@@ -28,7 +27,7 @@ lines-laid locate stock orders fit =
 
 module _ (locate : ℕ) (ps : List (List ℕ)) (market : Content) (left : market ≡ laid (run (map message_of ps))) where
   -- the directory has the locate
-  pub listed : (reads : Result (List (List ℕ)) ToolFault → Type 0) (s : Security) (stock : List ℕ) → reads (Ok ps) → Some s ≡ finite.get (Content.securities market) locate → IsTextOf s.entry.stock stock
+  pub listed : (reads : Result (List (List ℕ)) ToolFault → Type 0) (s : Listing) (stock : List ℕ) → reads (Ok ps) → Some s ≡ finite.get (Content.securities market) locate → IsTextOf s.entry.stock stock
       → ReadsListed locate reads (Ok (ps, stock))
   listed reads s stock read there text = (read, (s, sym (there ∙ ap (λ (m : Content). finite.get (Content.securities m) locate) left), text))
 

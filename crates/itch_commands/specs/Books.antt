@@ -10,9 +10,8 @@ use Rattle.itch_codec.specs.declared.side.Side.{Side}
 use Rattle.itch_codec.specs.declared.side.Side.TheVariants.{Buy, Sell}
 use Rattle.itch_book.specs.declared.order.Order.{Order}
 use Rattle.itch_book.specs.Orders.{queue, is_at_price}
-use Rattle.itch_market.specs.Content.{Content}
+use Rattle.itch_market.specs.Content.{Content, Listing}
 use Rattle.itch_market.specs.Runs.{run}
-use Rattle.itch_market.specs.declared.security.Security.{Security}
 use Rattle.itch_commands.specs.declared.fault.ToolFault.{ToolFault}
 use Rattle.itch_commands.specs.declared.fault.ToolFault.TheVariants as tool
 
@@ -52,7 +51,7 @@ book_of locate read = let m : Content = run (map message_of read.0) in book_line
 abbrev pub ReadsListed : ℕ → (Result (List (List ℕ)) ToolFault → Type 0) → Result (List (List ℕ) × List ℕ) ToolFault → Type 0
 ReadsListed locate reads (Ok read) =
     reads (Ok read.0)
-    × ((s : Security) × (finite.get (Content.securities (run (map message_of read.0))) locate ≡ Some s) × IsTextOf s.entry.stock read.1)
+    × ((s : Listing) × (finite.get (Content.securities (run (map message_of read.0))) locate ≡ Some s) × IsTextOf s.entry.stock read.1)
 ReadsListed locate reads (Err fault) =
     reads (Err fault)
     ⊎ ((fault ≡ tool.UnknownLocate)

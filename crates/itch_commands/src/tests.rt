@@ -49,8 +49,12 @@ fn snapshot(
 
 #[test]
 fn snap_writes_the_canonical_snapshot(rt: HostRuntime) -> Result<(), Fail> {
-    let cases: [(&[&str], &[&str]); 15] = [
+    let cases: [(&[&str], &[&str]); 16] = [
         (&[], &[END_1]),
+        (
+            &[AAPL, POSITION_ZZZZ, HALT_X, POSITION_ABCD, HALT_Q, RESUME_X],
+            &[AAPL, HALT_Q, RESUME_X, POSITION_ABCD, POSITION_ZZZZ, END_7],
+        ),
         (
             &[START_STAMPED, AAPL_STAMPED, BUY_1_STAMPED],
             &[START, AAPL, BUY_1, END_4],

@@ -35,7 +35,7 @@ use Rattle.itch_join.specs.Deliveries.{IsOfFeed}
 use Rattle.itch_join.specs.Premise.{half_next, half_after, half_of_snapshot}
 use Rattle.itch_join.proofs.Feeds.{first_fine, none_there, good}
 use Rattle.itch_join.proofs.Lawful.{market_lawful, faultless, reasonless}
-use Rattle.itch_join.proofs.Taking.{no_end}
+use Rattle.itch_snapshot.proofs.FileLemmas.{unrefused_number}
 
 -- the first messages of a feed follow the order rules
 record IsRun (m : Content) (ps : List (List ℕ)) : Type 0 where
@@ -68,7 +68,7 @@ takes_case taken m x fine fits none room =
     let p = spelling x in
     let clean : fault p ≡ None = fault-spelling x fits in
     let same : message_of p ≡ x = message_of-spelling x fits in
-    let tells : closing_number p ≡ None = ap (λ f. number_by f p) clean ∙ ap number_in same ∙ no_end m x none in
+    let tells : closing_number p ≡ None = ap (λ f. number_by f p) clean ∙ ap number_in same ∙ unrefused_number m x none in
     let refuses : refused_by (fault p) (laid m) p ≡ None =
     ap (λ f. refused_by f (laid m) p) clean ∙ ap (option_map cause.Rule) (ap (reason (laid m)) same ∙ reason-laid m x fine ∙ none) in
     let free : (taken == 10 ^ 19 - 1) ≡ false = grind (arith, nat_tests) in

@@ -1,21 +1,16 @@
 -- A message of a snapshot, as its reader takes it, and as a joiner does.
-use Rattle.std.proofs.Common.{◌≡◌, ◌≢◌, ℕ, ◌+◌, ◌-◌, ◌^◌, ◌==◌, Bool, true, false, cond, nat_lt, List, Option, Some, None, is_some, Result, Ok, Err, refl, sym, ap, ◌∙◌, subst}
+use Rattle.std.proofs.Common.{◌≡◌, ◌≢◌, ℕ, ◌+◌, ◌-◌, ◌^◌, ◌==◌, true, false, cond, List, Option, Some, None, is_some, Result, Ok, Err, refl, sym, ap, ◌∙◌, subst}
 use Rattle.std.specs.Option.{option_map}
-use Rattle.std.specs.FinMap as map
-use Rattle.itch_codec.specs.declared.message.Message.{Message}
-use Rattle.itch_codec.specs.declared.message.Message.TheVariants as is
-use Rattle.itch_codec.specs.declared.orders.AddOrder.{AddOrder}
 use Rattle.itch_codec.specs.Messages.{fault, message_of}
-use Rattle.itch_book.specs.declared.order.Order.{Order}
-use Rattle.itch_book.specs.Orders as book
-use Rattle.itch_market.specs.declared.security.Security.{Security}
 use Rattle.itch_market.specs.declared.refusal.Refusal.{Refusal}
 use Rattle.itch_market.specs.declared.refusal.Refusal.TheVariants.{UnknownLocate, StockMismatch, ZeroShares, DuplicateRef, UnknownRef, LocateMismatch, TooManyShares, UnexpectedEnd, OutOfMemory}
 use Rattle.itch_market.specs.Content.{Content, laid}
-use Rattle.itch_market.specs.Reasons.{reason, refuse, security_reason, order_reason, directory_reason, add_reason, take_reason, is_live}
+use Rattle.itch_market.specs.Reasons.{reason}
 use Rattle.itch_market.specs.Effects as market
 use Rattle.itch_market.specs.Replays.{IsRefusal}
 use Rattle.itch_market.proofs.Causes.{no_fault, no_reason}
+use Rattle.itch_market.proofs.Rules.{reason_is_rule}
+use Rattle.itch_snapshot.proofs.FileLemmas.{unrefused_number}
 use Rattle.itch_snapshot.specs.declared.fault.SnapFault.{SnapFault}
 use Rattle.itch_snapshot.specs.declared.fault.SnapFault.TheVariants.{NoEnd, Frame, Codec, Rule, AfterEnd, TooManyMessages}
 use Rattle.itch_snapshot.specs.declared.stage.Stage.{Stage}
@@ -33,81 +28,6 @@ use Rattle.itch_join.specs.Rules.{refused_by, market_rules}
 use Rattle.itch_join.specs.States.{HalfRead, Reading, Broken, State}
 use Rattle.itch_join.specs.Steps.{SnapshotCase, SnapTakes, SnapFails, SnapBroken, payload_case, half_case, unjoined_case, unhalted_case, snapshot_case, SnapshotBy}
 use Rattle.itch_join.specs.HalfReads.{Breaks, broken_by, join_fault_of, half_at, half_of, IsOpenAt, IsOpen}
-
--- no rule gives want of memory as its reason ------------------------------
-
-later : (b : Bool) (why : Refusal) (rest : Option Refusal) → why ≢ OutOfMemory → rest ≢ Some OutOfMemory → refuse b why rest ≢ Some OutOfMemory
-later true why rest other free h = other (cc)
-later false why rest other free h = free h
-
-none_free : ◌≡◌ {A = Option Refusal} None (Some OutOfMemory) → ⊥
-none_free h = cc
-
-of_security : (found : Option Security) (stock : List ℕ) (rest : Option Refusal) → rest ≢ Some OutOfMemory → security_reason found stock rest ≢ Some OutOfMemory
-of_security None stock rest free h = cc
-of_security (Some s) stock rest free h = later _ StockMismatch rest (λ e. cc) free h
-
-of_directory : (found : Option Security) (stock : List ℕ) → directory_reason found stock ≢ Some OutOfMemory
-of_directory None stock h = cc
-of_directory (Some s) stock h = later _ StockMismatch None (λ e. cc) (λ e. cc) h
-
-of_order : (found : Option Order) (locate : ℕ) (rest : Order → Option Refusal) → ((x : Order) → rest x ≢ Some OutOfMemory) → order_reason found locate rest ≢ Some OutOfMemory
-of_order None locate rest free h = cc
-of_order (Some x) locate rest free h = later _ LocateMismatch (rest x) (λ e. cc) (free x) h
-
-of_new : (zero live : Bool) → refuse zero ZeroShares (refuse live DuplicateRef None) ≢ Some OutOfMemory
-of_new zero live h = later zero ZeroShares _ (λ e. cc) (λ e. later live DuplicateRef None (λ e. cc) (λ e. cc) e) h
-
-of_take : (x : Order) (many : Bool) → refuse many (TooManyShares x.shares) None ≢ Some OutOfMemory
-of_take x many h = later many (TooManyShares x.shares) None (λ e. cc) (λ e. cc) h
-
-of_add : (m : Content) (x : AddOrder) → add_reason m x ≢ Some OutOfMemory
-of_add m x h =
-    of_security (map.get m.securities x.header.locate) x.stock (refuse (x.shares == 0) ZeroShares (refuse (is_live m x.reference) DuplicateRef None))
-    (of_new (x.shares == 0) (is_live m x.reference)) h
-
-of_taking : (m : Content) (locate reference shares : ℕ) → take_reason m locate reference shares ≢ Some OutOfMemory
-of_taking m locate reference shares h =
-    of_order (book.get m.orders reference) locate (λ o. refuse (nat_lt o.shares shares) (TooManyShares o.shares) None) (λ o. of_take o (nat_lt o.shares shares)) h
-
-pub reason_is_rule : (m : Content) (x : Message) → reason m x ≢ Some OutOfMemory
-reason_is_rule m (is.SystemEvent x) h = cc
-reason_is_rule m (is.StockDirectory x) h = of_directory (map.get m.securities x.header.locate) x.entry.stock h
-reason_is_rule m (is.TradingAction x) h = of_security (map.get m.securities x.header.locate) x.stock None none_free h
-reason_is_rule m (is.RegSho x) h = of_security (map.get m.securities x.header.locate) x.stock None none_free h
-reason_is_rule m (is.AddOrder x) h = of_add m x h
-reason_is_rule m (is.AttributedAddOrder x) h = of_add m x.order h
-reason_is_rule m (is.OrderExecuted x) h = of_taking m x.header.locate x.reference x.shares h
-reason_is_rule m (is.OrderExecutedWithPrice x) h = of_taking m x.execution.header.locate x.execution.reference x.execution.shares h
-reason_is_rule m (is.OrderCancel x) h = of_taking m x.header.locate x.reference x.shares h
-reason_is_rule m (is.OrderDelete x) h = of_order (book.get m.orders x.reference) x.header.locate (λ o. None) (λ o. none_free) h
-reason_is_rule m (is.OrderReplace x) h =
-    of_order (book.get m.orders x.original) x.header.locate (λ o. refuse (x.shares == 0) ZeroShares (refuse (is_live m x.reference) DuplicateRef None))
-    (λ o. of_new (x.shares == 0) (is_live m x.reference)) h
-reason_is_rule m (is.Trade x) h = cc
-reason_is_rule m (is.CrossTrade x) h = cc
-reason_is_rule m (is.BrokenTrade x) h = cc
-reason_is_rule m (is.End next) h = cc
-reason_is_rule m (is.Other payload) h = cc
-
--- what is taken is no End of Snapshot
-pub no_end : (m : Content) (x : Message) → reason m x ≡ None → number_in x ≡ None
-no_end m (is.SystemEvent x) h = refl
-no_end m (is.StockDirectory x) h = refl
-no_end m (is.TradingAction x) h = refl
-no_end m (is.RegSho x) h = refl
-no_end m (is.AddOrder x) h = refl
-no_end m (is.AttributedAddOrder x) h = refl
-no_end m (is.OrderExecuted x) h = refl
-no_end m (is.OrderExecutedWithPrice x) h = refl
-no_end m (is.OrderCancel x) h = refl
-no_end m (is.OrderDelete x) h = refl
-no_end m (is.OrderReplace x) h = refl
-no_end m (is.Trade x) h = refl
-no_end m (is.CrossTrade x) h = refl
-no_end m (is.BrokenTrade x) h = refl
-no_end m (is.End next) h = cc
-no_end m (is.Other payload) h = refl
 
 -- the case of a message -----------------------------------------------------
 
@@ -158,7 +78,7 @@ took_at : (st : Stage) (s : State) (old new : Load) (p : List ℕ) → s.halt �
 took_at stage.Taking s old new p none apart half ((free, (clean, fits, left)), counted, goes) =
     let m = old.market in
     let faultless = no_fault m p clean in
-    let tells : closing_number p ≡ None = ap (λ f. number_by f p) faultless ∙ no_end m (message_of p) (no_reason m p clean) in
+    let tells : closing_number p ≡ None = ap (λ f. number_by f p) faultless ∙ unrefused_number m (message_of p) (no_reason m p clean) in
     let refuses : refused_by (fault p) m p ≡ None = ap (λ f. refused_by f m p) faultless ∙ ap (option_map cause.Rule) (no_reason m p clean) in
     at_case s p (SnapTakes old.taken m) (Ok snap.More) _
     (case_here s old.taken m p None None none apart half tells refuses ∙ room old.taken _ _ free)

@@ -7,18 +7,17 @@ use Rattle.itch_book.specs.Orders as book
 use Rattle.itch_codec.specs.declared.orders.AddOrder.{AddOrder}
 use Rattle.itch_codec.specs.declared.orders.OrderReplace.{OrderReplace}
 use Rattle.itch_codec.specs.declared.message.Message.TheVariants as is
-use Rattle.itch_market.specs.declared.security.Security.{Security}
 use Rattle.itch_market.specs.declared.refusal.Refusal.{Refusal}
 use Rattle.itch_market.specs.declared.refusal.Refusal.TheVariants.{StockMismatch, LocateMismatch, ZeroShares, DuplicateRef}
-use Rattle.itch_market.specs.Content.{Content}
+use Rattle.itch_market.specs.Content.{Content, Listing}
 use Rattle.itch_market.specs.Reasons.{refuse, is_other_stock, is_live, security_reason, order_reason, add_reason, reason}
 
 -- a check that gave no reason has not failed, nor have the later ones
-passed : (fails : Bool) (why : Refusal) (later : Option Refusal) → refuse fails why later ≡ None → (fails ≡ false) × (later ≡ None)
+pub passed : (fails : Bool) (why : Refusal) (later : Option Refusal) → refuse fails why later ≡ None → (fails ≡ false) × (later ≡ None)
 passed true why later none = cc
 passed false why later none = (refl, none)
 
-listed_passed : (o : Option Security) (stock : List ℕ) (later : Option Refusal) → security_reason o stock later ≡ None → IsSome o × (later ≡ None)
+listed_passed : (o : Option Listing) (stock : List ℕ) (later : Option Refusal) → security_reason o stock later ≡ None → IsSome o × (later ≡ None)
 listed_passed None stock later none = cc
 listed_passed (Some s) stock later none = (refl, (passed (is_other_stock s stock) StockMismatch later none).1)
 

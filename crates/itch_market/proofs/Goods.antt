@@ -14,20 +14,24 @@ use Rattle.itch_book.specs.Orders as book
 use Rattle.itch_book.proofs.Lists.{by_test, All-append_rec, All-filter_rec, All-map_rec, All-weaker_rec, All-found_rec}
 use Rattle.itch_book.proofs.Distinct.{IsDistinct-added, IsDistinct-without, IsDistinct-taken, IsDistinct-replaced, AllAt-added, AllAt-without, AllAt-taken, AllAt-replaced, live_added, live_without, live_taken, live_replaced}
 use Rattle.itch_book.proofs.OrderLemmas.{All-lay, IsDistinct-lay}
-use Rattle.itch_market.specs.declared.security.Security.{Security}
-use Rattle.itch_market.specs.Content.{Content, Securities, empty, laid}
+use Rattle.itch_market.specs.declared.security.Action.{Action}
+use Rattle.itch_market.specs.Content.{Content, Securities, empty, laid, Listing}
 use Rattle.itch_market.specs.Reasons.{reason, add_reason}
-use Rattle.itch_market.specs.Effects.{effect, entered, with_action, with_sho, action_of, changed_at, changed, order_of}
-use Rattle.itch_market.specs.Widths.{IsMaybe, IsSecurity, IsOrder}
+use Rattle.itch_market.specs.Effects.{effect, entered, with_action, with_sho, with_halt, with_position, action_of, position_of, changed_at, changed, order_of}
+use Rattle.itch_market.specs.Widths.{IsMaybe, IsAction, IsHalt, IsPosition, IsSecurity, IsOrder}
 use Rattle.itch_codec.specs.Fields.{IsAlpha}
 use Rattle.itch_codec.specs.Widths.{IsDirectory, IsAddOrder, IsMessage}
 use Rattle.itch_market.specs.Goods.{IsGood, IsListed}
 use Rattle.itch_market.specs.Runs.{after, run, FollowsFrom, Follows}
 use Rattle.itch_market.proofs.Maps.{get-insert}
+use Rattle.itch_market.proofs.Trees.{each_after}
+use Rattle.std.specs.Cmp.{nat_cmp_total}
+use Rattle.std.specs.Cmp.Lexicographic.{slice_cmp, nat_list_cmp_total}
+use Rattle.std.specs.FinMap.{nat_cmp-IsAntisymmetric, slice_cmp-IsAntisymmetric}
 use Rattle.itch_market.proofs.Allowed.{allowed_add, allowed_replace}
 
 -- a security that fits, at a locate that fits
-abbrev pub IsEntry : ℕ → Security → Type 0
+abbrev pub IsEntry : ℕ → Listing → Type 0
 IsEntry locate s = (locate < 65536) × IsSecurity s
 
 pub empty_good : IsGood empty
@@ -54,7 +58,7 @@ event_good m code good fits =
 
 -- ---- the directory
 
-entry_after : (b : Bool) (locate : ℕ) (s : Security) (o : Option Security) → (b ≡ true → IsEntry locate s) → IsMaybe (IsEntry locate) o
+entry_after : (b : Bool) (locate : ℕ) (s : Listing) (o : Option Listing) → (b ≡ true → IsEntry locate s) → IsMaybe (IsEntry locate) o
     → IsMaybe (IsEntry locate) (cond b (Some s) o)
 entry_after true locate s o new old = new refl
 entry_after false locate s o new old = old
@@ -63,10 +67,10 @@ some_after : {A : Type 0} (b : Bool) (x : A) (o : Option A) → IsSome o → IsS
 some_after true x o some = refl
 some_after false x o some = some
 
-listed_after : (securities : Securities) (locate : ℕ) (s : Security) (x : Order) → IsListed securities x → IsListed (map.insert securities locate s) x
+listed_after : (securities : Securities) (locate : ℕ) (s : Listing) (x : Order) → IsListed securities x → IsListed (map.insert securities locate s) x
 listed_after securities locate s x listed = rw (get-insert securities locate s x.locate) (some_after (eqb x.locate locate) s (map.get securities x.locate) listed)
 
-pub inserted_good : (m : Content) (locate : ℕ) (s : Security) → IsGood m → IsEntry locate s → IsGood (record m { securities = map.insert m.securities locate s })
+pub inserted_good : (m : Content) (locate : ℕ) (s : Listing) → IsGood m → IsEntry locate s → IsGood (record m { securities = map.insert m.securities locate s })
 inserted_good m locate s good entry =
     record {
       event = good.event;
@@ -79,21 +83,56 @@ inserted_good m locate s good entry =
       wide = good.wide;
     }
 
-entered_fits : (locate : ℕ) (o : Option Security) (entry : Directory) → IsMaybe (IsEntry locate) o → IsDirectory entry → IsSecurity (entered o entry)
-entered_fits locate None entry old fits = record { entry = fits; action = tt; sho = tt }
-entered_fits locate (Some s) entry old fits = record { entry = fits; action = old.1.action; sho = old.1.sho }
+-- ---- what is kept of a security fits after a change of it
+
+pub new_entry : (s : Listing) (entry : Directory) → IsDirectory entry → IsSecurity s → IsSecurity (record s { entry = entry })
+new_entry s entry fits old = record { entry = fits; action = old.action; sho = old.sho; halts = old.halts; positions = old.positions }
+
+pub new_action : (action : Action) → IsAction action → (s : Listing) → IsSecurity s → IsSecurity (with_action action s)
+new_action action fits s old = record { entry = old.entry; action = fits; sho = old.sho; halts = old.halts; positions = old.positions }
+
+pub new_sho : (sho : ℕ) → sho < 256 → (s : Listing) → IsSecurity s → IsSecurity (with_sho sho s)
+new_sho sho fits s old = record { entry = old.entry; action = old.action; sho = fits; halts = old.halts; positions = old.positions }
+
+pub new_halt : (market_code action : ℕ) → IsHalt market_code action → (s : Listing) → IsSecurity s → IsSecurity (with_halt market_code action s)
+new_halt market_code action fits s old = record {
+  entry = old.entry;
+  action = old.action;
+  sho = old.sho;
+  halts = each_after nat_cmp_total nat_cmp-IsAntisymmetric IsHalt s.halts market_code action old.halts fits;
+  positions = old.positions;
+}
+
+pub new_position : (mpid position : List ℕ) → IsPosition mpid position → (s : Listing) → IsSecurity s → IsSecurity (with_position mpid position s)
+new_position mpid position fits s old = record {
+  entry = old.entry;
+  action = old.action;
+  sho = old.sho;
+  halts = old.halts;
+  positions = each_after nat_list_cmp_total (slice_cmp-IsAntisymmetric nat_cmp-IsAntisymmetric) IsPosition s.positions mpid position old.positions fits;
+}
+
+entered_fits : (locate : ℕ) (o : Option Listing) (entry : Directory) → IsMaybe (IsEntry locate) o → IsDirectory entry → IsSecurity (entered o entry)
+entered_fits locate None entry old fits = record {
+  entry = fits;
+  action = tt;
+  sho = tt;
+  halts = λ market_code. rw (map.get-empty nat_cmp market_code) tt;
+  positions = λ mpid. rw (map.get-empty (slice_cmp nat_cmp) mpid) tt;
+}
+entered_fits locate (Some s) entry old fits = new_entry s entry fits old.1
 
 pub entered_good : (m : Content) (locate : ℕ) (entry : Directory) → IsGood m → locate < 65536 → IsDirectory entry
     → IsGood (record m { securities = map.insert m.securities locate (entered (map.get m.securities locate) entry) })
 entered_good m locate entry good low fits =
     inserted_good m locate _ good (low, entered_fits locate (map.get m.securities locate) entry (good.securities locate) fits)
 
-changed_at_good : (m : Content) (change : Security → Security) (locate : ℕ) → ((s : Security) → IsSecurity s → IsSecurity (change s)) → IsGood m
-    → (o : Option Security) → IsMaybe (IsEntry locate) o → IsGood (record m { securities = changed_at change locate o m.securities })
+changed_at_good : (m : Content) (change : Listing → Listing) (locate : ℕ) → ((s : Listing) → IsSecurity s → IsSecurity (change s)) → IsGood m
+    → (o : Option Listing) → IsMaybe (IsEntry locate) o → IsGood (record m { securities = changed_at change locate o m.securities })
 changed_at_good m change locate fits good None there = good
 changed_at_good m change locate fits good (Some s) there = inserted_good m locate (change s) good (there.0, fits s there.1)
 
-pub changed_good : (m : Content) (change : Security → Security) (locate : ℕ) → ((s : Security) → IsSecurity s → IsSecurity (change s)) → IsGood m
+pub changed_good : (m : Content) (change : Listing → Listing) (locate : ℕ) → ((s : Listing) → IsSecurity s → IsSecurity (change s)) → IsGood m
     → IsGood (record m { securities = changed change locate m.securities })
 changed_good m change locate fits good = changed_at_good m change locate fits good (map.get m.securities locate) (good.securities locate)
 
@@ -219,9 +258,14 @@ effect_good m (is.SystemEvent x) good fits none = event_good m x.code good fits.
 effect_good m (is.StockDirectory x) good fits none = entered_good m x.header.locate x.entry good fits.header.locate fits.entry
 effect_good m (is.TradingAction x) good fits none =
     changed_good m (with_action (action_of x)) x.header.locate
-    (λ s old. record { entry = old.entry; action = record { state = fits.state; reason = fits.reason }; sho = old.sho }) good
+    (new_action (action_of x) (record { state = fits.state; reason = fits.reason })) good
 effect_good m (is.RegSho x) good fits none =
-    changed_good m (with_sho x.action) x.header.locate (λ s old. record { entry = old.entry; action = old.action; sho = fits.action }) good
+    changed_good m (with_sho x.action) x.header.locate (new_sho x.action fits.action) good
+effect_good m (is.Halt x) good fits none =
+    changed_good m (with_halt x.market_code x.action) x.header.locate (new_halt x.market_code x.action (fits.market_code, fits.action)) good
+effect_good m (is.Position x) good fits none =
+    changed_good m (with_position x.mpid (position_of x)) x.header.locate
+    (new_position x.mpid (position_of x) (fits.mpid, (refl, (fits.primary_market_maker, (fits.mode, (fits.state, tt)))))) good
 effect_good m (is.AddOrder x) good fits none = added_good m x None good fits.header.locate (order_fits x None fits tt) none
 effect_good m (is.AttributedAddOrder x) good fits none =
     added_good m x.order (Some x.attribution) good fits.order.header.locate (order_fits x.order (Some x.attribution) fits.order fits.attribution) none

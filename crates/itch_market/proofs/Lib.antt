@@ -1,3 +1,4 @@
+pub mod Trees
 pub mod Maps
 pub mod Slots
 pub mod Bytes
@@ -10,6 +11,7 @@ pub mod DayFiles
 pub mod Taking
 pub mod Stopping
 pub mod Places
+pub mod Rules
 pub mod Told
 pub mod Searches
 pub mod OneStop

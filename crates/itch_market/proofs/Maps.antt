@@ -1,21 +1,16 @@
 -- Finite maps with numbers as keys: look-ups after an insertion, and entries whose keys rise.
-use Rattle.std.proofs.Common.{◌≡◌, ◌≢◌, ℕ, Bool, true, false, cond, List, [], ◌∷◌, Option, Some, None, IsSome, refl, sym, ap, ◌∙◌, nat_cmp, eqb, arith, length}
+use Rattle.std.proofs.Common.{◌≡◌, ◌≢◌, ℕ, Bool, true, false, cond, List, Option, Some, None, IsSome, refl, ap, ◌∙◌, nat_cmp, eqb, arith}
 use Rattle.std.specs.Ordering.{eq_by_cmp}
 use Rattle.std.specs.Cmp.{nat_cmp_total}
 use Rattle.std.specs.FinMap as map
 use Rattle.std.specs.FinMap.{nat_cmp-IsAntisymmetric}
-use Rattle.std.specs.FinMap.Entries.{put, by_order}
 use Rattle.std.specs.Map.{keys_of}
 use Rattle.std.specs.List.Sorted.{IsStrictlySortedBy}
-use Rattle.std.proofs.lemmas.Map.Keys.{sorted_head, sorted_tail}
 use Rattle.std.proofs.lemmas.Bool.Decides.{nat_tests}
+use Rattle.itch_market.proofs.Trees as any
 
 key_tests : (q k : ℕ) → eq_by_cmp nat_cmp q k ≡ eqb q k
 key_tests q k = grind (arith, nat_tests)
-
-no_entries : {A : Type 0} (es : List A) → length es ≡ 0 → es ≡ []
-no_entries [] none = refl
-no_entries (e ∷ es) none = absurd (omega arith)
 
 module _ {X : Type 0} where
   pub get-insert : (m : map.FinMap nat_cmp X) (k : ℕ) (v : X) (q : ℕ) → map.get (map.insert m k v) q ≡ cond (eqb q k) (Some v) (map.get m q)
@@ -45,10 +40,4 @@ module _ {X : Type 0} where
 
   -- entries whose keys rise are those of their map
   pub entries_of_rising : (es : List (ℕ × X)) → IsStrictlySortedBy nat_cmp (keys_of es) → map.entries (map.from_entries {R = nat_cmp} es) ≡ es
-  entries_of_rising [] rise = no_entries (map.entries (map.empty {R = nat_cmp})) (sym (map.len-entries map.empty) ∙ map.len-empty nat_cmp X)
-  entries_of_rising (e ∷ []) rise =
-      map.entries-insert nat_cmp_total map.empty e.0 e.1 ∙ ap (put nat_cmp e.0 e.1) (entries_of_rising [] (sorted_tail nat_cmp e.0 [] rise))
-  entries_of_rising (e ∷ f ∷ es) rise =
-      map.entries-insert nat_cmp_total (map.from_entries (f ∷ es)) e.0 e.1
-      ∙ ap (put nat_cmp e.0 e.1) (entries_of_rising (f ∷ es) (sorted_tail nat_cmp e.0 _ rise))
-      ∙ ap (λ o. by_order o (e ∷ f ∷ es) ((f.0, e.1) ∷ es) (f ∷ put nat_cmp e.0 e.1 es)) (sorted_head nat_cmp e.0 _ rise).0
+  entries_of_rising = any.entries_of_tree nat_cmp_total nat_cmp-IsAntisymmetric

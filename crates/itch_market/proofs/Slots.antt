@@ -7,12 +7,15 @@ use Rattle.std.specs.List.Sorted.{IsStrictlySortedBy}
 use Rattle.std.proofs.Math.Seq.{drop-cons}
 use Rattle.std.proofs.lemmas.List.{drop_all}
 use Rattle.std.proofs.lemmas.Bool.Decides.{nat_tests}
-use Rattle.itch_market.specs.declared.security.Security.{Security}
+use Rattle.itch_market.specs.Content.{Listing, Securities}
 use Rattle.itch_market.specs.Slots.{entries_from, directory, locates_from}
+use Rattle.std.specs.Cmp.{nat_cmp_total}
+use Rattle.std.specs.FinMap.{nat_cmp-IsAntisymmetric}
+use Rattle.itch_market.proofs.Trees.{insert_present}
 use Rattle.itch_market.proofs.Maps.{get-insert, get_there, get_elsewhere, same_map, entries_of_rising}
 
 -- what slots have at a place
-abbrev pub slot : List (Option Security) → ℕ → Option Security
+abbrev pub slot : List (Option Listing) → ℕ → Option Listing
 slot [] q = None
 slot (s ∷ slots) zero = s
 slot (s ∷ slots) (suc q) = slot slots q
@@ -21,7 +24,7 @@ apart : (q locate : ℕ) → q < locate → q ≢ locate
 apart q locate low same = absurd (omega arith)
 
 -- below the first locate there is nothing
-get_below : (slots : List (Option Security)) (locate q : ℕ) → q < locate → map.get (map.from_entries {R = nat_cmp} (entries_from locate slots)) q ≡ None
+get_below : (slots : List (Option Listing)) (locate q : ℕ) → q < locate → map.get (map.from_entries {R = nat_cmp} (entries_from locate slots)) q ≡ None
 get_below [] locate q low = map.get-empty nat_cmp q
 get_below (None ∷ slots) locate q low = get_below slots (suc locate) q (omega arith)
 get_below (Some s ∷ slots) locate q low =
@@ -30,7 +33,7 @@ get_below (Some s ∷ slots) locate q low =
 above : (q locate : ℕ) → suc locate + q ≢ locate
 above q locate same = absurd (omega arith)
 
-get_from : (slots : List (Option Security)) (locate q : ℕ) → map.get (map.from_entries {R = nat_cmp} (entries_from locate slots)) (locate + q) ≡ slot slots q
+get_from : (slots : List (Option Listing)) (locate q : ℕ) → map.get (map.from_entries {R = nat_cmp} (entries_from locate slots)) (locate + q) ≡ slot slots q
 get_from [] locate q = map.get-empty nat_cmp (locate + q)
 get_from (None ∷ slots) locate zero = get_below slots (suc locate) (locate + zero) (omega arith)
 get_from (None ∷ slots) locate (suc q) =
@@ -44,22 +47,22 @@ get_from (Some s ∷ slots) locate (suc q) =
     rw on (get_elsewhere _ locate s (suc locate + q) (above q locate) ∙ get_from slots (suc locate) q)
 
 -- the directory that slots hold has at a locate what the slots have there
-pub get_of_slots : (slots : List (Option Security)) (locate : ℕ) → map.get (directory slots) locate ≡ slot slots locate
+pub get_of_slots : (slots : List (Option Listing)) (locate : ℕ) → map.get (directory slots) locate ≡ slot slots locate
 get_of_slots slots locate =
     let here : 0 + locate ≡ locate = omega arith in
     rw here at (get_from slots 0 locate)
 
 -- slots that have the same everywhere hold one directory
-pub same_slots : (slots others : List (Option Security)) → ((q : ℕ) → slot slots q ≡ slot others q) → directory slots ≡ directory others
+pub same_slots : (slots others : List (Option Listing)) → ((q : ℕ) → slot slots q ≡ slot others q) → directory slots ≡ directory others
 same_slots slots others same = same_map _ _ (λ q. get_of_slots slots q ∙ same q ∙ sym (get_of_slots others q))
 
 -- a slot read by its place
-pub slot_read : (slots : List (Option Security)) (i : ℕ) (s d : Option Security) → i < length slots → s ≡ get_or slots i d → s ≡ slot slots i
+pub slot_read : (slots : List (Option Listing)) (i : ℕ) (s d : Option Listing) → i < length slots → s ≡ get_or slots i d → s ≡ slot slots i
 slot_read [] i s d low is = absurd (omega arith)
 slot_read (x ∷ slots) zero s d low is = is
 slot_read (x ∷ slots) (suc i) s d low is = slot_read slots i s d (omega arith) is
 
-pub slot_past : (slots : List (Option Security)) (i : ℕ) → length slots ≤ i → slot slots i ≡ None
+pub slot_past : (slots : List (Option Listing)) (i : ℕ) → length slots ≤ i → slot slots i ≡ None
 slot_past [] i past = refl
 slot_past (x ∷ slots) zero past = absurd (omega arith)
 slot_past (x ∷ slots) (suc i) past = slot_past slots i (omega arith)
@@ -73,7 +76,7 @@ zero_not i = grind (arith, nat_tests)
 one_less : (q i : ℕ) → eqb (suc q) (suc i) ≡ eqb q i
 one_less q i = grind (arith, nat_tests)
 
-slot_set : (slots : List (Option Security)) (i : ℕ) (s : Security) (q : ℕ) → i < length slots → slot (set slots i (Some s)) q ≡ cond (eqb q i) (Some s) (slot slots q)
+slot_set : (slots : List (Option Listing)) (i : ℕ) (s : Listing) (q : ℕ) → i < length slots → slot (set slots i (Some s)) q ≡ cond (eqb q i) (Some s) (slot slots q)
 slot_set [] i s q low = absurd (omega arith)
 slot_set (x ∷ slots) zero s zero low = refl
 slot_set (x ∷ slots) zero s (suc q) low = rw (not_zero q) refl
@@ -81,7 +84,7 @@ slot_set (x ∷ slots) (suc i) s zero low = rw (zero_not i) refl
 slot_set (x ∷ slots) (suc i) s (suc q) low = rw (one_less q i) (slot_set slots i s q (omega arith))
 
 -- a slot filled is a security inserted
-pub directory_set : (slots : List (Option Security)) (i : ℕ) (s : Security) → i < length slots → directory (set slots i (Some s)) ≡ map.insert (directory slots) i s
+pub directory_set : (slots : List (Option Listing)) (i : ℕ) (s : Listing) → i < length slots → directory (set slots i (Some s)) ≡ map.insert (directory slots) i s
 directory_set slots i s low =
     same_map _ _ (λ q. get_of_slots (set slots i (Some s)) q ∙ slot_set slots i s q low
     ∙ ap (cond (eqb q i) (Some s)) (sym (get_of_slots slots q)) ∙ sym (get-insert (directory slots) i s q))
@@ -91,64 +94,69 @@ slot_empty zero q = refl
 slot_empty (suc n) zero = refl
 slot_empty (suc n) (suc q) = slot_empty n q
 
-slot_more : (slots : List (Option Security)) (n q : ℕ) → slot (slots ++ replicate n None) q ≡ slot slots q
+slot_more : (slots : List (Option Listing)) (n q : ℕ) → slot (slots ++ replicate n None) q ≡ slot slots q
 slot_more [] n q = slot_empty n q
 slot_more (x ∷ slots) n zero = refl
 slot_more (x ∷ slots) n (suc q) = slot_more slots n q
 
 -- empty slots at the end say nothing
-pub directory_more : (slots : List (Option Security)) (n : ℕ) → directory (slots ++ replicate n None) ≡ directory slots
+pub directory_more : (slots : List (Option Listing)) (n : ℕ) → directory (slots ++ replicate n None) ≡ directory slots
 directory_more slots n = same_slots _ _ (slot_more slots n)
 
 is_less : (a b : ℕ) → a < b → nat_cmp a b ≡ Less
 is_less a b low = grind (arith, nat_tests)
 
-rise_above : (slots : List (Option Security)) (low locate : ℕ) → low < locate → AllByRecursion (λ q. nat_cmp low q ≡ Less) (keys_of (entries_from locate slots))
+rise_above : (slots : List (Option Listing)) (low locate : ℕ) → low < locate → AllByRecursion (λ q. nat_cmp low q ≡ Less) (keys_of (entries_from locate slots))
 rise_above [] low locate under = tt
 rise_above (None ∷ slots) low locate under = rise_above slots low (suc locate) (omega arith)
 rise_above (Some s ∷ slots) low locate under = (is_less low locate under, rise_above slots low (suc locate) (omega arith))
 
-rise : (slots : List (Option Security)) (locate : ℕ) → IsStrictlySortedBy nat_cmp (keys_of (entries_from locate slots))
+rise : (slots : List (Option Listing)) (locate : ℕ) → IsStrictlySortedBy nat_cmp (keys_of (entries_from locate slots))
 unfolding IsStrictlySortedBy
 rise [] locate = tt
 rise (None ∷ slots) locate = rise slots (suc locate)
 rise (Some s ∷ slots) locate = (rise_above slots locate (suc locate) (omega arith), rise slots (suc locate))
 
 -- the keys of the directory are the locates of the slots
-pub keys_of_slots : (slots : List (Option Security)) → locates_from 0 slots ≡ map.keys (directory slots)
+pub keys_of_slots : (slots : List (Option Listing)) → locates_from 0 slots ≡ map.keys (directory slots)
 keys_of_slots slots = ap keys_of (sym (entries_of_rising (entries_from 0 slots) (rise slots 0)))
 
 -- one slot on
-locates_step : (slots : List (Option Security)) (i : ℕ) (s : Option Security) → i < length slots → s ≡ get_or slots i s
+locates_step : (slots : List (Option Listing)) (i : ℕ) (s : Option Listing) → i < length slots → s ≡ get_or slots i s
     → locates_from i slots ≡ keys_of (entries_from i (s ∷ drop (suc i) slots))
 locates_step slots i s low is =
     ap (λ xs. keys_of (entries_from i xs)) (drop-cons slots i s low) ∙ ap (λ x. keys_of (entries_from i (x ∷ drop (suc i) slots))) (sym is)
 
 -- a locate with a security is the first from it on
-pub locates_here : (slots : List (Option Security)) (i : ℕ) (s : Option Security) → i < length slots → s ≡ get_or slots i s → true ≡ is_some s
+pub locates_here : (slots : List (Option Listing)) (i : ℕ) (s : Option Listing) → i < length slots → s ≡ get_or slots i s → true ≡ is_some s
     → locates_from i slots ≡ i ∷ locates_from (suc i) slots
 locates_here slots i None low is there = absurd (cc)
 locates_here slots i (Some s) low is there = locates_step slots i (Some s) low is
 
 -- a locate without one is passed over
-pub locates_on : (slots : List (Option Security)) (i : ℕ) (s : Option Security) → i < length slots → s ≡ get_or slots i s → false ≡ is_some s
+pub locates_on : (slots : List (Option Listing)) (i : ℕ) (s : Option Listing) → i < length slots → s ≡ get_or slots i s → false ≡ is_some s
     → locates_from i slots ≡ locates_from (i + 1) slots
 locates_on slots i None low is none = rw add-one (locates_step slots i None low is)
 locates_on slots i (Some s) low is none = absurd (cc)
 
 -- after the last slot there is none
-pub locates_past : (slots : List (Option Security)) (i : ℕ) → length slots ≤ i → locates_from i slots ≡ []
+pub locates_past : (slots : List (Option Listing)) (i : ℕ) → length slots ≤ i → locates_from i slots ≡ []
 locates_past slots i past = ap (λ xs. keys_of (entries_from i xs)) (drop_all i slots past)
 
-slot_within : (slots : List (Option Security)) (i : ℕ) (s : Security) → slot slots i ≡ Some s → i < length slots
+slot_within : (slots : List (Option Listing)) (i : ℕ) (s : Listing) → slot slots i ≡ Some s → i < length slots
 slot_within [] i s there = absurd (cc)
 slot_within (x ∷ slots) zero s there = omega arith
 slot_within (x ∷ slots) (suc i) s there = let below = slot_within slots i s there in omega arith
 
 -- a security of the directory has a slot
-pub within : (slots : List (Option Security)) (i : ℕ) (s : Security) → Some s ≡ map.get (directory slots) i → i < length slots
+pub within : (slots : List (Option Listing)) (i : ℕ) (s : Listing) → Some s ≡ map.get (directory slots) i → i < length slots
 within slots i s there = slot_within slots i s (sym (get_of_slots slots i) ∙ sym there)
 
 -- beyond the slots the directory has nothing
-pub get_past : (slots : List (Option Security)) (i : ℕ) → length slots < i + 1 → map.get (directory slots) i ≡ None
+pub get_past : (slots : List (Option Listing)) (i : ℕ) → length slots < i + 1 → map.get (directory slots) i ≡ None
 get_past slots i past = get_of_slots slots i ∙ slot_past slots i (omega arith)
+
+-- a security that is put where it is changes nothing
+pub kept_here : (securities : Securities) (locate : ℕ) (s t : Listing) → Some s ≡ map.get securities locate → t ≡ s → map.insert securities locate t ≡ securities
+kept_here securities locate s t there same =
+    ap (map.insert securities locate) same ∙ insert_present nat_cmp_total nat_cmp-IsAntisymmetric securities locate s (sym there)

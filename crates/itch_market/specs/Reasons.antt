@@ -8,26 +8,25 @@ use Rattle.itch_book.specs.Orders as book
 use Rattle.itch_codec.specs.declared.message.Message.{Message}
 use Rattle.itch_codec.specs.declared.message.Message.TheVariants as is
 use Rattle.itch_codec.specs.declared.orders.AddOrder.{AddOrder}
-use Rattle.itch_market.specs.declared.security.Security.{Security}
 use Rattle.itch_market.specs.declared.refusal.Refusal.{Refusal}
 use Rattle.itch_market.specs.declared.refusal.Refusal.TheVariants.{UnknownLocate, StockMismatch, ZeroShares, DuplicateRef, UnknownRef, LocateMismatch, TooManyShares, UnexpectedEnd}
-use Rattle.itch_market.specs.Content.{Content}
+use Rattle.itch_market.specs.Content.{Content, Listing}
 
 -- a check that fails gives this reason, else the later checks count
 abbrev pub refuse : Bool → Refusal → Option Refusal → Option Refusal
 refuse fails why later = if fails then Some why else later
 
 -- the stock is not the one that the directory has
-abbrev pub is_other_stock : Security → List ℕ → Bool
+abbrev pub is_other_stock : Listing → List ℕ → Bool
 is_other_stock s stock = not (bytes_eq s.entry.stock stock)
 
 -- a directory entry: the locate is new, or has this stock
-abbrev pub directory_reason : Option Security → List ℕ → Option Refusal
+abbrev pub directory_reason : Option Listing → List ℕ → Option Refusal
 directory_reason None stock = None
 directory_reason (Some s) stock = refuse (is_other_stock s stock) StockMismatch None
 
 -- a message on a security: the locate is in the directory, with this stock
-abbrev pub security_reason : Option Security → List ℕ → Option Refusal → Option Refusal
+abbrev pub security_reason : Option Listing → List ℕ → Option Refusal → Option Refusal
 security_reason None stock later = Some UnknownLocate
 security_reason (Some s) stock later = refuse (is_other_stock s stock) StockMismatch later
 
@@ -56,6 +55,8 @@ reason m (is.SystemEvent x) = None
 reason m (is.StockDirectory x) = directory_reason (map.get m.securities x.header.locate) x.entry.stock
 reason m (is.TradingAction x) = security_reason (map.get m.securities x.header.locate) x.stock None
 reason m (is.RegSho x) = security_reason (map.get m.securities x.header.locate) x.stock None
+reason m (is.Halt x) = security_reason (map.get m.securities x.header.locate) x.stock None
+reason m (is.Position x) = security_reason (map.get m.securities x.header.locate) x.stock None
 reason m (is.AddOrder x) = add_reason m x
 reason m (is.AttributedAddOrder x) = add_reason m x.order
 reason m (is.OrderExecuted x) = take_reason m x.header.locate x.reference x.shares

@@ -4,17 +4,18 @@ ghost use Rattle.std.specs.Iterator.{YieldsFirst, item_count};
 ghost use Rattle.itch_market.specs.Slots.{locates_from, IsFirstFrom};
 
 use crate::security::Security;
+use std::alloc::Allocator;
 use std::marker::Model;
 
 /// The locates of the directory, rising.
 #[derive(Drop)]
-pub struct Locates<'a> {
-    slots: &'a [Option<Security>],
+pub struct Locates<'a, A: Allocator> {
+    slots: &'a [Option<Security<A>>],
     // The first locate that was not looked at.
     next: usize,
 }
 
-impl<'a> Model for Locates<'a> {
+impl<'a, A: Allocator> Model for Locates<'a, A> {
     ghost use Rattle.std.specs.Prelude.{◌≤◌, List, ℕ, length};
     ghost use Rattle.itch_market.specs.Slots.{locates_from};
 
@@ -25,9 +26,9 @@ impl<'a> Model for Locates<'a> {
     ghost invariant = { λ l. length l.slots.now ≤ 65536 };
 }
 
-impl<'a> Locates<'a> {
+impl<'a, A: Allocator> Locates<'a, A> {
     /// The locates at which slots have a security.
-    pub(crate) fn new(slots: &'a [Option<Security>]) -> Locates<'a>
+    pub(crate) fn new(slots: &'a [Option<Security<A>>]) -> Locates<'a, A>
         requires { length slots.now ≤ 65536 }
         ensures { result ≡ locates_from 0 slots.now }
     {
@@ -35,7 +36,7 @@ impl<'a> Locates<'a> {
     }
 
     /// A second iterator over the locates that are left.
-    pub fn again(&self) -> Locates<'a>
+    pub fn again(&self) -> Locates<'a, A>
         ensures { result ≡ self.now }
     {
         Locates {
@@ -45,7 +46,7 @@ impl<'a> Locates<'a> {
     }
 }
 
-impl Iterator for Locates<'_> {
+impl<A: Allocator> Iterator for Locates<'_, A> {
     type Item = u16;
 
     ghost next_gives = { YieldsFirst (λ l. l) };
@@ -60,7 +61,7 @@ impl Iterator for Locates<'_> {
 }
 
 // The first locate with a security, from one on.
-fn first_from(slots: &[Option<Security>], from: usize) -> Option<usize>
+fn first_from<A: Allocator>(slots: &[Option<Security<A>>], from: usize) -> Option<usize>
     ensures { IsFirstFrom from slots.now result }
 {
     for locate in from..slots.len() {

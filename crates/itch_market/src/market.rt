@@ -21,7 +21,8 @@ use itch_book::{Order, OrderBook};
 use itch_codec::{Message, Side};
 use std::marker::Model;
 
-/// The market of a feed: the last event, the directory with each security's trading states, and the live orders.
+/// The market of a feed: the last event, the directory with each security's trading states, halts and positions, and the live
+/// orders.
 #[derive(Drop)]
 pub struct Market<B: OrderBook> {
     event: Option<u8>,
@@ -64,14 +65,14 @@ impl<B: OrderBook> Market<B> {
     }
 
     /// What is kept of the security at a locate, if the directory has one there.
-    pub fn security(&self, locate: u16) -> Option<&Security>
+    pub fn security(&self, locate: u16) -> Option<&Security<B::Alloc>>
         ensures { option_copied result ≡ map.get self.now.securities locate }
     {
         self.securities.get(locate)
     }
 
     /// The locates of the directory, rising.
-    pub fn locates(&self) -> Locates<'_>
+    pub fn locates(&self) -> Locates<'_, B::Alloc>
         ensures { result ≡ map.keys self.now.securities }
     {
         self.securities.locates()
@@ -87,7 +88,7 @@ impl<B: OrderBook> Market<B> {
     /// Changes the market by a message, or says which of the order rules refuses it.
     ///
     /// A refusal leaves the market as it was. [`Refusal::OutOfMemory`] comes only of a message that no rule refuses
-    /// and that adds an order or a directory entry, and only where memory was refused.
+    /// and that adds an order, a directory entry, a halt's market code or a market participant, and only where memory was refused.
     pub fn apply(&mut self, message: &Message<'_>) -> Result<(), Refusal>
         ensures refused { IfSome (reason self.old message.now) (λ why. result ≡ Err why) }
         ensures accepted { IfNone (reason self.old message.now) (IsOkUnless result Refusal.OutOfMemory) }

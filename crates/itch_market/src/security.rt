@@ -1,6 +1,14 @@
 //! What is kept of a security.
+ghost use Rattle.std.specs.Prelude.{◌≡◌, ◌<◌, ◌^◌, None, IsErr, OnOk, OnErr};
+ghost use Rattle.std.specs.FinMap as map;
+ghost use Rattle.itch_market.specs.Effects.{entered, with_action, with_sho, with_halt, with_position};
 
-use itch_codec::Directory;
+use crate::halts::Halts;
+use crate::positions::Positions;
+use itch_codec::{Alpha, Directory};
+use std::alloc::{AllocError, Allocator};
+use std::collections::BTreeMap;
+use std::marker::Model;
 
 /// A security's trading action: the last Stock Trading Action without its reserved byte.
 #[derive(Clone, Copy, Debug, PartialEq, Eq)]
@@ -12,12 +20,134 @@ pub struct Action {
 }
 
 /// What is kept of a security beside its orders.
-#[derive(Clone, Copy, Debug, PartialEq, Eq)]
-pub struct Security {
+#[derive(Drop)]
+pub struct Security<A: Allocator> {
     /// Its last entry in the directory.
     pub entry: Directory,
     /// Its last trading action, if any came.
     pub action: Option<Action>,
     /// Its last Reg SHO restriction, if any came.
     pub sho: Option<u8>,
+    // the last action at each market code
+    halts: BTreeMap<u8, u8, A>,
+    // each market participant's primary market maker, mode and state
+    positions: BTreeMap<Alpha<4>, [u8; 3], A>,
+}
+
+impl<A: Allocator> Model for Security<A> {
+    ghost use Rattle.std.specs.FinMap as map;
+    ghost use Rattle.std.specs.Coded.{codes};
+    ghost use Rattle.itch_market.specs.Content.{Listing};
+
+    ghost Value = { Listing };
+
+    ghost coded = { Prim.hlevel (codes, map.code) };
+
+    ghost view = { λ s. record {
+      entry = s.entry;
+      action = s.action;
+      sho = s.sho;
+      halts = map.from_entries s.halts.entries;
+      positions = map.from_entries s.positions.entries;
+    } };
+}
+
+impl<A: Allocator> Security<A> {
+    /// The security of a new directory entry, which takes no memory.
+    pub(crate) fn new(alloc: A, entry: Directory) -> Self
+    where
+        A: Copy,
+        ensures { result ≡ entered None entry }
+    {
+        Security {
+            entry,
+            action: None,
+            sho: None,
+            halts: BTreeMap::new(alloc),
+            positions: BTreeMap::new(alloc),
+        }
+    }
+
+    /// Keeps a further entry in the directory.
+    pub(crate) fn set_entry(&mut self, entry: Directory)
+        ensures { self.new ≡ record self.old { entry = entry } }
+    {
+        self.entry = entry;
+    }
+
+    /// Keeps a trading action.
+    pub(crate) fn set_action(&mut self, action: Action)
+        ensures { self.new ≡ with_action action self.old }
+    {
+        self.action = Some(action);
+    }
+
+    /// Keeps a Reg SHO restriction.
+    pub(crate) fn set_sho(&mut self, sho: u8)
+        ensures { self.new ≡ with_sho sho self.old }
+    {
+        self.sho = Some(sho);
+    }
+
+    /// Keeps the action at a market code.
+    pub(crate) fn set_halt(&mut self, market_code: u8, action: u8) -> Result<(), AllocError>
+    where
+        A: Clone,
+        ensures ok { OnOk result (self.new ≡ with_halt market_code action self.old) }
+        ensures err { OnErr result (self.new ≡ self.old) }
+        ensures memory { IsErr result → map.get self.old.halts market_code ≡ None }
+    {
+        self.halts.insert(market_code, action)?;
+        Ok(())
+    }
+
+    /// Keeps the position of a market participant.
+    pub(crate) fn set_position(
+        &mut self,
+        mpid: Alpha<4>,
+        position: [u8; 3],
+    ) -> Result<(), AllocError>
+    where
+        A: Clone,
+        ensures ok { OnOk result (self.new ≡ with_position mpid position self.old) }
+        ensures err { OnErr result (self.new ≡ self.old) }
+        ensures memory { IsErr result → map.get self.old.positions mpid ≡ None }
+    {
+        self.positions.insert(mpid, position)?;
+        Ok(())
+    }
+
+    /// The last action of an operational halt at each market code, by rising code.
+    pub fn halts(&self) -> Halts<'_>
+        ensures { result ≡ map.entries self.now.halts }
+    {
+        Halts {
+            entries: self.halts.iter(),
+        }
+    }
+
+    /// How many market codes have an action.
+    pub fn halts_len(&self) -> usize
+        ensures len { result ≡ map.len self.now.halts }
+        ensures small { result < 2 ^ 63 }
+    {
+        self.halts.len()
+    }
+
+    /// How many market participants have a position.
+    pub fn positions_len(&self) -> usize
+        ensures len { result ≡ map.len self.now.positions }
+        ensures small { result < 2 ^ 63 }
+    {
+        self.positions.len()
+    }
+
+    /// The last position of each market participant, by rising bytes.
+    pub fn positions(&self) -> Positions<'_>
+        ensures { result ≡ map.entries self.now.positions }
+    {
+        Positions {
+            entries: self.positions.iter(),
+        }
+    }
 }

@@ -4,26 +4,24 @@ use Rattle.std.specs.List.{AllByRecursion}
 use Rattle.std.specs.Map.{keys_of}
 use Rattle.std.specs.FinMap as finite
 use Rattle.itch_codec.specs.declared.message.Message.TheVariants as is
-use Rattle.itch_codec.specs.declared.stocks.TradingAction.{TradingAction}
-use Rattle.itch_codec.specs.declared.stocks.RegSho.{RegSho}
+use Rattle.itch_codec.specs.declared.message.Message.{Message}
 use Rattle.itch_book.specs.declared.order.Order.{Order}
 use Rattle.itch_book.specs.Orders as book
 use Rattle.itch_book.proofs.Walks.{first_left, next_left, first_live, after_live}
-use Rattle.itch_market.specs.declared.security.Security.{Security}
-use Rattle.itch_market.specs.Content.{Content}
+use Rattle.itch_market.specs.Content.{Content, Listing}
 use Rattle.itch_snapshot.specs.declared.named.NamedOrder.{NamedOrder}
-use Rattle.itch_snapshot.specs.Snapshot.{snap, header_at, event_part, action_part, sho_part, order_part, locate_part}
-use Rattle.itch_snapshot.specs.Cursor.{one, named, order_parts, part_at, found_part, left, IsCursor}
+use Rattle.itch_snapshot.specs.Snapshot.{snap, header_at, event_part, states_part, order_part, locate_part}
+use Rattle.itch_snapshot.specs.Cursor.{listed, named, order_parts, part_at, found_part, left, IsCursor}
 use Rattle.itch_snapshot.proofs.Locates.{each_entry}
 use Rattle.itch_snapshot.proofs.Keys.{each_listed}
 
-parts_of : (m : Content) (es : List (ℕ × Security)) → AllByRecursion (λ e. finite.get m.securities e.0 ≡ Some e.1) es
+parts_of : (m : Content) (es : List (ℕ × Listing)) → AllByRecursion (λ e. finite.get m.securities e.0 ≡ Some e.1) es
     → flat_map (part_at m) (keys_of es) ≡ flat_map (locate_part m.orders) es
 parts_of m [] here = refl
 parts_of m (e ∷ es) here = ap₂ ◌++◌ (ap (found_part m.orders e.0) here.0) (parts_of m es here.1)
 
 -- at first all of the snapshot list is left
-pub left_snap : (m : Content) → left m m.event None None None (finite.keys m.securities) ≡ snap m
+pub left_snap : (m : Content) → left m m.event None None (finite.keys m.securities) ≡ snap m
 left_snap m = ap (λ parts. event_part m.event ++ parts) (parts_of m (finite.entries m.securities) (each_entry m.securities))
 
 pub cursor_begins : (m : Content) → IsCursor m None (finite.keys m.securities)
@@ -55,12 +53,12 @@ module _ (m : Content) (orders : List Order) (kept : book.IsBook orders) (same :
   first_there next stock locate first = first ∙ ap (λ os. named stock (find (book.is_in locate) os)) same
 
   -- an order is given, and the next one behind it is still to come
-  pub order_given : (event : Option ℕ) (action : Option TradingAction) (sho : Option RegSho) (order next : Option NamedOrder) (locates : List ℕ) (x : NamedOrder)
-      → IsCursor m order locates → event ≡ None → action ≡ None → sho ≡ None → order ≡ Some x → next ≡ named x.stock (book.after orders x.order.reference)
-      → left m event action sho order locates ≡ order_part x.stock x.order ∷ left m None None None next locates
-  order_given event action sho order next locates x cursor no_event no_action no_sho this behind =
+  pub order_given : (event : Option ℕ) (states spent : Option (List Message)) (order next : Option NamedOrder) (locates : List ℕ) (x : NamedOrder)
+      → IsCursor m order locates → event ≡ None → listed states ≡ [] → listed spent ≡ [] → order ≡ Some x → next ≡ named x.stock (book.after orders x.order.reference)
+      → left m event states order locates ≡ order_part x.stock x.order ∷ left m None spent next locates
+  order_given event states spent order next locates x cursor no_event no_states none_left this behind =
       let live : book.get m.orders x.order.reference ≡ Some x.order = subst IsNext this cursor.live in
-      rw (no_event, no_action, no_sho, this, behind_it next x behind)
+      rw (no_event, no_states, none_left, this, behind_it next x behind)
       (ap (λ os. map (order_part x.stock) os ++ flat_map (part_at m) locates) (next_left m.orders x.order listed_book.distinct live)
       ∙ ap (λ parts. order_part x.stock x.order ∷ (parts ++ flat_map (part_at m) locates)) (sym (parts_named m.orders x.stock (book.after m.orders x.order.reference))))
 
@@ -74,24 +72,21 @@ module _ (m : Content) (orders : List Order) (kept : book.IsBook orders) (same :
       }
 
   -- the directory entry of a locate is given, and the rest of what is said of the locate is still to come
-  pub locate_given : (event : Option ℕ) (action next_action : Option TradingAction) (sho next_sho : Option RegSho) (order next : Option NamedOrder)
-      (locates others : List ℕ) (locate : ℕ) (s : Security)
-      → event ≡ None → action ≡ None → sho ≡ None → order ≡ None → locates ≡ locate ∷ others → finite.get m.securities locate ≡ Some s
-      → one is.TradingAction next_action ≡ action_part locate s.entry.stock s.action → one is.RegSho next_sho ≡ sho_part locate s.entry.stock s.sho
-      → next ≡ named s.entry.stock (find (book.is_in locate) orders)
-      → left m event action sho order locates
-      ≡ is.StockDirectory (record { header = header_at locate; entry = s.entry }) ∷ left m None next_action next_sho next others
-  locate_given event action next_action sho next_sho order next locates others locate s no_event no_action no_sho no_order here there acts restricts first =
+  pub locate_given : (event : Option ℕ) (states next_states : Option (List Message)) (order next : Option NamedOrder)
+      (locates others : List ℕ) (locate : ℕ) (s : Listing)
+      → event ≡ None → listed states ≡ [] → order ≡ None → locates ≡ locate ∷ others → finite.get m.securities locate ≡ Some s
+      → listed next_states ≡ states_part locate s → next ≡ named s.entry.stock (find (book.is_in locate) orders)
+      → left m event states order locates ≡ is.StockDirectory (record { header = header_at locate; entry = s.entry }) ∷ left m None next_states next others
+  locate_given event states next_states order next locates others locate s no_event no_states no_order here there tells first =
       let entry = s.entry in
       let rest = flat_map (part_at m) others in
       let there_first : order_parts m.orders next ≡ map (order_part entry.stock) (book.sides m.orders locate) =
       ap (order_parts m.orders) (first_there next entry.stock locate first) ∙ parts_named m.orders entry.stock (find (book.is_in locate) m.orders)
       ∙ ap (map (order_part entry.stock)) (sym (first_left m.orders locate listed_book)) in
-      rw (no_event, no_action, no_sho, no_order, here, acts, restricts, there_first)
+      rw (no_event, no_states, no_order, here, tells, there_first)
       (ap (λ found. found_part m.orders locate found ++ rest) there
       ∙ ap (λ tail. is.StockDirectory (record { header = header_at locate; entry = entry }) ∷ tail)
-      (append_assoc (action_part locate entry.stock s.action) (sho_part locate entry.stock s.sho ++ map (order_part entry.stock) (book.sides m.orders locate)) rest
-      ∙ ap (λ tail. action_part locate entry.stock s.action ++ tail) (append_assoc (sho_part locate entry.stock s.sho) (map (order_part entry.stock) (book.sides m.orders locate)) rest)))
+      (append_assoc (states_part locate s) (map (order_part entry.stock) (book.sides m.orders locate)) rest))
 
   pub locate_leaves : (order next : Option NamedOrder) (locates others : List ℕ) (locate : ℕ) (stock : List ℕ)
       → IsCursor m order locates → locates ≡ locate ∷ others → next ≡ named stock (find (book.is_in locate) orders) → IsCursor m next others

@@ -35,6 +35,8 @@ end_of_number (is.SystemEvent m) next h = cc
 end_of_number (is.StockDirectory m) next h = cc
 end_of_number (is.TradingAction m) next h = cc
 end_of_number (is.RegSho m) next h = cc
+end_of_number (is.Halt m) next h = cc
+end_of_number (is.Position m) next h = cc
 end_of_number (is.AddOrder m) next h = cc
 end_of_number (is.AttributedAddOrder m) next h = cc
 end_of_number (is.OrderExecuted m) next h = cc
@@ -49,23 +51,11 @@ end_of_number (is.End n) next h = cc
 end_of_number (is.Other bytes) next h = cc
 
 -- is refused everywhere
-unrefused_number : (m : Content) (x : Message) → reason m x ≡ None → number_in x ≡ None
-unrefused_number m (is.SystemEvent x) none = refl
-unrefused_number m (is.StockDirectory x) none = refl
-unrefused_number m (is.TradingAction x) none = refl
-unrefused_number m (is.RegSho x) none = refl
-unrefused_number m (is.AddOrder x) none = refl
-unrefused_number m (is.AttributedAddOrder x) none = refl
-unrefused_number m (is.OrderExecuted x) none = refl
-unrefused_number m (is.OrderExecutedWithPrice x) none = refl
-unrefused_number m (is.OrderCancel x) none = refl
-unrefused_number m (is.OrderDelete x) none = refl
-unrefused_number m (is.OrderReplace x) none = refl
-unrefused_number m (is.Trade x) none = refl
-unrefused_number m (is.CrossTrade x) none = refl
-unrefused_number m (is.BrokenTrade x) none = refl
-unrefused_number m (is.End next) none = cc
-unrefused_number m (is.Other bytes) none = refl
+pub unrefused_number : (m : Content) (x : Message) → reason m x ≡ None → number_in x ≡ None
+unrefused_number m x none = by_number (number_in x) refl where
+  by_number : (n : Option ℕ) → number_in x ≡ n → number_in x ≡ None
+  by_number None is_none = is_none
+  by_number (Some next) is_next = let refused : Some UnexpectedEnd ≡ None = sym (ap (reason m) (end_of_number x next is_next)) ∙ none in cc
 
 -- a payload has the closing number of the message that it spells
 number-Spells : (x : Message) (p : List ℕ) → Spells x p → closing_number p ≡ number_in x

@@ -9,12 +9,11 @@ use Rattle.std.proofs.lemmas.Map.Entries.{length-keys_of}
 use Rattle.itch_book.specs.declared.order.Order.{Order}
 use Rattle.itch_book.specs.Orders as book
 use Rattle.itch_book.proofs.StableLemmas.{length-in_order}
-use Rattle.itch_market.specs.declared.security.Security.{Security}
 use Rattle.itch_market.specs.declared.security.Action.{Action}
-use Rattle.itch_market.specs.Content.{Content}
+use Rattle.itch_market.specs.Content.{Content, Listing}
 use Rattle.itch_market.specs.Goods.{IsGood}
 use Rattle.itch_market.specs.Widths.{IsMaybe, IsSecurity}
-use Rattle.itch_snapshot.specs.Snapshot.{snap, event_part, action_part, sho_part, order_part, locate_messages, locate_part}
+use Rattle.itch_snapshot.specs.Snapshot.{snap, event_part, action_part, sho_part, halt_part, position_part, states_part, order_part, locate_messages, locate_part}
 use Rattle.itch_snapshot.specs.Lengths.{count_of, security_len}
 use Rattle.itch_snapshot.proofs.Locates.{joined, joined_all, rise, each_entry}
 use Rattle.itch_snapshot.proofs.Keys.{rise_short}
@@ -31,21 +30,29 @@ length-sho : (locate : ℕ) (stock : List ℕ) (sho : Option ℕ) → length (sh
 length-sho locate stock None = refl
 length-sho locate stock (Some sho) = refl
 
-length-locate : (e : ℕ × Security) (os : List Order) → length (locate_messages e os) ≡ security_len e.1 + length os
+length-locate : (e : ℕ × Listing) (os : List Order) → length (locate_messages e os) ≡ security_len e.1 + length os
 length-locate e os =
-    let acts = action_part e.0 e.1.entry.stock e.1.action in
-    let restricts = sho_part e.0 e.1.entry.stock e.1.sho in
-    let orders = map (order_part e.1.entry.stock) os in
+    let stock = e.1.entry.stock in
+    let acts = action_part e.0 stock e.1.action in
+    let restricts = sho_part e.0 stock e.1.sho in
+    let halts = map (halt_part e.0 stock) (finite.entries e.1.halts) in
+    let positions = map (position_part e.0 stock) (finite.entries e.1.positions) in
     omega (
       arith,
-      length-append acts (restricts ++ orders),
-      length-append restricts orders,
-      length-action e.0 e.1.entry.stock e.1.action,
-      length-sho e.0 e.1.entry.stock e.1.sho,
-      length-map os (order_part e.1.entry.stock),
+      length-append (states_part e.0 e.1) (map (order_part stock) os),
+      length-append acts (restricts ++ (halts ++ positions)),
+      length-append restricts (halts ++ positions),
+      length-append halts positions,
+      length-action e.0 stock e.1.action,
+      length-sho e.0 stock e.1.sho,
+      length-map (finite.entries e.1.halts) (halt_part e.0 stock),
+      length-map (finite.entries e.1.positions) (position_part e.0 stock),
+      finite.len-entries e.1.halts,
+      finite.len-entries e.1.positions,
+      length-map os (order_part stock),
     )
 
-length-locates : (orders : List Order) (es : List (ℕ × Security)) → length (flat_map (locate_part orders) es) ≡ sum_by (λ e. security_len e.1) es + length (joined orders es)
+length-locates : (orders : List Order) (es : List (ℕ × Listing)) → length (flat_map (locate_part orders) es) ≡ sum_by (λ e. security_len e.1) es + length (joined orders es)
 length-locates orders [] = refl
 length-locates orders (e ∷ es) =
     omega (
@@ -54,21 +61,21 @@ length-locates orders (e ∷ es) =
       length-locate e (book.sides orders e.0),
       length-locates orders es,
       length-append (book.sides orders e.0) (joined orders es),
-      sum_by-cons (λ (f : ℕ × Security). security_len f.1) e es,
+      sum_by-cons (λ (f : ℕ × Listing). security_len f.1) e es,
     )
 
 -- how many messages tell of the security at a locate
-abbrev pub found_len : Option Security → ℕ
+abbrev pub found_len : Option Listing → ℕ
 found_len None = 0
 found_len (Some s) = security_len s
 
 abbrev pub len_at : Content → ℕ → ℕ
 len_at m locate = found_len (finite.get m.securities locate)
 
-sum_at : (m : Content) (es : List (ℕ × Security)) → AllByRecursion (λ e. finite.get m.securities e.0 ≡ Some e.1) es
+sum_at : (m : Content) (es : List (ℕ × Listing)) → AllByRecursion (λ e. finite.get m.securities e.0 ≡ Some e.1) es
     → sum_by (len_at m) (keys_of es) ≡ sum_by (λ e. security_len e.1) es
 sum_at m [] here = refl
-sum_at m (e ∷ es) here = omega (arith, ap found_len here.0, sum_at m es here.1, sum_by-cons (len_at m) e.0 (keys_of es), sum_by-cons (λ (f : ℕ × Security). security_len f.1) e es)
+sum_at m (e ∷ es) here = omega (arith, ap found_len here.0, sum_at m es here.1, sum_by-cons (len_at m) e.0 (keys_of es), sum_by-cons (λ (f : ℕ × Listing). security_len f.1) e es)
 
 -- the length of the snapshot list, summed over the locates
 pub length-snap : (m : Content) → IsGood m → length (snap m) ≡ count_of m.event + length m.orders + sum_by (len_at m) (finite.keys m.securities)
@@ -77,7 +84,7 @@ length-snap m good =
     let all = ap length (joined_all m.orders m.securities good.listed) ∙ length-in_order book.stands_before m.orders in
     omega (arith, length-append (event_part m.event) (flat_map (locate_part m.orders) es), length-event m.event, length-locates m.orders es, all, sum_at m es (each_entry m.securities))
 
-key_within : (m : Content) → IsGood m → (es : List (ℕ × Security)) → AllByRecursion (λ e. finite.get m.securities e.0 ≡ Some e.1) es → AllByRecursion (λ e. (0 ≤ e.0) × (e.0 < 65536)) es
+key_within : (m : Content) → IsGood m → (es : List (ℕ × Listing)) → AllByRecursion (λ e. finite.get m.securities e.0 ≡ Some e.1) es → AllByRecursion (λ e. (0 ≤ e.0) × (e.0 < 65536)) es
 key_within m good [] here = tt
 key_within m good (e ∷ es) here =
     let fits = subst (IsMaybe (λ s. (e.0 < 65536) × IsSecurity s)) here.0 (good.securities e.0) in
@@ -93,37 +100,34 @@ count_small : {A : Type 0} (o : Option A) → count_of o ≤ 1
 count_small None = omega arith
 count_small (Some x) = omega arith
 
-pub security_small : (s : Security) → security_len s ≤ 3
-security_small s = omega (arith, count_small s.action, count_small s.sho)
-
-found_small : (o : Option Security) → found_len o ≤ 3
-found_small None = omega arith
-found_small (Some s) = security_small s
-
-pub sum_small : (m : Content) (locates : List ℕ) → sum_by (len_at m) locates ≤ 3 * length locates
-sum_small m [] = omega arith
-sum_small m (l ∷ ls) = omega (arith, found_small (finite.get m.securities l), sum_small m ls, sum_by-cons (len_at m) l ls)
-
 -- the locates that were seen are counted
 pub record CountsSoFar (m : Content) (seen left : List ℕ) (len : ℕ) : Type 0 where
   pub locates : finite.keys m.securities ≡ seen ++ left
   pub counted : len ≡ count_of m.event + length m.orders + sum_by (len_at m) seen
   pub good : IsGood m
   pub few_orders : length m.orders < 2 ^ 64
+  pub small : sum_by (len_at m) seen ≤ 2 ^ 65 * length seen
 
-pub one_counted : (m : Content) (seen left : List ℕ) (len locate : ℕ) (found : Option Security) → CountsSoFar m seen (locate ∷ left) len → finite.get m.securities locate ≡ found
+pub one_counted : (m : Content) (seen left : List ℕ) (len locate : ℕ) (found : Option Listing) → CountsSoFar m seen (locate ∷ left) len → finite.get m.securities locate ≡ found → found_len found < 2 ^ 65
     → CountsSoFar m (seen ++ locate ∷ []) left (len + found_len found)
-one_counted m seen left len locate found so_far there = record {
+one_counted m seen left len locate found so_far there short = record {
   locates = so_far.locates ∙ sym (append_assoc seen (locate ∷ []) left);
   counted = omega (arith, so_far.counted, sum_by-append (len_at m) seen (locate ∷ []), sum_by-cons (len_at m) locate [], ap found_len there);
   good = so_far.good;
   few_orders = so_far.few_orders;
+  small = omega (arith, so_far.small, sum_by-append (len_at m) seen (locate ∷ []), sum_by-cons (len_at m) locate [], ap found_len there, short, length-append seen (locate ∷ []));
 }
 
+pub none_counted : (m : Content) (seen left : List ℕ) (len locate : ℕ) → CountsSoFar m seen (locate ∷ left) len → finite.get m.securities locate ≡ None
+    → CountsSoFar m (seen ++ locate ∷ []) left len
+none_counted m seen left len locate so_far there =
+    let same : len + 0 ≡ len = omega arith in
+    subst (CountsSoFar m (seen ++ locate ∷ []) left) same (one_counted m seen left len locate None so_far there (omega arith))
+
 -- so that the count stays small
-pub counts_small : (m : Content) (seen left : List ℕ) (len : ℕ) → CountsSoFar m seen left len → len < 2 ^ 65
+pub counts_small : (m : Content) (seen left : List ℕ) (len : ℕ) → CountsSoFar m seen left len → len < 2 ^ 82
 counts_small m seen left len so_far =
-    omega (arith, so_far.counted, so_far.few_orders, count_small m.event, sum_small m seen, few_locates m so_far.good, ap length so_far.locates, length-append seen left)
+    omega (arith, so_far.counted, so_far.few_orders, count_small m.event, so_far.small, few_locates m so_far.good, ap length so_far.locates, length-append seen left)
 
 -- and is the snapshot's length when all were seen
 pub counts_all : (m : Content) (seen left : List ℕ) (len : ℕ) → CountsSoFar m seen left len → left ≡ [] → len ≡ length (snap m)

@@ -5,8 +5,7 @@ use Rattle.itch_codec.specs.declared.side.Side.{Side}
 use Rattle.itch_codec.specs.declared.side.Side.TheVariants.{Buy, Sell}
 use Rattle.itch_book.specs.declared.order.Order.{Order}
 use Rattle.itch_book.specs.Orders as book
-use Rattle.itch_market.specs.declared.security.Security.{Security}
-use Rattle.itch_market.specs.Content.{Content, laid}
+use Rattle.itch_market.specs.Content.{Content, laid, Listing}
 use Rattle.itch_market.specs.Goods.{IsGood}
 use Rattle.itch_market.specs.Runs.{run, Follows}
 use Rattle.itch_market.specs.Sames.{Same}
@@ -24,7 +23,7 @@ pub replayed_same : (m : Content) → IsGood m → Same (run (snap m)) m
 replayed_same m good = subst (λ n. Same n m) (sym (run-snap m good)) (laid_is_same m good)
 
 -- orders with equal queues have one part for each locate
-parts_same : (xs ys : List Order) → ((locate : ℕ) (side : Side) → book.queue xs locate side ≡ book.queue ys locate side) → (es : List (ℕ × Security))
+parts_same : (xs ys : List Order) → ((locate : ℕ) (side : Side) → book.queue xs locate side ≡ book.queue ys locate side) → (es : List (ℕ × Listing))
     → flat_map (locate_part xs) es ≡ flat_map (locate_part ys) es
 parts_same xs ys same [] = refl
 parts_same xs ys same (e ∷ es) = ap₂ ◌++◌ (ap (locate_messages e) (ap₂ ◌++◌ (same e.0 Buy) (same e.0 Sell))) (parts_same xs ys same es)

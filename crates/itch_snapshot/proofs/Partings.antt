@@ -1,5 +1,5 @@
 -- Lists compared element by element.
-use Rattle.std.proofs.Common.{◌≡◌, ◌≢◌, ◌↔◌, IfSome, IfNone, IsNone, ℕ, ◌+◌, ◌-◌, ◌<◌, zero, suc, List, [], ◌∷◌, ◌++◌, length, Option, Some, None, slice_get, refl, sym, ap, ◌∙◌, arith}
+use Rattle.std.proofs.Common.{◌≡◌, ◌≢◌, ◌↔◌, IfSome, IfNone, IsNone, ℕ, ◌+◌, ◌-◌, ◌<◌, zero, suc, List, [], ◌∷◌, ◌++◌, length, Option, Some, None, slice_get, refl, sym, ap, ◌∙◌, arith, append_assoc, length-append}
 use Rattle.itch_codec.specs.declared.message.Message.{Message}
 use Rattle.itch_market.specs.Content.{Content}
 use Rattle.itch_market.specs.Goods.{IsGood}
@@ -15,6 +15,15 @@ pub record AgreeSoFar {A : Type 0} (xs ys seen left right : List A) (place : ℕ
   pub next : place ≡ length seen + 1
 
 module _ {A : Type 0} where
+  -- and they agree in one element more
+  pub one_more : (xs ys seen left left' right right' : List A) (place : ℕ) (x y : A) → AgreeSoFar xs ys seen left right place → left ≡ x ∷ left' → right ≡ y ∷ right' → x ≡ y
+      → AgreeSoFar xs ys (seen ++ x ∷ []) left' right' (place + 1)
+  one_more xs ys seen left left' right right' place x y agree one other same = record {
+    one = agree.one ∙ ap (λ more. seen ++ more) one ∙ sym (append_assoc seen (x ∷ []) left');
+    other = agree.other ∙ ap (λ more. seen ++ more) (other ∙ ap (λ e. e ∷ right') (sym same)) ∙ sym (append_assoc seen (x ∷ []) right');
+    next = omega (arith, agree.next, length-append seen (x ∷ []));
+  }
+
   one_further : (x : A) (xs ys : List A) (n : ℕ) → IsParting xs ys n → IsParting (x ∷ xs) (x ∷ ys) (suc n)
   one_further x xs ys n rest = record { before = before; there = rest.there } where
     before : (i : ℕ) → i < suc n → slice_get (x ∷ xs) i ≡ slice_get (x ∷ ys) i

@@ -1,23 +1,19 @@
 -- What is still to come of a snapshot that is given message by message.
-use Rattle.std.specs.Prelude.{◌≡◌, ℕ, List, [], ◌∷◌, ◌++◌, map, Option, Some, None, IsSome, IfSome}
+use Rattle.std.specs.Prelude.{◌≡◌, ℕ, List, [], ◌++◌, map, Option, Some, None, IsSome, IfSome}
 use Rattle.std.specs.Option.{option_map}
 use Rattle.std.specs.List.{flat_map, AllByRecursion}
 use Rattle.std.specs.FinMap as finite
 use Rattle.itch_codec.specs.declared.message.Message.{Message}
-use Rattle.itch_codec.specs.declared.message.Message.TheVariants as is
-use Rattle.itch_codec.specs.declared.stocks.TradingAction.{TradingAction}
-use Rattle.itch_codec.specs.declared.stocks.RegSho.{RegSho}
 use Rattle.itch_book.specs.declared.order.Order.{Order}
 use Rattle.itch_book.specs.Orders as book
-use Rattle.itch_market.specs.declared.security.Security.{Security}
-use Rattle.itch_market.specs.Content.{Content}
+use Rattle.itch_market.specs.Content.{Content, Listing}
 use Rattle.itch_snapshot.specs.declared.named.NamedOrder.{NamedOrder}
 use Rattle.itch_snapshot.specs.Snapshot.{event_part, order_part, locate_part}
 
--- a message of one type, if there is one
-abbrev pub one : {A : Type 0} → (A → Message) → Option A → List Message
-one message None = []
-one message (Some x) = message x ∷ []
+-- the messages that are left of some, if there are any
+abbrev pub listed : Option (List Message) → List Message
+listed None = []
+listed (Some messages) = messages
 
 -- the order with the stock of its locate
 abbrev pub named : List ℕ → Option Order → Option NamedOrder
@@ -28,7 +24,7 @@ abbrev pub order_parts : List Order → Option NamedOrder → List Message
 order_parts orders None = []
 order_parts orders (Some x) = map (order_part x.stock) (book.from_order orders (Some x.order))
 
-abbrev pub found_part : List Order → ℕ → Option Security → List Message
+abbrev pub found_part : List Order → ℕ → Option Listing → List Message
 found_part orders locate None = []
 found_part orders locate (Some s) = locate_part orders (locate, s)
 
@@ -36,10 +32,9 @@ found_part orders locate (Some s) = locate_part orders (locate, s)
 abbrev pub part_at : Content → ℕ → List Message
 part_at m locate = found_part m.orders locate (finite.get m.securities locate)
 
--- what is left: an event, the trading states of a security, orders of its locate, and whole locates
-abbrev pub left : Content → Option ℕ → Option TradingAction → Option RegSho → Option NamedOrder → List ℕ → List Message
-left m event action sho order locates =
-    event_part event ++ (one is.TradingAction action ++ (one is.RegSho sho ++ (order_parts m.orders order ++ flat_map (part_at m) locates)))
+-- what is left: an event, the states of a security, orders of its locate, and whole locates
+abbrev pub left : Content → Option ℕ → Option (List Message) → Option NamedOrder → List ℕ → List Message
+left m event states order locates = event_part event ++ (listed states ++ (order_parts m.orders order ++ flat_map (part_at m) locates))
 
 -- the next order is live, and the locates are of the directory
 pub record IsCursor (m : Content) (order : Option NamedOrder) (locates : List ℕ) : Type 0 where

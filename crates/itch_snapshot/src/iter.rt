@@ -6,9 +6,10 @@ ghost use Rattle.itch_snapshot.specs.Snapshot.{snap};
 ghost use Rattle.itch_snapshot.specs.Cursor.{left, IsCursor};
 
 use crate::named::NamedOrder;
-use crate::parts::{action_message, header_at, named, order_message, sho_message};
+use crate::parts::{header_at, named, order_message};
+use crate::states::{States, next_state, states_again};
 use itch_book::OrderBook;
-use itch_codec::{Message, RegSho, StockDirectory, SystemEvent, TradingAction};
+use itch_codec::{Message, StockDirectory, SystemEvent};
 use itch_market::{Locates, Market};
 use std::marker::Model;
 
@@ -20,16 +21,15 @@ pub struct SnapshotIter<'a, B: OrderBook> {
     market: &'a Market<B>,
     // what is still to come, first to last
     event: Option<u8>,
-    action: Option<TradingAction>,
-    sho: Option<RegSho>,
+    states: Option<States<'a>>,
     order: Option<NamedOrder>,
-    locates: Locates<'a>,
+    locates: Locates<'a, B::Alloc>,
 }
 
 impl<'a, B: OrderBook> Model for SnapshotIter<'a, B> {
     ghost Value = { List Message };
 
-    ghost view = { λ s. left s.market.now s.event s.action s.sho s.order s.locates };
+    ghost view = { λ s. left s.market.now s.event s.states s.order s.locates };
 
     ghost invariant = { λ s. IsCursor s.market.now s.order s.locates };
 }
@@ -42,8 +42,7 @@ impl<'a, B: OrderBook> SnapshotIter<'a, B> {
         SnapshotIter {
             market,
             event: market.phase(),
-            action: None,
-            sho: None,
+            states: None,
             order: None,
             locates: market.locates(),
         }
@@ -57,8 +56,7 @@ impl<'a, B: OrderBook> SnapshotIter<'a, B> {
         let rest = SnapshotIter {
             market: self.market,
             event: self.event,
-            action: self.action,
-            sho: self.sho,
+            states: states_again(&self.states),
             order: self.order,
             locates: self.locates.again(),
         };
@@ -78,11 +76,8 @@ impl<'a, B: OrderBook> Iterator for SnapshotIter<'a, B> {
             let header = header_at(0);
             return Some(Message::SystemEvent(SystemEvent { header, code }));
         }
-        if let Some(action) = self.action.take() {
-            return Some(Message::TradingAction(action));
-        }
-        if let Some(sho) = self.sho.take() {
-            return Some(Message::RegSho(sho));
+        if let Some(message) = next_state(&mut self.states) {
+            return Some(message);
         }
         let book = self.market.book();
         if let Some(next) = self.order {
@@ -90,10 +85,9 @@ impl<'a, B: OrderBook> Iterator for SnapshotIter<'a, B> {
             return Some(order_message(next));
         }
         let locate = self.locates.next()?;
-        let security = *self.market.security(locate)?;
+        let security = self.market.security(locate)?;
         let entry = security.entry;
-        self.action = action_message(locate, entry.stock, security.action);
-        self.sho = sho_message(locate, entry.stock, security.sho);
+        self.states = Some(States::new(locate, security));
         self.order = named(entry.stock, book.first(locate));
         let header = header_at(locate);
         Some(Message::StockDirectory(StockDirectory { header, entry }))

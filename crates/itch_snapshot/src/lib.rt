@@ -11,6 +11,7 @@ mod parts;
 mod read;
 mod reader;
 mod stage;
+mod states;
 #[cfg(test)]
 mod tests;
 mod write;

@@ -1,18 +1,14 @@
 //! The messages of which a snapshot is made.
-ghost use Rattle.std.specs.Prelude.{◌≡◌, Option};
-ghost use Rattle.std.specs.Option.{option_copied, option_map};
-ghost use Rattle.itch_codec.specs.declared.message.Message.TheVariants as is;
+ghost use Rattle.std.specs.Prelude.{◌≡◌};
+ghost use Rattle.std.specs.Option.{option_copied};
 ghost use Rattle.itch_book.specs.declared.order.Order.{Order};
 ghost use Rattle.itch_snapshot.specs.declared.named.NamedOrder.{NamedOrder};
-ghost use Rattle.itch_snapshot.specs.Snapshot.{header_at, action_part, sho_part, order_part};
-ghost use Rattle.itch_snapshot.specs.Cursor.{one, named};
+ghost use Rattle.itch_snapshot.specs.Snapshot.{header_at, order_part};
+ghost use Rattle.itch_snapshot.specs.Cursor.{named};
 
 use crate::named::NamedOrder;
 use itch_book::Order;
-use itch_codec::{
-    AddOrder, Alpha, AttributedAddOrder, Header, Message, RegSho, Stamp, TradingAction,
-};
-use itch_market::Action;
+use itch_codec::{AddOrder, Alpha, AttributedAddOrder, Header, Message, Stamp};
 
 // The header of a snapshot's message.
 pub(crate) fn header_at(locate: u16) -> Header
@@ -26,36 +22,6 @@ pub(crate) fn header_at(locate: u16) -> Header
         tracking: 0,
         stamp,
     }
-}
-
-// The message of a security's trading action.
-pub(crate) fn action_message(
-    locate: u16,
-    stock: Alpha<8>,
-    action: Option<Action>,
-) -> Option<TradingAction>
-    ensures { one is.TradingAction result ≡ action_part locate stock action }
-{
-    let Action { state, reason } = action?;
-    Some(TradingAction {
-        header: header_at(locate),
-        stock,
-        state,
-        reserved: b' ',
-        reason,
-    })
-}
-
-// The message of a security's Reg SHO restriction.
-pub(crate) fn sho_message(locate: u16, stock: Alpha<8>, sho: Option<u8>) -> Option<RegSho>
-    ensures { one is.RegSho result ≡ sho_part locate stock sho }
-{
-    let action = sho?;
-    Some(RegSho {
-        header: header_at(locate),
-        stock,
-        action,
-    })
 }
 
 // The order with the stock of its locate.

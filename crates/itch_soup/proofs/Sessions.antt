@@ -9,17 +9,16 @@ use Rattle.itch_codec.specs.declared.message.Message.{Message}
 use Rattle.itch_codec.specs.declared.message.Message.TheVariants as message
 use Rattle.itch_codec.specs.Messages.{spelling, IsKeptWhole}
 use Rattle.itch_codec.specs.Widths.{IsMessage}
-use Rattle.itch_codec.proofs.Spelling.{Spells-spelling}
+use Rattle.itch_codec.proofs.Spelling.{spelling_small}
 use Rattle.itch_frame.specs.Blocks.{IsPayload}
 use Rattle.itch_book.specs.declared.order.Order.{Order}
 use Rattle.itch_book.specs.Orders as book
 use Rattle.itch_book.proofs.Lists.{All-append_rec, All-right_rec}
 use Rattle.itch_market.specs.declared.security.Action.{Action}
-use Rattle.itch_market.specs.declared.security.Security.{Security}
-use Rattle.itch_market.specs.Content.{Content}
+use Rattle.itch_market.specs.Content.{Content, Listing}
 use Rattle.itch_market.specs.Goods.{IsGood}
 use Rattle.itch_market.specs.Runs.{AreMessages}
-use Rattle.itch_snapshot.specs.Snapshot.{snap, event_part, action_part, sho_part, add_of, attributed, order_part, locate_messages, locate_part}
+use Rattle.itch_snapshot.specs.Snapshot.{snap, event_part, action_part, sho_part, halt_part, position_part, states_part, add_of, attributed, order_part, locate_messages, locate_part}
 use Rattle.itch_snapshot.proofs.Spelled.{snap_messages}
 use Rattle.itch_soup.specs.declared.config.ServerConfig.{ServerConfig}
 use Rattle.itch_soup.specs.declared.connection.Stage.{Stage}
@@ -40,25 +39,6 @@ use Rattle.itch_soup.proofs.Sends.{none_sent, one_sent, one_failed, sent_then, s
 abbrev pub IsDecoded : Message → Type 0
 IsDecoded x = IsKeptWhole x → ⊥
 
--- no spelling of such a message is long
-spelling_small : (x : Message) → IsMessage x → IsDecoded x → length (spelling x) < 65535
-spelling_small (message.SystemEvent m) fits decoded = let laid = Spells-spelling (message.SystemEvent m) fits in omega (arith, laid.size)
-spelling_small (message.StockDirectory m) fits decoded = let laid = Spells-spelling (message.StockDirectory m) fits in omega (arith, laid.size)
-spelling_small (message.TradingAction m) fits decoded = let laid = Spells-spelling (message.TradingAction m) fits in omega (arith, laid.size)
-spelling_small (message.RegSho m) fits decoded = let laid = Spells-spelling (message.RegSho m) fits in omega (arith, laid.size)
-spelling_small (message.AddOrder m) fits decoded = let laid = Spells-spelling (message.AddOrder m) fits in omega (arith, laid.size)
-spelling_small (message.AttributedAddOrder m) fits decoded = let laid = Spells-spelling (message.AttributedAddOrder m) fits in omega (arith, laid.size)
-spelling_small (message.OrderExecuted m) fits decoded = let laid = Spells-spelling (message.OrderExecuted m) fits in omega (arith, laid.size)
-spelling_small (message.OrderExecutedWithPrice m) fits decoded = let laid = Spells-spelling (message.OrderExecutedWithPrice m) fits in omega (arith, laid.size)
-spelling_small (message.OrderCancel m) fits decoded = let laid = Spells-spelling (message.OrderCancel m) fits in omega (arith, laid.size)
-spelling_small (message.OrderDelete m) fits decoded = let laid = Spells-spelling (message.OrderDelete m) fits in omega (arith, laid.size)
-spelling_small (message.OrderReplace m) fits decoded = let laid = Spells-spelling (message.OrderReplace m) fits in omega (arith, laid.size)
-spelling_small (message.Trade m) fits decoded = let laid = Spells-spelling (message.Trade m) fits in omega (arith, laid.size)
-spelling_small (message.CrossTrade m) fits decoded = let laid = Spells-spelling (message.CrossTrade m) fits in omega (arith, laid.size)
-spelling_small (message.BrokenTrade m) fits decoded = let laid = Spells-spelling (message.BrokenTrade m) fits in omega (arith, laid.size)
-spelling_small (message.End next) fits decoded = let laid = Spells-spelling (message.End next) fits in omega (arith, laid.size)
-spelling_small (message.Other bytes) fits decoded = absurd (decoded tt)
-
 -- the packet of such a message fits a block
 pub packet_fits : (x : Message) → IsMessage x → IsDecoded x → IsPayload (packet_spelling (data_packet x))
 packet_fits x fits decoded = let small = spelling_small x fits decoded in omega (arith, length-append (spelling x) [])
@@ -76,22 +56,36 @@ sho_decoded : (locate : ℕ) (stock : List ℕ) (sho : Option ℕ) → AllByRecu
 sho_decoded locate stock None = tt
 sho_decoded locate stock (Some sho) = (λ kept. kept, tt)
 
-orders_decoded : (stock : List ℕ) (os : List Order) → AllByRecursion IsDecoded (map (order_part stock) os)
-orders_decoded stock [] = tt
-orders_decoded stock (x ∷ xs) = (one x.mpid, orders_decoded stock xs) where
+each_decoded : {A : Type 0} (message : A → Message) → ((a : A) → IsDecoded (message a)) → (xs : List A) → AllByRecursion IsDecoded (map message xs)
+each_decoded message decoded [] = tt
+each_decoded message decoded (x ∷ xs) = (decoded x, each_decoded message decoded xs)
+
+states_decoded : (locate : ℕ) (s : Listing) → AllByRecursion IsDecoded (states_part locate s)
+states_decoded locate s =
+    let stock = s.entry.stock in
+    let halts = map (halt_part locate stock) (finite.entries s.halts) in
+    let positions = map (position_part locate stock) (finite.entries s.positions) in
+    All-append_rec IsDecoded (action_part locate stock s.action) (sho_part locate stock s.sho ++ (halts ++ positions)) (action_decoded locate stock s.action)
+    (All-append_rec IsDecoded (sho_part locate stock s.sho) (halts ++ positions) (sho_decoded locate stock s.sho)
+    (All-append_rec IsDecoded halts positions
+    (each_decoded (halt_part locate stock) (λ e kept. kept) (finite.entries s.halts))
+    (each_decoded (position_part locate stock) (λ e kept. kept) (finite.entries s.positions))))
+
+order_decoded : (stock : List ℕ) (x : Order) → IsDecoded (order_part stock x)
+order_decoded stock x = one x.mpid where
   one : (mpid : Option (List ℕ)) → IsDecoded (attributed (add_of stock x) mpid)
   one None = λ kept. kept
   one (Some mpid) = λ kept. kept
 
-locate_decoded : (e : ℕ × Security) (os : List Order) → AllByRecursion IsDecoded (locate_messages e os)
+locate_decoded : (e : ℕ × Listing) (os : List Order) → AllByRecursion IsDecoded (locate_messages e os)
 locate_decoded e os =
     let stock = e.1.entry.stock in (
       λ kept. kept,
-      All-append_rec IsDecoded (action_part e.0 stock e.1.action) (sho_part e.0 stock e.1.sho ++ map (order_part stock) os) (action_decoded e.0 stock e.1.action)
-          (All-append_rec IsDecoded (sho_part e.0 stock e.1.sho) (map (order_part stock) os) (sho_decoded e.0 stock e.1.sho) (orders_decoded stock os)),
+      All-append_rec IsDecoded (states_part e.0 e.1) (map (order_part stock) os) (states_decoded e.0 e.1)
+          (each_decoded (order_part stock) (order_decoded stock) os),
     )
 
-locates_decoded : (orders : List Order) (es : List (ℕ × Security)) → AllByRecursion IsDecoded (flat_map (locate_part orders) es)
+locates_decoded : (orders : List Order) (es : List (ℕ × Listing)) → AllByRecursion IsDecoded (flat_map (locate_part orders) es)
 locates_decoded orders [] = tt
 locates_decoded orders (e ∷ es) =
     All-append_rec IsDecoded (locate_part orders e) (flat_map (locate_part orders) es) (locate_decoded e (book.sides orders e.0)) (locates_decoded orders es)
@@ -191,6 +185,10 @@ module _ {W : Type 0} (contents : W → Option (List ℕ)) (failures : W → Fai
     messages_are =
         from_parts m next n (nat_le passed len) (λ within. grind (arith, nat_tests, passed_is, len_is)) (λ beyond. grind (arith, nat_tests, passed_is, len_is))
         ∙ ap (λ ms. ms ++ end_part (nat_le passed len) next) (sym (xs_are ∙ ap (λ k. drop k (snap m)) passed_is))
+
+    pub all_counted : (count last : ℕ) → count ≡ length xs → last ≡ length (end_part (nat_le passed len) next) → count + last ≡ length (messages_from n m next)
+    all_counted count last counted last_counted =
+        omega (arith, counted, last_counted, ap length messages_are, length-append xs (end_part (nat_le passed len) next))
 
     parts : map packet_spelling (accepted ∷ session_packets (messages_from n m next)) ≡ map packet_spelling (accepted ∷ []) ++ (body ++ end)
     parts = ap (λ ms. map packet_spelling (accepted ∷ session_packets ms)) messages_are ∙ session_parts accepted xs (end_part (nat_le passed len) next)

@@ -4,9 +4,6 @@ use Rattle.std.proofs.lemmas.Bool.{eqb-true, eqb-false}
 use Rattle.std.specs.Prelude.{if◌then◌else◌, unwrap_or}
 use Rattle.std.specs.Option.{option_map}
 use Rattle.itch_codec.specs.declared.fault.CodecFault.{CodecFault}
-use Rattle.itch_codec.specs.declared.message.Message.{Message}
-use Rattle.itch_codec.specs.declared.message.Message.TheVariants as message
-use Rattle.itch_codec.specs.declared.orders.AddOrder.{AddOrder}
 use Rattle.itch_codec.specs.Fields.{AreBytes}
 use Rattle.itch_codec.specs.Layouts.{Class, Integer, Price, Text, OneSide, Code, Codes, Digits}
 use Rattle.itch_codec.specs.Messages.{fault, message_of}
@@ -15,20 +12,17 @@ use Rattle.itch_codec.specs.Text.{first_unprintable}
 use Rattle.itch_codec.proofs.Spelling.{Spells-message_of, IsMessage-Spells}
 use Rattle.itch_frame.specs.Blocks.{IsPayload, block, HasNoBlock}
 use Rattle.itch_frame.specs.declared.fault.FrameFault.TheVariants.{Truncated}
-use Rattle.itch_book.specs.declared.order.Order.{Order}
 use Rattle.itch_book.specs.Orders as book
 use Rattle.itch_book.proofs.Lists.{All-left_rec, All-right_rec}
 use Rattle.itch_market.specs.declared.refusal.Refusal.{Refusal}
-use Rattle.itch_market.specs.declared.refusal.Refusal.TheVariants.{StockMismatch, ZeroShares, DuplicateRef, LocateMismatch, TooManyShares}
-use Rattle.itch_market.specs.declared.security.Security.{Security}
 use Rattle.itch_market.specs.declared.stop.Stop.TheVariants as stop
 use Rattle.itch_market.specs.Content.{Content, laid}
 use Rattle.itch_market.specs.Effects.{effect, takes_memory}
-use Rattle.itch_market.specs.Reasons.{reason, refuse, is_other_stock, security_reason, directory_reason, order_reason, add_reason, take_reason, is_live}
-use Rattle.itch_market.specs.Replays.{IsRefusal, IsTold}
+use Rattle.itch_market.proofs.Rules.{Reasoned, reason_told}
+use Rattle.itch_market.specs.Reasons.{reason}
+use Rattle.itch_market.specs.Replays.{IsRefusal}
 use Rattle.itch_market.specs.Stops.{cause_by, cause}
 use Rattle.itch_market.proofs.Goods.{empty_good}
-use Rattle.std.specs.FinMap as finite
 use Rattle.itch_snapshot.specs.declared.fault.SnapFault.{SnapFault}
 use Rattle.itch_snapshot.specs.declared.fault.SnapFault.TheVariants as snap
 use Rattle.itch_snapshot.specs.declared.stage.Stage.TheVariants as at
@@ -120,53 +114,7 @@ pub of_block : (block : List ℕ) (from : Origin) → OfBlock (packet_fault bloc
 of_block [] from = tt
 of_block (kind ∷ rest) from = of_type (type_of kind) kind (kind ∷ rest) from
 
--- the reasons of a refusal are told
-abbrev Reasoned : Option Refusal → Type 0
-Reasoned None = Unit {0}
-Reasoned (Some why) = IsTold (stop.Rule why)
-
-refuse_told : (b : Bool) (why : Refusal) (later : Option Refusal) → IsTold (stop.Rule why) → Reasoned later → Reasoned (refuse b why later)
-refuse_told true why later h k = h
-refuse_told false why later h k = k
-
-directory_told : (s : Option Security) (stock : List ℕ) → Reasoned (directory_reason s stock)
-directory_told None stock = tt
-directory_told (Some s) stock = refuse_told (is_other_stock s stock) StockMismatch None tt tt
-
-security_told : (s : Option Security) (stock : List ℕ) (later : Option Refusal) → Reasoned later → Reasoned (security_reason s stock later)
-security_told None stock later h = tt
-security_told (Some s) stock later h = refuse_told (is_other_stock s stock) StockMismatch later tt h
-
-order_told : (o : Option Order) (locate : ℕ) (later : Order → Option Refusal) → ((x : Order) → Reasoned (later x)) → Reasoned (order_reason o locate later)
-order_told None locate later h = tt
-order_told (Some x) locate later h = refuse_told _ LocateMismatch (later x) tt (h x)
-
-add_told : (m : Content) (x : AddOrder) → Reasoned (add_reason m x)
-add_told m x = security_told (finite.get m.securities x.header.locate) x.stock _ (refuse_told (x.shares == 0) ZeroShares _ tt (refuse_told (is_live m x.reference) DuplicateRef None tt tt))
-
-take_told : (m : Content) (locate reference shares : ℕ) → Reasoned (take_reason m locate reference shares)
-take_told m locate reference shares = order_told (book.get m.orders reference) locate _ (λ x. refuse_told _ (TooManyShares x.shares) None tt tt)
-
-reason_told : (m : Content) (x : Message) → Reasoned (reason m x)
-reason_told m (message.SystemEvent x) = tt
-reason_told m (message.StockDirectory x) = directory_told (finite.get m.securities x.header.locate) x.entry.stock
-reason_told m (message.TradingAction x) = security_told (finite.get m.securities x.header.locate) x.stock None tt
-reason_told m (message.RegSho x) = security_told (finite.get m.securities x.header.locate) x.stock None tt
-reason_told m (message.AddOrder x) = add_told m x
-reason_told m (message.AttributedAddOrder x) = add_told m x.order
-reason_told m (message.OrderExecuted x) = take_told m x.header.locate x.reference x.shares
-reason_told m (message.OrderExecutedWithPrice x) = take_told m x.execution.header.locate x.execution.reference x.execution.shares
-reason_told m (message.OrderCancel x) = take_told m x.header.locate x.reference x.shares
-reason_told m (message.OrderDelete x) = order_told (book.get m.orders x.reference) x.header.locate _ (λ o. tt)
-reason_told m (message.OrderReplace x) =
-    order_told (book.get m.orders x.original) x.header.locate _ (λ o. refuse_told (x.shares == 0) ZeroShares _ tt (refuse_told (is_live m x.reference) DuplicateRef None tt tt))
-reason_told m (message.Trade x) = tt
-reason_told m (message.CrossTrade x) = tt
-reason_told m (message.BrokenTrade x) = tt
-reason_told m (message.End next) = tt
-reason_told m (message.Other payload) = tt
-
--- and so are a session's own faults
+-- a session's own faults are told
 abbrev ToldTurn : ClientAct → Type 0
 ToldTurn (act.Fault f) = IsToldFetch (Err f)
 ToldTurn answer = Unit {0}

@@ -46,6 +46,8 @@ fn each_byte_at_each_value(rt: HostRuntime) {
         (STOCK_DIRECTORY, 8 * 161),
         (TRADING_ACTION, 8 * 161),
         (REG_SHO, 8 * 161),
+        (OPERATIONAL_HALT, 8 * 161),
+        (PARTICIPANT_POSITION, 12 * 161),
         (ADD_ORDER, 254 + 8 * 161),
         (GREATEST_ADD_ORDER, 254 + 8 * 161),
         (ATTRIBUTED_ADD_ORDER, 254 + 12 * 161),
@@ -72,7 +74,7 @@ fn each_type(rt: HostRuntime) {
         let payload = [byte, b'B'];
         match decode(&payload) {
             Ok(message) => {
-                assert!(rt; !b"SRHYAFECXDUPQBG".contains(&byte));
+                assert!(rt; !b"SRHYhLAFECXDUPQBG".contains(&byte));
                 assert_eq!(rt; encode(&message).bytes(), payload.as_slice());
             }
             Err(fault) => assert!(rt; is_fault_at(fault, 0, byte), "{fault} for {byte}"),

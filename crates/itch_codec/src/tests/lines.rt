@@ -2,8 +2,9 @@
 use super::{alpha, execution, header, order};
 use crate::{
     AddOrder, Alpha, AttributedAddOrder, BrokenTrade, CrossTrade, Directory, Header, Message,
-    OrderCancel, OrderDelete, OrderExecuted, OrderExecutedWithPrice, OrderReplace, RegSho, Seq,
-    Side, Stamp, StockDirectory, SystemEvent, Trade, TradingAction, Undecoded, line, show,
+    OperationalHalt, OrderCancel, OrderDelete, OrderExecuted, OrderExecutedWithPrice, OrderReplace,
+    ParticipantPosition, RegSho, Seq, Side, Stamp, StockDirectory, SystemEvent, Trade,
+    TradingAction, Undecoded, line, show,
 };
 use refusing::Refusing;
 use std::process::Abort;
@@ -95,6 +96,26 @@ impl Fields {
             header: self.header,
             stock: self.stock,
             action: self.code,
+        })
+    }
+
+    fn operational_halt(&self) -> Message<'static> {
+        Message::Halt(OperationalHalt {
+            header: self.header,
+            stock: self.stock,
+            market_code: self.code,
+            action: self.code,
+        })
+    }
+
+    fn participant_position(&self) -> Message<'static> {
+        Message::Position(ParticipantPosition {
+            header: self.header,
+            mpid: self.attribution,
+            stock: self.stock,
+            primary_market_maker: self.code,
+            mode: self.code,
+            state: self.code,
         })
     }
 
@@ -221,6 +242,13 @@ fn smallest_values_of_stocks(rt: HostRuntime) {
         "0 H 0 0 0 [] 00 00 00000000\n",
     );
     shown(&rt, 0, fields.reg_sho(), "0 Y 0 0 0 [] 00\n");
+    shown(&rt, 0, fields.operational_halt(), "0 h 0 0 0 [] 00 00\n");
+    shown(
+        &rt,
+        0,
+        fields.participant_position(),
+        "0 L 0 0 0 [] [] 00 00 00\n",
+    );
 }
 
 #[test]
@@ -279,6 +307,18 @@ fn largest_values_of_stocks(rt: HostRuntime) {
         u64::MAX,
         fields.reg_sho(),
         "18446744073709551615 Y 65535 65535 281474976710655 [~~~~~~~~] ff\n",
+    );
+    shown(
+        &rt,
+        u64::MAX,
+        fields.operational_halt(),
+        "18446744073709551615 h 65535 65535 281474976710655 [~~~~~~~~] ff ff\n",
+    );
+    shown(
+        &rt,
+        u64::MAX,
+        fields.participant_position(),
+        "18446744073709551615 L 65535 65535 281474976710655 [~~~~] [~~~~~~~~] ff ff ff\n",
     );
 }
 

@@ -12,7 +12,7 @@ use std::test::Fail;
 #[test]
 fn a_refused_file_has_its_line_and_status(rt: HostRuntime) -> Result<(), Fail> {
     let two: [&str; 3] = [AAPL, MSFT, BUY_1];
-    let cases: [(&[&str], &str, &str); 22] = [
+    let cases: [(&[&str], &str, &str); 24] = [
         (&[AAPL, END_2], "", "message 2: unexpected end"),
         (&[AAPL, MSFT_AT_1], "", "message 2: stock mismatch"),
         (&[TRADING_AT_3], "", "message 1: unknown locate"),
@@ -21,6 +21,12 @@ fn a_refused_file_has_its_line_and_status(rt: HostRuntime) -> Result<(), Fail> {
             &[SHORT_AAPL],
             "",
             "message 1: wrong length for R: want 39, got 38",
+        ),
+        (&[AAPL, HALT_AT_2], "", "message 2: unknown locate"),
+        (
+            &[AAPL, SHORT_HALT],
+            "",
+            "message 2: wrong length for h: want 21, got 20",
         ),
         (&[START, UNPRINTABLE], "", "message 2: bad text at 13"),
         (&[AAPL, BUY_1], BUY_1, "message 3: duplicate reference"),

@@ -55,6 +55,12 @@ fn files_are_shown(rt: HostRuntime) -> Result<(), Fail> {
         &[ATTRIBUTED_1, BUY_2_OF_200, REPLACE_1_BY_3],
         "1 F 1 0 0 1 B 100 [AAPL] 150.0000 [ABCD]\n2 A 1 0 0 2 B 200 [AAPL] 150.0000\n3 U 1 0 0 1 3 100 150.0000\n",
     )?;
+    shown_as(
+        &rt,
+        alloc,
+        &[START, POSITION_ZZZZ, HALT_X],
+        "1 S 0 0 0 4f\n2 L 1 0 0 [ZZZZ] [AAPL] 59 4e 41\n3 h 1 0 0 [AAPL] 58 48\n",
+    )?;
     // No order rule is applied, and an End of Snapshot is no end.
     shown_as(
         &rt,

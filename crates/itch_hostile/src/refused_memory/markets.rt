@@ -70,6 +70,11 @@ const NAMES: &[u8] = b"F\0\x02\0\0\0\0\0\0\0\0\0\0\0\0\0\0\0\x40S\0\0\0dAAPL    
 const REPLACES: &[u8] =
     b"U\0\x02\0\0\0\0\0\0\0\0\0\0\0\0\0\0\0\0\0\0\0\0\0\0\0\x80\0\0\0d\0\x17\xe3\0";
 
+// Halts of forty markets, and positions of forty market participants.
+const HALTS: &[u8] = b"h\0\x02\0\0\0\0\0\0\0\0AAPL    \0H";
+
+const POSITIONS: &[u8] = b"L\0\x02\0\0\0\0\0\0\0\0ABC\x40AAPL    NNA";
+
 // Returns how many allocations of the replacements were refused.
 fn refuse_each_growth<B: OrderBook>(
     rt: &impl Abort,
@@ -78,6 +83,14 @@ fn refuse_each_growth<B: OrderBook>(
     market: &mut Market<B>,
 ) -> Result<u64, Fail> {
     assert!(rt; refuse_forty(rt, alloc, refusing, market, LISTS, &[2])? > 0);
+    for growing in [(HALTS, 19), (POSITIONS, 14)] {
+        assert!(rt; refuse_forty(rt, alloc, refusing, market, growing.0, &[growing.1])? > 0);
+        // What is there already takes none.
+        assert_eq!(rt;
+            refuse_forty(rt, alloc, refusing, market, growing.0, &[growing.1])?,
+            0
+        );
+    }
     assert!(rt; refuse_forty(rt, alloc, refusing, market, ADDS, &[18, 35])? > 0);
     assert!(rt; refuse_forty(rt, alloc, refusing, market, NAMES, &[18, 35])? > 0);
     let refused = refuse_forty(rt, alloc, refusing, market, REPLACES, &[18, 26, 34])?;

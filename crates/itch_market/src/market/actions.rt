@@ -4,30 +4,35 @@ ghost use Rattle.std.specs.FinMap as map;
 ghost use Rattle.itch_book.specs.Orders as book;
 ghost use Rattle.itch_market.specs.Content.{laid};
 ghost use Rattle.itch_codec.specs.Widths.{IsDirectory};
-ghost use Rattle.itch_market.specs.Widths.{IsOrder};
+ghost use Rattle.itch_market.specs.Widths.{IsOrder, IsPosition};
 ghost use Rattle.itch_market.specs.Reasons.{reason, add_reason};
-ghost use Rattle.itch_market.specs.Effects.{effect, takes_memory, entered, order_of};
+ghost use Rattle.itch_market.specs.Effects.{effect, takes_memory, order_of, position_of};
 
 use super::Market;
-use crate::security::{Action, Security};
+use crate::security::Action;
 use itch_book::{Order, OrderBook};
 use itch_codec::{
-    AddOrder, Alpha, Directory, Message, OrderReplace, RegSho, StockDirectory, SystemEvent,
-    TradingAction,
+    AddOrder, Alpha, Directory, Message, OperationalHalt, OrderReplace, ParticipantPosition,
+    RegSho, StockDirectory, SystemEvent, TradingAction,
 };
 use std::alloc::AllocError;
 
-/// The security that an entry makes of the one that stood at its locate, if any did.
-fn entered(old: Option<Security>, entry: Directory) -> Security
-    ensures security { result ≡ entered old entry }
-    ensures fits { IsDirectory entry }
+/// The entry of a directory message.
+fn entry_of(x: StockDirectory) -> Directory
+    ensures entry { result ≡ x.entry }
+    ensures fits { IsDirectory result }
 {
-    entry.stock.recall_invariant();
-    let (action, sho) = match old {
-        Some(security) => (security.action, security.sho),
-        None => (None, None),
-    };
-    Security { entry, action, sho }
+    x.entry.stock.recall_invariant();
+    x.entry
+}
+
+/// The position of a market participant: primary market maker, mode and state.
+fn position_of(x: ParticipantPosition) -> [u8; 3]
+    ensures position { result ≡ position_of x }
+    ensures fits { IsPosition x.mpid result }
+{
+    x.mpid.recall_invariant();
+    [x.primary_market_maker, x.mode, x.state]
 }
 
 /// The live order that a message makes.
@@ -61,6 +66,8 @@ impl<B: OrderBook> Market<B> {
             Message::StockDirectory(x) => self.enter(x)?,
             Message::TradingAction(x) => self.set_action(x),
             Message::RegSho(x) => self.set_sho(x),
+            Message::Halt(x) => self.set_halt(x)?,
+            Message::Position(x) => self.set_position(x)?,
             Message::AddOrder(x) => self.add(x, None)?,
             Message::AttributedAddOrder(x) => self.add(x.order, Some(x.attribution))?,
             Message::OrderExecuted(x) => self.take(x.reference, x.shares),
@@ -92,8 +99,8 @@ impl<B: OrderBook> Market<B> {
         ensures memory { IsErr result → IsTrue (takes_memory self.old (Message.StockDirectory x)) }
     {
         let locate = x.header.locate;
-        let old = self.securities.get(locate).copied();
-        self.securities.insert(locate, entered(old, x.entry))?;
+        let entry = entry_of(x);
+        self.securities.enter(locate, entry)?;
         Ok(())
     }
 
@@ -112,6 +119,28 @@ impl<B: OrderBook> Market<B> {
         ensures { self.new ≡ laid (effect self.old (Message.RegSho x)) }
     {
         self.securities.set_sho(x.header.locate, x.action);
+    }
+
+    fn set_halt(&mut self, x: OperationalHalt) -> Result<(), AllocError>
+        ensures ok { OnOk result (self.new ≡ laid (effect self.old (Message.Halt x))) }
+        ensures err { OnErr result (self.new ≡ self.old) }
+        ensures memory { IsErr result → IsTrue (takes_memory self.old (Message.Halt x)) }
+    {
+        self.securities
+            .set_halt(x.header.locate, x.market_code, x.action)?;
+        Ok(())
+    }
+
+    fn set_position(&mut self, x: ParticipantPosition) -> Result<(), AllocError>
+        ensures ok { OnOk result (self.new ≡ laid (effect self.old (Message.Position x))) }
+        ensures err { OnErr result (self.new ≡ self.old) }
+        ensures memory { IsErr result → IsTrue (takes_memory self.old (Message.Position x)) }
+    {
+        let locate = x.header.locate;
+        let mpid = x.mpid;
+        let position = position_of(x);
+        self.securities.set_position(locate, mpid, position)?;
+        Ok(())
     }
 
     fn add(&mut self, x: AddOrder, mpid: Option<Alpha<4>>) -> Result<(), AllocError>

@@ -8,9 +8,10 @@ use crate::refusal::Refusal;
 use crate::security::Security;
 use itch_book::OrderBook;
 use itch_codec::{AddOrder, Alpha, Message, OrderDelete, OrderReplace};
+use std::alloc::Allocator;
 
 /// Whether the directory has another stock, by its eight bytes.
-fn is_other_stock(security: &Security, stock: Alpha<8>) -> bool
+fn is_other_stock<A: Allocator>(security: &Security<A>, stock: Alpha<8>) -> bool
     ensures { result ≡ is_other_stock security.now stock }
 {
     security.entry.stock.bytes() != stock.bytes()
@@ -25,6 +26,8 @@ impl<B: OrderBook> Market<B> {
             Message::StockDirectory(x) => self.directory_refusal(x.header.locate, x.entry.stock),
             Message::TradingAction(x) => self.security_refusal(x.header.locate, x.stock),
             Message::RegSho(x) => self.security_refusal(x.header.locate, x.stock),
+            Message::Halt(x) => self.security_refusal(x.header.locate, x.stock),
+            Message::Position(x) => self.security_refusal(x.header.locate, x.stock),
             Message::AddOrder(x) => self.add_refusal(x),
             Message::AttributedAddOrder(x) => self.add_refusal(x.order),
             Message::OrderExecuted(x) => self.take_refusal(x.header.locate, x.reference, x.shares),

@@ -4,8 +4,8 @@ mod messages;
 
 use self::content::references;
 use self::messages::{
-    add, attributed, cancel, delete, directory, end, event, executed, executed_with_price, reg_sho,
-    replace, stock, trading_action,
+    add, attributed, cancel, delete, directory, end, event, executed, executed_with_price, halt,
+    position, reg_sho, replace, stock, trading_action,
 };
 use super::Market;
 use crate::refusal::Refusal;
@@ -136,6 +136,39 @@ fn keeps_states_and_orders(rt: HostRuntime) -> Result<(), Fail> {
     Ok(())
 }
 
+// An action that ends a halt stays, and a second directory message of a locate changes neither.
+#[test]
+fn keeps_halts_and_positions(rt: HostRuntime) -> Result<(), Fail> {
+    let mut market: Market<ListBook> = Market::new(rt.alloc());
+    for message in [
+        directory(1, "AAPL", 100)?,
+        position(1, "ZZZZ", "AAPL", b'A')?,
+        halt(1, "AAPL", b'X', b'H')?,
+        position(1, "ABCD", "AAPL", b'S')?,
+        halt(1, "AAPL", b'Q', b'H')?,
+        halt(1, "AAPL", b'X', b'T')?,
+        position(1, "ZZZZ", "AAPL", b'D')?,
+        directory(1, "AAPL", 200)?,
+    ] {
+        market.apply(&message)?;
+    }
+    let security = market.security(1).ok_or("a security")?;
+    assert_eq!(rt; (security.halts_len(), security.positions_len()), (2, 2));
+    let mut halts = security.halts();
+    assert_eq!(rt; halts.next(), Some((b'Q', b'H')));
+    assert_eq!(rt; halts.again().next(), Some((b'X', b'T')));
+    assert_eq!(rt; halts.next(), Some((b'X', b'T')));
+    assert_eq!(rt; halts.next(), None);
+    let mut positions = security.positions();
+    let first: Alpha<4> = Alpha::from_text("ABCD")?;
+    let last: Alpha<4> = Alpha::from_text("ZZZZ")?;
+    assert_eq!(rt; positions.next(), Some((first, *b"NNS")));
+    assert_eq!(rt; positions.again().next(), Some((last, *b"NND")));
+    assert_eq!(rt; positions.next(), Some((last, *b"NND")));
+    assert_eq!(rt; positions.next(), None);
+    Ok(())
+}
+
 // AAPL at locate 1 with a bid for 100 shares of reference 1, and MSFT at locate 2.
 fn begun<B: OrderBook>(alloc: B::Alloc) -> Result<Market<B>, Fail> {
     Ok(after(
@@ -155,6 +188,10 @@ fn refuses_by_the_first_rule(rt: HostRuntime) -> Result<(), Fail> {
         (add(3, 9, Side::Buy, 1, "AAPL", 1)?, "unknown locate"),
         (trading_action(3, "AAPL", b'T')?, "unknown locate"),
         (reg_sho(3, "AAPL", b'0')?, "unknown locate"),
+        (halt(3, "AAPL", b'Q', b'H')?, "unknown locate"),
+        (position(3, "ABCD", "AAPL", b'A')?, "unknown locate"),
+        (halt(1, "MSFT", b'Q', b'H')?, "stock mismatch"),
+        (position(1, "ABCD", "MSFT", b'A')?, "stock mismatch"),
         (directory(1, "MSFT", 100)?, "stock mismatch"),
         (add(1, 9, Side::Buy, 0, "MSFT", 1)?, "stock mismatch"),
         (add(1, 1, Side::Buy, 0, "AAPL", 1500000)?, "zero shares"),

@@ -1,16 +1,45 @@
 //! What a market holds, by its calls.
 use super::super::Market;
-use crate::security::Security;
+use crate::security::{Action, Security};
 use itch_book::{Order, OrderBook};
-use std::alloc::{AllocError, Global};
+use itch_codec::{Alpha, Directory};
+use std::alloc::{AllocError, Allocator, Global};
 use std::process::Abort;
 
 /// The event, the securities with their locates, and the orders in snapshot order.
 #[derive(Debug, Drop, PartialEq)]
 pub(super) struct Content {
     pub(super) phase: Option<u8>,
-    pub(super) securities: Vec<(u16, Security)>,
+    pub(super) securities: Vec<Kept>,
     pub(super) orders: Vec<Order>,
+}
+
+/// What is kept of the security at a locate.
+#[derive(Debug, Drop, PartialEq)]
+pub(super) struct Kept {
+    pub(super) locate: u16,
+    pub(super) entry: Directory,
+    pub(super) action: Option<Action>,
+    pub(super) sho: Option<u8>,
+    pub(super) halts: Vec<(u8, u8)>,
+    pub(super) positions: Vec<(Alpha<4>, [u8; 3])>,
+}
+
+fn kept_at<A: Allocator>(
+    alloc: Global,
+    locate: u16,
+    security: &Security<A>,
+) -> Result<Kept, AllocError> {
+    let halts = security.halts().collect(alloc)?;
+    let positions = security.positions().collect(alloc)?;
+    Ok(Kept {
+        locate,
+        entry: security.entry,
+        action: security.action,
+        sho: security.sho,
+        halts,
+        positions,
+    })
 }
 
 fn push_orders<B: OrderBook>(
@@ -39,7 +68,7 @@ pub(super) fn content_of<B: OrderBook>(
     let mut orders = Vec::new(alloc);
     for locate in market.locates() {
         if let Some(security) = market.security(locate) {
-            securities.push((locate, *security))?;
+            securities.push(kept_at(alloc, locate, security)?)?;
         }
         push_orders(rt, market.book(), locate, &mut orders)?;
     }

@@ -1,8 +1,8 @@
 //! Messages of one line each, with tracking number and timestamp 0.
 use itch_codec::{
-    AddOrder, Alpha, AttributedAddOrder, Directory, Header, Message, OrderCancel, OrderDelete,
-    OrderExecuted, OrderExecutedWithPrice, OrderReplace, RegSho, Seq, Side, Stamp, StockDirectory,
-    SystemEvent, TradingAction,
+    AddOrder, Alpha, AttributedAddOrder, Directory, Header, Message, OperationalHalt, OrderCancel,
+    OrderDelete, OrderExecuted, OrderExecutedWithPrice, OrderReplace, ParticipantPosition, RegSho,
+    Seq, Side, Stamp, StockDirectory, SystemEvent, TradingAction,
 };
 use std::test::Fail;
 
@@ -62,6 +62,36 @@ pub(super) fn reg_sho(locate: u16, text: &str, action: u8) -> Result<Message<'st
         header: header(locate)?,
         stock: stock(text)?,
         action,
+    }))
+}
+
+pub(super) fn halt(
+    locate: u16,
+    text: &str,
+    market_code: u8,
+    action: u8,
+) -> Result<Message<'static>, Fail> {
+    Ok(Message::Halt(OperationalHalt {
+        header: header(locate)?,
+        stock: stock(text)?,
+        market_code,
+        action,
+    }))
+}
+
+pub(super) fn position(
+    locate: u16,
+    mpid: &str,
+    text: &str,
+    state: u8,
+) -> Result<Message<'static>, Fail> {
+    Ok(Message::Position(ParticipantPosition {
+        header: header(locate)?,
+        mpid: Alpha::from_text(mpid)?,
+        stock: stock(text)?,
+        primary_market_maker: b'N',
+        mode: b'N',
+        state,
     }))
 }
 

@@ -1,5 +1,10 @@
-use Rattle.itch_snapshot.proofs.Partings.{shorter_one, shorter_other, other_element}
+use Rattle.std.proofs.Common.{refl}
+use Rattle.itch_snapshot.proofs.Partings.{one_more, shorter_one, shorter_other, other_element}
 use Rattle.itch_snapshot.proofs.compare.first_difference.Goals as goal
+
+pub loop-message-preserved : goal.loop-message-preserved
+loop-message-preserved g c =
+    one_more _ _ _ _ _ _ _ _ _ _ c.loop-message.invariant c.in-Some.ensures.steps c.in-Some-next.ensures.steps (c.if-is_same.ensures.0 refl)
 
 pub returns-in_default-clause-place : goal.returns-in_default-clause-place
 returns-in_default-clause-place g c =

@@ -3,7 +3,7 @@ use Rattle.std.proofs.lemmas.Result.{err_from_is_err_and}
 use Rattle.itch_frame.specs.Reading.{bytes_left}
 use Rattle.itch_market.specs.Content.{laid}
 use Rattle.itch_market.specs.Goods.{IsGood}
-use Rattle.itch_soup.proofs.Hearing.{hearing_first, hearing_on, hearing_ends, hearing_closed}
+use Rattle.itch_soup.proofs.Hearing.{hearing_first, hearing_on, hearing_ends, hearing_closed, hearing_closes}
 use Rattle.itch_soup.proofs.fetch.receive.Goals as goal
 
 pub loop-count-init : goal.loop-count-init
@@ -18,6 +18,11 @@ pub returns-in_err-hear-clause-received : goal.returns-in_err-hear-clause-receiv
 returns-in_err-hear-clause-received g c =
     let p = err_from_is_err_and c.from_residual.result c.from_residual.ensures.1 in
     rw (p.1, p.2) (hearing_ends _ _ _ _ _ _ c.hear.new.session _ c.hear.new.snapshot _ c.loop-count.invariant.hearing c.in_err-hear.ensures.step)
+
+pub unreachable-requires : goal.unreachable-requires
+unreachable-requires g c =
+    let closed = hearing_closes _ _ _ _ _ _ _ _ _ c.loop-count.invariant.hearing (rw c.if-branch.true at c.in_ok-hear.ensures.step) in
+    c.in_default.ensures.1 closed.0 closed.1
 
 pub loop-count-preserved : goal.loop-count-preserved
 loop-count-preserved g c = record {

@@ -1,11 +1,11 @@
-use Rattle.std.proofs.Common.{◌∙◌, ◌-◌, ℕ, [], ◌∷◌, map, drop, length, Ok, Err, sym, ap, subst}
+use Rattle.std.proofs.Common.{◌∙◌, ◌-◌, ℕ, [], ◌∷◌, map, drop, Ok, Err, sym, ap, subst}
 use Rattle.std.proofs.lemmas.Result.{err_from_is_err_and}
 use Rattle.itch_soup.specs.declared.packet.Packet.TheVariants as is
 use Rattle.itch_soup.specs.Packets.{packet_spelling}
 use Rattle.itch_soup.specs.Servers.{acceptance}
 use Rattle.itch_soup.specs.Sending.{session_packets, messages_from, FitPackets}
 use Rattle.itch_soup.proofs.Sends.{sent_short}
-use Rattle.itch_soup.proofs.Sessions.{snap_fits, failed_at_data, sent_with_end}
+use Rattle.itch_soup.proofs.Sessions.{snap_fits, all_counted, failed_at_data, sent_with_end}
 use Rattle.itch_soup.proofs.sending.write_session.Goals as goal
 
 pub returns-in_err-write_acceptance-clause-packets : goal.returns-in_err-write_acceptance-clause-packets
@@ -43,3 +43,9 @@ returns-clause-packets g c =
     (c.pass_over.ensures ∙ ap (drop (c.value-passed.result - 1)) c.new-messages.ensures) (ap (λ n. n - 1) c.value-passed.ensures.value) c.messages_before_end.ensures
     {S = Unit {0}} {T = ℕ} {U = ℕ} c.args.writer.now c.write_acceptance.new.writer c.write_messages.new.writer c.write_end.new.writer tt c.in_ok-count.count (Ok c.in_ok-end.end)
     c.in_ok-write_acceptance.ensures c.in_ok-count.ensures.packets c.in_ok-end.ensures.packets
+
+pub returns-clause-count : goal.returns-clause-count
+returns-clause-count g c =
+    all_counted g.W.CountedWrite.contents g.W.CountedWrite.failures c.args.market.now c.args.next c.args.from c.args.config.now c.pass_over.new.messages (c.value-passed.result - 1) c.messages_before_end.result
+    (c.pass_over.ensures ∙ ap (drop (c.value-passed.result - 1)) c.new-messages.ensures) (ap (λ n. n - 1) c.value-passed.ensures.value) c.messages_before_end.ensures
+    c.in_ok-count.count c.in_ok-end.end c.in_ok-count.ensures.count c.in_ok-end.ensures.count

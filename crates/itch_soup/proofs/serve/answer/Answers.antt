@@ -1,4 +1,4 @@
-use Rattle.std.proofs.Common.{◌∙◌, Err, ap, subst, length}
+use Rattle.std.proofs.Common.{Err, subst}
 use Rattle.std.proofs.lemmas.Result.{err_from_is_err_and}
 use Rattle.itch_frame.specs.Writing.{WriteBlock}
 use Rattle.itch_soup.proofs.Sessions.{rejected}

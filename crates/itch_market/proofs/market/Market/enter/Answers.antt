@@ -1,5 +1,4 @@
-use Rattle.std.proofs.Common.{◌<◌, rules, sym, ap, ◌∙◌}
-use Rattle.itch_market.specs.Effects.{entered}
+use Rattle.std.proofs.Common.{◌<◌, rules, sym}
 use Rattle.itch_market.proofs.Goods.{entered_good}
 use Rattle.itch_market.proofs.Laid.{laid_already}
 use Rattle.itch_market.proofs.market.Market.enter.Goals as goal
@@ -8,10 +7,10 @@ pub invariant_of-self-2 : goal.invariant_of-self-2
 invariant_of-self-2 g c =
     let locate = c.args.x.header.locate in
     let low : locate < 65536 = search rules in
-    let security = c.entered.ensures.security ∙ ap (λ o. entered o c.args.x.entry) (c.copied-old.ensures ∙ c.get.ensures) in
-    rw (c.in_ok-insert.ensures.ok, security) (entered_good _ locate c.args.x.entry c.self.invariant low c.entered.ensures.fits)
+    rw (c.in_ok-enter.ensures.ok, c.entry_of-entry.ensures.entry)
+    (entered_good _ locate c.args.x.entry c.self.invariant low (rw c.entry_of-entry.ensures.entry at c.entry_of-entry.ensures.fits))
 
 pub returns-clause-ok : goal.returns-clause-ok
 returns-clause-ok g c =
-    let security = c.entered.ensures.security ∙ ap (λ o. entered o c.args.x.entry) (c.copied-old.ensures ∙ c.get.ensures) in
-    rw (c.in_ok-insert.ensures.ok, security, ← c.self.view_is) (sym (laid_already _ (g.met.B.OrderBook.is_book c.self.inside.book)))
+    rw (c.in_ok-enter.ensures.ok, c.entry_of-entry.ensures.entry, ← c.self.view_is)
+    (sym (laid_already _ (g.met.B.OrderBook.is_book c.self.inside.book)))

@@ -1,6 +1,6 @@
 use Rattle.std.proofs.Common.{rules}
 use Rattle.itch_market.proofs.Bytes.{bytes_by_place}
-use Rattle.itch_market.proofs.market.actions.entered.Goals as goal
+use Rattle.itch_market.proofs.market.actions.entry_of.Goals as goal
 
 pub returns-clause-fits : goal.returns-clause-fits
 returns-clause-fits c =

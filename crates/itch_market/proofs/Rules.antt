@@ -1,0 +1,65 @@
+-- No rule gives want of memory as its reason.
+use Rattle.std.proofs.Common.{◌≢◌, ℕ, ◌==◌, Bool, true, false, List, Option, Some, None, subst}
+use Rattle.std.specs.FinMap as map
+use Rattle.itch_codec.specs.declared.message.Message.{Message}
+use Rattle.itch_codec.specs.declared.message.Message.TheVariants as is
+use Rattle.itch_codec.specs.declared.orders.AddOrder.{AddOrder}
+use Rattle.itch_book.specs.declared.order.Order.{Order}
+use Rattle.itch_book.specs.Orders as book
+use Rattle.itch_market.specs.declared.refusal.Refusal.{Refusal}
+use Rattle.itch_market.specs.declared.refusal.Refusal.TheVariants.{StockMismatch, ZeroShares, DuplicateRef, LocateMismatch, TooManyShares, OutOfMemory}
+use Rattle.itch_market.specs.declared.stop.Stop.TheVariants as stop
+use Rattle.itch_market.specs.Content.{Content, Listing}
+use Rattle.itch_market.specs.Reasons.{reason, refuse, is_other_stock, is_live, security_reason, order_reason, directory_reason, add_reason, take_reason}
+use Rattle.itch_market.specs.Replays.{IsTold}
+
+-- a reason that the file alone decides, if there is one
+abbrev pub Reasoned : Option Refusal → Type 0
+Reasoned None = Unit {0}
+Reasoned (Some why) = IsTold (stop.Rule why)
+
+refuse_told : (b : Bool) (why : Refusal) (later : Option Refusal) → IsTold (stop.Rule why) → Reasoned later → Reasoned (refuse b why later)
+refuse_told true why later h k = h
+refuse_told false why later h k = k
+
+directory_told : (s : Option Listing) (stock : List ℕ) → Reasoned (directory_reason s stock)
+directory_told None stock = tt
+directory_told (Some s) stock = refuse_told (is_other_stock s stock) StockMismatch None tt tt
+
+security_told : (s : Option Listing) (stock : List ℕ) (later : Option Refusal) → Reasoned later → Reasoned (security_reason s stock later)
+security_told None stock later h = tt
+security_told (Some s) stock later h = refuse_told (is_other_stock s stock) StockMismatch later tt h
+
+order_told : (o : Option Order) (locate : ℕ) (later : Order → Option Refusal) → ((x : Order) → Reasoned (later x)) → Reasoned (order_reason o locate later)
+order_told None locate later h = tt
+order_told (Some x) locate later h = refuse_told _ LocateMismatch (later x) tt (h x)
+
+add_told : (m : Content) (x : AddOrder) → Reasoned (add_reason m x)
+add_told m x = security_told (map.get m.securities x.header.locate) x.stock _ (refuse_told (x.shares == 0) ZeroShares _ tt (refuse_told (is_live m x.reference) DuplicateRef None tt tt))
+
+take_told : (m : Content) (locate reference shares : ℕ) → Reasoned (take_reason m locate reference shares)
+take_told m locate reference shares = order_told (book.get m.orders reference) locate _ (λ x. refuse_told _ (TooManyShares x.shares) None tt tt)
+
+pub reason_told : (m : Content) (x : Message) → Reasoned (reason m x)
+reason_told m (is.SystemEvent x) = tt
+reason_told m (is.StockDirectory x) = directory_told (map.get m.securities x.header.locate) x.entry.stock
+reason_told m (is.TradingAction x) = security_told (map.get m.securities x.header.locate) x.stock None tt
+reason_told m (is.RegSho x) = security_told (map.get m.securities x.header.locate) x.stock None tt
+reason_told m (is.Halt x) = security_told (map.get m.securities x.header.locate) x.stock None tt
+reason_told m (is.Position x) = security_told (map.get m.securities x.header.locate) x.stock None tt
+reason_told m (is.AddOrder x) = add_told m x
+reason_told m (is.AttributedAddOrder x) = add_told m x.order
+reason_told m (is.OrderExecuted x) = take_told m x.header.locate x.reference x.shares
+reason_told m (is.OrderExecutedWithPrice x) = take_told m x.execution.header.locate x.execution.reference x.execution.shares
+reason_told m (is.OrderCancel x) = take_told m x.header.locate x.reference x.shares
+reason_told m (is.OrderDelete x) = order_told (book.get m.orders x.reference) x.header.locate _ (λ o. tt)
+reason_told m (is.OrderReplace x) =
+    order_told (book.get m.orders x.original) x.header.locate _ (λ o. refuse_told (x.shares == 0) ZeroShares _ tt (refuse_told (is_live m x.reference) DuplicateRef None tt tt))
+reason_told m (is.Trade x) = tt
+reason_told m (is.CrossTrade x) = tt
+reason_told m (is.BrokenTrade x) = tt
+reason_told m (is.End next) = tt
+reason_told m (is.Other payload) = tt
+
+pub reason_is_rule : (m : Content) (x : Message) → reason m x ≢ Some OutOfMemory
+reason_is_rule m x wanting = subst Reasoned wanting (reason_told m x)

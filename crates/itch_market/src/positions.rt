@@ -1,0 +1,44 @@
+//! The market participants' positions in a security.
+ghost use Rattle.std.specs.Prelude.{◌≡◌, List, ℕ};
+ghost use Rattle.std.specs.Iterator.{YieldsFirst, item_count};
+
+use itch_codec::Alpha;
+use std::collections::btree_map::Iter;
+use std::marker::Model;
+
+/// The market participants of a security, by rising bytes, each with its primary market maker, mode and state.
+#[derive(Drop)]
+pub struct Positions<'a> {
+    pub(crate) entries: Iter<'a, Alpha<4>, [u8; 3]>,
+}
+
+impl<'a> Model for Positions<'a> {
+    ghost Value = { List (List ℕ × List ℕ) };
+
+    ghost view = { λ p. p.entries };
+}
+
+impl<'a> Positions<'a> {
+    /// A second iterator over the positions that are left.
+    pub fn again(&self) -> Positions<'a>
+        ensures { result ≡ self.now }
+    {
+        match self.entries.clone() {
+            Ok(entries) => Positions { entries },
+            Err(_) => unreachable!(),
+        }
+    }
+}
+
+impl Iterator for Positions<'_> {
+    type Item = (Alpha<4>, [u8; 3]);
+
+    ghost next_gives = { YieldsFirst (λ p. p) };
+
+    ghost remaining = { item_count (λ p. p) };
+
+    fn next(&mut self) -> Option<(Alpha<4>, [u8; 3])> {
+        let (mpid, position) = self.entries.next()?;
+        Some((*mpid, *position))
+    }
+}

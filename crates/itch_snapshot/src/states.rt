@@ -1,0 +1,133 @@
+//! What a snapshot says of a security between its directory entry and its orders.
+ghost use Rattle.std.specs.Prelude.{◌≡◌, List, [], ◌∷◌, MatchOption};
+ghost use Rattle.itch_codec.specs.declared.message.Message.{Message as MessageValue};
+ghost use Rattle.itch_snapshot.specs.Snapshot.{states_part};
+ghost use Rattle.itch_snapshot.specs.Cursor.{listed};
+
+use crate::parts::header_at;
+use itch_codec::{
+    Alpha, Header, Message, OperationalHalt, ParticipantPosition, RegSho, TradingAction,
+};
+use itch_market::{Action, Halts, Positions, Security};
+use std::alloc::Allocator;
+use std::marker::Model;
+
+/// The messages of a security's trading states, halts and positions that are still to come.
+#[derive(Drop)]
+pub(crate) struct States<'a> {
+    locate: u16,
+    stock: Alpha<8>,
+    action: Option<Action>,
+    sho: Option<u8>,
+    halts: Halts<'a>,
+    positions: Positions<'a>,
+}
+
+impl<'a> Model for States<'a> {
+    ghost use Rattle.std.specs.Prelude.{List};
+    ghost use Rattle.itch_codec.specs.declared.message.Message.{Message};
+    ghost use Rattle.itch_snapshot.specs.Snapshot.{states_of};
+
+    ghost Value = { List Message };
+
+    ghost view = { λ s. states_of s.locate s.stock s.action s.sho s.halts s.positions };
+}
+
+impl<'a> States<'a> {
+    /// All of them are still to come.
+    pub(crate) fn new<A: Allocator>(locate: u16, security: &'a Security<A>) -> States<'a>
+        ensures { result ≡ states_part locate security.now }
+    {
+        States {
+            locate,
+            stock: security.entry.stock,
+            action: security.action,
+            sho: security.sho,
+            halts: security.halts(),
+            positions: security.positions(),
+        }
+    }
+
+    /// A second list of those that are left.
+    pub(crate) fn again(&self) -> States<'a>
+        ensures { result ≡ self.now }
+    {
+        States {
+            locate: self.locate,
+            stock: self.stock,
+            action: self.action,
+            sho: self.sho,
+            halts: self.halts.again(),
+            positions: self.positions.again(),
+        }
+    }
+
+    /// The next of them.
+    pub(crate) fn take_first<'m>(&mut self) -> Option<Message<'m>>
+        ensures { MatchOption result ((self.old ≡ []) × (self.new ≡ [])) (λ x. self.old ≡ x ∷ self.new) }
+    {
+        let header = header_at(self.locate);
+        let stock = self.stock;
+        if let Some(action) = self.action.take() {
+            return Some(Message::TradingAction(action_message(header, stock, action)));
+        }
+        if let Some(action) = self.sho.take() {
+            return Some(Message::RegSho(RegSho {
+                header,
+                stock,
+                action,
+            }));
+        }
+        if let Some((market_code, action)) = self.halts.next() {
+            return Some(Message::Halt(OperationalHalt {
+                header,
+                stock,
+                market_code,
+                action,
+            }));
+        }
+        let (mpid, position) = self.positions.next()?;
+        Some(Message::Position(ParticipantPosition {
+            header,
+            mpid,
+            stock,
+            primary_market_maker: position[0],
+            mode: position[1],
+            state: position[2],
+        }))
+    }
+}
+
+// The message of a security's trading action.
+fn action_message(header: Header, stock: Alpha<8>, action: Action) -> TradingAction
+    ensures { result ≡ record { header = header; stock = stock; state = action.state; reserved = 32; reason = action.reason } }
+{
+    let Action { state, reason } = action;
+    TradingAction {
+        header,
+        stock,
+        state,
+        reserved: b' ',
+        reason,
+    }
+}
+
+// The next of them, if there are any.
+pub(crate) fn next_state<'m>(states: &mut Option<States<'_>>) -> Option<Message<'m>>
+    ensures { MatchOption result ((listed states.old ≡ []) × (listed states.new ≡ [])) (λ x. listed states.old ≡ x ∷ listed states.new) }
+{
+    match states {
+        Some(states) => states.take_first(),
+        None => None,
+    }
+}
+
+// A second list of those that are left, if there are any.
+pub(crate) fn states_again<'a>(states: &Option<States<'a>>) -> Option<States<'a>>
+    ensures { listed result ≡ listed states.now }
+{
+    match states {
+        Some(states) => Some(states.again()),
+        None => None,
+    }
+}
