@@ -1,4 +1,4 @@
--- Why a payload is not taken: in a laid market, and behind other payloads.
+-- Why a payload is not taken: in a laid market, and after other payloads.
 use Rattle.std.proofs.Common.{◌≡◌, ℕ, ◌<◌, zero, suc, Bool, List, [], ◌∷◌, ◌++◌, map, length, Option, None, Some, refl, ap, subst, ◌∙◌, inl, inr, arith, length-append}
 use Rattle.std.specs.Option.{option_map}
 use Rattle.std.specs.List.{AllByRecursion}
@@ -55,12 +55,12 @@ no_reason m p none = by_reason (reason m (message_of p)) (subst (λ f. cause_by 
   by_reason (Some r) some = cc
   by_reason None none = refl
 
--- the payload behind others is asked in the market that those leave
+-- the payload after others is asked in the market that those leave
 pub cause_behind : (m : Content) (ps : List (List ℕ)) (p : List ℕ) (qs : List (List ℕ)) → cause_at m (ps ++ p ∷ qs) (length ps) ≡ cause (after m (map message_of ps)) p
 cause_behind m [] p qs = refl
 cause_behind m (q ∷ ps) p qs = cause_behind (effect m (message_of q)) ps p qs
 
--- payloads behind it change nothing
+-- payloads after it change nothing
 pub cause_before : (m : Content) (ps qs : List (List ℕ)) (k : ℕ) → k < length ps → cause_at m (ps ++ qs) k ≡ cause_at m ps k
 cause_before m [] qs k within = absurd (omega arith)
 cause_before m (p ∷ ps) qs zero within = refl
@@ -74,7 +74,7 @@ none_more m ps p none clean k within =
       | inr behind ↦ let last : k ≡ length ps = omega (arith, length-append ps (p ∷ [])) in ap (cause_at m (ps ++ p ∷ [])) last ∙ cause_behind m ps p [] ∙ clean
     ]
 
--- the market behind one message more
+-- the market after one message more
 pub after_more : (m : Content) (ps : List (List ℕ)) (p : List ℕ) → after m (map message_of (ps ++ p ∷ [])) ≡ effect (after m (map message_of ps)) (message_of p)
 after_more m [] p = refl
 after_more m (q ∷ ps) p = after_more (effect m (message_of q)) ps p

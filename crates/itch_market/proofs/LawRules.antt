@@ -2,9 +2,12 @@
 use Rattle.itch_market.proofs.Goods.{empty_good, laid_good, effect_good, after_good}
 use Rattle.itch_market.proofs.Sames.{reason_same, effect_same}
 use Rattle.itch_market.proofs.Laid.{reason-laid, effect-laid, takes_memory-laid, laid_twice}
+use Rattle.itch_market.proofs.Partials.{kept_follows, kept_leaves}
 
 pub ruleset laid_laws = (reason-laid, effect-laid, takes_memory-laid, laid_twice)
 
 pub ruleset good_laws = (empty_good, laid_good, effect_good, after_good)
 
 pub ruleset same_laws = (reason_same, effect_same)
+
+pub ruleset kept_laws = (kept_follows, kept_leaves)

@@ -18,3 +18,4 @@ pub mod OneStop
 pub mod Runs
 pub mod Sames
 pub mod Standing
+pub mod Partials

@@ -22,7 +22,7 @@ module _ {X : Type 0} where
   pub get_elsewhere : (m : map.FinMap nat_cmp X) (k : ℕ) (v : X) (q : ℕ) → q ≢ k → map.get (map.insert m k v) q ≡ map.get m q
   get_elsewhere m k v q other = let off : eqb q k ≡ false = grind (arith, nat_tests) in rw (get-insert m k v q, off) refl
 
-  -- a map is what it answers
+  -- a map is what it gives for each key
   pub same_map : (m n : map.FinMap nat_cmp X) → ((q : ℕ) → map.get m q ≡ map.get n q) → m ≡ n
   same_map = map.same_map nat_cmp_total nat_cmp-IsAntisymmetric
 

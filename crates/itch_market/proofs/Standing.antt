@@ -8,7 +8,7 @@ use Rattle.itch_market.specs.declared.stop.Stop.{Stop}
 use Rattle.itch_market.specs.declared.stop.Stop.TheVariants.{End, Frame}
 use Rattle.itch_market.specs.Replays.{LeavesReaderFirst}
 
--- where the reader stands after so many messages
+-- where the reader stands after n messages
 pub record Standing {R : Type 0} (old : Reading R) (count : ℕ) (new : Reading R) : Type 0 where
   pub unread : count ≡ 0 → new ≡ old
   pub given : 0 < count → (new.held ≡ []) × (new.stage ≡ Given) × (old.stage ≢ Ended) × (old.stage ≢ Cut)

@@ -1,4 +1,4 @@
--- Where a replay stops: behind all payloads, at one that is not taken, or behind as many as may be.
+-- Where a replay stops: after all payloads, at one that is not taken, or after as many as may be.
 use Rattle.std.proofs.Common.{◌≡◌, ℕ, ◌+◌, ◌-◌, ◌^◌, ◌<◌, ◌≤◌, ◌==◌, nat_lt, min, Bool, true, false, cond, List, [], ◌∷◌, ◌++◌, map, length, Some, refl, ap, ◌∙◌, arith, length-append, eq-eqb}
 use Rattle.std.proofs.lemmas.Bool.{ne_eqb}
 use Rattle.std.proofs.lemmas.Bool.Decides.{nat_tests}
@@ -44,7 +44,7 @@ none_ends m bytes ps rest day few none = record {
   };
 }
 
--- a payload behind those that are taken, and a day behind it
+-- a payload after those that are taken, and a day after it
 behind_day : (bytes unread : List ℕ) (done : List (List ℕ)) (p : List ℕ) → bytes ≡ blocks done ++ (block p ++ unread) → AllByRecursion IsFull done → IsFull p
     → (more : List (List ℕ)) × (rest : List ℕ) × Day bytes (done ++ p ∷ more) rest
 behind_day bytes unread done p whole full_done full = found (day_some unread) where

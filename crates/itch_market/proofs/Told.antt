@@ -1,4 +1,4 @@
--- What a replay tells of a file whose bytes are known.
+-- What a replay says of a file whose bytes are known.
 use Rattle.std.proofs.Common.{◌≡◌, ℕ, ◌-◌, ◌^◌, ◌<◌, ◌≤◌, ◌==◌, false, List, ◌++◌, map, length, take, Option, None, Some, IfSome, sym, ap, subst, ◌∙◌, inl, inr, arith}
 use Rattle.std.specs.Option.{option_map}
 use Rattle.std.proofs.lemmas.Bool.{eqb-false, eqb-true}
@@ -33,7 +33,7 @@ refused m p why told (clean, refusal) = ap (λ o. cause_by o m p) clean ∙ ap (
 not_full : (count : ℕ) → count ≤ 10 ^ 19 - 1 → (count == 10 ^ 19 - 1) ≡ false → count < 10 ^ 19 - 1
 not_full count few room = let other : count ≡ 10 ^ 19 - 1 → ⊥ = eqb-false count (10 ^ 19 - 1) room in omega arith
 
--- behind the payloads that were taken the rest of the file follows
+-- after the payloads that were taken the rest of the file follows
 module _ (m n : Content) (b c : List ℕ) (ps : List (List ℕ)) (takes : Takes m (Some b) (Some c) ps n) (few : length ps ≤ 10 ^ 19 - 1) where
   ended : Ends c → Stops m b (length ps) End
   ended ends = subst (Stops m b (length ps)) (ends_stop c ends) (none_ends m b ps c (record { whole = takes.bytes; each = takes.full; last = inl ends }) few takes.none)

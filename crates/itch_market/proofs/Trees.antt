@@ -1,5 +1,5 @@
 -- Finite maps with keys in any total order that tells keys apart: what a `BTreeMap` holds of one, and what its entries make.
-use Rattle.std.proofs.Common.{T, ◌&&◌, is_lt, is_eq, Ordering, Less, Equal, Greater, ◌≡◌, Bool, true, false, cond, List, [], ◌∷◌, Option, Some, None, refl, sym, ap, ◌∙◌, subst, arith, length}
+use Rattle.std.proofs.Common.{T, ◌&&◌, is_lt, is_eq, Ordering, Less, Equal, Greater, ◌≡◌, Bool, true, false, cond, List, [], ◌∷◌, Option, Some, None, refl, sym, ap, ◌∙◌, subst, arith, length, filter}
 use Rattle.std.specs.Ordering.{eq_by_cmp}
 use Rattle.std.specs.Cmp.{IsTotalOrder, eq_by_cmp_equiv, tied_itself}
 use Rattle.std.specs.FinMap as map
@@ -21,6 +21,10 @@ both : (a b : Bool) → T (a && b) → T a × T b
 both true b holds = (tt, holds)
 both false b holds = absurd holds
 
+joined_tests : (a b : Bool) → T a → T b → T (a && b)
+joined_tests true b first second = second
+joined_tests false b first second = first
+
 less : (o : Ordering) → T (is_lt o) → o ≡ Less
 less Less holds = refl
 less Equal holds = absurd holds
@@ -36,7 +40,7 @@ module _ {K X : Type 0} {R : K → K → Ordering} (total : IsTotalOrder R) (exa
   found [] k = refl
   found (e ∷ es) k = ap (cond (eq_by_cmp R k e.0) (Some e.1)) (found es k)
 
-  -- what a tree answers is what the map of its entries does
+  -- what a tree gives for a key is what the map of its entries does
   pub get_of_tree : (m : BTreeMap K X) (k : K) → map.get (map.from_entries {R = R} m.entries) k ≡ tree.get R m k
   get_of_tree m k = map.get-from_entries total m.entries k ∙ found m.entries k
 
@@ -134,3 +138,51 @@ module _ {K X : Type 0} {R : K → K → Ordering} (total : IsTotalOrder R) (exa
     go : (es : List (K × X)) → AllByRecursion (λ e. map.find R e.0 (map.entries m) ≡ Some e.1) es → AllByRecursion (λ e. P e.0 e.1) es
     go [] there = tt
     go (e ∷ es) there = (subst (IsMaybe (P e.0)) (map.get-entries m e.0 ∙ there.0) (each e.0), go es there.1)
+
+  -- the entries that are retained, in their order
+  found_retained : (p : K → Bool) (q : K) (es : List (K × X)) → map.find R q (filter (λ e. p e.0) es) ≡ cond (p q) (map.find R q es) None
+  found_retained p q [] = nothing (p q) where
+    nothing : (b : Bool) → ◌≡◌ {A = Option X} None (cond b None None)
+    nothing true = refl
+    nothing false = refl
+  found_retained p q (e ∷ es) = by_key (found_retained p q es) (p e.0) refl (eq_by_cmp R q e.0) refl where
+    by_key : map.find R q (filter (λ f. p f.0) es) ≡ cond (p q) (map.find R q es) None → (b : Bool) → p e.0 ≡ b → (same : Bool) → eq_by_cmp R q e.0 ≡ same
+        → map.find R q (cond b (e ∷ filter (λ f. p f.0) es) (filter (λ f. p f.0) es)) ≡ cond (p q) (cond same (Some e.1) (map.find R q es)) None
+    by_key rest true kept true on =
+        ap (λ b. cond b (Some e.1) (map.find R q (filter (λ f. p f.0) es))) on
+        ∙ sym (ap (λ b. cond b (Some e.1) None) (ap p (exact q e.0 (equal (R q e.0) on)) ∙ kept))
+    by_key rest true kept false off = ap (λ b. cond b (Some e.1) (map.find R q (filter (λ f. p f.0) es))) off ∙ rest
+    by_key rest false out true on =
+        let no = ap p (exact q e.0 (equal (R q e.0) on)) ∙ out in
+        rest ∙ ap (λ b. cond b (map.find R q es) None) no ∙ sym (ap (λ b. cond b (Some e.1) None) no)
+    by_key rest false out false off = rest
+
+  below_filter : (p : K → Bool) (k : K) (es : List (K × X)) → T (below_all R k es) → T (below_all R k (filter (λ e. p e.0) es))
+  below_filter p k [] below = tt
+  below_filter p k (e ∷ es) below =
+      let parts = both (is_lt (R k e.0)) (below_all R k es) below in
+      by_key parts.0 (below_filter p k es parts.1) (p e.0)
+    where
+      by_key : T (is_lt (R k e.0)) → T (below_all R k (filter (λ f. p f.0) es)) → (b : Bool) → T (below_all R k (cond b (e ∷ filter (λ f. p f.0) es) (filter (λ f. p f.0) es)))
+      by_key first rest true = joined_tests (is_lt (R k e.0)) _ first rest
+      by_key first rest false = rest
+
+  sorted_filter : (p : K → Bool) (es : List (K × X)) → T (is_sorted R es) → T (is_sorted R (filter (λ e. p e.0) es))
+  sorted_filter p [] sorted = tt
+  sorted_filter p (e ∷ es) sorted =
+      let parts = both (below_all R e.0 es) (is_sorted R es) sorted in
+      by_key (below_filter p e.0 es parts.0) (sorted_filter p es parts.1) (p e.0)
+    where
+      by_key : T (below_all R e.0 (filter (λ f. p f.0) es)) → T (is_sorted R (filter (λ f. p f.0) es)) → (b : Bool) → T (is_sorted R (cond b (e ∷ filter (λ f. p f.0) es) (filter (λ f. p f.0) es)))
+      by_key first rest true = joined_tests (below_all R e.0 (filter (λ f. p f.0) es)) _ first rest
+      by_key first rest false = rest
+
+  pub same_entries_of : (p : K → Bool) (m : FinMap R X) → map.entries (map.retain_keys m p) ≡ filter (λ e. p e.0) (map.entries m)
+  same_entries_of p m =
+      let kept = filter (λ (e : K × X). p e.0) (map.entries m) in
+      let sorted = sorted_filter p (map.entries m) (map.entries_sorted m) in
+      ap map.entries (map.same_map total exact (map.retain_keys m p) (map.from_sorted kept) (λ q.
+      map.get-retain_keys m p q (λ x tie. ap p (sym (exact q x tie)))
+      ∙ ap (λ o. cond (p q) o None) (map.get-entries m q)
+      ∙ sym (map.get-from_sorted R kept q sorted ∙ found_retained p q (map.entries m))))
+      ∙ map.entries-from_sorted R kept sorted

@@ -1,4 +1,4 @@
--- The first place of which something is told.
+-- The first place at which something is known.
 use Rattle.std.specs.Prelude.{◌≡◌, ℕ, ◌<◌, Option, None, Some}
 
 -- n is the first number at which f gives a value, and that value is x

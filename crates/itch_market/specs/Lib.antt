@@ -9,3 +9,5 @@ pub mod Sames
 pub mod Firsts
 pub mod Stops
 pub mod Replays
+pub mod Partial
+pub mod Wanted

@@ -45,7 +45,7 @@ TakesOne m payload (Err End) n = ⊥
 TakesOne m payload (Err (Frame f)) n = ⊥
 TakesOne m payload (Err TooManyMessages) n = ⊥
 
--- a block that is not empty came off the front, and nothing behind it was read
+-- a block that is not empty came off the front, and nothing after it was read
 abbrev pub TakesOff : Option (List ℕ) → Option (List ℕ) → List ℕ → Type 0
 TakesOff old new payload = IsFull payload × Consumes old new (block payload)
 
@@ -117,7 +117,7 @@ Replays m old new count stop n =
     (payloads : List (List ℕ)) × (mid : Option (List ℕ)) × Takes m old mid payloads n × (length payloads ≡ count) × (count ≤ 10 ^ 19 - 1)
     × Halts (count == 10 ^ 19 - 1) (after m (map message_of payloads)) mid new stop
 
--- so many messages are applied and no more is read, or the replay stops before
+-- this many messages are applied and no more is read, or the replay stops before
 abbrev pub ReplaysFirst : ℕ → Content → Option (List ℕ) → Option (List ℕ) → ℕ → Option Stop → Content → Type 0
 ReplaysFirst most m old new count (Some stop) n = (count < most) × Replays m old new count stop n
 ReplaysFirst most m old new count None n =

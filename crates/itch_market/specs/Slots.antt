@@ -18,7 +18,7 @@ directory slots = map.from_entries (entries_from 0 slots)
 abbrev pub locates_from : ℕ → List (Option Listing) → List ℕ
 locates_from locate slots = keys_of (entries_from locate (drop locate slots))
 
--- whether the first locate with a security, from one on, is as told
+-- whether this is the first locate with a security, from one on
 abbrev pub IsFirstFrom : ℕ → List (Option Listing) → Option ℕ → Type 0
 IsFirstFrom from slots None = locates_from from slots ≡ []
 IsFirstFrom from slots (Some locate) = (locate < length slots) × (locates_from from slots ≡ locate ∷ locates_from (suc locate) slots)

@@ -19,7 +19,7 @@ cause_by None m payload = option_map Rule (reason m (message_of payload))
 abbrev pub cause : Content → List ℕ → Option Stop
 cause m payload = cause_by (fault payload) m payload
 
--- why the payload behind the first k is not taken, in the market that those leave
+-- why the payload after the first k is not taken, in the market that those leave
 abbrev pub cause_at : Content → List (List ℕ) → ℕ → Option Stop
 cause_at m payloads k = option_and_then (cause (after m (map message_of (take k payloads)))) (slice_get payloads k)
 
@@ -29,11 +29,11 @@ end_of [] = End
 end_of (x ∷ []) = Frame (Truncated 1)
 end_of (x ∷ y ∷ rest) = if (x + y) == 0 then End else Frame (Truncated (length (x ∷ y ∷ rest)))
 
--- the stop behind all payloads, or behind as many as a replay takes
+-- the stop after all payloads, or after as many as a replay takes
 abbrev pub last_stop : ℕ → List (List ℕ) → List ℕ → Stop
 last_stop most payloads rest = if nat_lt most (length payloads) then TooManyMessages else end_of rest
 
--- why a replay would stop behind the first k payloads, if it would
+-- why a replay would stop after the first k payloads, if it would
 abbrev pub stop_at : ℕ → Content → List (List ℕ) → List ℕ → ℕ → Option Stop
 stop_at most m payloads rest k = if k == min most (length payloads) then Some (last_stop most payloads rest) else cause_at m payloads k
 

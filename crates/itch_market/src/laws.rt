@@ -1,7 +1,7 @@
 //! What holds of all good markets and messages, of whatever size.
 //!
 //! Each function does nothing: its clauses are the laws.
-ghost use Rattle.std.specs.Prelude.{◌≡◌, ℕ, ◌≤◌, ◌<◌, ◌^◌, List, None, map, length, take};
+ghost use Rattle.std.specs.Prelude.{◌≡◌, ℕ, ◌≤◌, ◌<◌, ◌^◌, Bool, List, None, map, length, take};
 ghost use Rattle.std.specs.List.{AllByRecursion};
 ghost use Rattle.itch_codec.specs.declared.message.Message.{Message};
 ghost use Rattle.itch_codec.specs.Fields.{AreBytes};
@@ -12,7 +12,8 @@ ghost use Rattle.itch_market.specs.Reasons.{reason};
 ghost use Rattle.itch_market.specs.Effects.{effect, takes_memory};
 ghost use Rattle.itch_codec.specs.Widths.{IsMessage};
 ghost use Rattle.itch_market.specs.Goods.{IsGood};
-ghost use Rattle.itch_market.specs.Runs.{AreMessages, FollowsFrom, after};
+ghost use Rattle.itch_market.specs.Runs.{AreMessages, FollowsFrom, Follows, after, run};
+ghost use Rattle.itch_market.specs.Partial.{kept, only};
 ghost use Rattle.itch_market.specs.Sames.{Same};
 ghost use Rattle.itch_market.specs.Stops.{Stops};
 ghost use Rattle.itch_market.specs.declared.stop.Stop.{Stop};
@@ -42,6 +43,14 @@ pub fn good_stays_good()
 pub fn same_stay_same()
     ensures reason { (m n : Content) → (x : Message) → IsGood m → IsGood n → Same m n → reason m x ≡ reason n x }
     ensures effect { (m n : Content) → (x : Message) → IsGood m → IsGood n → IsMessage x → reason m x ≡ None → Same m n → Same (effect m x) (effect n x) }
+{}
+
+/// Where messages follow the order rules, those that are not skipped follow them too, and leave the market that all of them
+/// leave, cut down to the wanted locates.
+#[tactic(auto, using(crate::proofs::LawRules::kept_laws))]
+pub fn kept_run()
+    ensures follows { (wanted : ℕ → Bool) → (ms : List Message) → AllByRecursion IsMessage ms → Follows ms → Follows (kept wanted ms) }
+    ensures leaves { (wanted : ℕ → Bool) → (ms : List Message) → AllByRecursion IsMessage ms → Follows ms → run (kept wanted ms) ≡ only wanted (run ms) }
 {}
 
 /// A day file stops a replay at one place, for one reason, and at some place.

@@ -3,6 +3,7 @@
 
 mod halts;
 pub mod laws;
+mod locate_set;
 mod locates;
 mod market;
 mod positions;
@@ -13,6 +14,7 @@ mod security;
 mod stop;
 
 pub use halts::Halts;
+pub use locate_set::LocateSet;
 pub use locates::Locates;
 pub use market::Market;
 pub use positions::Positions;

@@ -48,7 +48,7 @@ pub fn replay<R: CountedRead, A: Allocator, B: OrderBook>(
     }
 }
 
-/// Applies the first `most` messages of a day file and reads no further, or stops before, and tells why.
+/// Applies the first `most` messages of a day file and reads no further, or stops before, and says why.
 pub fn replay_first<R: CountedRead, A: Allocator, B: OrderBook>(
     reader: &mut BlockReader<R, A>,
     market: &mut Market<B>,

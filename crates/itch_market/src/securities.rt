@@ -162,7 +162,7 @@ fn take<A: Allocator>(slots: &mut Vec<Option<Security<A>>, A>, at: usize) -> Opt
     }
 }
 
-// Makes slots as long as told, unless they are longer. Where memory is refused, nothing changes.
+// Makes slots this long, unless they are longer. Where memory is refused, nothing changes.
 fn grow_to<A: Allocator>(
     slots: &mut Vec<Option<Security<A>>, A>,
     len: usize,

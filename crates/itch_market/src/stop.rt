@@ -8,7 +8,7 @@ use thiserror::Error;
 /// Why a replay stopped.
 #[derive(Clone, Copy, Debug, Error)]
 pub enum Stop {
-    /// The end of input at a block's border, or a block of length 0, behind which nothing was read.
+    /// The end of input at a block's border, or a block of length 0, after which nothing was read.
     #[error("end of input")]
     End,
     /// A read failed, or the input ended in an unfinished block.

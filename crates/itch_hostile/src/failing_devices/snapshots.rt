@@ -11,7 +11,7 @@ use std::test::Fail;
 // The first bytes of the four blocks.
 const STARTS: [usize; 4] = [0, 14, 55, 93];
 
-// After `written` bytes so many of the block at hand were written.
+// After `written` bytes this many of the block at hand were written.
 fn tells_of_its_block(fault: &SnapFault, written: usize) -> bool {
     let start = STARTS.iter().rfind(|start| **start <= written).copied();
     match fault {

@@ -4,7 +4,7 @@ use itch_book::{IndexedBook, ListBook, OrderBook};
 use itch_codec::{Message, decode};
 use itch_frame::BlockReader;
 use itch_frame::testing::PieceReader;
-use itch_market::{Market, Refusal, Stop, replay};
+use itch_market::{LocateSet, Market, Refusal, Stop, replay};
 use refusing::Refusing;
 use std::alloc::Global;
 use std::process::Abort;
@@ -115,6 +115,32 @@ fn a_market_of_an_index_stays_as_it_was(rt: HostRuntime) -> Result<(), Fail> {
     let refusing = Refusing::new(rt.alloc(), 0);
     let mut market: Market<IndexedBook<Refused<'_>>> = Market::new(&refusing);
     assert!(rt; refuse_each_growth(&rt, rt.alloc(), &refusing, &mut market)? > 0);
+    Ok(())
+}
+
+// A set of locates stays as it was where memory is refused, and a locate that it contains takes none.
+#[test]
+fn a_set_of_locates_stays_as_it_was(rt: HostRuntime) -> Result<(), Fail> {
+    let refusing = Refusing::new(rt.alloc(), 0);
+    let mut set = LocateSet::new(&refusing);
+    let mut refused = 0u64;
+    for locate in 1..41u16 {
+        refusing.arm(0);
+        if set.insert(locate).is_err() {
+            refused += 1;
+            assert!(rt; !set.contains(locate));
+            assert!(rt; set.contains(locate - 1) || locate == 1);
+            set.insert(locate)?;
+        }
+        assert!(rt; set.contains(locate));
+        refusing.arm(0);
+        set.insert(locate)?;
+    }
+    assert!(rt; refused > 0);
+    let mut all = LocateSet::all(&refusing);
+    refusing.arm(0);
+    all.insert(7)?;
+    assert!(rt; all.contains(8));
     Ok(())
 }
 

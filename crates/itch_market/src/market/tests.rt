@@ -1,5 +1,6 @@
-//! Markets by what their calls answer. The helpers take a market over any book.
+//! Markets by what their calls return. The helpers take a market over any book.
 mod content;
+mod locate_sets;
 mod messages;
 
 use self::content::references;
@@ -9,24 +10,29 @@ use self::messages::{
 };
 use super::Market;
 use crate::refusal::Refusal;
-use crate::security::Action;
+use crate::security::{Action, Security};
 use itch_book::{ListBook, Order, OrderBook};
 use itch_codec::{Alpha, Message, Side};
+use std::alloc::{AllocError, Global};
 use std::process::Abort;
 use std::test::Fail;
 
-// The market that these messages leave of an empty one.
-fn after<B: OrderBook>(alloc: B::Alloc, messages: &[Message<'_>]) -> Result<Market<B>, Refusal> {
-    let mut market = Market::new(alloc);
-    for message in messages {
-        market.apply(message)?;
-    }
-    Ok(market)
+// Applies a message. One that is refused ends the test, as one that cannot be made does.
+fn apply<B: OrderBook>(
+    market: &mut Market<B>,
+    message: Result<Message<'static>, Fail>,
+) -> Result<(), Fail> {
+    market.apply(&message?)?;
+    Ok(())
 }
 
 fn check_largest<B: OrderBook>(rt: &impl Abort, alloc: B::Alloc) -> Result<(), Fail> {
-    let order = add(65535, u64::MAX, Side::Sell, u32::MAX, "MAX", u32::MAX)?;
-    let market: Market<B> = after(alloc, &[directory(65535, "MAX", 100)?, order])?;
+    let mut market: Market<B> = Market::new(alloc);
+    apply(&mut market, directory(65535, "MAX", 100))?;
+    apply(
+        &mut market,
+        add(65535, u64::MAX, Side::Sell, u32::MAX, "MAX", u32::MAX),
+    )?;
     let security = market.security(65535).ok_or("a security")?;
     assert_eq!(rt; security.entry.stock, stock("MAX")?);
     assert!(rt; market.security(0).is_none());
@@ -51,18 +57,19 @@ fn takes_the_largest_values(rt: HostRuntime) -> Result<(), Fail> {
 }
 
 // Orders of two prices, in the order of their references.
+fn of_two_prices(alloc: Global) -> Result<Market<ListBook>, Fail> {
+    let mut market = Market::new(alloc);
+    apply(&mut market, directory(1, "AAPL", 100))?;
+    apply(&mut market, add(1, 1, Side::Buy, 100, "AAPL", 1500000))?;
+    apply(&mut market, add(1, 2, Side::Buy, 200, "AAPL", 1500100))?;
+    apply(&mut market, add(1, 3, Side::Buy, 300, "AAPL", 1500000))?;
+    apply(&mut market, add(1, 4, Side::Buy, 400, "AAPL", 1500100))?;
+    Ok(market)
+}
+
 #[test]
 fn keeps_price_and_time_priority(rt: HostRuntime) -> Result<(), Fail> {
-    let market: Market<ListBook> = after(
-        rt.alloc(),
-        &[
-            directory(1, "AAPL", 100)?,
-            add(1, 1, Side::Buy, 100, "AAPL", 1500000)?,
-            add(1, 2, Side::Buy, 200, "AAPL", 1500100)?,
-            add(1, 3, Side::Buy, 300, "AAPL", 1500000)?,
-            add(1, 4, Side::Buy, 400, "AAPL", 1500100)?,
-        ],
-    )?;
+    let market = of_two_prices(rt.alloc())?;
     let book = market.book();
     assert_eq!(rt;
         references(&rt, rt.alloc(), &market)?.as_slice(),
@@ -82,15 +89,11 @@ fn keeps_price_and_time_priority(rt: HostRuntime) -> Result<(), Fail> {
 
 #[test]
 fn replaces_an_attributed_order(rt: HostRuntime) -> Result<(), Fail> {
-    let market: Market<ListBook> = after(
-        rt.alloc(),
-        &[
-            directory(1, "AAPL", 100)?,
-            attributed(1, 100, 1500000)?,
-            add(1, 2, Side::Buy, 200, "AAPL", 1500000)?,
-            replace(1, 1, 3, 100, 1500000)?,
-        ],
-    )?;
+    let mut market: Market<ListBook> = Market::new(rt.alloc());
+    apply(&mut market, directory(1, "AAPL", 100))?;
+    apply(&mut market, attributed(1, 100, 1500000))?;
+    apply(&mut market, add(1, 2, Side::Buy, 200, "AAPL", 1500000))?;
+    apply(&mut market, replace(1, 1, 3, 100, 1500000))?;
     assert_eq!(rt;
         references(&rt, rt.alloc(), &market)?.as_slice(),
         [2, 3].as_slice()
@@ -102,28 +105,32 @@ fn replaces_an_attributed_order(rt: HostRuntime) -> Result<(), Fail> {
     Ok(())
 }
 
+// A market with the trading states of a security, and an order, whose directory message came twice.
+fn with_states(alloc: Global) -> Result<Market<ListBook>, Fail> {
+    let mut market = Market::new(alloc);
+    apply(&mut market, directory(2, "MSFT", 100))?;
+    apply(&mut market, event(b'O'))?;
+    apply(&mut market, directory(1, "AAPL", 100))?;
+    apply(&mut market, reg_sho(1, "AAPL", b'0'))?;
+    apply(&mut market, trading_action(1, "AAPL", b'T'))?;
+    apply(&mut market, add(1, 1, Side::Buy, 100, "AAPL", 1500000))?;
+    apply(&mut market, directory(1, "AAPL", 200))?;
+    Ok(market)
+}
+
+fn locates_of(alloc: Global, market: &Market<ListBook>) -> Result<Vec<u16>, AllocError> {
+    market.locates().again().collect(alloc)
+}
+
 // A second directory message of a locate sets the entry alone.
 #[test]
 fn keeps_states_and_orders(rt: HostRuntime) -> Result<(), Fail> {
-    let mut market: Market<ListBook> = Market::new(rt.alloc());
-    assert_eq!(rt; market.phase(), None);
-    for message in [
-        directory(2, "MSFT", 100)?,
-        event(b'O')?,
-        directory(1, "AAPL", 100)?,
-        reg_sho(1, "AAPL", b'0')?,
-        trading_action(1, "AAPL", b'T')?,
-        add(1, 1, Side::Buy, 100, "AAPL", 1500000)?,
-        directory(1, "AAPL", 200)?,
-    ] {
-        market.apply(&message)?;
-    }
+    let empty: Market<ListBook> = Market::new(rt.alloc());
+    assert_eq!(rt; empty.phase(), None);
+    let market = with_states(rt.alloc())?;
     assert_eq!(rt; market.phase(), Some(b'O'));
-    let mut locates = market.locates();
-    assert_eq!(rt; locates.next(), Some(1));
-    assert_eq!(rt; locates.again().next(), Some(2));
-    assert_eq!(rt; locates.next(), Some(2));
-    assert_eq!(rt; locates.next(), None);
+    let locates = locates_of(rt.alloc(), &market)?;
+    assert_eq!(rt; locates.as_slice(), [1, 2].as_slice());
     let security = market.security(1).ok_or("a security")?;
     assert_eq!(rt; security.entry.round_lot_size, 200);
     let action = Action {
@@ -136,82 +143,152 @@ fn keeps_states_and_orders(rt: HostRuntime) -> Result<(), Fail> {
     Ok(())
 }
 
+// A market of one security with halts and positions, whose directory message came twice.
+fn with_halts_and_positions(alloc: Global) -> Result<Market<ListBook>, Fail> {
+    let mut market = Market::new(alloc);
+    apply(&mut market, directory(1, "AAPL", 100))?;
+    apply(&mut market, position(1, "ZZZZ", "AAPL", b'A'))?;
+    apply(&mut market, halt(1, "AAPL", b'X', b'H'))?;
+    apply(&mut market, position(1, "ABCD", "AAPL", b'S'))?;
+    apply(&mut market, halt(1, "AAPL", b'Q', b'H'))?;
+    apply(&mut market, halt(1, "AAPL", b'X', b'T'))?;
+    apply(&mut market, position(1, "ZZZZ", "AAPL", b'D'))?;
+    apply(&mut market, directory(1, "AAPL", 200))?;
+    Ok(market)
+}
+
+fn halts_of(alloc: Global, security: &Security<Global>) -> Result<Vec<(u8, u8)>, AllocError> {
+    security.halts().again().collect(alloc)
+}
+
+fn positions_of(
+    alloc: Global,
+    security: &Security<Global>,
+) -> Result<Vec<(Alpha<4>, [u8; 3])>, AllocError> {
+    security.positions().again().collect(alloc)
+}
+
 // An action that ends a halt stays, and a second directory message of a locate changes neither.
 #[test]
 fn keeps_halts_and_positions(rt: HostRuntime) -> Result<(), Fail> {
-    let mut market: Market<ListBook> = Market::new(rt.alloc());
-    for message in [
-        directory(1, "AAPL", 100)?,
-        position(1, "ZZZZ", "AAPL", b'A')?,
-        halt(1, "AAPL", b'X', b'H')?,
-        position(1, "ABCD", "AAPL", b'S')?,
-        halt(1, "AAPL", b'Q', b'H')?,
-        halt(1, "AAPL", b'X', b'T')?,
-        position(1, "ZZZZ", "AAPL", b'D')?,
-        directory(1, "AAPL", 200)?,
-    ] {
-        market.apply(&message)?;
-    }
+    let market = with_halts_and_positions(rt.alloc())?;
     let security = market.security(1).ok_or("a security")?;
     assert_eq!(rt; (security.halts_len(), security.positions_len()), (2, 2));
-    let mut halts = security.halts();
-    assert_eq!(rt; halts.next(), Some((b'Q', b'H')));
-    assert_eq!(rt; halts.again().next(), Some((b'X', b'T')));
-    assert_eq!(rt; halts.next(), Some((b'X', b'T')));
-    assert_eq!(rt; halts.next(), None);
-    let mut positions = security.positions();
-    let first: Alpha<4> = Alpha::from_text("ABCD")?;
-    let last: Alpha<4> = Alpha::from_text("ZZZZ")?;
-    assert_eq!(rt; positions.next(), Some((first, *b"NNS")));
-    assert_eq!(rt; positions.again().next(), Some((last, *b"NND")));
-    assert_eq!(rt; positions.next(), Some((last, *b"NND")));
-    assert_eq!(rt; positions.next(), None);
+    let halts = halts_of(rt.alloc(), security)?;
+    assert_eq!(rt; halts.as_slice(), [(b'Q', b'H'), (b'X', b'T')].as_slice());
+    let first = Alpha::from_text("ABCD")?;
+    let last = Alpha::from_text("ZZZZ")?;
+    let positions = positions_of(rt.alloc(), security)?;
+    assert_eq!(rt;
+        positions.as_slice(),
+        [(first, *b"NNS"), (last, *b"NND")].as_slice()
+    );
     Ok(())
 }
 
 // AAPL at locate 1 with a bid for 100 shares of reference 1, and MSFT at locate 2.
 fn begun<B: OrderBook>(alloc: B::Alloc) -> Result<Market<B>, Fail> {
-    Ok(after(
-        alloc,
-        &[
-            directory(1, "AAPL", 100)?,
-            directory(2, "MSFT", 100)?,
-            add(1, 1, Side::Buy, 100, "AAPL", 1500000)?,
-        ],
-    )?)
+    let mut market = Market::new(alloc);
+    apply(&mut market, directory(1, "AAPL", 100))?;
+    apply(&mut market, directory(2, "MSFT", 100))?;
+    apply(&mut market, add(1, 1, Side::Buy, 100, "AAPL", 1500000))?;
+    Ok(market)
+}
+
+// That market refuses a message for this reason, and stays as it was.
+fn refuse(
+    rt: &impl Abort,
+    alloc: Global,
+    message: Result<Message<'static>, Fail>,
+    want: &str,
+) -> Result<(), Fail> {
+    let message = message?;
+    let mut market: Market<ListBook> = begun(alloc)?;
+    let why = market.apply(&message).err().ok_or("a refusal")?;
+    let line = format!(in alloc; "{why}")?;
+    assert_eq!(rt; line.as_str(), want);
+    assert_eq!(rt; market.book().len(), 1);
+    Ok(())
 }
 
 // The first check that fails gives the reason.
 #[test]
-fn refuses_by_the_first_rule(rt: HostRuntime) -> Result<(), Fail> {
-    for (message, want) in [
-        (add(3, 9, Side::Buy, 1, "AAPL", 1)?, "unknown locate"),
-        (trading_action(3, "AAPL", b'T')?, "unknown locate"),
-        (reg_sho(3, "AAPL", b'0')?, "unknown locate"),
-        (halt(3, "AAPL", b'Q', b'H')?, "unknown locate"),
-        (position(3, "ABCD", "AAPL", b'A')?, "unknown locate"),
-        (halt(1, "MSFT", b'Q', b'H')?, "stock mismatch"),
-        (position(1, "ABCD", "MSFT", b'A')?, "stock mismatch"),
-        (directory(1, "MSFT", 100)?, "stock mismatch"),
-        (add(1, 9, Side::Buy, 0, "MSFT", 1)?, "stock mismatch"),
-        (add(1, 1, Side::Buy, 0, "AAPL", 1500000)?, "zero shares"),
-        (replace(1, 1, 1, 0, 1500000)?, "zero shares"),
-        (attributed(1, 100, 1500000)?, "duplicate reference"),
-        (replace(1, 1, 1, 50, 1500000)?, "duplicate reference"),
-        (delete(1, 9)?, "unknown reference"),
-        (executed(7, 9, 10)?, "unknown reference"),
-        (executed(2, 1, 10)?, "locate mismatch"),
-        (replace(2, 1, 5, 0, 1500000)?, "locate mismatch"),
-        (delete(2, 1)?, "locate mismatch"),
-        (executed(1, 1, 101)?, "too many shares, 100 remain"),
-        (end(4)?, "unexpected end"),
-    ] {
-        let mut market: Market<ListBook> = begun(rt.alloc())?;
-        let why = market.apply(&message).err().ok_or(want)?;
-        let line = format!(in rt.alloc(); "{why}")?;
-        assert_eq!(rt; line.as_str(), want);
-        assert_eq!(rt; market.book().len(), 1);
-    }
+fn refuses_by_the_first_rule_of_securities(rt: HostRuntime) -> Result<(), Fail> {
+    let alloc = rt.alloc();
+    refuse(
+        &rt,
+        alloc,
+        add(3, 9, Side::Buy, 1, "AAPL", 1),
+        "unknown locate",
+    )?;
+    refuse(
+        &rt,
+        alloc,
+        trading_action(3, "AAPL", b'T'),
+        "unknown locate",
+    )?;
+    refuse(&rt, alloc, reg_sho(3, "AAPL", b'0'), "unknown locate")?;
+    refuse(&rt, alloc, halt(3, "AAPL", b'Q', b'H'), "unknown locate")?;
+    refuse(
+        &rt,
+        alloc,
+        position(3, "ABCD", "AAPL", b'A'),
+        "unknown locate",
+    )?;
+    refuse(&rt, alloc, halt(1, "MSFT", b'Q', b'H'), "stock mismatch")?;
+    refuse(
+        &rt,
+        alloc,
+        position(1, "ABCD", "MSFT", b'A'),
+        "stock mismatch",
+    )?;
+    refuse(&rt, alloc, directory(1, "MSFT", 100), "stock mismatch")?;
+    refuse(&rt, alloc, end(4), "unexpected end")
+}
+
+#[test]
+fn refuses_by_the_first_rule_of_orders(rt: HostRuntime) -> Result<(), Fail> {
+    let alloc = rt.alloc();
+    refuse(
+        &rt,
+        alloc,
+        add(1, 9, Side::Buy, 0, "MSFT", 1),
+        "stock mismatch",
+    )?;
+    refuse(
+        &rt,
+        alloc,
+        add(1, 1, Side::Buy, 0, "AAPL", 1500000),
+        "zero shares",
+    )?;
+    refuse(&rt, alloc, replace(1, 1, 1, 0, 1500000), "zero shares")?;
+    refuse(
+        &rt,
+        alloc,
+        attributed(1, 100, 1500000),
+        "duplicate reference",
+    )?;
+    refuse(
+        &rt,
+        alloc,
+        replace(1, 1, 1, 50, 1500000),
+        "duplicate reference",
+    )?;
+    refuse(&rt, alloc, delete(1, 9), "unknown reference")?;
+    refuse(&rt, alloc, executed(7, 9, 10), "unknown reference")?;
+    refuse(&rt, alloc, executed(2, 1, 10), "locate mismatch")?;
+    refuse(&rt, alloc, replace(2, 1, 5, 0, 1500000), "locate mismatch")?;
+    refuse(&rt, alloc, delete(2, 1), "locate mismatch")?;
+    refuse(
+        &rt,
+        alloc,
+        executed(1, 1, 101),
+        "too many shares, 100 remain",
+    )
+}
+
+#[test]
+fn want_of_memory_has_words(rt: HostRuntime) -> Result<(), Fail> {
     let line = format!(in rt.alloc(); "{}", Refusal::OutOfMemory)?;
     assert_eq!(rt; line.as_str(), "out of memory");
     Ok(())
@@ -221,16 +298,16 @@ fn refuses_by_the_first_rule(rt: HostRuntime) -> Result<(), Fail> {
 #[test]
 fn takes_shares(rt: HostRuntime) -> Result<(), Fail> {
     let mut market: Market<ListBook> = begun(rt.alloc())?;
-    market.apply(&executed(1, 1, 0)?)?;
-    market.apply(&cancel(1, 1, 40)?)?;
+    apply(&mut market, executed(1, 1, 0))?;
+    apply(&mut market, cancel(1, 1, 40))?;
     let refused = market.apply(&executed_with_price(1, 1, 61, 1500100)?);
     assert_eq!(rt; refused, Err(Refusal::TooManyShares { remain: 60 }));
-    market.apply(&executed_with_price(1, 1, 20, 1500100)?)?;
+    apply(&mut market, executed_with_price(1, 1, 20, 1500100))?;
     assert_eq!(rt; market.book().level_total(1, Side::Buy, 1500000), (40, 1));
-    market.apply(&executed(1, 1, 40)?)?;
+    apply(&mut market, executed(1, 1, 40))?;
     assert_eq!(rt; market.apply(&delete(1, 1)?), Err(Refusal::UnknownRef));
-    market.apply(&add(1, 1, Side::Sell, 5, "AAPL", 1500000)?)?;
-    market.apply(&delete(1, 1)?)?;
+    apply(&mut market, add(1, 1, Side::Sell, 5, "AAPL", 1500000))?;
+    apply(&mut market, delete(1, 1))?;
     assert_eq!(rt; market.book().len(), 0);
     Ok(())
 }
