@@ -1,5 +1,5 @@
 -- What is still to come of a snapshot: all of it at first, and one message less after each one.
-use Rattle.std.proofs.Common.{◌≡◌, ℕ, List, [], ◌∷◌, ◌++◌, map, find, flat_map, append_assoc, Option, Some, None, IsSome, IfSome, refl, sym, ap, ap₂, ◌∙◌, subst}
+use Rattle.std.proofs.Common.{◌≡◌, ℕ, Bool, List, [], ◌∷◌, ◌++◌, map, filter, find, flat_map, append_assoc, Option, Some, None, IsSome, IfSome, refl, sym, ap, ap₂, ◌∙◌, subst}
 use Rattle.std.specs.List.{AllByRecursion}
 use Rattle.std.specs.Map.{keys_of}
 use Rattle.std.specs.FinMap as finite
@@ -7,15 +7,16 @@ use Rattle.itch_codec.specs.declared.message.Message.TheVariants as is
 use Rattle.itch_codec.specs.declared.message.Message.{Message}
 use Rattle.itch_book.specs.declared.order.Order.{Order}
 use Rattle.itch_book.specs.Orders as book
+use Rattle.itch_book.proofs.Lists.{All-filter_rec}
 use Rattle.itch_book.proofs.Walks.{first_left, next_left, first_live, after_live}
 use Rattle.itch_market.specs.Content.{Content, Listing}
 use Rattle.itch_snapshot.specs.declared.named.NamedOrder.{NamedOrder}
 use Rattle.itch_snapshot.specs.Snapshot.{snap, header_at, event_part, states_part, order_part, locate_part}
-use Rattle.itch_snapshot.specs.Cursor.{listed, named, order_parts, part_at, found_part, left, IsCursor}
+use Rattle.itch_snapshot.specs.Cursor.{in_set, listed, named, order_parts, part_at, found_part, left, IsCursor}
 use Rattle.itch_snapshot.proofs.Locates.{each_entry}
 use Rattle.itch_snapshot.proofs.Keys.{each_listed}
 
-parts_of : (m : Content) (es : List (ℕ × Listing)) → AllByRecursion (λ e. finite.get m.securities e.0 ≡ Some e.1) es
+pub parts_of : (m : Content) (es : List (ℕ × Listing)) → AllByRecursion (λ e. finite.get m.securities e.0 ≡ Some e.1) es
     → flat_map (part_at m) (keys_of es) ≡ flat_map (locate_part m.orders) es
 parts_of m [] here = refl
 parts_of m (e ∷ es) here = ap₂ ◌++◌ (ap (found_part m.orders e.0) here.0) (parts_of m es here.1)
@@ -27,7 +28,16 @@ left_snap m = ap (λ parts. event_part m.event ++ parts) (parts_of m (finite.ent
 pub cursor_begins : (m : Content) → IsCursor m None (finite.keys m.securities)
 cursor_begins m = record { live = tt; listed = each_listed m.securities }
 
--- the messages of a named order and of those behind it
+-- the same of some of the locates
+pub cursor_among : (m : Content) (wanted : ℕ → Bool) → IsCursor m None (filter wanted (finite.keys m.securities))
+cursor_among m wanted = record { live = tt; listed = All-filter_rec (λ l. IsSome (finite.get m.securities l)) wanted (finite.keys m.securities) (each_listed m.securities) }
+
+-- with no set all locates are wanted
+pub all_in : (locates : List ℕ) → filter (in_set None) locates ≡ locates
+all_in [] = refl
+all_in (l ∷ ls) = ap (λ ks. l ∷ ks) (all_in ls)
+
+-- the messages of a named order and of those after it
 parts_named : (orders : List Order) (stock : List ℕ) (x : Option Order) → order_parts orders (named stock x) ≡ map (order_part stock) (book.from_order orders x)
 parts_named orders stock None = refl
 parts_named orders stock (Some x) = refl
@@ -52,7 +62,7 @@ module _ (m : Content) (orders : List Order) (kept : book.IsBook orders) (same :
   first_there : (next : Option NamedOrder) (stock : List ℕ) (locate : ℕ) → next ≡ named stock (find (book.is_in locate) orders) → next ≡ named stock (find (book.is_in locate) m.orders)
   first_there next stock locate first = first ∙ ap (λ os. named stock (find (book.is_in locate) os)) same
 
-  -- an order is given, and the next one behind it is still to come
+  -- an order is given, and the next one after it is still to come
   pub order_given : (event : Option ℕ) (states spent : Option (List Message)) (order next : Option NamedOrder) (locates : List ℕ) (x : NamedOrder)
       → IsCursor m order locates → event ≡ None → listed states ≡ [] → listed spent ≡ [] → order ≡ Some x → next ≡ named x.stock (book.after orders x.order.reference)
       → left m event states order locates ≡ order_part x.stock x.order ∷ left m None spent next locates

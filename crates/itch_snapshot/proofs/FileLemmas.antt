@@ -153,7 +153,7 @@ closes_once bytes r s ms ns n k one other =
       rest = same.behind;
     }
 
--- the payload behind so many blocks is the one at that place of the day
+-- the payload after k blocks is the one at that place of the day
 slice_there : (ps : List (List ℕ)) (p : List ℕ) (more : List (List ℕ)) → slice_get ((ps ++ p ∷ []) ++ more) (length ps) ≡ Some p
 slice_there [] p more = refl
 slice_there (q ∷ ps) p more = slice_there ps p more

@@ -13,6 +13,8 @@ pub mod CutFiles
 pub mod LawRules
 pub mod Keys
 pub mod Cursors
+pub mod Cut
+pub mod Covering
 pub mod LengthLemmas
 pub mod Partings
 pub mod Sent

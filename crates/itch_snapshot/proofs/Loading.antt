@@ -199,7 +199,7 @@ positions_lead m locate s (e ∷ es) fits =
     }))
     (positions_lead m locate (with_position e.0 e.1 s) es fits.1)
 
--- what is said of a security behind its directory entry
+-- what is said of a security after its directory entry
 states_lead : (m : Content) (locate : ℕ) (s : Listing) → IsSecurity s → Leads (with_security m locate (bare_of s.entry)) (states_part locate s) (with_security m locate s)
 states_lead m locate s fits =
     let stock = s.entry.stock in

@@ -14,7 +14,7 @@ use Rattle.itch_book.proofs.StableLemmas.{in_order-parts}
 use Rattle.itch_book.proofs.OrderLemmas.{both_queues, stands_order, lower_stands, in_is}
 use Rattle.itch_market.proofs.Maps.{get-insert, get_elsewhere, same_map}
 
--- each number stands below those behind it
+-- each number stands below those after it
 abbrev pub Rise : {X : Type 0} → List (ℕ × X) → Type 0
 Rise [] = Unit {0}
 Rise (e ∷ es) = AllByRecursion (λ f. e.0 < f.0) es × Rise es

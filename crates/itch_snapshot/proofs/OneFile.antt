@@ -43,7 +43,7 @@ file_market bytes ms next wide (rest, file, ends) = (
 pub file_or_fault : (bytes : List ℕ) → (ms : List Message) → (next : ℕ) → (fault : SnapFault) → IsSnapshotFile bytes ms next → IsFaultOf bytes fault → ⊥
 file_or_fault bytes ms next fault (rest, file, ends) is = file_no_fault bytes rest ms next file fault ends is
 
--- the fault of a replay that stops behind so many messages
+-- the fault of a replay that stops after k messages
 abbrev fault_at : ℕ → Stop → SnapFault
 fault_at k stop.End = NoEnd
 fault_at k (stop.Frame f) = Frame f
@@ -65,7 +65,7 @@ IsBehind rest fault =
     (Open rest × (fault ≡ Frame (Truncated (length rest))))
     ⊎ ((payload : List ℕ) × (more : List ℕ) × IsFull payload × (rest ≡ block payload ++ more) × (fault ≡ AfterEnd))
 
--- a fault behind an End of Snapshot
+-- a fault after an End of Snapshot
 record IsAfter (bytes : List ℕ) (fault : SnapFault) : Type 0 where
   messages : List Message
   next : ℕ

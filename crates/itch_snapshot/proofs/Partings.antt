@@ -8,7 +8,7 @@ use Rattle.itch_snapshot.specs.Snapshot.{snap}
 use Rattle.itch_snapshot.specs.Parting.{IsParting}
 use Rattle.itch_snapshot.proofs.OneSnapshot.{snap_same, same_snap}
 
--- both lists begin with these elements, behind which so much of each is left, and the place is the next one
+-- both lists begin with these elements, after which this much of each is left, and the place is the next one
 pub record AgreeSoFar {A : Type 0} (xs ys seen left right : List A) (place : ℕ) : Type 0 where
   pub one : xs ≡ seen ++ left
   pub other : ys ≡ seen ++ right
@@ -34,7 +34,7 @@ module _ {A : Type 0} where
   parting_behind [] xs ys differ = record { before = λ i early. absurd (omega arith); there = differ }
   parting_behind (x ∷ seen) xs ys differ = one_further x (seen ++ xs) (seen ++ ys) (length seen) (parting_behind seen xs ys differ)
 
-  -- behind what agrees the lists part
+  -- after what agrees the lists part
   they_part : (xs ys seen left right : List A) (place : ℕ) → AgreeSoFar xs ys seen left right place → slice_get left 0 ≢ slice_get right 0
       → (0 < place) × IsParting xs ys (place - 1)
   they_part xs ys seen left right place agree differ =

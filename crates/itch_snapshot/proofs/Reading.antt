@@ -45,7 +45,7 @@ fault_read m old mid new taken n k fault going h =
           (fault-laid taken so_far k mid new fault going.good (subst (λ x. ReadsNext taken x mid new (Err fault) k) going.takes.left h)),
     )
 
--- a snapshot is read into an empty market: there is a fault up to its End of Snapshot, or behind it
+-- a snapshot is read into an empty market: there is a fault up to its End of Snapshot, or after it
 pub first_fault : (m : Content) (old new : Option (List ℕ)) (n : Content) (fault : SnapFault) → m ≡ empty → ReadsAll m old new (Err fault) n → ReadsSnapshot old new (Err fault)
 first_fault m old new n fault begun reads = inl (n, subst (λ k. ReadsAll k old new (Err fault) n) begun reads)
 

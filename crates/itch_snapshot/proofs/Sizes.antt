@@ -86,7 +86,7 @@ length-locates orders (e ∷ es) =
       length-append (book.sides orders e.0) (joined orders es),
     )
 
--- the snapshot list has so many messages
+-- the snapshot list has this many messages
 pub snap_length : (m : Content) → IsGood m → length (snap m) ≡ size m
 snap_length m good =
     let es = finite.entries m.securities in

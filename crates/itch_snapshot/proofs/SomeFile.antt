@@ -32,7 +32,7 @@ use Rattle.itch_snapshot.proofs.Told.{clean_spelled}
 abbrev IsRead : List ℕ → Type 0
 IsRead bytes = ((ms : List Message) × (next : ℕ) × IsSnapshotFile bytes ms next) ⊎ ((fault : SnapFault) × IsFaultOf bytes fault)
 
--- the payload at a place, and those before and behind it
+-- the payload at a place, and those before and after it
 record IsSplit (ps : List (List ℕ)) (k : ℕ) : Type 0 where
   before : List (List ℕ)
   payload : List ℕ
@@ -51,7 +51,7 @@ slice_here : (ps : List (List ℕ)) (p : List ℕ) (qs : List (List ℕ)) → sl
 slice_here [] p qs = refl
 slice_here (q ∷ ps) p qs = slice_here ps p qs
 
--- the messages before an End of Snapshot are taken: what follows it tells what the file is
+-- the messages before an End of Snapshot are taken: what follows it decides what the file is
 module _ (bytes : List ℕ) (ps : List (List ℕ)) (p : List ℕ) (qs : List (List ℕ)) (rest : List ℕ) (day : Day bytes (ps ++ p ∷ qs) rest) (none : NoCause empty ps)
     (few : length ps ≤ 10 ^ 19 - 1) (next : ℕ) (number : closing_number p ≡ Some next) where
   closes_here : ClosesBefore (blocks qs ++ rest) bytes (map message_of ps) next
@@ -86,7 +86,7 @@ refused_read bytes m p before why is at = by_fault (fault p) is where
   by_fault (Some f) some = let codec : why ≡ stop.Codec f = cc in inr (Codec (before + 1) f, subst (StopsAt bytes (before + 1)) codec at)
   by_fault None none = by_reason (reason m (message_of p)) none
 
--- a replay that stops at a payload, or behind as many as may be
+-- a replay that stops at a payload, or after as many as may be
 module _ (bytes : List ℕ) (k : ℕ) (why : Stop) (stops : Stops empty bytes k why) (split : IsSplit stops.payloads k) (few : k ≤ 10 ^ 19 - 1) where
   day : Day bytes (split.before ++ split.payload ∷ split.behind) stops.rest
   day = subst (λ ps. Day bytes ps stops.rest) split.whole stops.day
@@ -126,7 +126,7 @@ module _ (bytes : List ℕ) (k : ℕ) (why : Stop) (stops : Stops empty bytes k 
   most_read many is = by_number (closing_number split.payload) refl
       (λ none. inr (TooManyMessages, subst (StopsAt bytes (10 ^ 19)) is (stops_at (10 ^ 19) (omega arith) none)))
 
--- a replay that stops behind all payloads
+-- a replay that stops after all payloads
 end_read : (bytes : List ℕ) (k : ℕ) (rest : List ℕ) → Ends rest ⊎ Open rest → Stops empty bytes k (end_of rest) → IsRead bytes
 end_read bytes k rest (inl ends) stops = inr (NoEnd, (k, subst (Stops empty bytes k) (ends_stop rest ends) stops))
 end_read bytes k rest (inr part) stops = inr (Frame (Truncated (length rest)), inl (k, subst (Stops empty bytes k) (open_stops rest part) stops))

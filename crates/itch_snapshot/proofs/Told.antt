@@ -1,4 +1,4 @@
--- What the reading of a snapshot tells of a file whose bytes are known.
+-- What the reading of a snapshot says of a file whose bytes are known.
 use Rattle.std.proofs.Common.{◌≡◌, ℕ, ◌+◌, ◌-◌, ◌≤◌, ◌^◌, List, [], ◌∷◌, ◌++◌, map, length, slice_get, Option, None, Some, IfSome, IfOk, IfErr, MatchResult, Result, Ok, Err, refl, sym, ap, subst, ◌∙◌, inl, inr, arith}
 use Rattle.std.specs.List.{AllByRecursion}
 use Rattle.std.proofs.lemmas.List.{length-map}
@@ -111,7 +111,7 @@ fault_told b new fault (inr (None, next, n, (ps, Some c, takes, few, (last, off,
 fault_told b new fault (inr (Some d, next, n, (ps, Some c, takes, few, closes), behind)) told =
     fault_behind b d (map message_of ps) next new fault (closes_here b c d ps n next takes few closes) behind told
 
--- the clauses of a reading, over told bytes
+-- the clauses of a reading, over known bytes
 pub reads_market : (old new : Option (List ℕ)) (result : Result (Content × ℕ) SnapFault) → ReadsSnapshot old new result
     → IfOk result (λ done. IfSome old (λ b. IsMarketOf b done))
 reads_market None new (Ok done) reads = tt

@@ -1,5 +1,5 @@
 -- What is still to come of a snapshot that is given message by message.
-use Rattle.std.specs.Prelude.{◌≡◌, ℕ, List, [], ◌++◌, map, Option, Some, None, IsSome, IfSome}
+use Rattle.std.specs.Prelude.{◌≡◌, ℕ, Bool, true, List, [], ◌++◌, map, Option, Some, None, IsSome, IfSome}
 use Rattle.std.specs.Option.{option_map}
 use Rattle.std.specs.List.{flat_map, AllByRecursion}
 use Rattle.std.specs.FinMap as finite
@@ -7,6 +7,8 @@ use Rattle.itch_codec.specs.declared.message.Message.{Message}
 use Rattle.itch_book.specs.declared.order.Order.{Order}
 use Rattle.itch_book.specs.Orders as book
 use Rattle.itch_market.specs.Content.{Content, Listing}
+use Rattle.itch_market.specs.Wanted.{Wanted, has}
+use denote.Ref.{Bor}
 use Rattle.itch_snapshot.specs.declared.named.NamedOrder.{NamedOrder}
 use Rattle.itch_snapshot.specs.Snapshot.{event_part, order_part, locate_part}
 
@@ -19,7 +21,7 @@ listed (Some messages) = messages
 abbrev pub named : List ℕ → Option Order → Option NamedOrder
 named stock order = option_map (λ x. record { stock = stock; order = x }) order
 
--- an order, and the orders of its locate behind it
+-- an order, and the orders of its locate after it
 abbrev pub order_parts : List Order → Option NamedOrder → List Message
 order_parts orders None = []
 order_parts orders (Some x) = map (order_part x.stock) (book.from_order orders (Some x.order))
@@ -35,6 +37,11 @@ part_at m locate = found_part m.orders locate (finite.get m.securities locate)
 -- what is left: an event, the states of a security, orders of its locate, and whole locates
 abbrev pub left : Content → Option ℕ → Option (List Message) → Option NamedOrder → List ℕ → List Message
 left m event states order locates = event_part event ++ (listed states ++ (order_parts m.orders order ++ flat_map (part_at m) locates))
+
+-- the locates that are wanted: those of a set, or all where there is none
+abbrev pub in_set : Option (Bor Wanted) → ℕ → Bool
+in_set None locate = true
+in_set (Some set) locate = has set.now locate
 
 -- the next order is live, and the locates are of the directory
 pub record IsCursor (m : Content) (order : Option NamedOrder) (locates : List ℕ) : Type 0 where

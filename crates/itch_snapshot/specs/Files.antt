@@ -39,7 +39,7 @@ pub record ClosesBefore (rest bytes : List ℕ) (ms : List Message) (next : ℕ)
 abbrev pub IsSnapshotFile : List ℕ → List Message → ℕ → Type 0
 IsSnapshotFile bytes ms next = (rest : List ℕ) × ClosesBefore rest bytes ms next × Ends rest
 
--- the file has an End of Snapshot, and what follows it is told of
+-- the file has an End of Snapshot, and this is true of what follows it
 abbrev pub IsClosedBefore : List ℕ → (List ℕ → Type 0) → Type 0
 IsClosedBefore bytes P = (ms : List Message) × (next : ℕ) × (rest : List ℕ) × ClosesBefore rest bytes ms next × P rest
 

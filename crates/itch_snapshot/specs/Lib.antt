@@ -1,9 +1,11 @@
 pub mod Snapshot
 pub mod Bytes
+pub mod Covers
 pub mod Cursor
 pub mod Lengths
 pub mod Parting
 pub mod Writes
+pub mod Stages
 pub mod Loads
 pub mod Reads
 pub mod Files

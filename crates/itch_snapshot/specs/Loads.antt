@@ -6,8 +6,12 @@ use Rattle.itch_codec.specs.declared.message.Message.TheVariants as is
 use Rattle.itch_codec.specs.Messages.{fault, message_of}
 use Rattle.itch_market.specs.declared.refusal.Refusal.TheVariants.{OutOfMemory}
 use Rattle.itch_market.specs.declared.stop.Stop.TheVariants as stop
-use Rattle.itch_market.specs.Content.{Content, empty}
-use Rattle.itch_market.specs.Replays.{TakesOne}
+use Rattle.itch_codec.specs.Widths.{IsMessage}
+use Rattle.itch_market.specs.Content.{Content, empty, laid}
+use Rattle.itch_market.specs.Effects.{effect, takes_memory}
+use Rattle.itch_market.specs.Reasons.{reason}
+use Rattle.itch_market.specs.Replays.{IsRefusal, TakesOne}
+use Rattle.itch_market.specs.Partial.{skips}
 use Rattle.itch_snapshot.specs.declared.fault.SnapFault.{SnapFault}
 use Rattle.itch_snapshot.specs.declared.fault.SnapFault.TheVariants.{NoEnd, Frame, Codec, Rule, AfterEnd, TooManyMessages}
 use Rattle.itch_snapshot.specs.declared.stage.Stage.{Stage}
@@ -30,7 +34,28 @@ closing_number payload = number_by (fault payload) payload
 abbrev pub is_full : ℕ → Bool
 is_full taken = taken == 10 ^ 19 - 1
 
--- the message of a payload is applied behind so many others, or it is End of Snapshot, or neither
+-- the message that a payload spells after `taken` others: End of Snapshot, or one for which there is room
+abbrev pub IsNext : ℕ → List ℕ → Result Message SnapFault → Type 0
+IsNext taken payload (Ok x) = (fault payload ≡ None) × IsMessage x × (x ≡ message_of payload) × (number_in x ≡ None → is_full taken ≡ false)
+IsNext taken payload (Err (Codec place f)) = (is_full taken ≡ false) × (place ≡ taken + 1) × (fault payload ≡ Some f)
+IsNext taken payload (Err TooManyMessages) = (is_full taken ≡ true) × (closing_number payload ≡ None)
+IsNext taken payload (Err (Rule place why)) = ⊥
+IsNext taken payload (Err NoEnd) = ⊥
+IsNext taken payload (Err (Frame f)) = ⊥
+IsNext taken payload (Err AfterEnd) = ⊥
+
+-- the message at this place is applied, or refused
+abbrev pub AppliesAt : ℕ → Content → Message → Result (Option ℕ) SnapFault → Content → Type 0
+AppliesAt place m x (Ok None) n = (reason m x ≡ None) × (n ≡ laid (effect m x))
+AppliesAt place m x (Err (Rule at why)) n = (at ≡ place) × (n ≡ m) × IsRefusal (reason m x) (takes_memory m x) why
+AppliesAt place m x (Ok (Some next)) n = ⊥
+AppliesAt place m x (Err (Codec at f)) n = ⊥
+AppliesAt place m x (Err TooManyMessages) n = ⊥
+AppliesAt place m x (Err NoEnd) n = ⊥
+AppliesAt place m x (Err (Frame f)) n = ⊥
+AppliesAt place m x (Err AfterEnd) n = ⊥
+
+-- the message of a payload is applied after `taken` others, or it is End of Snapshot, or neither
 abbrev pub TakesNext : ℕ → Content → List ℕ → Result (Option ℕ) SnapFault → Content → Type 0
 TakesNext taken m payload (Ok None) n = (is_full taken ≡ false) × TakesOne m payload (Ok tt) n
 TakesNext taken m payload (Ok (Some next)) n = (n ≡ m) × (closing_number payload ≡ Some next)
@@ -41,6 +66,30 @@ TakesNext taken m payload (Err TooManyMessages) n = (is_full taken ≡ true) × 
 TakesNext taken m payload (Err NoEnd) n = ⊥
 TakesNext taken m payload (Err (Frame f)) n = ⊥
 TakesNext taken m payload (Err AfterEnd) n = ⊥
+
+abbrev pub skipped_by : (ℕ → Bool) → Option CodecFault → List ℕ → Bool
+skipped_by wanted (Some f) payload = false
+skipped_by wanted None payload = skips wanted (message_of payload)
+
+-- the message that a payload spells is about a locate that is not wanted
+abbrev pub is_skipped : (ℕ → Bool) → List ℕ → Bool
+is_skipped wanted payload = skipped_by wanted (fault payload) payload
+
+-- the message of a payload changes nothing where it is skipped, else it is applied
+abbrev pub AppliesUnless : Bool → Content → List ℕ → Content → Type 0
+AppliesUnless true m payload n = n ≡ m
+AppliesUnless false m payload n = TakesOne m payload (Ok tt) n
+
+-- as `TakesNext`, but a message that is skipped has no reason and no effect
+abbrev pub TakesNextOnly : (ℕ → Bool) → ℕ → Content → List ℕ → Result (Option ℕ) SnapFault → Content → Type 0
+TakesNextOnly wanted taken m payload (Ok None) n = (is_full taken ≡ false) × AppliesUnless (is_skipped wanted payload) m payload n
+TakesNextOnly wanted taken m payload (Ok (Some next)) n = TakesNext taken m payload (Ok (Some next)) n
+TakesNextOnly wanted taken m payload (Err (Codec place f)) n = TakesNext taken m payload (Err (Codec place f)) n
+TakesNextOnly wanted taken m payload (Err (Rule place why)) n = (is_skipped wanted payload ≡ false) × TakesNext taken m payload (Err (Rule place why)) n
+TakesNextOnly wanted taken m payload (Err TooManyMessages) n = TakesNext taken m payload (Err TooManyMessages) n
+TakesNextOnly wanted taken m payload (Err NoEnd) n = ⊥
+TakesNextOnly wanted taken m payload (Err (Frame f)) n = ⊥
+TakesNextOnly wanted taken m payload (Err AfterEnd) n = ⊥
 
 -- what contracts see of a snapshot that is read message by message: the number of messages taken, the market that they leave, and how far it is
 pub record Load : Type 0 where
@@ -63,7 +112,7 @@ abbrev pub broken_by : SnapFault → Stage
 broken_by (Rule place OutOfMemory) = Taking
 broken_by fault = Broken fault
 
--- how far it is behind an answer
+-- how far it is after a message
 abbrev pub stage_behind : Result (Option ℕ) SnapFault → Stage
 stage_behind (Ok None) = Taking
 stage_behind (Ok (Some next)) = Closed next
@@ -76,11 +125,21 @@ TakesAt Taking old payload answer new =
 TakesAt (Broken fault) old payload answer new = (answer ≡ Err fault) × (new ≡ old)
 TakesAt (Closed next) old payload answer new = (answer ≡ Err AfterEnd) × (new ≡ old)
 
--- what a message does, and answers
+-- what taking a message does, and returns
 abbrev pub Loads : Load → List ℕ → Result (Option ℕ) SnapFault → Load → Type 0
 Loads old payload answer new = TakesAt old.stage old payload answer new
 
--- what is handed out: the market and the number behind an End of Snapshot, else all as it was
+-- the same at each stage, where messages of some locates are skipped
+abbrev pub TakesAtOnly : (ℕ → Bool) → Stage → Load → List ℕ → Result (Option ℕ) SnapFault → Load → Type 0
+TakesAtOnly wanted Taking old payload answer new =
+    TakesNextOnly wanted old.taken old.market payload answer new.market × (new.taken ≡ taken_behind old.taken answer) × (new.stage ≡ stage_behind answer)
+TakesAtOnly wanted (Broken fault) old payload answer new = (answer ≡ Err fault) × (new ≡ old)
+TakesAtOnly wanted (Closed next) old payload answer new = (answer ≡ Err AfterEnd) × (new ≡ old)
+
+abbrev pub LoadsOnly : (ℕ → Bool) → Load → List ℕ → Result (Option ℕ) SnapFault → Load → Type 0
+LoadsOnly wanted old payload answer new = TakesAtOnly wanted old.stage old payload answer new
+
+-- what is handed out: the market and the number after an End of Snapshot, else all as it was
 abbrev pub Finishes : Load → Result (Content × ℕ) Load → Type 0
 Finishes old (Ok done) = (done.0 ≡ old.market) × (old.stage ≡ Closed done.1)
 Finishes old (Err back) = (back ≡ old) × ((next : ℕ) → old.stage ≢ Closed next)

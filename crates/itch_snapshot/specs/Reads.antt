@@ -26,11 +26,11 @@ FailsHere (Read error) old new = Keeps old new
 FailsHere (Write sent error) old new = ⊥
 FailsHere TooLong old new = ⊥
 
--- a payload came off the front, which is the one told of
+-- a payload came off the front, and this is true of it
 abbrev pub ReadsPayload : Option (List ℕ) → Option (List ℕ) → (List ℕ → Type 0) → Type 0
 ReadsPayload old new P = (payload : List ℕ) × TakesOff old new payload × P payload
 
--- what is read behind so many messages, and what it does to the market that they left
+-- what is read after `taken` messages, and what it does to the market that they left
 abbrev pub ReadsNext : ℕ → Content → Option (List ℕ) → Option (List ℕ) → Result (Option ℕ) SnapFault → Content → Type 0
 ReadsNext taken m old new (Err NoEnd) n = (n ≡ m) × EndsHere old new
 ReadsNext taken m old new (Err (Frame f)) n = (n ≡ m) × FailsHere f old new
@@ -41,7 +41,7 @@ ReadsNext taken m old new (Err AfterEnd) n = ⊥
 ReadsNext taken m old new (Ok None) n = ReadsPayload old new (λ payload. TakesNext taken m payload (Ok None) n)
 ReadsNext taken m old new (Ok (Some next)) n = ReadsPayload old new (λ payload. TakesNext taken m payload (Ok (Some next)) n)
 
--- what is read behind the End of Snapshot
+-- what is read after the End of Snapshot
 abbrev pub ReadsEnd : Option (List ℕ) → Option (List ℕ) → Result (Unit {0}) SnapFault → Type 0
 ReadsEnd old new (Ok done) = EndsHere old new
 ReadsEnd old new (Err AfterEnd) = ReadsPayload old new (λ payload. ⊤)

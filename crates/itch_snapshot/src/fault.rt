@@ -21,7 +21,7 @@ pub enum SnapFault {
     Codec { place: u64, fault: CodecFault },
     /// An order rule refuses the message at this place, or memory was refused.
     Rule { place: u64, reason: Refusal },
-    /// A block that is not empty behind the End of Snapshot.
+    /// A block that is not empty after the End of Snapshot.
     AfterEnd,
     /// A further block, that spells no End of Snapshot, after 10^19 - 1 messages.
     TooManyMessages,

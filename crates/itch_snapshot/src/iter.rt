@@ -1,19 +1,24 @@
 //! The snapshot list of a market, message by message.
-ghost use Rattle.std.specs.Prelude.{◌≡◌, ◌<◌, ◌^◌, List, length};
+ghost use Rattle.std.specs.Prelude.{◌≡◌, ◌<◌, ◌^◌, List, [], ◌∷◌, MatchOption, length};
 ghost use Rattle.std.specs.Iterator.{YieldsFirst, item_count};
+ghost use Rattle.std.specs.List.{filter};
 ghost use Rattle.itch_codec.specs.declared.message.Message.{Message};
+ghost use Rattle.itch_market.specs.Partial.{only};
+ghost use Rattle.itch_market.specs.Wanted.{has};
 ghost use Rattle.itch_snapshot.specs.Snapshot.{snap};
-ghost use Rattle.itch_snapshot.specs.Cursor.{left, IsCursor};
+ghost use Rattle.itch_snapshot.specs.Cursor.{left, in_set, IsCursor};
 
 use crate::named::NamedOrder;
 use crate::parts::{header_at, named, order_message};
 use crate::states::{States, next_state, states_again};
 use itch_book::OrderBook;
 use itch_codec::{Message, StockDirectory, SystemEvent};
-use itch_market::{Locates, Market};
+use itch_market::{LocateSet, Locates, Market};
+use std::alloc::Allocator;
 use std::marker::Model;
 
-/// The messages of a market's snapshot in their order, without the End of Snapshot.
+/// The messages of a market's snapshot in their order, without the End of Snapshot: of the whole market, or of it cut down to
+/// a set of locates.
 ///
 /// The market is borrowed, and no memory is taken.
 #[derive(Drop)]
@@ -24,14 +29,16 @@ pub struct SnapshotIter<'a, B: OrderBook> {
     states: Option<States<'a>>,
     order: Option<NamedOrder>,
     locates: Locates<'a, B::Alloc>,
+    // the locates that are wanted, if not all are
+    set: Option<&'a LocateSet<B::Alloc>>,
 }
 
 impl<'a, B: OrderBook> Model for SnapshotIter<'a, B> {
     ghost Value = { List Message };
 
-    ghost view = { λ s. left s.market.now s.event s.states s.order s.locates };
+    ghost view = { λ s. left s.market.now s.event s.states s.order (filter (in_set s.set) s.locates) };
 
-    ghost invariant = { λ s. IsCursor s.market.now s.order s.locates };
+    ghost invariant = { λ s. IsCursor s.market.now s.order (filter (in_set s.set) s.locates) };
 }
 
 impl<'a, B: OrderBook> SnapshotIter<'a, B> {
@@ -45,6 +52,21 @@ impl<'a, B: OrderBook> SnapshotIter<'a, B> {
             states: None,
             order: None,
             locates: market.locates(),
+            set: None,
+        }
+    }
+
+    /// All messages of the snapshot of the market cut down to the locates of the set are still to come.
+    pub fn only(market: &'a Market<B>, set: &'a LocateSet<B::Alloc>) -> SnapshotIter<'a, B>
+        ensures { result ≡ snap (only (has set.now) market.now) }
+    {
+        SnapshotIter {
+            market,
+            event: market.phase(),
+            states: None,
+            order: None,
+            locates: market.locates(),
+            set: Some(set),
         }
     }
 
@@ -59,6 +81,7 @@ impl<'a, B: OrderBook> SnapshotIter<'a, B> {
             states: states_again(&self.states),
             order: self.order,
             locates: self.locates.again(),
+            set: self.set,
         };
         rest.count() as u64
     }
@@ -84,7 +107,7 @@ impl<'a, B: OrderBook> Iterator for SnapshotIter<'a, B> {
             self.order = named(next.stock, book.after(next.order.reference));
             return Some(order_message(next));
         }
-        let locate = self.locates.next()?;
+        let locate = next_wanted(&mut self.locates, self.set)?;
         let security = self.market.security(locate)?;
         let entry = security.entry;
         self.states = Some(States::new(locate, security));
@@ -92,4 +115,30 @@ impl<'a, B: OrderBook> Iterator for SnapshotIter<'a, B> {
         let header = header_at(locate);
         Some(Message::StockDirectory(StockDirectory { header, entry }))
     }
+}
+
+// Whether a locate is wanted: where there is no set, all are.
+fn is_wanted<A: Allocator>(set: Option<&LocateSet<A>>, locate: u16) -> bool
+    ensures { result ≡ in_set set.entry locate }
+{
+    match set {
+        Some(set) => set.contains(locate),
+        None => true,
+    }
+}
+
+// The next locate that is wanted.
+fn next_wanted<A: Allocator>(
+    locates: &mut Locates<'_, A>,
+    set: Option<&LocateSet<A>>,
+) -> Option<u16>
+    ensures { MatchOption result ((filter (in_set set.entry) locates.old ≡ []) × (filter (in_set set.entry) locates.new ≡ []))
+        (λ locate. filter (in_set set.entry) locates.old ≡ locate ∷ filter (in_set set.entry) locates.new) }
+{
+    while let Some(locate) = locates.next() {
+        if is_wanted(set, locate) {
+            return Some(locate);
+        }
+    }
+    None
 }

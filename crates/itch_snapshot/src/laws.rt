@@ -1,7 +1,7 @@
 //! What holds of markets and their snapshots, of whatever size.
 //!
 //! Each function here does nothing: its clauses are the laws.
-ghost use Rattle.std.specs.Prelude.{◌≡◌, ℕ, ◌+◌, ◌≤◌, ◌<◌, ◌^◌, ◌⊎◌, ◌↔◌, List, ◌++◌, length, map, take};
+ghost use Rattle.std.specs.Prelude.{◌≡◌, ℕ, ◌+◌, ◌≤◌, ◌<◌, ◌^◌, ◌⊎◌, ◌↔◌, Bool, List, ◌++◌, length, map, take};
 ghost use Rattle.itch_codec.specs.declared.message.Message.{Message};
 ghost use Rattle.itch_codec.specs.Widths.{IsSequence};
 ghost use Rattle.itch_codec.specs.Fields.{AreBytes};
@@ -15,6 +15,8 @@ ghost use Rattle.itch_market.specs.Effects.{effect};
 ghost use Rattle.itch_market.specs.Goods.{IsGood};
 ghost use Rattle.itch_market.specs.Runs.{AreMessages, after, run, Follows, FollowsFrom};
 ghost use Rattle.itch_market.specs.Sames.{Same};
+ghost use Rattle.itch_market.specs.Partial.{kept, only};
+ghost use Rattle.itch_snapshot.specs.Covers.{Covers, HaveSameParts};
 ghost use Rattle.itch_snapshot.specs.Bytes.{canon, closing};
 ghost use Rattle.itch_snapshot.specs.Snapshot.{snap};
 ghost use Rattle.itch_snapshot.specs.Files.{IsSnapshotFile, IsFaultOf, IsMarketOf};
@@ -30,7 +32,7 @@ pub fn snapshot_replays()
     ensures same { (m : Content) → IsGood m → Same (run (snap m)) m }
 {}
 
-/// A snapshot may stand in place of the messages before it: the rest follows the order rules behind it,
+/// A snapshot may stand in place of the messages before it: the rest follows the order rules after it,
 /// and leaves the same market as all messages do.
 #[tactic(auto, using(crate::proofs::LawRules::late_laws))]
 pub fn late_start()
@@ -72,6 +74,14 @@ pub fn canonical()
 pub fn whole_snapshot()
     ensures market { (m n : Content) → (j k : ℕ) → IsGood m → IsGood n → IsSequence j → IsSequence k → canon m ++ closing j ≡ canon n ++ closing k → Same m n }
     ensures number { (m n : Content) → (j k : ℕ) → IsGood m → IsGood n → IsSequence j → IsSequence k → canon m ++ closing j ≡ canon n ++ closing k → j ≡ k }
+{}
+
+/// The snapshot list of a market cut down to some locates is the market's, without the messages that are skipped. For sets
+/// that together have all locates, two markets are the same exactly if cut down to each of the sets they have the same
+/// canonical bytes: the work on a feed may be parted by locates, and the parts' snapshots together say all of the whole's.
+pub fn parts_of_a_market()
+    ensures list { (wanted : ℕ → Bool) → (m : Content) → snap (only wanted m) ≡ kept wanted (snap m) }
+    ensures determine { (sets : List (ℕ → Bool)) → (m n : Content) → Covers sets → IsGood m → IsGood n → Same m n ↔ HaveSameParts sets m n }
 {}
 
 /// Two lists of messages that follow the order rules leave the same market exactly if the canonical bytes

@@ -23,4 +23,4 @@ pub use length::snapshot_len;
 pub use read::read_snapshot;
 pub use reader::SnapshotReader;
 pub use stage::Stage;
-pub use write::write_snapshot;
+pub use write::{write_partial, write_snapshot};

@@ -17,16 +17,16 @@ use itch_market::Market;
 use std::alloc::Allocator;
 
 /// Reads a snapshot file (GLIMPSE 5.0) into a market of its own, with the number of the first message that it does not
-/// contain. Behind the End of Snapshot the input ends, or a block of length 0 follows, behind which nothing is read.
+/// contain. After the End of Snapshot the input ends, or a block of length 0 follows, after which nothing is read.
 ///
 /// `NoEnd` where the blocks end before, `Codec` and `Rule` for the first message that is not taken, `TooManyMessages` where
-/// 10^19 - 1 messages and no End of Snapshot came, `AfterEnd` for a block behind it, and `Frame` for a failed read or an
+/// 10^19 - 1 messages and no End of Snapshot came, `AfterEnd` for a block after it, and `Frame` for a failed read or an
 /// unfinished block. Want of memory is `Rule` with the reason `OutOfMemory`. On a fault no market is handed out.
 pub fn read_snapshot<R: CountedRead, A: Allocator, B: OrderBook>(
     alloc: B::Alloc,
     reader: &mut BlockReader<R, A>,
 ) -> Result<(Market<B>, Seq), SnapFault>
-    // The file alone decides what is answered, unless a read failed or memory was refused.
+    // The file alone decides what is returned, unless a read failed or memory was refused.
     ensures file { IfSome (bytes_left R.remaining reader.old) (λ bytes. (ms : List Message) → (next : ℕ) → IsSnapshotFile bytes ms next
         → MatchResult result (λ done. done ≡ (laid (run ms), next)) (λ fault. ¬ IsToldFault fault)) }
     ensures market { IfOk result (λ done. IfSome (bytes_left R.remaining reader.old) (λ bytes. IsMarketOf bytes done)) }
@@ -60,7 +60,7 @@ fn read_messages<R: CountedRead, A: Allocator, B: OrderBook>(
     unreachable!()
 }
 
-// Applies the message of the next block, behind so many others.
+// Applies the message of the next block, after `taken` others.
 fn read_message<R: CountedRead, A: Allocator, B: OrderBook>(
     reader: &mut BlockReader<R, A>,
     market: &mut Market<B>,

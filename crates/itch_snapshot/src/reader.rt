@@ -1,18 +1,19 @@
 //! Snapshots message by message.
-ghost use Rattle.std.specs.Prelude.{◌≡◌, ◌≤◌, ◌-◌, ◌^◌, true};
-ghost use Rattle.itch_snapshot.specs.Loads.{TakesNext};
+ghost use Rattle.std.specs.Prelude.{◌≡◌, ◌<◌, ◌≤◌, ◌-◌, ◌^◌, IfOk, IfNone, true};
+ghost use Rattle.itch_market.specs.Wanted.{has};
+ghost use Rattle.itch_snapshot.specs.Loads.{IsNext, AppliesAt, TakesNext, TakesNextOnly};
 
 use crate::fault::SnapFault;
 use crate::stage::Stage;
 use itch_book::OrderBook;
 use itch_codec::{Message, Seq, decode};
-use itch_market::{Market, Refusal};
+use itch_market::{LocateSet, Market, Refusal};
 use std::marker::Model;
 
 /// As many messages as a snapshot may have before its End of Snapshot: 10^19 - 1.
 const MOST: u64 = 9_999_999_999_999_999_999;
 
-/// Takes the messages of a snapshot one by one, and hands out their market behind the End of Snapshot.
+/// Takes the messages of a snapshot one by one, and hands out their market after the End of Snapshot.
 #[derive(Drop)]
 pub struct SnapshotReader<B: OrderBook> {
     market: Market<B>,
@@ -36,7 +37,9 @@ impl<B: OrderBook> Model for SnapshotReader<B> {
 }
 
 impl<B: OrderBook> SnapshotReader<B> {
-    ghost use Rattle.itch_snapshot.specs.Loads.{begun, Loads, Finishes};
+    ghost use Rattle.itch_market.specs.Wanted.{has};
+    ghost use Rattle.itch_snapshot.specs.declared.stage.Stage.TheVariants.{Taking};
+    ghost use Rattle.itch_snapshot.specs.Loads.{begun, taken_behind, stage_behind, Loads, LoadsOnly, Finishes};
 
     /// Nothing is taken yet, neither messages nor memory.
     pub fn new(alloc: B::Alloc) -> Self
@@ -51,19 +54,41 @@ impl<B: OrderBook> SnapshotReader<B> {
 
     /// Takes the message of a payload: `None` for a message that was applied, `Some(next)` for the End of Snapshot.
     ///
-    /// A message is refused by `Codec`, `Rule` or `TooManyMessages`, and that is the answer ever after. Want of memory is
-    /// `Rule` with the reason `OutOfMemory`; it leaves all as before, and the call may be made again. Behind the End of
-    /// Snapshot the answer is always `AfterEnd`.
+    /// A message is refused by `Codec`, `Rule` or `TooManyMessages`, and every later call returns the same. Want of memory is
+    /// `Rule` with the reason `OutOfMemory`; it leaves all as before, and the call may be made again. After the End of
+    /// Snapshot each call returns `AfterEnd`.
     pub fn message(&mut self, payload: &[u8]) -> Result<Option<Seq>, SnapFault>
         ensures { Loads self.old payload.now result self.new }
     {
-        match self.stage {
-            Stage::Taking => {}
-            Stage::Broken(fault) => return Err(fault),
-            Stage::Closed(_) => return Err(SnapFault::AfterEnd),
-        }
-        let answer = take(&mut self.market, payload, self.taken);
-        match answer {
+        let stage = self.stage;
+        stage.open()?;
+        let taken = take(&mut self.market, payload, self.taken);
+        self.settle(taken)
+    }
+
+    /// The same, but a message about a security or an order at a locate that the set does not contain is counted and changes
+    /// nothing else: it is decoded, and follows no rule.
+    pub fn message_only(
+        &mut self,
+        set: &LocateSet<B::Alloc>,
+        payload: &[u8],
+    ) -> Result<Option<Seq>, SnapFault>
+        ensures { LoadsOnly (has set.now) self.old payload.now result self.new }
+    {
+        let stage = self.stage;
+        stage.open()?;
+        let taken = take_only(&mut self.market, set, payload, self.taken);
+        self.settle(taken)
+    }
+
+    // Counts a message that was taken, keeps how far the reading is, and returns the same.
+    fn settle(&mut self, taken: Result<Option<Seq>, SnapFault>) -> Result<Option<Seq>, SnapFault>
+        requires room { IfOk taken (λ next. IfNone next (self.old.taken < 10 ^ 19 - 1)) }
+        requires taking { self.old.stage ≡ Taking }
+        ensures left { self.new ≡ record self.old { taken = taken_behind self.old.taken taken; stage = stage_behind taken } }
+        ensures same { result ≡ taken }
+    {
+        match taken {
             Ok(None) => self.taken += 1,
             Ok(Some(next)) => self.stage = Stage::Closed(next),
             Err(
@@ -74,7 +99,7 @@ impl<B: OrderBook> SnapshotReader<B> {
             ) => {}
             Err(fault) => self.stage = Stage::Broken(fault),
         }
-        answer
+        taken
     }
 
     /// The number of messages taken, the End of Snapshot not counted.
@@ -92,7 +117,7 @@ impl<B: OrderBook> SnapshotReader<B> {
         &self.market
     }
 
-    /// The market and the number of the first message that it does not contain, behind the End of Snapshot. Before it the
+    /// The market and the number of the first message that it does not contain, after the End of Snapshot. Before it the
     /// reader itself is handed back.
     pub fn finish(self) -> Result<(Market<B>, Seq), SnapshotReader<B>>
         ensures { Finishes self result }
@@ -105,7 +130,37 @@ impl<B: OrderBook> SnapshotReader<B> {
     }
 }
 
-// Takes the message of a payload behind so many others.
+// The message of a payload after `taken` others: one for which there is room, or the End of Snapshot.
+fn message_of(payload: &[u8], taken: u64) -> Result<Message<'_>, SnapFault>
+    requires { taken ≤ 10 ^ 19 - 1 }
+    ensures { IsNext taken payload.entry.now result }
+{
+    let decoded = decode(payload);
+    if taken == MOST && !matches!(&decoded, Ok(Message::End { .. })) {
+        return Err(SnapFault::TooManyMessages);
+    }
+    let place = taken + 1;
+    match decoded {
+        Ok(message) => Ok(message),
+        Err(fault) => Err(SnapFault::Codec { place, fault }),
+    }
+}
+
+// Applies the message at this place.
+fn apply<B: OrderBook>(
+    market: &mut Market<B>,
+    message: &Message<'_>,
+    place: u64,
+) -> Result<Option<Seq>, SnapFault>
+    ensures { AppliesAt place market.old message.now result market.new }
+{
+    match market.apply(message) {
+        Ok(()) => Ok(None),
+        Err(reason) => Err(SnapFault::Rule { place, reason }),
+    }
+}
+
+// Takes the message of a payload after `taken` others.
 pub(crate) fn take<B: OrderBook>(
     market: &mut Market<B>,
     payload: &[u8],
@@ -114,20 +169,35 @@ pub(crate) fn take<B: OrderBook>(
     requires { taken ≤ 10 ^ 19 - 1 }
     ensures { TakesNext taken market.old payload.now result market.new }
 {
-    let decoded = decode(payload);
-    if let Ok(Message::End { next }) = &decoded {
+    let message = match message_of(payload, taken) {
+        Ok(message) => message,
+        Err(fault) => return Err(fault),
+    };
+    if let Message::End { next } = &message {
         return Ok(Some(*next));
     }
-    if taken == MOST {
-        return Err(SnapFault::TooManyMessages);
-    }
-    let place = taken + 1;
-    let message = match decoded {
+    apply(market, &message, taken + 1)
+}
+
+// The same, but a message at a locate that the set does not contain changes nothing.
+fn take_only<B: OrderBook>(
+    market: &mut Market<B>,
+    set: &LocateSet<B::Alloc>,
+    payload: &[u8],
+    taken: u64,
+) -> Result<Option<Seq>, SnapFault>
+    requires { taken ≤ 10 ^ 19 - 1 }
+    ensures { TakesNextOnly (has set.now) taken market.old payload.now result market.new }
+{
+    let message = match message_of(payload, taken) {
         Ok(message) => message,
-        Err(fault) => return Err(SnapFault::Codec { place, fault }),
+        Err(fault) => return Err(fault),
     };
-    match market.apply(&message) {
-        Ok(()) => Ok(None),
-        Err(reason) => Err(SnapFault::Rule { place, reason }),
+    if let Message::End { next } = &message {
+        return Ok(Some(*next));
     }
+    if set.skips(&message) {
+        return Ok(None);
+    }
+    apply(market, &message, taken + 1)
 }

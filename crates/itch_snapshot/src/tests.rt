@@ -13,6 +13,7 @@ use std::test::Fail;
 
 mod again;
 mod books;
+mod partial;
 
 const EVENT: &[u8] = b"S\0\0\0\0\0\0\0\0\0\0O";
 

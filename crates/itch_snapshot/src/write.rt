@@ -1,10 +1,14 @@
 //! Snapshots to a writer.
 ghost use Rattle.std.specs.Prelude.{◌<◌, ◌^◌, length};
+ghost use Rattle.std.specs.List.{AllByRecursion};
 ghost use Rattle.itch_codec.specs.Messages.{spelling};
 ghost use Rattle.itch_codec.specs.Widths.{IsMessage};
+ghost use Rattle.itch_frame.specs.Blocks.{IsPayload};
 ghost use Rattle.itch_frame.specs.Writing.{WriteBlock};
+ghost use Rattle.itch_market.specs.Partial.{only};
+ghost use Rattle.itch_market.specs.Wanted.{has};
 ghost use Rattle.itch_snapshot.specs.Snapshot.{snap};
-ghost use Rattle.itch_snapshot.specs.Writes.{WritesSnapshot};
+ghost use Rattle.itch_snapshot.specs.Writes.{WritesClosed, WritesSnapshot};
 
 use crate::fault::SnapFault;
 use crate::iter::SnapshotIter;
@@ -12,12 +16,12 @@ use itch_book::OrderBook;
 use itch_codec::{Message, Seq, encode};
 use itch_frame::counted::CountedWrite;
 use itch_frame::{FrameFault, write_block};
-use itch_market::Market;
+use itch_market::{LocateSet, Market};
 
-/// Writes the canonical bytes of a market and the block of an End of Snapshot with `next`, and answers the number of
+/// Writes the canonical bytes of a market and the block of an End of Snapshot with `next`, and returns the number of
 /// messages written, End of Snapshot included.
 ///
-/// The only fault is `Frame(Write)`: the blocks before were written whole, and of this one as many bytes as it tells.
+/// The only fault is `Frame(Write)`: the blocks before were written whole, and of this one as many bytes as it says.
 pub fn write_snapshot<W: CountedWrite, B: OrderBook>(
     market: &Market<B>,
     next: Seq,
@@ -27,8 +31,36 @@ pub fn write_snapshot<W: CountedWrite, B: OrderBook>(
     ensures { WritesSnapshot W.contents W.failures market.now next writer.old result writer.new }
 {
     market.recall_invariant();
+    write_closed(SnapshotIter::new(market), next, writer)
+}
+
+/// Writes the canonical bytes of a market cut down to the locates of a set and the block of an End of Snapshot with `next`,
+/// and returns the number of messages written, End of Snapshot included. The only fault is that of [`write_snapshot`].
+pub fn write_partial<W: CountedWrite, B: OrderBook>(
+    market: &Market<B>,
+    set: &LocateSet<B::Alloc>,
+    next: Seq,
+    writer: &mut W,
+) -> Result<u64, SnapFault>
+    requires { length (snap (only (has set.now) market.now)) < 10 ^ 19 }
+    ensures { WritesSnapshot W.contents W.failures (only (has set.now) market.now) next writer.old result writer.new }
+{
+    market.recall_invariant();
+    write_closed(SnapshotIter::only(market, set), next, writer)
+}
+
+// Writes the blocks of messages, and that of an End of Snapshot.
+fn write_closed<W: CountedWrite, B: OrderBook>(
+    messages: SnapshotIter<'_, B>,
+    next: Seq,
+    writer: &mut W,
+) -> Result<u64, SnapFault>
+    requires few { length messages < 10 ^ 19 }
+    requires short { AllByRecursion (λ x. IsPayload (spelling x)) messages }
+    ensures { WritesClosed W.contents W.failures messages.entry next writer.old result writer.new }
+{
     let mut count = 0u64;
-    for message in SnapshotIter::new(market) {
+    for message in messages {
         write_message(writer, &message)?;
         count += 1;
     }

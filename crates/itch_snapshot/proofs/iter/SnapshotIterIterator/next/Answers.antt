@@ -26,7 +26,7 @@ returns-in-Some-order-clause-goes g c = let shorter = ap length (returns-in-Some
 pub invariant_of-self-2 : goal.invariant_of-self-2
 invariant_of-self-2 g c =
     locate_leaves c.self.inside.market.now _ (g.met.B.OrderBook.is_book c.book-book.result.now) c.book-book.ensures.orders _ _ _ _ c.in_ok-locate.locate _
-    c.self.invariant c.in_ok-locate.ensures.steps (c.named-self-inside-2.ensures ∙ ap (named c.security-2.inside.entry.stock) c.first.ensures)
+    c.self.invariant c.in_ok-locate.ensures (c.named-self-inside-2.ensures ∙ ap (named c.security-2.inside.entry.stock) c.first.ensures)
 
 pub returns-clause-steps : goal.returns-clause-steps
 returns-clause-steps g c =
@@ -35,7 +35,7 @@ returns-clause-steps g c =
     sym c.self.view_is
     ∙ locate_given c.self.inside.market.now _ (g.met.B.OrderBook.is_book c.book-book.result.now) c.book-book.ensures.orders _ c.self.inside.states (Some c.new.result) _ _ _ _ c.in_ok-locate.locate s
     (sym c.take.ensures.value ∙ c.in_default.is) c.in_default-next_state.ensures.0
-    c.in_default-order.is c.in_ok-locate.ensures.steps (sym c.security.ensures ∙ ap option_copied c.in_ok-security.was)
+    c.in_default-order.is c.in_ok-locate.ensures (sym c.security.ensures ∙ ap option_copied c.in_ok-security.was)
     c.new.ensures
     (c.named-self-inside-2.ensures ∙ ap (named c.security-2.inside.entry.stock) c.first.ensures
     ∙ ap (λ (d : Directory). named d.stock (find (is_in c.in_ok-locate.locate) (g.B.OrderBook.orders c.book-book.result.now))) entry)
