@@ -184,7 +184,7 @@ module _ (R : Rules) (lawful : AreLawful R) (cap : ℕ) (feed : List (List ℕ))
             at_bad = at_bad b.next b.market p cause (omega (arith, g.positive, g.from_first)) g.to_bad g.good g.market (g.bytes b.next p is) ends;
           })
 
-  -- nothing in the answer counts as taken
+  -- nothing in the result counts as taken
   pub untaken : (number i : ℕ) (taken : Bool) (b : Bool) → taken ≡ false → ((number == i) && taken) ≡ true → b ≡ true
   untaken number i taken b off h = let is = and_second (number == i) taken h in absurd (cc)
 

@@ -1,5 +1,5 @@
 -- The rules of every market are lawful.
-use Rattle.std.proofs.Common.{◌≡◌, List, ℕ, Option, Some, None, refl, ap}
+use Rattle.std.proofs.Common.{◌≡◌, Bool, List, ℕ, Option, Some, None, refl, sym, ap, ◌∙◌, subst}
 use Rattle.std.specs.Option.{option_map}
 use Rattle.itch_codec.specs.declared.fault.CodecFault.{CodecFault}
 use Rattle.itch_codec.specs.Fields.{AreBytes}
@@ -12,7 +12,12 @@ use Rattle.itch_market.specs.Reasons.{reason}
 use Rattle.itch_market.proofs.Goods.{effect_good}
 use Rattle.itch_market.proofs.Sames.{reason_same, effect_same}
 use Rattle.itch_join.specs.declared.fault.Cause.TheVariants as cause
-use Rattle.itch_join.specs.Rules.{refused_by, market_rules, AreLawful}
+use Rattle.itch_book.proofs.Lists.{by_test}
+use Rattle.itch_market.specs.Goods.{IsGood}
+use Rattle.itch_market.specs.Sames.{Same}
+use Rattle.itch_snapshot.specs.Loads.{is_skipped}
+use Rattle.itch_join.specs.Rules.{Rules, refused_by, market_rules, rules_of, AreLawful}
+use Rattle.itch_join.proofs.Skipping.{refused_here, effect_here, refused_skipped, effect_skipped}
 
 pub faultless : (m : Content) (p : List ℕ) (f : Option CodecFault) → refused_by f m p ≡ None → f ≡ None
 faultless m p None h = refl
@@ -39,3 +44,32 @@ market_lawful = record {
   effect_same = λ m n p good fine bytes same none. effect_same m n (message_of p) good fine (fits m p bytes none) (reasonless m p (fault p) none) same;
   effect_good = λ m p good bytes none. effect_good m (message_of p) good (fits m p bytes none) (reasonless m p (fault p) none);
 }
+
+-- so are those where only some locates are wanted
+module _ (wanted : ℕ → Bool) where
+  abbrev R : Rules
+  R = rules_of wanted
+
+  refused_alike : (m n : Content) (p : List ℕ) → IsGood m → IsGood n → Same m n → R.refused m p ≡ R.refused n p
+  refused_alike m n p good fine same =
+      by_test (is_skipped wanted p)
+      (λ skip. refused_skipped wanted m p skip ∙ sym (refused_skipped wanted n p skip))
+      (λ stays. refused_here wanted m p stays ∙ market_lawful.refused_same m n p good fine same ∙ sym (refused_here wanted n p stays))
+
+  effect_alike : (m n : Content) (p : List ℕ) → IsGood m → IsGood n → AreBytes p → Same m n → R.refused m p ≡ None → Same (R.effect m p) (R.effect n p)
+  effect_alike m n p good fine bytes same none =
+      by_test (is_skipped wanted p)
+      (λ skip. subst (λ k. Same k (R.effect n p)) (sym (effect_skipped wanted m p skip)) (subst (Same m) (sym (effect_skipped wanted n p skip)) same))
+      (λ stays.
+      subst (λ k. Same k (R.effect n p)) (sym (effect_here wanted m p stays))
+      (subst (Same (market_rules.effect m p)) (sym (effect_here wanted n p stays))
+      (market_lawful.effect_same m n p good fine bytes same (sym (refused_here wanted m p stays) ∙ none))))
+
+  stays_good : (m : Content) (p : List ℕ) → IsGood m → AreBytes p → R.refused m p ≡ None → IsGood (R.effect m p)
+  stays_good m p good bytes none =
+      by_test (is_skipped wanted p)
+      (λ skip. subst IsGood (sym (effect_skipped wanted m p skip)) good)
+      (λ stays. subst IsGood (sym (effect_here wanted m p stays)) (market_lawful.effect_good m p good bytes (sym (refused_here wanted m p stays) ∙ none)))
+
+  pub only_lawful : AreLawful (rules_of wanted)
+  only_lawful = record { refused_same = refused_alike; effect_same = effect_alike; effect_good = stays_good }

@@ -3,6 +3,7 @@ pub mod Waits
 pub mod Draining
 pub mod Going
 pub mod Taking
+pub mod Skipping
 pub mod Lawful
 pub mod Feeds
 pub mod Moving

@@ -1,5 +1,5 @@
 -- The snapshot of a feed's first messages is one of the feed.
-use Rattle.std.proofs.Common.{◌≡◌, ℕ, zero, suc, ◌+◌, ◌-◌, ◌^◌, ◌==◌, ◌<◌, ◌≤◌, false, cond, List, [], ◌∷◌, map, length, take, Some, None, refl, sym, ap, ◌∙◌, subst, arith}
+use Rattle.std.proofs.Common.{◌≡◌, ℕ, zero, suc, ◌+◌, ◌-◌, ◌^◌, ◌==◌, ◌<◌, ◌≤◌, Bool, true, false, not, cond, List, [], ◌∷◌, map, length, take, Some, None, refl, sym, ap, ◌∙◌, subst, arith}
 use Rattle.std.specs.Option.{option_map}
 use Rattle.std.specs.List.{AllByRecursion}
 use Rattle.std.proofs.lemmas.Bool.Decides.{nat_tests}
@@ -11,6 +11,7 @@ use Rattle.itch_codec.specs.Widths.{IsMessage}
 use Rattle.itch_codec.proofs.Spelling.{message_of-spelling, fault-spelling, IsMessage-Spells, Spells-message_of}
 use Rattle.itch_book.specs.declared.order.Order.{Order}
 use Rattle.itch_book.specs.Orders as book
+use Rattle.itch_book.proofs.Lists.{by_test, passes_filter, All-weaker_rec, length_filter_le}
 use Rattle.itch_book.proofs.OrderLemmas.{lay_fit}
 use Rattle.itch_market.specs.Content.{Content, empty, laid}
 use Rattle.itch_market.specs.Goods.{IsGood}
@@ -19,98 +20,161 @@ use Rattle.itch_market.specs.Effects.{effect}
 use Rattle.itch_market.specs.Runs as runs
 use Rattle.itch_market.specs.Runs.{AreMessages, FollowsFrom}
 use Rattle.itch_market.specs.Sames.{Same}
+use Rattle.itch_market.specs.Partial.{skips, kept, only}
+use Rattle.itch_market.proofs.Partials.{kept_message, kept_leaves}
 use Rattle.itch_market.proofs.Goods.{effect_good, empty_good}
 use Rattle.itch_market.proofs.Laid.{reason-laid, effect-laid, laid_twice}
 use Rattle.itch_market.proofs.Sames.{laid_is_same}
 use Rattle.itch_snapshot.specs.Snapshot.{snap}
-use Rattle.itch_snapshot.specs.Loads.{closing_number, number_by, number_in}
+use Rattle.itch_snapshot.specs.Loads.{closing_number, number_by, number_in, is_skipped}
+use Rattle.itch_snapshot.proofs.Cut.{snap_only}
 use Rattle.itch_snapshot.proofs.Loading.{snap_leads}
 use Rattle.itch_snapshot.proofs.Sizes.{short_snap}
 use Rattle.itch_snapshot.proofs.Spelled.{snap_messages}
 use Rattle.itch_join.specs.declared.fault.Cause.TheVariants as cause
-use Rattle.itch_join.specs.Rules.{run, after, first_bad, bad, refused_by, market_rules}
+use Rattle.itch_join.specs.Rules.{Rules, run, after, first_bad, bad, refused_by, market_rules, rules_of}
 use Rattle.itch_join.specs.States.{Reading}
 use Rattle.itch_join.specs.Steps.{SnapEnds, SnapTakes, payload_case, half_case}
 use Rattle.itch_join.specs.Deliveries.{IsOfFeed}
 use Rattle.itch_join.specs.Premise.{half_next, half_after, half_of_snapshot}
 use Rattle.itch_join.proofs.Feeds.{first_fine, none_there, good}
-use Rattle.itch_join.proofs.Lawful.{market_lawful, faultless, reasonless}
+use Rattle.itch_join.proofs.Lawful.{only_lawful, faultless, reasonless}
+use Rattle.itch_join.proofs.Skipping.{skipped_faultless, faultless_skips, refused_here, effect_here, effect_skipped, all_rules}
 use Rattle.itch_snapshot.proofs.FileLemmas.{unrefused_number}
-
--- the first messages of a feed follow the order rules
-record IsRun (m : Content) (ps : List (List ℕ)) : Type 0 where
-  follows : FollowsFrom m (map message_of ps)
-  fit : AreMessages (map message_of ps)
-  left : after market_rules m ps ≡ runs.after m (map message_of ps)
-
-is_run : (m : Content) (F : List (List ℕ)) (k : ℕ) → AllByRecursion AreBytes F → k + 1 ≤ first_bad market_rules m F → IsRun m (take k F)
-is_run m F zero bytes low = record { follows = tt; fit = tt; left = refl }
-is_run m [] (suc k) bytes low = record { follows = tt; fit = tt; left = refl }
-is_run m (q ∷ F) (suc k) bytes low =
-    let fine = first_fine market_rules m q F k low in
-    let none : refused_by (fault q) m q ≡ None = none_there market_rules (refused_by (fault q) m q) fine.0 in
-    let rest = is_run (effect m (message_of q)) F k bytes.1 fine.1 in
-    record {
-      follows = (reasonless m q (fault q) none, rest.follows);
-      fit = (IsMessage-Spells (message_of q) q bytes.0 (Spells-message_of q (faultless m q (fault q) none)), rest.fit);
-      left = rest.left;
-    }
 
 take_short : (k : ℕ) (F : List (List ℕ)) → length (map message_of (take k F)) ≤ k
 take_short zero F = omega arith
 take_short (suc k) [] = omega arith
 take_short (suc k) (q ∷ F) = let h = take_short k F in omega arith
 
--- one message of a snapshot
-takes_case : (taken : ℕ) (m : Content) (x : Message) → IsGood m → IsMessage x → reason m x ≡ None → taken + 1 ≤ 10 ^ 19 - 1
-    → half_case market_rules (Reading taken (laid m)) (spelling x) ≡ SnapTakes taken (laid m)
-takes_case taken m x fine fits none room =
-    let p = spelling x in
-    let clean : fault p ≡ None = fault-spelling x fits in
-    let same : message_of p ≡ x = message_of-spelling x fits in
-    let tells : closing_number p ≡ None = ap (λ f. number_by f p) clean ∙ ap number_in same ∙ unrefused_number m x none in
-    let refuses : refused_by (fault p) (laid m) p ≡ None =
-    ap (λ f. refused_by f (laid m) p) clean ∙ ap (option_map cause.Rule) (ap (reason (laid m)) same ∙ reason-laid m x fine ∙ none) in
-    let free : (taken == 10 ^ 19 - 1) ≡ false = grind (arith, nat_tests) in
-    ap (λ n. payload_case taken (laid m) n (refused_by (fault p) (laid m) p)) tells
-    ∙ ap (payload_case taken (laid m) None) refuses
-    ∙ ap (λ b. cond b (payload_case (10 ^ 19 - 1) (laid m) None None) (SnapTakes taken (laid m))) free
-
-reads_on : (ms : List Message) (taken : ℕ) (m : Content) → IsGood m → AreMessages ms → FollowsFrom m ms → taken + length ms ≤ 10 ^ 19 - 1
-    → half_after market_rules (Reading taken (laid m)) (map spelling ms) ≡ Reading (taken + length ms) (laid (runs.after m ms))
-reads_on [] taken m fine fit follows room = ap (λ n. Reading n (laid m)) (omega arith)
-reads_on (x ∷ xs) taken m fine fit follows room =
-    let p = spelling x in
-    let half = Reading taken (laid m) in
-    let kind = takes_case taken m x fine fit.0 follows.0 (omega arith) in
-    let market_is : laid (effect (laid m) (message_of p)) ≡ laid (effect m x) = ap (λ y. laid (effect (laid m) y)) (message_of-spelling x fit.0) ∙ effect-laid m x fine in
-    ap (λ l. half_after market_rules (half_next market_rules half p l) (map spelling xs)) kind
-    ∙ ap (λ n. half_after market_rules (Reading (taken + 1) n) (map spelling xs)) market_is
-    ∙ reads_on xs (taken + 1) (effect m x) (effect_good m x fine fit.0 follows.0) fit.1 follows.1 (omega arith)
-    ∙ ap (λ n. Reading n (laid (runs.after (effect m x) xs))) (omega arith)
-
 laid_empty : laid empty ≡ empty
 laid_empty = let none : book.lay [] ≡ [] = lay_fit [] tt in ap (λ (os : List Order). let m : Content = record empty { orders = os } in m) none
 
--- the snapshot of the first k messages ends as one of the feed
-pub record EndsAsOne (feed : List (List ℕ)) (k : ℕ) : Type 0 where
-  pub kind : half_case market_rules (half_of_snapshot market_rules (run market_rules (take k feed))) (spelling (is.End (k + 1))) ≡ SnapEnds (k + 1) (laid (run market_rules (take k feed)))
-  pub fits : IsOfFeed market_rules feed (SnapEnds (k + 1) (laid (run market_rules (take k feed))))
+not_false : (b : Bool) → not b ≡ true → b ≡ false
+not_false true h = cc
+not_false false h = refl
 
-pub meets : (feed : List (List ℕ)) (k : ℕ) → AllByRecursion AreBytes feed → k < bad market_rules feed → k < 10 ^ 19 → EndsAsOne feed k
-meets feed k bytes low few =
-    let M = run market_rules (take k feed) in
-    let fine : IsGood M = good market_rules market_lawful empty feed k empty_good bytes (omega arith) in
-    let ran = is_run empty feed k bytes (omega arith) in
-    let leads = snap_leads M fine in
-    let short : length (snap M) ≤ k = let h = short_snap (map message_of (take k feed)) ran.fit ran.follows in let t = take_short k feed in
-    let e : length (snap M) ≡ length (snap (runs.run (map message_of (take k feed)))) = ap (λ m. length (snap m)) ran.left in omega arith in
-    let reading : half_of_snapshot market_rules M ≡ Reading (0 + length (snap M)) (laid M) =
-    ap (λ m. half_after market_rules (Reading 0 m) (map spelling (snap M))) (sym laid_empty) ∙ reads_on (snap M) 0 empty empty_good (snap_messages M fine) leads.follows (omega arith) ∙ ap (λ m. Reading (0 + length (snap M)) (laid m)) leads.leaves ∙ ap (Reading (0 + length (snap M))) (laid_twice M) in
-    let number : IsMessage (is.End (k + 1)) = record { low = omega arith; high = omega arith } in
-    let p = spelling (is.End (k + 1)) in
-    let tells : closing_number p ≡ Some (k + 1) = ap (λ f. number_by f p) (fault-spelling (is.End (k + 1)) number) ∙ ap number_in (message_of-spelling (is.End (k + 1)) number) in
-    record {
-      kind = ap (λ h. half_case market_rules h p) reading ∙ ap (λ n. payload_case (0 + length (snap M)) (laid M) n (refused_by (fault p) (laid M) p)) tells;
-      fits = (omega arith, omega arith, let e : (k + 1) - 1 ≡ k = omega arith in subst (λ n. Same (laid M) (run market_rules (take n feed))) (sym e) (laid_is_same M fine));
-    }
+-- the snapshot of the first k messages ends as one of the feed
+pub record EndsAsOne (R : Rules) (feed : List (List ℕ)) (k : ℕ) : Type 0 where
+  pub kind : half_case R (half_of_snapshot R (run R (take k feed))) (spelling (is.End (k + 1))) ≡ SnapEnds (k + 1) (laid (run R (take k feed)))
+  pub fits : IsOfFeed R feed (SnapEnds (k + 1) (laid (run R (take k feed))))
+
+module _ (wanted : ℕ → Bool) where
+  abbrev R : Rules
+  R = rules_of wanted
+
+  -- Of the first messages of a feed, those that are not skipped follow the order rules, and leave what the joiner's rules say. A market with nothing at
+  -- other locates stays one.
+  record IsRun (m : Content) (ps : List (List ℕ)) : Type 0 where
+    follows : FollowsFrom m (kept wanted (map message_of ps))
+    fit : AreMessages (kept wanted (map message_of ps))
+    left : after R m ps ≡ runs.after m (kept wanted (map message_of ps))
+    within : only wanted m ≡ m → only wanted (after R m ps) ≡ after R m ps
+
+  one_more : (m : Content) (q : List ℕ) (ps : List (List ℕ)) → AreBytes q → R.refused m q ≡ None → IsRun (R.effect m q) ps → IsRun m (q ∷ ps)
+  one_more m q ps bytes none rest =
+      let x = message_of q in
+      let xs = map message_of ps in
+      by_test (is_skipped wanted q)
+      (λ skip.
+      let out = sym (faultless_skips wanted q (skipped_faultless wanted q skip)) ∙ skip in
+      let gone : kept wanted (x ∷ xs) ≡ kept wanted xs = ap (λ b. cond (not b) (x ∷ kept wanted xs) (kept wanted xs)) out in
+      let effect_is = effect_skipped wanted m q skip in
+      let r : IsRun m ps = subst (λ n. IsRun n ps) effect_is rest in
+      record {
+        follows = subst (FollowsFrom m) (sym gone) r.follows;
+        fit = subst AreMessages (sym gone) r.fit;
+        left = ap (λ n. after R n ps) effect_is ∙ r.left ∙ ap (runs.after m) (sym gone);
+        within = λ same. ap (λ n. only wanted (after R n ps)) effect_is ∙ r.within same ∙ ap (λ n. after R n ps) (sym effect_is);
+      })
+      (λ stays.
+      let refuses : refused_by (fault q) m q ≡ None = sym (refused_here wanted m q stays) ∙ none in
+      let clean = faultless m q (fault q) refuses in
+      let fine_rule = reasonless m q (fault q) refuses in
+      let in_set = sym (faultless_skips wanted q clean) ∙ stays in
+      let more : kept wanted (x ∷ xs) ≡ x ∷ kept wanted xs = ap (λ b. cond (not b) (x ∷ kept wanted xs) (kept wanted xs)) in_set in
+      let effect_is = effect_here wanted m q stays in
+      let r : IsRun (effect m x) ps = subst (λ n. IsRun n ps) effect_is rest in
+      record {
+        follows = subst (FollowsFrom m) (sym more) (fine_rule, r.follows);
+        fit = subst AreMessages (sym more) (IsMessage-Spells x q bytes (Spells-message_of q clean), r.fit);
+        left = ap (λ n. after R n ps) effect_is ∙ r.left ∙ ap (runs.after m) (sym more);
+        within = λ same.
+            let still : only wanted (effect m x) ≡ effect m x = sym (kept_message wanted m x fine_rule in_set).effect ∙ ap (λ n. effect n x) same in
+            ap (λ n. only wanted (after R n ps)) effect_is ∙ r.within still ∙ ap (λ n. after R n ps) (sym effect_is);
+      })
+
+  is_run : (m : Content) (F : List (List ℕ)) (k : ℕ) → AllByRecursion AreBytes F → k + 1 ≤ first_bad R m F → IsRun m (take k F)
+  is_run m F zero bytes low = record { follows = tt; fit = tt; left = refl; within = λ same. same }
+  is_run m [] (suc k) bytes low = record { follows = tt; fit = tt; left = refl; within = λ same. same }
+  is_run m (q ∷ F) (suc k) bytes low =
+      let fine = first_fine R m q F k low in
+      one_more m q (take k F) bytes.0 (none_there R (R.refused m q) fine.0) (is_run (R.effect m q) F k bytes.1 fine.1)
+
+  -- a message at a locate that is wanted
+  abbrev Stays : Message → Type 0
+  Stays x = skips wanted x ≡ false
+
+  -- one message of a snapshot
+  takes_case : (taken : ℕ) (m : Content) (x : Message) → IsGood m → IsMessage x → Stays x → reason m x ≡ None → taken + 1 ≤ 10 ^ 19 - 1
+      → half_case R (Reading taken (laid m)) (spelling x) ≡ SnapTakes taken (laid m)
+  takes_case taken m x fine fits in_set none room =
+      let p = spelling x in
+      let clean : fault p ≡ None = fault-spelling x fits in
+      let same : message_of p ≡ x = message_of-spelling x fits in
+      let stays = faultless_skips wanted p clean ∙ ap (skips wanted) same ∙ in_set in
+      let tells : closing_number p ≡ None = ap (λ f. number_by f p) clean ∙ ap number_in same ∙ unrefused_number m x none in
+      let refuses : R.refused (laid m) p ≡ None =
+      refused_here wanted (laid m) p stays ∙ ap (λ f. refused_by f (laid m) p) clean ∙ ap (option_map cause.Rule) (ap (reason (laid m)) same ∙ reason-laid m x fine ∙ none) in
+      let free : (taken == 10 ^ 19 - 1) ≡ false = grind (arith, nat_tests) in
+      ap (λ n. payload_case taken (laid m) n (R.refused (laid m) p)) tells
+      ∙ ap (payload_case taken (laid m) None) refuses
+      ∙ ap (λ b. cond b (payload_case (10 ^ 19 - 1) (laid m) None None) (SnapTakes taken (laid m))) free
+
+  reads_on : (ms : List Message) (taken : ℕ) (m : Content) → IsGood m → AreMessages ms → AllByRecursion Stays ms → FollowsFrom m ms → taken + length ms ≤ 10 ^ 19 - 1
+      → half_after R (Reading taken (laid m)) (map spelling ms) ≡ Reading (taken + length ms) (laid (runs.after m ms))
+  reads_on [] taken m fine fit in_set follows room = ap (λ n. Reading n (laid m)) (omega arith)
+  reads_on (x ∷ xs) taken m fine fit in_set follows room =
+      let p = spelling x in
+      let half = Reading taken (laid m) in
+      let kind = takes_case taken m x fine fit.0 in_set.0 follows.0 (omega arith) in
+      let same : message_of p ≡ x = message_of-spelling x fit.0 in
+      let stays = faultless_skips wanted p (fault-spelling x fit.0) ∙ ap (skips wanted) same ∙ in_set.0 in
+      let market_is : laid (R.effect (laid m) p) ≡ laid (effect m x) = ap laid (effect_here wanted (laid m) p stays) ∙ ap (λ y. laid (effect (laid m) y)) same ∙ effect-laid m x fine in
+      ap (λ l. half_after R (half_next R half p l) (map spelling xs)) kind
+      ∙ ap (λ n. half_after R (Reading (taken + 1) n) (map spelling xs)) market_is
+      ∙ reads_on xs (taken + 1) (effect m x) (effect_good m x fine fit.0 follows.0) fit.1 in_set.1 follows.1 (omega arith)
+      ∙ ap (λ n. Reading n (laid (runs.after (effect m x) xs))) (omega arith)
+
+  -- the snapshot list of a market with nothing at other locates
+  all_stay : (m : Content) → only wanted m ≡ m → AllByRecursion Stays (snap m)
+  all_stay m within =
+      All-weaker_rec (λ x. not (skips wanted x) ≡ true) Stays (λ x yes. not_false (skips wanted x) yes) (snap m)
+      (subst (AllByRecursion (λ x. not (skips wanted x) ≡ true)) (sym (snap_only wanted m) ∙ ap snap within) (passes_filter (λ x. not (skips wanted x)) (snap m)))
+
+  pub meets : (feed : List (List ℕ)) (k : ℕ) → AllByRecursion AreBytes feed → k < bad R feed → k < 10 ^ 19 → EndsAsOne R feed k
+  meets feed k bytes low few =
+      let M = run R (take k feed) in
+      let fine : IsGood M = good R (only_lawful wanted) empty feed k empty_good bytes (omega arith) in
+      let ran = is_run empty feed k bytes (omega arith) in
+      let leads = snap_leads M fine in
+      let ms = map message_of (take k feed) in
+      let short : length (snap M) ≤ k = let h = short_snap (kept wanted ms) ran.fit ran.follows in let t = take_short k feed in let l = length_filter_le (λ x. not (skips wanted x)) ms in
+      let e : length (snap M) ≡ length (snap (runs.run (kept wanted ms))) = ap (λ m. length (snap m)) ran.left in omega arith in
+      let reading : half_of_snapshot R M ≡ Reading (0 + length (snap M)) (laid M) =
+      ap (λ m. half_after R (Reading 0 m) (map spelling (snap M))) (sym laid_empty)
+      ∙ reads_on (snap M) 0 empty empty_good (snap_messages M fine) (all_stay M (ran.within (sym (kept_leaves wanted [] tt tt)))) leads.follows (omega arith)
+      ∙ ap (λ m. Reading (0 + length (snap M)) (laid m)) leads.leaves ∙ ap (Reading (0 + length (snap M))) (laid_twice M) in
+      let number : IsMessage (is.End (k + 1)) = record { low = omega arith; high = omega arith } in
+      let p = spelling (is.End (k + 1)) in
+      let tells : closing_number p ≡ Some (k + 1) = ap (λ f. number_by f p) (fault-spelling (is.End (k + 1)) number) ∙ ap number_in (message_of-spelling (is.End (k + 1)) number) in
+      record {
+        kind = ap (λ h. half_case R h p) reading ∙ ap (λ n. payload_case (0 + length (snap M)) (laid M) n (R.refused (laid M) p)) tells;
+        fits = (omega arith, omega arith, let e : (k + 1) - 1 ≡ k = omega arith in subst (λ n. Same (laid M) (run R (take n feed))) (sym e) (laid_is_same M fine));
+      }
+
+-- the same of the whole market
+pub meets_all : (feed : List (List ℕ)) (k : ℕ) → AllByRecursion AreBytes feed → k < bad market_rules feed → k < 10 ^ 19 → EndsAsOne market_rules feed k
+meets_all feed k bytes low few =
+    let every : rules_of (λ l. true) ≡ market_rules = all_rules (λ l. true) (λ l. refl) in
+    subst (λ (R : Rules). EndsAsOne R feed k) every (meets (λ l. true) feed k bytes (subst (λ (R : Rules). k < bad R feed) (sym every) low) few)

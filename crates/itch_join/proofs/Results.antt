@@ -32,7 +32,7 @@ use Rattle.std.proofs.lemmas.Slice.Eq.{bytes_eq-Decides}
 abbrev HaltStays : {T : Type 0} → Result T JoinFault → State → Type 0
 HaltStays result now = (h : Halt) → halt_in result ≡ Some h → now.halt ≡ Some h
 
--- where applying has ended, a halt that is answered stands
+-- where applying has ended, a halt that is returned stands
 went_halts : {T : Type 0} (done : ℕ → T) (taken : Bool) (half : HalfRead) (ending : Result (Unit {0}) Stopped) (b : Front) → HaltStays (result_by done taken ending b.next) (standing half ending b)
 went_halts done taken half (Ok ended) b h is = absurd (cc)
 went_halts done taken half (Err (Refused cause)) b h is = is

@@ -8,7 +8,7 @@ use Rattle.itch_join.specs.declared.state.Halt.{Halt}
 use Rattle.itch_join.specs.declared.state.Stopped.{Stopped}
 use Rattle.itch_join.specs.declared.state.Stopped.TheVariants.{Refused, NoMemory}
 use Rattle.itch_join.specs.Positions.{Position}
-use Rattle.itch_join.specs.Rules.{Rules, market_rules}
+use Rattle.itch_join.specs.Rules.{Rules}
 use Rattle.itch_join.specs.States.{Wait, HalfRead, State}
 
 -- what applying changes: the messages that wait, the number of the next one, and the market of those before it
@@ -88,9 +88,9 @@ pub record CatchesUp {T : Type 0} (R : Rules) (half : HalfRead) (a : Front) (han
   pub left : now ≡ standing half ending front
 
 -- from one position to another, these messages are applied, and applying ends so
-abbrev pub Advances : Wait → Position → Option (List ℕ) → Result (Unit {0}) Stopped → Wait → Position → Type 0
-Advances wait j hand ending wait' j' = (ps : List (List ℕ)) × Applies market_rules (front wait j) hand ps ending (front wait' j')
+abbrev pub Advances : Rules → Wait → Position → Option (List ℕ) → Result (Unit {0}) Stopped → Wait → Position → Type 0
+Advances R wait j hand ending wait' j' = (ps : List (List ℕ)) × Applies R (front wait j) hand ps ending (front wait' j')
 
 -- all that waits is applied, as far as it goes
-abbrev pub Drains : Wait → Position → Result (Unit {0}) Stopped → Wait → Position → Type 0
-Drains wait j ending wait' j' = Advances wait j (at_hand (front wait j)) ending wait' j'
+abbrev pub Drains : Rules → Wait → Position → Result (Unit {0}) Stopped → Wait → Position → Type 0
+Drains R wait j ending wait' j' = Advances R wait j (at_hand (front wait j)) ending wait' j'

@@ -1,5 +1,5 @@
 -- What messages do to markets, as a joiner uses it, and the market that a feed leaves.
-use Rattle.std.specs.Prelude.{◌≡◌, ℕ, ◌+◌, Bool, List, [], ◌∷◌, Option, Some, None, is_some, length, option_map, if◌then◌else◌}
+use Rattle.std.specs.Prelude.{◌≡◌, ℕ, ◌+◌, Bool, false, List, [], ◌∷◌, Option, Some, None, is_some, length, option_map, if◌then◌else◌}
 use Rattle.itch_codec.specs.declared.fault.CodecFault.{CodecFault}
 use Rattle.itch_codec.specs.Messages.{fault, message_of}
 use Rattle.itch_codec.specs.Fields.{AreBytes}
@@ -8,7 +8,7 @@ use Rattle.itch_market.specs.Reasons.{reason}
 use Rattle.itch_market.specs.Effects as market
 use Rattle.itch_market.specs.Goods.{IsGood}
 use Rattle.itch_market.specs.Sames.{Same}
-use Rattle.itch_snapshot.specs.Loads.{closing_number}
+use Rattle.itch_snapshot.specs.Loads.{closing_number, is_skipped}
 use Rattle.itch_join.specs.declared.fault.Cause.{Cause}
 use Rattle.itch_join.specs.declared.fault.Cause.TheVariants as cause
 
@@ -62,5 +62,14 @@ market_rules = record {
   refused = λ m p. refused_by (fault p) m p;
   effect = λ m p. market.effect m (message_of p);
   takes_memory = λ m p. market.takes_memory m (message_of p);
+  end_number = closing_number;
+}
+
+-- the same where only some locates are wanted: a message that is skipped has to be decoded, but it has no reason and no effect
+abbrev pub rules_of : (ℕ → Bool) → Rules
+rules_of wanted = record {
+  refused = λ m p. if is_skipped wanted p then None else market_rules.refused m p;
+  effect = λ m p. if is_skipped wanted p then m else market_rules.effect m p;
+  takes_memory = λ m p. if is_skipped wanted p then false else market_rules.takes_memory m p;
   end_number = closing_number;
 }

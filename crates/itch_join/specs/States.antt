@@ -3,6 +3,7 @@ use Rattle.std.specs.Prelude.{ℕ, ◌^◌, ◌&&◌, nat_lt, Bool, List, Option
 use Rattle.std.specs.Ordering.{nat_cmp}
 use Rattle.std.specs.FinMap as map
 use Rattle.itch_market.specs.Content.{Content, empty}
+use Rattle.itch_market.specs.Wanted.{Wanted}
 use Rattle.itch_join.specs.declared.fault.Cause.{Cause}
 use Rattle.itch_join.specs.declared.state.Halt.{Halt}
 use Rattle.itch_join.specs.Positions.{Position}
@@ -22,9 +23,10 @@ pub record State : Type 0 where
   pub joined : Option Position
   pub halt : Option Halt
 
--- what contracts see of a joiner: how many messages may wait, and its state
+-- what contracts see of a joiner: how many messages may wait, the locates that are wanted, and its state
 pub record Joining : Type 0 where
   pub cap : ℕ
+  pub set : Wanted
   pub state : State
 
 -- a snapshot of which nothing is read

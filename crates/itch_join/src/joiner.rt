@@ -1,8 +1,9 @@
 //! A snapshot and the live feed, joined.
-ghost use Rattle.std.specs.Prelude.{◌≡◌, ◌<◌, ◌^◌, true, Some, None, option_map};
+ghost use Rattle.std.specs.Prelude.{◌≡◌, ℕ, ◌<◌, ◌^◌, true, Some, None, option_map};
 ghost use Rattle.std.specs.Option.{option_copied};
 ghost use Rattle.std.specs.FinMap as map;
-ghost use Rattle.itch_join.specs.Rules.{market_rules};
+ghost use Rattle.itch_market.specs.Wanted.{has};
+ghost use Rattle.itch_join.specs.Rules.{rules_of};
 ghost use Rattle.itch_join.specs.States.{new, unread};
 ghost use Rattle.itch_join.specs.Applying.{CatchesUp, at_hand, halt_of, fault_of};
 ghost use Rattle.itch_join.specs.Steps.{Step, CallLive, CallSnapshot, CallRestart, CallResume, live_case, Stores, started, NextBy};
@@ -14,7 +15,7 @@ use crate::position::{Position, advance, drain};
 use crate::state::{Halt, LiveCase, Stopped};
 use crate::waiting::Waiting;
 use itch_book::OrderBook;
-use itch_market::{Market, Refusal};
+use itch_market::{LocateSet, Market, Refusal};
 use itch_snapshot::{SnapFault, SnapshotReader};
 use std::marker::Model;
 use std::mem::replace;
@@ -22,12 +23,16 @@ use std::mem::replace;
 /// Joins a snapshot and the live feed: takes the messages of the snapshot in their order and those of the feed in any, and
 /// keeps the market that the feed's messages before [`Joiner::next`] lead to.
 ///
+/// With a set of locates it keeps the market cut down to them: messages at all others are decoded and counted, but follow no
+/// rule and change nothing, in the snapshot as in the feed.
+///
 /// The first message of the feed has the number 1. Only a message of the feed that has to wait and a market that grows take
 /// memory.
 #[derive(Drop)]
 pub struct Joiner<B: OrderBook> {
     alloc: B::Alloc,
     cap: usize,
+    set: LocateSet<B::Alloc>,
     wait: Waiting<B::Alloc>,
     half: SnapshotReader<B>,
     joined: Option<Position<B>>,
@@ -44,7 +49,7 @@ impl<B: OrderBook> Model for Joiner<B> {
 
     ghost coded = { Prim.hlevel (codes, map.code) };
 
-    ghost view = { λ j. record { cap = j.cap; state = record { wait = j.wait; half = half_of j.half; joined = j.joined; halt = j.halt } } };
+    ghost view = { λ j. record { cap = j.cap; set = j.set; state = record { wait = j.wait; half = half_of j.half; joined = j.joined; halt = j.halt } } };
 
     ghost invariant = { λ j. IsOpen j.half };
 }
@@ -104,11 +109,21 @@ fn join_fault_of(fault: SnapFault) -> JoinFault
 impl<B: OrderBook> Joiner<B> {
     /// A joiner in which nothing waits, and at most `cap` messages will. It takes no memory yet.
     pub fn new(alloc: B::Alloc, cap: usize) -> Self
-        ensures { result ≡ record { cap = cap; state = new } }
+        ensures cap { result.cap ≡ cap }
+        ensures set { (locate : ℕ) → has result.set locate ≡ true }
+        ensures state { result.state ≡ new }
+    {
+        Joiner::only(alloc, cap, LocateSet::all(alloc))
+    }
+
+    /// The same, restricted to the locates of a set.
+    pub fn only(alloc: B::Alloc, cap: usize, set: LocateSet<B::Alloc>) -> Self
+        ensures { result ≡ record { cap = cap; set = set; state = new } }
     {
         Joiner {
             alloc,
             cap,
+            set,
             wait: Waiting::new(alloc),
             half: SnapshotReader::new(alloc),
             joined: None,
@@ -183,6 +198,7 @@ impl<B: OrderBook> Joiner<B> {
         requires { number < 10 ^ 19 }
         ensures stores { Stores self.old.state number payload.now result self.new.state }
         ensures cap { self.new.cap ≡ self.old.cap }
+        ensures set { self.new.set ≡ self.old.set }
     {
         match self.wait.insert(number, payload) {
             Ok(()) => Ok(Live::Kept),
@@ -195,14 +211,15 @@ impl<B: OrderBook> Joiner<B> {
         requires joined { option_map (λ j. j.next) self.old.state.joined ≡ Some number }
         requires fits { number < 10 ^ 19 }
         requires running { self.old.state.halt ≡ None }
-        ensures goes { NextBy market_rules self.old.state number payload.now self.old.state.joined result self.new.state }
+        ensures goes { NextBy (rules_of (has self.old.set)) self.old.state number payload.now self.old.state.joined result self.new.state }
         ensures cap { self.new.cap ≡ self.old.cap }
+        ensures set { self.new.set ≡ self.old.set }
     {
         let Some(mut position) = self.joined.take() else {
             unreachable!()
         };
         let waits = self.wait.has(number);
-        let ended = advance(&mut self.wait, &mut position, payload);
+        let ended = advance(&mut self.wait, &self.set, &mut position, payload);
         let next = position.next;
         self.joined = Some(position);
         self.halt = halt_of(ended, next);
@@ -230,8 +247,9 @@ impl<B: OrderBook> Joiner<B> {
     /// A message that is applied and refused is `Halted`. Memory may be refused at 5, before a message that adds to the
     /// market, and at 8: `OutOfMemory`.
     pub fn live(&mut self, number: u64, payload: &[u8]) -> Result<Live, JoinFault>
-        ensures step { Step market_rules self.old.cap self.old.state (CallLive number payload.now result) self.new.state }
+        ensures step { Step (rules_of (has self.old.set)) self.old.cap self.old.state (CallLive number payload.now result) self.new.state }
         ensures cap { self.new.cap ≡ self.old.cap }
+        ensures set { self.new.set ≡ self.old.set }
     {
         match self.live_case(number, payload) {
             LiveCase::Halted(halt) => Err(JoinFault::Halted {
@@ -252,12 +270,13 @@ impl<B: OrderBook> Joiner<B> {
     fn start(&mut self, next: u64, market: Market<B>) -> Result<Snap, JoinFault>
         requires half { self.old.state.half ≡ unread }
         requires running { self.old.state.halt ≡ None }
-        ensures goes { CatchesUp market_rules unread (started self.old.state next market) (at_hand (started self.old.state next market)) Snap.Joined (λ any. true) result self.new.state }
+        ensures goes { CatchesUp (rules_of (has self.old.set)) unread (started self.old.state next market) (at_hand (started self.old.state next market)) Snap.Joined (λ any. true) result self.new.state }
         ensures cap { self.new.cap ≡ self.old.cap }
+        ensures set { self.new.set ≡ self.old.set }
     {
         self.wait.keep_from(next);
         let mut position = Position { next, market };
-        let ended = drain(&mut self.wait, &mut position);
+        let ended = drain(&mut self.wait, &self.set, &mut position);
         let next = position.next;
         self.joined = Some(position);
         self.halt = halt_of(ended, next);
@@ -275,8 +294,9 @@ impl<B: OrderBook> Joiner<B> {
     /// message of the feed `Halted`. Where memory is refused for a message of the snapshot, it is `OutOfMemory` with `taken`
     /// false, and the same message may follow again.
     pub fn snapshot(&mut self, payload: &[u8]) -> Result<Snap, JoinFault>
-        ensures step { Step market_rules self.old.cap self.old.state (CallSnapshot payload.now result) self.new.state }
+        ensures step { Step (rules_of (has self.old.set)) self.old.cap self.old.state (CallSnapshot payload.now result) self.new.state }
         ensures cap { self.new.cap ≡ self.old.cap }
+        ensures set { self.new.set ≡ self.old.set }
     {
         if let Some(halt) = self.halt {
             return Err(JoinFault::Halted {
@@ -287,7 +307,8 @@ impl<B: OrderBook> Joiner<B> {
         if self.joined.is_some() {
             return Err(JoinFault::Joined);
         }
-        match self.half.message(payload) {
+        self.half.market().recall_invariant();
+        match self.half.message_only(&self.set, payload) {
             Ok(None) => Ok(Snap::More),
             Ok(Some(_)) => {
                 let half = replace(&mut self.half, SnapshotReader::new(self.alloc));
@@ -302,8 +323,9 @@ impl<B: OrderBook> Joiner<B> {
 
     /// Drops an unfinished or broken snapshot, and keeps what waits. Once joined it changes nothing. It takes no memory.
     pub fn restart(&mut self)
-        ensures step { Step market_rules self.old.cap self.old.state CallRestart self.new.state }
+        ensures step { Step (rules_of (has self.old.set)) self.old.cap self.old.state CallRestart self.new.state }
         ensures cap { self.new.cap ≡ self.old.cap }
+        ensures set { self.new.set ≡ self.old.set }
     {
         if self.joined.is_none() {
             self.half = SnapshotReader::new(self.alloc);
@@ -313,8 +335,9 @@ impl<B: OrderBook> Joiner<B> {
     /// Applies what waits, as far as the numbers go on, as after `OutOfMemory`. It returns the number of the next message,
     /// or `None` where the joiner has not joined.
     pub fn resume(&mut self) -> Result<Option<u64>, JoinFault>
-        ensures step { Step market_rules self.old.cap self.old.state (CallResume result) self.new.state }
+        ensures step { Step (rules_of (has self.old.set)) self.old.cap self.old.state (CallResume result) self.new.state }
         ensures cap { self.new.cap ≡ self.old.cap }
+        ensures set { self.new.set ≡ self.old.set }
     {
         if let Some(halt) = self.halt {
             return Err(JoinFault::Halted {
@@ -325,7 +348,7 @@ impl<B: OrderBook> Joiner<B> {
         let Some(mut position) = self.joined.take() else {
             return Ok(None);
         };
-        let ended = drain(&mut self.wait, &mut position);
+        let ended = drain(&mut self.wait, &self.set, &mut position);
         let next = position.next;
         self.joined = Some(position);
         self.halt = halt_of(ended, next);

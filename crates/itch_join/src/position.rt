@@ -1,12 +1,14 @@
 //! Where a joiner stands once it has joined.
 ghost use Rattle.std.specs.Prelude.{◌<◌, ◌^◌, Some};
+ghost use Rattle.itch_market.specs.Wanted.{has};
+ghost use Rattle.itch_join.specs.Rules.{rules_of};
 ghost use Rattle.itch_join.specs.Applying.{Advances, Drains};
 
 use crate::applying::apply;
 use crate::state::Stopped;
 use crate::waiting::Waiting;
 use itch_book::OrderBook;
-use itch_market::Market;
+use itch_market::{LocateSet, Market};
 use std::marker::Model;
 
 /// The number of the next message, and the market of those before it.
@@ -31,12 +33,13 @@ impl<B: OrderBook> Model for Position<B> {
 // Applies what waits, as far as it goes. A message waits until it is applied.
 pub(crate) fn drain<B: OrderBook>(
     wait: &mut Waiting<B::Alloc>,
+    set: &LocateSet<B::Alloc>,
     position: &mut Position<B>,
 ) -> Result<(), Stopped>
-    ensures { Drains wait.old position.old result wait.new position.new }
+    ensures { Drains (rules_of (has set.now)) wait.old position.old result wait.new position.new }
 {
     while let Some(payload) = wait.get(position.next) {
-        apply(&mut position.market, payload)?;
+        apply(&mut position.market, set, payload)?;
         wait.remove(position.next);
         position.next += 1;
     }
@@ -46,14 +49,15 @@ pub(crate) fn drain<B: OrderBook>(
 // Applies the message with the next number, and then what waits, as far as it goes.
 pub(crate) fn advance<B: OrderBook>(
     wait: &mut Waiting<B::Alloc>,
+    set: &LocateSet<B::Alloc>,
     position: &mut Position<B>,
     payload: &[u8],
 ) -> Result<(), Stopped>
     requires { position.old.next < 10 ^ 19 }
-    ensures { Advances wait.old position.old (Some payload.now) result wait.new position.new }
+    ensures { Advances (rules_of (has set.now)) wait.old position.old (Some payload.now) result wait.new position.new }
 {
-    apply(&mut position.market, payload)?;
+    apply(&mut position.market, set, payload)?;
     wait.remove(position.next);
     position.next += 1;
-    drain(wait, position)
+    drain(wait, set, position)
 }

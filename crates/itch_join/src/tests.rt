@@ -9,6 +9,7 @@ use std::process::Abort;
 use std::test::Fail;
 
 mod refused_memory;
+mod restricted;
 
 const OPENS: &[u8] = b"S\0\0\0\0\0\0\0\0\0\0O";
 

@@ -26,7 +26,7 @@ const HALTED_AT_5: JoinFault = JoinFault::Halted {
 // More allocations than a test makes: none is refused.
 const NONE: u64 = 1_000_000;
 
-// A message of the live feed with its nth allocation refused, where it makes so many. Returns whether memory was refused.
+// A message of the live feed with its nth allocation refused, where it makes that many. Returns whether memory was refused.
 fn live_short(
     rt: &impl Abort,
     refusing: &Refusing<Global>,

@@ -1,5 +1,12 @@
-use Rattle.itch_join.proofs.Lawful.{market_lawful}
+use Rattle.itch_join.proofs.Lawful.{market_lawful, only_lawful}
+use Rattle.itch_join.proofs.Skipping.{all_rules}
 use Rattle.itch_join.proofs.laws.lawful_market.Goals as goal
 
-pub returns : goal.returns
-returns c = market_lawful
+pub returns-clause-market : goal.returns-clause-market
+returns-clause-market c = market_lawful
+
+pub returns-clause-only : goal.returns-clause-only
+returns-clause-only c = only_lawful
+
+pub returns-clause-all : goal.returns-clause-all
+returns-clause-all c = all_rules

@@ -1,9 +1,22 @@
-use Rattle.std.proofs.Common.{◌+◌, ◌∷◌, Some, refl, ap}
-use Rattle.itch_join.specs.Rules.{market_rules}
+use Rattle.std.proofs.Common.{◌+◌, [], ◌∷◌, Some, refl, ap}
+use Rattle.std.proofs.lemmas.Result.{err_from_is_err_and}
+use Rattle.itch_market.specs.Wanted.{has}
+use Rattle.itch_join.specs.Rules.{rules_of}
 use Rattle.itch_join.specs.States.{Wait}
 use Rattle.itch_join.specs.Applying.{Front}
-use Rattle.itch_join.proofs.Draining.{applied}
+use Rattle.itch_join.proofs.Draining.{applied, stopped}
 use Rattle.itch_join.proofs.position.advance.Goals as goal
+
+pub returns-in_err-apply : goal.returns-in_err-apply
+returns-in_err-apply g c =
+    let p = err_from_is_err_and c.from_residual.result c.from_residual.ensures.1 in
+    let j = c.position.inside in
+    let here : Front = record { wait = c.args.wait.now; next = j.next; market = j.market } in
+    let end : Front = record { wait = c.args.wait.now; next = j.next; market = c.apply.new.market } in
+    rw (← c.position.view_is, p.1, p.2) (
+      [],
+      stopped (rules_of (has c.args.set.now)) here end (Some c.args.payload.now) c.args.payload.now c.in_err-apply.field-0.0 c.apply.new.market refl c.in_err-apply.ensures refl,
+    )
 
 pub returns : goal.returns
 returns g c =
@@ -14,6 +27,6 @@ returns g c =
     let end : Front = record { wait = c.drain.new.wait; next = c.drain.new.position.next; market = c.drain.new.position.market } in
     rw (← c.position.view_is) (
       c.args.payload.now ∷ c.drain.ensures.0,
-      applied market_rules here end more (Some c.args.payload.now) c.args.payload.now c.drain.ensures.0 c.drain.result n refl c.in_ok-apply.ensures
+      applied (rules_of (has c.args.set.now)) here end more (Some c.args.payload.now) c.args.payload.now c.drain.ensures.0 c.drain.result n refl c.in_ok-apply.ensures
           (ap (λ (v : Wait). let f : Front = record { wait = v; next = j.next + 1; market = n } in f) c.remove.ensures) c.drain.ensures.1,
     )

@@ -1,7 +1,8 @@
 use Rattle.std.proofs.Common.{◌<◌, ◌+◌, [], ◌∷◌, Ok, Err, refl, sym, ap, subst}
 use Rattle.std.specs.FinMap as map
 use Rattle.std.proofs.lemmas.Result.{err_from_is_err_and}
-use Rattle.itch_join.specs.Rules.{market_rules}
+use Rattle.itch_market.specs.Wanted.{has}
+use Rattle.itch_join.specs.Rules.{rules_of}
 use Rattle.itch_join.specs.States.{Wait}
 use Rattle.itch_join.specs.Applying.{Front, at_hand}
 use Rattle.itch_join.proofs.Maps.{len_less}
@@ -23,7 +24,7 @@ loop-payload-preserved g c =
     let here : Front = record { wait = c.loop-payload.wait; next = next; market = c.loop-payload.position-inside.market } in
     let more : Front = record { wait = c.remove.new.self; next = next + 1; market = n } in
     λ ps ending b h. c.loop-payload.invariant (c.in-Some.payload.now ∷ ps) ending b
-    (applied market_rules here b more (at_hand here) c.in-Some.payload.now ps ending n c.in-Some.ensures.found c.in_ok-apply.ensures
+    (applied (rules_of (has c.args.set.now)) here b more (at_hand here) c.in-Some.payload.now ps ending n c.in-Some.ensures.found c.in_ok-apply.ensures
     (ap (λ (v : Wait). let f : Front = record { wait = v; next = next + 1; market = n } in f) c.remove.ensures) h)
 
 pub returns-in_err-apply : goal.returns-in_err-apply
@@ -34,9 +35,9 @@ returns-in_err-apply g c =
     let end : Front = record { wait = c.loop-payload.wait; next = next; market = c.apply.new.market } in
     rw (← c.position.view_is, p.1, p.2)
     (c.loop-payload.invariant [] (Err c.in_err-apply.field-0.0) end
-    (stopped market_rules here end (at_hand here) c.in-Some.payload.now c.in_err-apply.field-0.0 c.apply.new.market c.in-Some.ensures.found c.in_err-apply.ensures refl))
+    (stopped (rules_of (has c.args.set.now)) here end (at_hand here) c.in-Some.payload.now c.in_err-apply.field-0.0 c.apply.new.market c.in-Some.ensures.found c.in_err-apply.ensures refl))
 
 pub returns : goal.returns
 returns g c =
     let here : Front = record { wait = c.loop-payload.wait; next = c.loop-payload.position-inside.next; market = c.loop-payload.position-inside.market } in
-    rw (← c.position.view_is) (c.loop-payload.invariant [] (Ok tt) here (nothing_left market_rules here c.in_default.ensures.found))
+    rw (← c.position.view_is) (c.loop-payload.invariant [] (Ok tt) here (nothing_left (rules_of (has c.args.set.now)) here c.in_default.ensures.found))

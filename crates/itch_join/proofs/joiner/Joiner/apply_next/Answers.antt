@@ -2,7 +2,8 @@ use Rattle.std.proofs.Common.{◌≡◌, ◌==◌, ◌||◌, not, Ok, Err, Some,
 use Rattle.std.specs.FinMap as map
 use Rattle.itch_join.specs.declared.outcome.Live.TheVariants.{Applied}
 use Rattle.itch_join.specs.Positions.{Position}
-use Rattle.itch_join.specs.Rules.{market_rules}
+use Rattle.itch_market.specs.Wanted.{has}
+use Rattle.itch_join.specs.Rules.{rules_of}
 use Rattle.itch_join.specs.States.{Joining, State}
 use Rattle.itch_join.specs.Steps.{NextBy}
 use Rattle.itch_join.specs.Applying.{front, front_of, result_by, halt_of, fault_of, is_empty}
@@ -15,6 +16,7 @@ use Rattle.itch_join.proofs.joiner.Joiner.apply_next.Goals.{in-Ok, in-Err, then-
 pub returns-clause-goes : goal.returns-clause-goes
 returns-clause-goes g c =
     let i = c.self.inside in
+    let R = rules_of (has i.set) in
     let s : State = record { wait = i.wait; half = half_of i.half; joined = i.joined; halt = i.halt } in
     let ending = c.advance-ended.result in
     let j = c.advance-ended.new.position in
@@ -24,13 +26,13 @@ returns-clause-goes g c =
     let number : first.next ≡ c.args.number = is_next s.joined first c.args.number there (rw (← c.self.view_is) at c.requires.joined) in
     let ps = c.advance-ended.ensures.0 in
     let any : not (j.next == first.next) ≡ not (is_empty ps) =
-    was_any market_rules (front_of s first) (front c.advance-ended.new.wait j) (Some c.args.payload.now) ps ending c.advance-ended.ensures.1 in
+    was_any R (front_of s first) (front c.advance-ended.new.wait j) (Some c.args.payload.now) ps ending c.advance-ended.ensures.1 in
     let waits : c.has-waits.result ≡ is_some (map.get s.wait first.next) = c.has-waits.ensures ∙ ap (λ n. is_some (map.get s.wait n)) (sym number) in
     let taken = is_some (map.get s.wait first.next) || not (is_empty ps) in
     let now : State = record { wait = c.advance-ended.new.wait; half = half_of i.half; joined = Some j; halt = c.halt_of-self-inside.result } in
-    subst (λ (k : Joining). NextBy market_rules k.state c.args.number c.args.payload.now k.state.joined c.match-ended.result now) c.self.view_is
-    (nexted market_rules s now first c.args.number c.args.payload.now c.match-ended.result there
-    (went market_rules s.half s.half (front_of s first) c.advance-ended.new.wait j (Some c.args.payload.now) Applied (λ any. is_some (map.get s.wait first.next) || any) ending c.match-ended.result c.halt_of-self-inside.result ps
+    subst (λ (k : Joining). NextBy (rules_of (has k.set)) k.state c.args.number c.args.payload.now k.state.joined c.match-ended.result now) c.self.view_is
+    (nexted R s now first c.args.number c.args.payload.now c.match-ended.result there
+    (went R s.half s.half (front_of s first) c.advance-ended.new.wait j (Some c.args.payload.now) Applied (λ any. is_some (map.get s.wait first.next) || any) ending c.match-ended.result c.halt_of-self-inside.result ps
     c.advance-ended.ensures.1
     refl
     (c.halt_of-self-inside.ensures ∙ ap (halt_of ending) number_is)

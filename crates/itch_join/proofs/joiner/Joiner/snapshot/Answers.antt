@@ -1,4 +1,6 @@
-use Rattle.std.proofs.Common.{◌≡◌, None, false, is_some, refl, rules}
+use Rattle.std.proofs.Common.{◌≡◌, None, false, is_some, refl, sym, ap, ◌∙◌, subst, rules}
+use Rattle.itch_market.specs.Content.{laid}
+use Rattle.itch_market.specs.Wanted.{has}
 use Rattle.itch_join.specs.States.{State}
 use Rattle.itch_join.specs.HalfReads.{half_of}
 use Rattle.itch_join.proofs.Taking.{took, failed}
@@ -11,7 +13,8 @@ returns-in-Ok-None-clause-step g c =
     let none : s.halt ≡ None = search rules in
     let apart : is_some s.joined ≡ false = search rules in
     let taking = rw c.in-Ok-None.field-0-is at c.in-Ok-None.ensures in
-    rw (← c.self.view_is) (took s i.half c.message.new.self c.args.payload.now none apart refl taking)
+    let in_order = rw c.market.ensures at c.recall_invariant.ensures.in_order in
+    rw (← c.self.view_is) (took (has i.set) s i.half c.message_only.new.self c.args.payload.now none apart refl in_order taking)
 
 pub returns-in-Err-clause-step : goal.returns-in-Err-clause-step
 returns-in-Err-clause-step g c =
@@ -19,4 +22,5 @@ returns-in-Err-clause-step g c =
     let s : State = record { wait = i.wait; half = half_of i.half; joined = i.joined; halt = i.halt } in
     let none : s.halt ≡ None = search rules in
     let apart : is_some s.joined ≡ false = search rules in
-    rw (← c.self.view_is, c.join_fault_of.ensures) (failed c.in-Err.fault s i.half c.message.new.self c.args.payload.now c.self.invariant none apart refl c.in-Err.ensures)
+    rw (← c.self.view_is, c.join_fault_of.ensures)
+    (failed (has i.set) c.in-Err.fault s i.half c.message_only.new.self c.args.payload.now c.self.invariant none apart refl c.in-Err.ensures)
