@@ -1,4 +1,4 @@
--- What the reading of a feed tells of a feed whose bytes are known.
+-- What the reading of a feed says of a feed whose bytes are known.
 use Rattle.std.proofs.Common.{◌≡◌, ℕ, ◌+◌, ◌-◌, ◌^◌, ◌<◌, ◌≤◌, ◌==◌, nat_lt, min, Bool, true, false, cond, List, [], ◌∷◌, ◌++◌, length, Option, None, Some, IfSome, refl, sym, ap, subst, ◌∙◌, inl, inr, arith, length-append, eq-eqb}
 use Rattle.std.specs.Option.{option_map}
 use Rattle.std.specs.List.{AllByRecursion}

@@ -102,7 +102,7 @@ prices_worsen s (x ∷ xs) h = (
   Worsen-filter s (other_than x.price) (prices xs) (prices_worsen s xs h.1),
 )
 
--- behind a price stand those that are worse
+-- after a price stand those that are worse
 worse_behind : (s : Side) (before rest : List ℕ) (p : ℕ) → Worsen s (before ++ p ∷ rest) → filter (is_worse s (Some p)) (before ++ p ∷ rest) ≡ rest
 worse_behind s [] rest p h = let own = not_itself s p in simp own (filter_all (is_worse s (Some p)) rest h.0)
 worse_behind s (q ∷ before) rest p h =
@@ -152,7 +152,7 @@ module _ (orders : List Order) (l : ℕ) (s : Side) (last : Option ℕ) (done : 
             ∙ sym (append_assoc done (price ∷ []) (filter (is_worse s (Some price)) (prices (queue orders l s))));
       }
 
-  -- so many prices are still to come, one fewer
+  -- one price fewer is still to come
   pub one_fewer : next_price orders l s last ≡ Some price
       → length (filter (is_worse s (Some price)) (prices (queue orders l s))) < length (filter (is_worse s last) (prices (queue orders l s)))
   one_fewer is = let next = next_parts is in omega (arith, ap length next.here, ap length next.behind)

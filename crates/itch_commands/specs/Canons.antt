@@ -15,7 +15,7 @@ use Rattle.itch_commands.specs.declared.fault.Source.TheVariants.{Only}
 use Rattle.itch_commands.specs.declared.fault.ToolFault.{ToolFault}
 use Rattle.itch_commands.specs.declared.fault.ToolFault.TheVariants as tool
 
--- the line that tells whether a file is canonical
+-- the line that says whether a file is canonical
 abbrev pub canonical_line : Bool → List ℕ
 canonical_line true = codes "canonical\n"
 canonical_line false = codes "not canonical\n"
@@ -62,7 +62,7 @@ EndsFile old new (Err (tool.Snap at fault)) = (at ≡ Only) × ReadsEnd old new 
 EndsFile old new (Err fault) = ⊥
 
 module _ {R : Type 0} (remaining : R → Option (List ℕ)) (failures : R → Failures) where
-  -- What reading a snapshot file tells of its bytes, and leaves of its reader. It is refused as any reading of it is; and
+  -- What reading a snapshot file says of its bytes, and leaves of its reader. It is refused as any reading of it is; and
   -- memory may be, for the bytes of the messages taken, all of which are kept.
   abbrev pub ChecksSnap : Reading R → Reading R → Result Bool ToolFault → Type 0
   ChecksSnap old new (Ok canonical) =

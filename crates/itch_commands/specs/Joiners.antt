@@ -29,7 +29,7 @@ abbrev pub half_market : HalfRead → Content
 half_market (Reading taken m) = m
 half_market (Broken place why) = empty
 
--- nothing but so many messages of a snapshot was taken
+-- nothing but this many messages of a snapshot was taken
 pub record IsReading (taken : ℕ) (s : State) : Type 0 where
   pub waits : (i : ℕ) → map.get s.wait i ≡ None
   pub half : s.half ≡ Reading taken (half_market s.half)
@@ -56,7 +56,7 @@ started_market old (Ok None) new = half_market new.half
 started_market old (Ok (Some next)) new = half_market old.half
 started_market old (Err fault) new = half_market old.half
 
--- what one message of a snapshot leaves of a joiner that has taken so many
+-- what one message of a snapshot leaves of a joiner that has taken this many
 abbrev pub Starts : ℕ → State → Result (Option ℕ) SnapFault → State → Type 0
 Starts taken old (Ok None) new = IsReading (taken + 1) new
 Starts taken old (Ok (Some next)) new = IsJoined new × (position_of new ≡ record { next = next; market = half_market old.half })
@@ -68,7 +68,7 @@ FeedsOne number old payload (Ok done) new =
     ((number < old.next) × (new ≡ old)) ⊎ ((old.next ≡ number) × TakesOne old.market payload (Ok done) new.market × (new.next ≡ number + 1))
 FeedsOne number old payload (Err why) new = (old.next ≡ number) × TakesOne old.market payload (Err why) old.market
 
--- what the block after so many of a feed does: its message is taken, or the reading stops
+-- what the block after `count` of a feed does: its message is taken, or the reading stops
 abbrev pub FeedStep : ℕ → Position → Option (List ℕ) → Option (List ℕ) → Result (Unit {0}) Stop → Position → Type 0
 FeedStep count old before after (Ok done) new =
     (payload : List ℕ) × TakesOff before after payload × ((count == 10 ^ 19 - 1) ≡ false) × FeedsOne (count + 1) old payload (Ok done) new

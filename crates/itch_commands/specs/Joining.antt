@@ -93,7 +93,7 @@ module _ {R : Type 0} (remaining : R → Option (List ℕ)) (failures : R → Fa
   ReadsFeed old new start (Ok payloads) =
       IfSome (bytes_left remaining old) (λ b. IsWhole b payloads) × EndsFeed start (bytes_left remaining old) (bytes_left remaining new) payloads stop.End
       × (failures new.reader ≡ failures old.reader) × LeavesDay (Ok (length payloads)) None old new
-  -- or so many were taken, and then this stopped it; where the file alone decides, it is the first bad place of the feed
+  -- or this many were taken, and then this stopped it; where the file alone decides, it is the first bad place of the feed
   ReadsFeed old new start (Err (tool.Stopped at end)) =
       (at ≡ Only) × (end.stop ≢ stop.End)
       × ((payloads : List (List ℕ)) × (length payloads ≡ end.count) × EndsFeed start (bytes_left remaining old) (bytes_left remaining new) payloads end.stop)

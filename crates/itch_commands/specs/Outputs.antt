@@ -10,7 +10,7 @@ use Rattle.itch_snapshot.specs.Bytes.{canon, closing}
 use Rattle.itch_commands.specs.declared.fault.ToolFault.{ToolFault}
 use Rattle.itch_commands.specs.declared.fault.ToolFault.TheVariants as tool
 
--- the line that tells that so many messages follow the order rules
+-- the line that says that this many messages follow the order rules
 abbrev pub ok_line : ℕ → List ℕ
 ok_line count = codes "ok " ++ decimal count ++ codes " messages\n"
 

@@ -50,7 +50,7 @@ abbrev pub HaltsPart : Option ℕ → Content → Option (List ℕ) → Option (
 HaltsPart None m old new count stop n = Replays m old new count stop n
 HaltsPart (Some most) m old new count stop n = ReplaysFirst most m old new count (Some stop) n
 
--- fewer messages than the first so many that are wanted
+-- fewer messages than are wanted
 abbrev pub IsShort : Option ℕ → ℕ → Type 0
 IsShort None count = ⊥
 IsShort (Some most) count = count < most
@@ -67,7 +67,7 @@ abbrev pub CountsRead : {X : Type 0} → Result X ToolFault → Failures → Fai
 CountsRead (Err (tool.Stopped at end)) old new = Counts end.stop old new
 CountsRead result old new = new ≡ old
 
--- the payloads came off the front: nothing more, where the first so many are wanted; else the end of the file was seen
+-- the payloads came off the front: nothing more, where only the first n are wanted; else the end of the file was seen
 abbrev pub LeavesPart : Option ℕ → Option (List ℕ) → Option (List ℕ) → List (List ℕ) → Type 0
 LeavesPart None old new payloads = (mid : Option (List ℕ)) × Consumes old mid (blocks payloads) × (IsAtEnd mid ⊎ Consumes mid new (block []))
 LeavesPart (Some most) old new payloads = Consumes old new (blocks payloads)
@@ -88,7 +88,7 @@ module _ {R : Type 0} (remaining : R → Option (List ℕ)) (failures : R → Fa
       AreTaken after payloads × IfSome (bytes_left remaining old) (λ b. IsPart after b payloads)
       × LeavesPart after (bytes_left remaining old) (bytes_left remaining new) payloads
       × (failures new.reader ≡ failures old.reader) × LeavesDay (Ok (length payloads)) after old new
-  -- so many messages were taken, and then this stopped it; where the file alone decides, it is the first bad place of the file
+  -- this many messages were taken, and then this stopped it; where the file alone decides, it is the first bad place of the file
   ReadsDay file after old new (Err (tool.Stopped at end)) =
       (at ≡ file) × (end.stop ≢ End) × ((n : Content) × HaltsPart after empty (bytes_left remaining old) (bytes_left remaining new) end.count end.stop n)
       × IfSome (bytes_left remaining old) (λ b. IsTold end.stop → Stops empty b end.count end.stop)

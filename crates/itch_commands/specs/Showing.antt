@@ -79,13 +79,13 @@ module _ {W : Type 0} (contents : W → Option (List ℕ)) (failures : W → Fai
   WritesPart first last error old new =
       (sent : ℕ) × (sent < length last) × Appends (contents old) (contents new) (first ++ take sent last) × (failures new ≡ failed error (failures old))
 
-  -- what one payload does after so many messages
+  -- what one payload does after n messages
   abbrev pub ShowsPayload : ℕ → List ℕ → W → Result (Unit {0}) ToolFault → W → Type 0
   ShowsPayload count payload out (Err (tool.Stopped file end)) out' =
       (file ≡ Only) × (end.count ≡ count) × IsFaultOf payload end.stop × (out' ≡ out)
   ShowsPayload count payload out result out' = IsClean payload × WritesText contents failures (line_of (count + 1) (message_of payload)) out result out'
 
-  -- what one block does after so many messages: its message's line is written, or it stops
+  -- what one block does after n messages: its message's line is written, or it stops
   abbrev pub ShowsNext : ℕ → Option (List ℕ) → Option (List ℕ) → W → Result (Unit {0}) ToolFault → W → Type 0
   ShowsNext count old new out (Err (tool.Stopped file end)) out' =
       (file ≡ Only) × (end.count ≡ count) × Withholds count old new end.stop × (out' ≡ out)

@@ -10,6 +10,7 @@ use crate::canonical::is_closed;
 use crate::fault::{Source, ToolFault};
 use crate::kept::{read_end, read_kept};
 use crate::writing::{write_closed, write_text};
+use itch_book::OrderBook;
 use itch_codec::Seq;
 use itch_frame::BlockReader;
 use itch_frame::counted::{CountedRead, CountedWrite};
@@ -47,19 +48,19 @@ pub fn canon_blocks<R: CountedRead, B: Allocator, A: Allocator + Copy, W: Counte
     ensures checks { check ≡ true → Outputs W.contents W.failures (ChecksSnap R.remaining R.failures reader.old reader.new) canonical_line (λ canonical. canonical) out.old result out.new }
 {
     if check {
-        return check_canon(alloc, reader, out);
+        return check_canon::<R, B, Book<A>, W>(alloc, reader, out);
     }
-    write_canon(alloc, reader, out)
+    write_canon::<R, B, Book<A>, W>(alloc, reader, out)
 }
 
-fn write_canon<R: CountedRead, B: Allocator, A: Allocator + Copy, W: CountedWrite>(
-    alloc: A,
-    reader: &mut BlockReader<R, B>,
+fn write_canon<R: CountedRead, A: Allocator, B: OrderBook, W: CountedWrite>(
+    alloc: B::Alloc,
+    reader: &mut BlockReader<R, A>,
     out: &mut W,
 ) -> Result<bool, ToolFault>
     ensures { Outputs W.contents W.failures (ReadsSnap R.remaining R.failures Only reader.old reader.new) closed_bytes (λ _. true) out.old result out.new }
 {
-    let read: Result<(Market<Book<A>>, Seq), _> = read_snapshot(alloc, reader);
+    let read: Result<(Market<B>, Seq), _> = read_snapshot(alloc, reader);
     let (market, next) = match read {
         Ok(done) => done,
         Err(fault) => {
@@ -72,27 +73,27 @@ fn write_canon<R: CountedRead, B: Allocator, A: Allocator + Copy, W: CountedWrit
     write_closed(&market, next, out)
 }
 
-fn check_canon<R: CountedRead, B: Allocator, A: Allocator + Copy, W: CountedWrite>(
-    alloc: A,
-    reader: &mut BlockReader<R, B>,
+fn check_canon<R: CountedRead, A: Allocator, B: OrderBook, W: CountedWrite>(
+    alloc: B::Alloc,
+    reader: &mut BlockReader<R, A>,
     out: &mut W,
 ) -> Result<bool, ToolFault>
     ensures { Outputs W.contents W.failures (ChecksSnap R.remaining R.failures reader.old reader.new) canonical_line (λ canonical. canonical) out.old result out.new }
 {
-    match is_canonical(alloc, reader) {
+    match is_canonical::<R, A, B>(alloc, reader) {
         Ok(canonical) => write_verdict(canonical, out),
         Err(fault) => Err(fault),
     }
 }
 
 // Whether a snapshot file's bytes, all of them, are the canonical bytes of its market and the closing block of its number.
-fn is_canonical<R: CountedRead, B: Allocator, A: Allocator + Copy>(
-    alloc: A,
-    reader: &mut BlockReader<R, B>,
+fn is_canonical<R: CountedRead, A: Allocator, B: OrderBook>(
+    alloc: B::Alloc,
+    reader: &mut BlockReader<R, A>,
 ) -> Result<bool, ToolFault>
     ensures { ChecksSnap R.remaining R.failures reader.old reader.new result }
 {
-    let mut loader: SnapshotReader<Book<A>> = SnapshotReader::new(alloc);
+    let mut loader: SnapshotReader<B> = SnapshotReader::new(alloc);
     let mut kept = Vec::new(alloc);
     let next = match read_kept(reader, &mut loader, &mut kept) {
         Ok(next) => next,

@@ -10,6 +10,7 @@ use crate::fault::{Source, ToolFault};
 use crate::reading::read_market;
 use crate::writing::write_text;
 use arrayvec::ArrayVec;
+use itch_book::OrderBook;
 use itch_frame::BlockReader;
 use itch_frame::counted::{CountedRead, CountedWrite};
 use itch_market::Market;
@@ -36,7 +37,18 @@ pub fn check_blocks<R: CountedRead, B: Allocator, A: Allocator + Copy, W: Counte
 ) -> Result<bool, ToolFault>
     ensures { Outputs W.contents W.failures (ReadsDay R.remaining R.failures Only None reader.old reader.new) ok_line_of (λ _. true) out.old result out.new }
 {
-    let mut market: Market<Book<A>> = Market::new(alloc);
+    check_over::<R, B, Book<A>, W>(alloc, reader, out)
+}
+
+// The same with any book of orders.
+fn check_over<R: CountedRead, A: Allocator, B: OrderBook, W: CountedWrite>(
+    alloc: B::Alloc,
+    reader: &mut BlockReader<R, A>,
+    out: &mut W,
+) -> Result<bool, ToolFault>
+    ensures { Outputs W.contents W.failures (ReadsDay R.remaining R.failures Only None reader.old reader.new) ok_line_of (λ _. true) out.old result out.new }
+{
+    let mut market: Market<B> = Market::new(alloc);
     let count = match read_market(reader, &mut market, None, Source::Only) {
         Ok(count) => count,
         Err(fault) => return Err(fault),

@@ -11,6 +11,7 @@ use crate::fault::{Source, ToolFault};
 use crate::reading::day_market;
 use crate::writing::write_text;
 use arrayvec::ArrayVec;
+use itch_book::OrderBook;
 use itch_frame::BlockReader;
 use itch_frame::counted::{CountedRead, CountedWrite};
 use itch_market::Market;
@@ -18,7 +19,7 @@ use itch_snapshot::part_place;
 use itoa::Buffer;
 use std::alloc::Allocator;
 
-/// Writes `same` where two day files leave the same market, and true is the answer. Else it writes `different at N`, N being
+/// Writes `same` where two day files leave the same market, and returns true. Else it writes `different at N`, N being
 /// the place of the first message, counted from 1, in which the snapshots of the two markets differ, or the shorter length
 /// and 1.
 ///
@@ -56,11 +57,31 @@ pub fn compare_blocks<
     ensures { Outputs W.contents W.failures (PartsAt (ReadsBoth (ReadsDay R.remaining R.failures First None first.old first.new) (second.new ≡ second.old)
         (ReadsDay S.remaining S.failures Second None second.old second.new))) place_line is_none out.old result out.new }
 {
-    let one: Market<Book<A>> = match day_market(alloc, first, Source::First) {
+    compare_over::<R, S, B, C, Book<A>, W>(alloc, first, second, out)
+}
+
+// The same with any book of orders.
+fn compare_over<
+    R: CountedRead,
+    S: CountedRead,
+    A: Allocator,
+    C: Allocator,
+    B: OrderBook,
+    W: CountedWrite,
+>(
+    alloc: B::Alloc,
+    first: &mut BlockReader<R, A>,
+    second: &mut BlockReader<S, C>,
+    out: &mut W,
+) -> Result<bool, ToolFault>
+    ensures { Outputs W.contents W.failures (PartsAt (ReadsBoth (ReadsDay R.remaining R.failures First None first.old first.new) (second.new ≡ second.old)
+        (ReadsDay S.remaining S.failures Second None second.old second.new))) place_line is_none out.old result out.new }
+{
+    let one: Market<B> = match day_market(alloc, first, Source::First) {
         Ok(market) => market,
         Err(fault) => return Err(fault),
     };
-    let other: Market<Book<A>> = match day_market(alloc, second, Source::Second) {
+    let other: Market<B> = match day_market(alloc, second, Source::Second) {
         Ok(market) => market,
         Err(fault) => return Err(fault),
     };

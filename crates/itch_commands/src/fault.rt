@@ -44,7 +44,7 @@ pub enum ToolFault {
     Stopped { file: Source, end: ReplayEnd },
     /// A snapshot file was refused.
     Snap { file: Source, fault: SnapFault },
-    /// A file has only so many messages.
+    /// A file has only this many messages.
     Short { count: u64 },
     /// The directory has no such locate.
     UnknownLocate,
@@ -85,7 +85,7 @@ impl ToolFault {
     }
 }
 
-/// The status of a command: 0 where its answer is true, 1 where it is false, else that of its fault.
+/// The status of a command: 0 where it returns true, 1 where it returns false, else that of its fault.
 pub fn status(outcome: &Result<bool, ToolFault>) -> u8
     ensures { result ≡ exit_status outcome.now }
 {

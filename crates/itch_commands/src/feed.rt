@@ -56,7 +56,7 @@ fn deliver<R: CountedRead, A: Allocator, B: OrderBook>(
     unreachable!()
 }
 
-// Delivers the message of the next block, after so many others.
+// Delivers the message of the next block, after `count` others.
 fn deliver_next<R: CountedRead, A: Allocator, B: OrderBook>(
     reader: &mut BlockReader<R, A>,
     joiner: &mut Joiner<B>,

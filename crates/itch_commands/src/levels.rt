@@ -49,7 +49,20 @@ pub fn book_blocks<R: CountedRead, B: Allocator, A: Allocator + Copy, W: Counted
     ensures { Outputs W.contents W.failures (ReadsListed locate (ReadsDay R.remaining R.failures Only None reader.old reader.new)) (book_of locate) (λ _. true)
         out.old result out.new }
 {
-    let market: Market<Book<A>> = match day_market(alloc, reader, Source::Only) {
+    book_over::<R, B, Book<A>, W>(alloc, locate, reader, out)
+}
+
+// The same with any book of orders.
+fn book_over<R: CountedRead, A: Allocator, B: OrderBook, W: CountedWrite>(
+    alloc: B::Alloc,
+    locate: u16,
+    reader: &mut BlockReader<R, A>,
+    out: &mut W,
+) -> Result<bool, ToolFault>
+    ensures { Outputs W.contents W.failures (ReadsListed locate (ReadsDay R.remaining R.failures Only None reader.old reader.new)) (book_of locate) (λ _. true)
+        out.old result out.new }
+{
+    let market: Market<B> = match day_market(alloc, reader, Source::Only) {
         Ok(market) => market,
         Err(fault) => return Err(fault),
     };

@@ -3,7 +3,7 @@
 //! A command has a module of its own, with two functions. One takes a reader of bytes and makes the reader of their blocks, for
 //! which it wants memory; the other, with `_blocks` in its name, takes the readers of blocks. Both return true, or false where
 //! `compare` finds two markets that differ and `canon` a file that is not canonical. A [`ToolFault`] says why a command failed,
-//! and has the line that tells it and the status that a program ends with.
+//! and has its line and the status that a program ends with.
 #![tactic(auto)]
 
 mod book;

@@ -8,16 +8,17 @@ use crate::book::Book;
 use crate::fault::{Source, ToolFault};
 use crate::reading::read_market;
 use crate::writing::write_closed;
+use itch_book::OrderBook;
 use itch_codec::Seq;
 use itch_frame::BlockReader;
 use itch_frame::counted::{CountedRead, CountedWrite};
 use itch_market::Market;
 use std::alloc::Allocator;
 
-/// Writes the canonical snapshot behind a day file's messages, or behind its first ones: the canonical bytes of the market
+/// Writes the canonical snapshot after a day file's messages, or after its first ones: the canonical bytes of the market
 /// that they leave, and an End of Snapshot with the number of the first message that it does not contain.
 ///
-/// With `after`, reading stops behind that many messages. A fault before is answered as such, and an earlier end as `Short`.
+/// With `after`, reading stops after that many messages. A fault before that is returned as it is, and an earlier end as `Short`.
 pub fn snap<R: CountedRead + Drop, A: Allocator + Copy, W: CountedWrite>(
     alloc: A,
     reader: R,
@@ -39,7 +40,19 @@ pub fn snap_blocks<R: CountedRead, B: Allocator, A: Allocator + Copy, W: Counted
 ) -> Result<bool, ToolFault>
     ensures { Outputs W.contents W.failures (ReadsDay R.remaining R.failures Only after reader.old reader.new) snapshot_of (λ _. true) out.old result out.new }
 {
-    let mut market: Market<Book<A>> = Market::new(alloc);
+    snap_over::<R, B, Book<A>, W>(alloc, reader, after, out)
+}
+
+// The same with any book of orders.
+fn snap_over<R: CountedRead, A: Allocator, B: OrderBook, W: CountedWrite>(
+    alloc: B::Alloc,
+    reader: &mut BlockReader<R, A>,
+    after: Option<u64>,
+    out: &mut W,
+) -> Result<bool, ToolFault>
+    ensures { Outputs W.contents W.failures (ReadsDay R.remaining R.failures Only after reader.old reader.new) snapshot_of (λ _. true) out.old result out.new }
+{
+    let mut market: Market<B> = Market::new(alloc);
     let count = match read_market(reader, &mut market, after, Source::Only) {
         Ok(count) => count,
         Err(fault) => return Err(fault),

@@ -50,7 +50,7 @@ fn start<R: CountedRead, A: Allocator, B: OrderBook>(
     unreachable!()
 }
 
-// Gives a joiner the message of the next block, after so many others, and returns the number of an End of Snapshot.
+// Gives a joiner the message of the next block, after `taken` others, and returns the number of an End of Snapshot.
 fn start_next<R: CountedRead, A: Allocator, B: OrderBook>(
     reader: &mut BlockReader<R, A>,
     joiner: &mut Joiner<B>,

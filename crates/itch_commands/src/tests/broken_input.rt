@@ -12,7 +12,7 @@ use std::test::Fail;
 // Where the blocks of the files begin.
 const STARTS: [usize; 4] = [0, 14, 55, 93];
 
-// The number of the block that so many bytes end in, and how many bytes of it there are.
+// The number of the block that these bytes end in, and how many bytes of it there are.
 fn block_at(len: usize) -> (usize, usize) {
     let count = STARTS.iter().filter(|start| **start <= len).count();
     let start = STARTS

@@ -1,4 +1,4 @@
-//! Each command over files, with files of its own, what it writes of them, and its answer.
+//! Each command over files, with files of its own, what it writes of them, and what it returns.
 use super::blocks::*;
 use super::file;
 use crate::canon::canon;
@@ -54,7 +54,7 @@ impl Case {
         })
     }
 
-    /// The command's answer.
+    /// What the command returns.
     pub(super) fn is_true(&self) -> bool {
         self.command != Command::Compare
     }

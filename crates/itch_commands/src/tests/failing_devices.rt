@@ -15,10 +15,10 @@ use std::io::BufReader;
 use std::process::Abort;
 use std::test::Fail;
 
-// What a failed read is told as.
+// The line of a failed read.
 #[derive(Clone, Copy, Debug, PartialEq, Eq)]
 enum Failed {
-    // A read of this day file, after so many messages.
+    // A read of this day file, after this many messages.
     Day { file: Source, whole: u64 },
     // A read of this snapshot.
     Snapshot { file: Source },
@@ -148,7 +148,7 @@ fn reads_of_join(rt: HostRuntime) -> Result<(), Fail> {
     Ok(())
 }
 
-// The last read tells that nothing follows the End of Snapshot.
+// The last read finds that nothing follows the End of Snapshot.
 fn fail_snapshot_reads(rt: &impl Abort, alloc: Global, command: Command) -> Result<(), Fail> {
     let case = Case::new(alloc, command)?;
     for read in 1..=145 {
@@ -195,7 +195,7 @@ fn writes_of_snapshots(rt: HostRuntime) -> Result<(), Fail> {
     fail_writes(&rt, rt.alloc(), Command::Join)
 }
 
-// Each read fills the buffer with 50 bytes of 158, and the fifth tells the end.
+// Each read fills the buffer with 50 bytes of 158, and the fifth finds the end.
 #[test]
 fn reads_below_a_buffer(rt: HostRuntime) -> Result<(), Fail> {
     let case = Case::new(rt.alloc(), Command::Snap)?;

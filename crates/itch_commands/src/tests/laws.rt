@@ -90,7 +90,7 @@ fn a_snapshot_stands_for_what_came_before(rt: HostRuntime) -> Result<(), Fail> {
         assert_eq!(rt; again.as_slice(), bytes.as_slice(), "after {count}");
         let many = messages(alloc, bytes.as_slice())?;
         assert!(rt; many <= count, "after {count}");
-        // With the rest behind it, it leaves the whole day's market.
+        // With the rest after it, it leaves the whole day's market.
         let rest = file(alloc, day.get(count..).ok_or("the rest")?)?;
         bytes.extend_from_slice(rest.as_slice())?;
         let joined = canonical(alloc, bytes.as_slice())?;

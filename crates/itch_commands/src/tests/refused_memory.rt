@@ -39,7 +39,7 @@ fn refuse(rt: &impl Abort, alloc: Global, case: &Case, nth: u64) -> bool {
     is_refused(rt, &refusing, &answer, written, wanted, case.is_true())
 }
 
-// At least so many allocations are refused, each in its turn.
+// At least this many allocations are refused, each in its turn.
 fn refuse_each(rt: &impl Abort, alloc: Global, case: &Case, least: u64) {
     for nth in 0..64 {
         if !refuse(rt, alloc, case, nth) {

@@ -13,7 +13,7 @@ use std::alloc::{AllocError, Allocator, Global};
 use std::process::Abort;
 use std::test::Fail;
 
-// What `show` answers and writes of a file that is read in pieces.
+// What `show` returns and writes of a file that is read in pieces.
 fn shown<A: Allocator + Copy>(
     alloc: Global,
     wanted: A,

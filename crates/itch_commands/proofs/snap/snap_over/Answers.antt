@@ -6,7 +6,7 @@ use Rattle.itch_commands.specs.Outputs.{snapshot_of}
 use Rattle.itch_commands.specs.Readings.{ReadsDay}
 use Rattle.itch_commands.proofs.Parts.{read_done, day_done, day_fails, read_writes}
 use Rattle.itch_commands.proofs.Snapshots.{applied_short, applied_snapshot}
-use Rattle.itch_commands.proofs.snap.snap_blocks.Goals as goal
+use Rattle.itch_commands.proofs.snap.snap_over.Goals as goal
 
 pub returns-in-Err : goal.returns-in-Err
 returns-in-Err g c = inl (

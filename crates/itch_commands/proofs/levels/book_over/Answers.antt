@@ -4,7 +4,7 @@ use Rattle.itch_market.specs.Content.{Listing}
 use Rattle.itch_commands.specs.declared.fault.Source.TheVariants.{Only}
 use Rattle.itch_commands.specs.Readings.{ReadsDay}
 use Rattle.itch_commands.proofs.Listings.{listed, lines_left}
-use Rattle.itch_commands.proofs.levels.book_blocks.Goals as goal
+use Rattle.itch_commands.proofs.levels.book_over.Goals as goal
 
 pub returns-in-Ok-write_book : goal.returns-in-Ok-write_book
 returns-in-Ok-write_book g c =

@@ -2,7 +2,7 @@ use Rattle.std.proofs.Common.{None, map, refl, inl, inr}
 use Rattle.itch_codec.specs.Messages.{message_of}
 use Rattle.itch_market.specs.Runs.{run}
 use Rattle.itch_commands.proofs.Comparisons.{taken_good, taken_few, parts-laid}
-use Rattle.itch_commands.proofs.compare.compare_blocks.Goals as goal
+use Rattle.itch_commands.proofs.compare.compare_over.Goals as goal
 
 pub part_place-requires : goal.part_place-requires
 part_place-requires g c =
