@@ -1,4 +1,4 @@
--- What stands behind an order in its locate.
+-- What stands after an order in its locate.
 use Rattle.std.proofs.Common.{◌≡◌, ℕ, ◌==◌, ◌&&◌, Bool, true, false, eqb, not, List, [], ◌∷◌, ◌++◌, filter, find, Option, Some, None, refl, sym, ap, ◌∙◌, subst}
 use Rattle.std.specs.List.{AllByRecursion}
 use Rattle.std.proofs.lemmas.Bool.{false≢true, and_parts}
@@ -19,7 +19,7 @@ use Rattle.itch_book.proofs.IndexSteps.{level_is, level_own, get_some}
 use Rattle.itch_book.proofs.PutLemmas.{level_tells}
 use Rattle.itch_book.proofs.FrontLemmas.{find_wider, find_alike, find_none, none_find, in_sides, sides_apart}
 
--- the orders behind one do not stand before it
+-- the orders after one do not stand before it
 back_of : (r : ℕ) (xs : List Order) (x : Order) → IsInOrder stands_before xs → get xs r ≡ Some x → AllByRecursion (λ z. stands_before z x ≡ false) (behind r xs)
 back_of r [] x order h = tt
 back_of r (y ∷ ys) x order h =
@@ -31,7 +31,7 @@ order_behind : (r : ℕ) (xs : List Order) → IsInOrder stands_before xs → Is
 order_behind r [] order = tt
 order_behind r (y ∷ ys) order = by_test (has_reference r y) (λ e. simp e order.1) (λ e. simp e (order_behind r ys order.1))
 
--- what none passes that the order does not stand before is first passed behind it
+-- what none passes that the order does not stand before is first passed after it
 skip_to : (f : Order → Bool) (r : ℕ) (xs : List Order) (x : Order) → ((z : Order) → stands_before x z ≡ false → f z ≡ false) → IsInOrder stands_before xs → get xs r ≡ Some x → find f xs ≡ find f (behind r xs)
 skip_to f r [] x none order h = refl
 skip_to f r (y ∷ ys) x none order h =
@@ -100,7 +100,7 @@ module _ (xs : List Order) (book : IsBook xs) (r : ℕ) (x : Order) (live : get 
       (λ z a u e f n. level_before x u z e (strict x z a n)) tail back)
       y h
 
-  -- what is next in price stands behind it
+  -- what is next in price stands after it
   skip_next : find (is_next x.locate x.side (Some x.price)) xs ≡ find (is_next x.locate x.side (Some x.price)) (behind r xs)
   skip_next = skip_to (is_next x.locate x.side (Some x.price)) r xs x
       (λ z n. by_test (is_next x.locate x.side (Some x.price) z)
@@ -108,7 +108,7 @@ module _ (xs : List Order) (book : IsBook xs) (r : ℕ) (x : Order) (live : get 
       absurd (false≢true (sym n ∙ stands_of x.locate x.side x z own_side parts.0 ∙ parts.1)))
       (λ e. e)) book.in_place live
 
-  -- an order behind it that is not next is on the other side
+  -- an order after it that is not next is on the other side
   not_next : (z : Order) → stands_before z x ≡ false → is_level x.locate x.side x.price z ≡ false → is_next x.locate x.side (Some x.price) z ≡ false → is_of x.locate x.side z ≡ false
   not_next z a n m = by_test (is_of x.locate x.side z)
       (λ e. let worse : is_worse x.side (Some x.price) z.price ≡ true = sym (stands_of x.locate x.side x z own_side e) ∙ strict x z a n in
@@ -118,7 +118,7 @@ module _ (xs : List Order) (book : IsBook xs) (r : ℕ) (x : Order) (live : get 
   not_level : find (is_level x.locate x.side x.price) (behind r xs) ≡ None → AllByRecursion (λ z. (stands_before z x ≡ false) × (is_level x.locate x.side x.price z ≡ false)) tail
   not_level none = All-both_rec (λ z. stands_before z x ≡ false) (λ z. is_level x.locate x.side x.price z ≡ false) tail back (none_find (is_level x.locate x.side x.price) tail none)
 
-  -- an order of the locate behind one that is not of its side is an ask behind a bid
+  -- an order of the locate after one that is not of its side is an ask after a bid
   turned : (s : Side) → x.side ≡ s → (z : Order) → stands_before z x ≡ false → is_in x.locate z ≡ true → is_of x.locate x.side z ≡ false → (s ≡ Buy) × (is_of x.locate Sell z ≡ true)
   turned Buy e z a i n = (refl, in_sides x.locate z i (subst (λ t. is_of x.locate t z ≡ false) e n))
   turned Sell e z a i n = by_test (is_of x.locate Buy z)
@@ -140,7 +140,7 @@ module _ (xs : List Order) (book : IsBook xs) (r : ℕ) (x : Order) (live : get 
       → AllByRecursion (λ z. ((stands_before z x ≡ false) × (is_level x.locate x.side x.price z ≡ false)) × (is_next x.locate x.side (Some x.price) z ≡ false)) tail
   none_next none last = All-both_rec (λ z. (stands_before z x ≡ false) × (is_level x.locate x.side x.price z ≡ false)) (λ z. is_next x.locate x.side (Some x.price) z ≡ false) tail (not_level none) (none_find (is_next x.locate x.side (Some x.price)) tail (sym skip_next ∙ last))
 
-  -- behind the last ask stands none
+  -- after the last ask stands none
   pub last_ask : x.side ≡ Sell → find (is_level x.locate x.side x.price) (behind r xs) ≡ None → find (is_next x.locate x.side (Some x.price)) xs ≡ None → find (is_in x.locate) (behind r xs) ≡ None
   last_ask side none last = find_none (is_in x.locate) tail
       (All-weaker_rec (λ z. ((stands_before z x ≡ false) × (is_level x.locate x.side x.price z ≡ false)) × (is_next x.locate x.side (Some x.price) z ≡ false)) (λ z. is_in x.locate z ≡ false)
@@ -149,7 +149,7 @@ module _ (xs : List Order) (book : IsBook xs) (r : ℕ) (x : Order) (live : get 
       let no : Sell ≡ Buy = other.0 in absurd (let no_one : ⊥ = cc in no_one))
       (λ i. i)) tail (none_next none last))
 
-  -- and behind the last bid the first ask
+  -- and after the last bid the first ask
   pub last_bid : x.side ≡ Buy → find (is_level x.locate x.side x.price) (behind r xs) ≡ None → find (is_next x.locate x.side (Some x.price)) xs ≡ None → find (is_in x.locate) (behind r xs) ≡ find (is_of x.locate Sell) xs
   last_bid side none last =
       find_alike (is_in x.locate) (is_of x.locate Sell) tail
@@ -184,7 +184,7 @@ module _ (references : List (ℕ × ℕ)) (bids asks : List (Place × ℕ)) (w :
           absurd (false≢true (sym (not_in_head k j js n) ∙ subst (λ t. eqb k t ≡ true) (sym same) (eqb_itself k))))
           (λ e. simp e rest)
 
-  -- what stands behind the order in its queue is behind it at its price
+  -- what stands after the order in its queue is after it at its price
   pub line_behind : (before behind_it : List ℕ) → NotIn k before → (is.listed k x here).keys ≡ before ++ k ∷ behind_it → find (is_level x.locate x.side x.price) (behind r (indexed w bids asks)) ≡ first (found w.orders behind_it)
   line_behind before ks n parts =
       let place = is.listed k x here in

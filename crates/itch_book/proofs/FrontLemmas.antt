@@ -53,7 +53,7 @@ All-every P h (y ∷ ys) = (h y, All-every P h ys)
 pub level_of_is : (l : ℕ) (s : Side) (p : ℕ) (x : Order) → is_level l s p x ≡ true → (is_of l s x ≡ true) × (x.price ≡ p)
 level_of_is l s p x h = ((and_parts (is_of l s x) (x.price == p) h).0, grind (arith, nat_tests))
 
--- an order of the side whose price is neither better nor this one stands behind those of this price
+-- an order of the side whose price is neither better nor this one stands after those of this price
 behind_level : (l : ℕ) (s : Side) (p : ℕ) (x y : Order) → is_level l s p x ≡ true → is_of l s y ≡ true → is_level l s p y ≡ false → is_better s y.price p ≡ false → stands_before x y ≡ true
 behind_level l s p x y h k n best =
     let parts = level_of_is l s p x h in

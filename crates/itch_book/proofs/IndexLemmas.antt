@@ -37,7 +37,7 @@ place_is a b h = exact_pairs nat_cmp nat_cmp exact_unsigned exact_unsigned a b (
 pub less_apart : (a b : Place) → place_cmp a b ≡ Less → is_at (place_cmp a) b ≡ false
 less_apart a b h = ap is_eq h
 
--- what an order at a place tells of its place
+-- what an order at a place says of its place
 pub level_place : (l : ℕ) (s : Side) (p m : ℕ) (q : ℕ) (x : Order) → is_level l s p x ≡ true → is_level m s q x ≡ true → ◌≡◌ {A = ℕ × ℕ} (l, p) (m, q)
 level_place l s p m q x h k = let a : l ≡ m = grind (arith, nat_tests) in let b : p ≡ q = grind (arith, nat_tests) in λ i. (a i, b i)
 

@@ -121,7 +121,7 @@ pub distinct_tail : (k : ℕ) (ks : List ℕ) → IsDistinct eqb (k ∷ ks) → 
 unfolding IsDistinct
 distinct_tail k ks d = d.1
 
--- another node behind the last
+-- another node after the last
 pub relinked_last : (f : Nodes) (q : ℕ) (b : Option ℕ) (k : ℕ) (ks : List ℕ) (a a' : Option ℕ) → IsDistinct eqb (k ∷ ks) → IsLinked f q b (k ∷ ks) a → IsLinked (with_after (Some (last_key k ks)) a' f) q b (k ∷ ks) a'
 relinked_last f q b k [] a a' d h = (
   let e = eqb_itself k in

@@ -51,7 +51,7 @@ pub filter_all : {X : Type 0} (p : X → Bool) (xs : List X) → AllByRecursion 
 filter_all p [] h = refl
 filter_all p (x ∷ xs) h = simp (h.0) (ap (λ t. x ∷ t) (filter_all p xs h.1))
 
--- a filter behind a weaker one
+-- a filter after a weaker one
 pub filter_within : {X : Type 0} (p q : X → Bool) → ((x : X) → p x ≡ true → q x ≡ true) → (xs : List X) → filter p (filter q xs) ≡ filter p xs
 filter_within p q h [] = refl
 filter_within p q h (x ∷ xs) =

@@ -32,7 +32,7 @@ pub without_absent : (r : ℕ) (xs : List Order) → get xs r ≡ None → witho
 without_absent r [] h = refl
 without_absent r (y ∷ ys) h = let e = absent_head r y ys h in simp e (ap (λ t. y ∷ t) (without_absent r ys (absent_tail r y ys h)))
 
--- nothing of a reference behind the first of it
+-- nothing of a reference after the first of it
 same_absent : (r : ℕ) (y : Order) (ys : List Order) → IsDistinct (y ∷ ys) → has_reference r y ≡ true → get ys r ≡ None
 same_absent r y ys d e = subst (λ q. get ys q ≡ None) (own_reference r y e) (head_distinct y ys d)
 
@@ -101,7 +101,7 @@ get_within r xs h = by_found (get xs r) refl h
 pub position_there : (r : ℕ) (xs : List Order) → IsSome (get xs r) → position (has_reference r) xs ≡ Some (position_or_len (has_reference r) xs)
 position_there r xs some = let within = get_within r xs some in let e : nat_lt (position_or_len (has_reference r) xs) (length xs) ≡ true = grind (arith, nat_tests) in simp e refl
 
--- what stands behind an order is the list behind its place
+-- what stands after an order is the list after its place
 pub behind_there : (r : ℕ) (xs : List Order) → behind r xs ≡ drop (suc (position_or_len (has_reference r) xs)) xs
 behind_there r [] = refl
 behind_there r (y ∷ ys) =
@@ -139,7 +139,7 @@ place_is x xs i within point =
     (λ k lt. not-true (stands_before x (get_or xs k x)) (point.0 k x (omega arith) lt))
     (λ lt. not-false (stands_before x (get_or xs i x)) (point.1 i x (omega arith) lt)))
 
--- the next of a locate behind the order at a place
+-- the next of a locate after the order at a place
 pub after_there : (r : ℕ) (xs : List Order) (i : ℕ) (d : Order) → IsSome (get xs r) → i ≡ position_or_len (has_reference r) xs
     → find (is_in (get_or xs i d).locate) (take (length xs - (i + 1)) (drop (i + 1) xs)) ≡ after xs r
 after_there r xs i d some place = by_found (get xs r) refl some

@@ -37,7 +37,7 @@ found_apart k slot orders (j ∷ js) n =
     let o = at_apart k slot orders j (not_in_head k j js n) in
     ap (λ t. shown t (found (at_key k slot orders) js)) o ∙ ap (shown (orders j)) (found_apart k slot orders js (not_in_tail k j js n))
 
--- an order of this level tells its side and place
+-- an order of this level has its side and place
 pub level_tells : (l : ℕ) (s : Side) (p : ℕ) (x : Order) → is_level l s p x ≡ true → IsPlace s l p x.side x.locate x.price
 level_tells l s p x h =
     let a : l ≡ x.locate = grind (arith, nat_tests) in

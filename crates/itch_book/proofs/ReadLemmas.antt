@@ -39,7 +39,7 @@ member_only nodes heads k x q ks sound here seen i = by_head (get heads q) refl
         let node = in_queue (get nodes) q None ks None k queue.linked i in
         ap (λ (z : Node). z.queue) (same_some here node.1) ∙ node.2
 
--- what stands behind a node
+-- what stands after a node
 pub next_seen : (nodes : Slab Node) (heads : Slab Head) (k : ℕ) (x : Node) (q : ℕ) (before after : List ℕ) → IsSound (get nodes) (get heads) → get nodes k ≡ Some x → keys_at (queued nodes heads) q ≡ Some (before ++ k ∷ after) → x.after ≡ first_or after None
 next_seen nodes heads k x q before after sound here seen = by_head (get heads q) refl
   where

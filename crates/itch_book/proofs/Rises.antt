@@ -1,4 +1,4 @@
--- Lists in which each element is related to all behind it.
+-- Lists in which each element is related to all after it.
 use Rattle.std.proofs.Common.{◌≡◌, ℕ, zero, suc, ◌≤◌, ◌<◌, ◌==◌, Bool, true, false, cond, List, [], ◌∷◌, length, filter, slice_get, Some, IsPermutation, ◌⊎◌, ◌↔◌, inl, inr, refl, sym, ap, ◌∙◌, subst, arith}
 use Rattle.std.specs.List.{AllByRecursion}
 use Rattle.std.specs.Cmp.{IsStrictWeakOrder}
@@ -90,7 +90,7 @@ Rises-same R key one_way (x ∷ xs) (y ∷ ys) h k same =
     let xy = subst (AllByRecursion (R x)) behind_x (All-filter_rec (R x) (λ z. key z == key y) xs h.0) in
     absurd (one_way x y xy.0 yx.0))
 
--- a stable sort: what is behind another is so by the comparison, or ties and came later
+-- a stable sort: what is after another is so by the comparison, or ties and came later
 abbrev pub Stably : {A : Type 0} → (A → A → Bool) → (A → A → Type 0) → A → A → Type 0
 Stably before E x y = (before x y ≡ true) ⊎ ((before x y ≡ false) × (before y x ≡ false) × E x y)
 

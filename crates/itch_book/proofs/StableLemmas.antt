@@ -94,7 +94,7 @@ module _ {A : Type 0} (before : A → A → Bool) (o : IsStrictWeakOrder before)
   pub not_itself : (x : A) → before x x ≡ false
   not_itself x = by_test (before x x) (λ e. o.one_way x x e) (λ e. e)
 
-  -- what is before x is before all that x is not behind
+  -- what is before x is before all that x is not after
   pub before_chain : (x y z : A) → before x y ≡ true → before z y ≡ false → before x z ≡ true
   before_chain x y z h k = by_test (before x z) (λ e. e) (λ e. absurd (false≢true (sym (o.chain x z y e k) ∙ h)))
 

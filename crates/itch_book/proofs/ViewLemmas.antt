@@ -21,7 +21,7 @@ use Rattle.itch_book.proofs.SoundSteps.{at_apart, sound_unlinked, sound_pushed, 
 pub pointwise : {A B : Type 0} (f g : A → B) → ((x : A) → f x ≡ g x) → f ≡ g
 pointwise f g h = λ i x. h x i
 
--- what a list of slots has at a place, behind a function
+-- what a list of slots has at a place, after a function
 pub at_mapped : {X Y : Type 0} (G : Option X → Option Y) → G None ≡ None → (slots : List (Option X)) (k : ℕ) → get_or (map G slots) k None ≡ G (get_or slots k None)
 at_mapped G none [] k = sym none
 at_mapped G none (s ∷ rest) zero = refl

@@ -1,4 +1,4 @@
--- Walking the orders of a locate, from one to the next behind it.
+-- Walking the orders of a locate, from one to the next after it.
 use Rattle.std.proofs.Common.{◌≡◌, ℕ, ◌==◌, Bool, false, List, [], ◌∷◌, filter, find, Option, Some, None, IfSome, refl, sym, ap, ◌∙◌, subst, arith}
 use Rattle.std.proofs.lemmas.Bool.{cond_both}
 use Rattle.std.proofs.lemmas.Bool.Decides.{nat_tests}
@@ -39,7 +39,7 @@ found_get p (y ∷ ys) x d h =
     let other = other_reference p y ys x (head_distinct y ys d) there in
     simp other (found_get p ys x (tail_distinct y ys d) there))
 
--- the orders that pass a test are the first that does, and those behind it
+-- the orders that pass a test are the first that does, and those after it
 pub walk_some : (p : Order → Bool) (xs : List Order) (x : Order) → IsDistinct xs → find p xs ≡ Some x → filter p xs ≡ x ∷ filter p (behind x.reference xs)
 walk_some p [] x d h = absurd (let no_one : ⊥ = cc in no_one)
 walk_some p (y ∷ ys) x d h =
@@ -57,7 +57,7 @@ IsDistinct-behind r [] d = d
 IsDistinct-behind r (x ∷ xs) d =
     cond_both (has_reference r x) xs (behind r xs) IsDistinct (λ e. tail_distinct x xs d) (λ e. IsDistinct-behind r xs (tail_distinct x xs d))
 
--- an order that stands behind another is in the list, and what stands behind it is the same there
+-- an order that stands after another is in the list, and what stands after it is the same there
 pub behind_get : (p : Order → Bool) (r : ℕ) (xs : List Order) (x : Order) → IsDistinct xs → find p (behind r xs) ≡ Some x → get xs x.reference ≡ Some x
 behind_get p r [] x d h = absurd (let no_one : ⊥ = cc in no_one)
 behind_get p r (y ∷ ys) x d h =
@@ -88,7 +88,7 @@ walk_on p r xs x d h =
     walk_some p (behind r xs) x (IsDistinct-behind r xs d) h
     ∙ ap (λ t. x ∷ filter p t) (behind-behind p r xs x d h)
 
--- the orders of a locate are its first, and those behind it
+-- the orders of a locate are its first, and those after it
 pub first_left : (xs : List Order) (l : ℕ) → IsBook xs → sides xs l ≡ from_order xs (find (is_in l) xs)
 first_left xs l b = sides-book xs l b ∙ by_first (find (is_in l) xs) refl
   where
@@ -113,7 +113,7 @@ next_left xs x d h =
         (sym (in_is x.locate y (found_passes (is_in x.locate) (behind x.reference xs) y e)))
         (walk_on (is_in x.locate) x.reference xs y d e)
 
--- the first of a locate, and the next behind a live order, are live
+-- the first of a locate, and the next after a live order, are live
 pub first_live : (xs : List Order) (l : ℕ) → IsDistinct xs → IfSome (find (is_in l) xs) (λ y. get xs y.reference ≡ Some y)
 first_live xs l d = by_first (find (is_in l) xs) refl
   where

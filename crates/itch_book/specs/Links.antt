@@ -14,7 +14,7 @@ abbrev pub next_of : Option Node → Option ℕ
 next_of None = None
 next_of (Some x) = x.after
 
--- at most so many keys along the links
+-- at most n keys along the links
 abbrev pub walk : Nodes → ℕ → Option ℕ → List ℕ
 walk f zero from = []
 walk f (suc n) None = []

@@ -76,7 +76,7 @@ get orders reference = find (has_reference reference) orders
 abbrev pub without : ℕ → List Order → List Order
 without reference orders = filter (λ x. not (has_reference reference x)) orders
 
--- the order with so many shares fewer, if it has this reference
+-- the order with n shares fewer, if it has this reference
 abbrev pub less : ℕ → ℕ → Order → Order
 less reference shares x = if has_reference reference x then record x { shares = x.shares - shares } else x
 
@@ -120,7 +120,7 @@ pub record IsBook (orders : List Order) : Type 0 where
 abbrev pub is_in : ℕ → Order → Bool
 is_in locate x = x.locate == locate
 
--- what stands behind the order of a reference
+-- what stands after the order of a reference
 abbrev pub behind : ℕ → List Order → List Order
 behind reference [] = []
 behind reference (x ∷ xs) = if has_reference reference x then xs else behind reference xs
@@ -130,11 +130,11 @@ abbrev pub next_in : Option Order → ℕ → List Order → Option Order
 next_in None reference orders = None
 next_in (Some x) reference orders = find (is_in x.locate) (behind reference orders)
 
--- the next order of the same locate behind that of a reference
+-- the next order of the same locate after that of a reference
 abbrev pub after : List Order → ℕ → Option Order
 after orders reference = next_in (get orders reference) reference orders
 
--- an order, and the orders of its locate behind it
+-- an order, and the orders of its locate after it
 abbrev pub from_order : List Order → Option Order → List Order
 from_order orders None = []
 from_order orders (Some x) = x ∷ filter (is_in x.locate) (behind x.reference orders)

@@ -61,7 +61,7 @@ found orders (k ∷ ks) = shown (orders k) (found orders ks)
 abbrev pub totals_of : List Order → ℕ × ℕ
 totals_of orders = (sum_by (λ x. x.shares) orders, length orders)
 
--- an order with so many shares left
+-- an order with this many shares left
 abbrev pub left_with : ℕ → Order → Order
 left_with shares x = record x { shares = shares }
 

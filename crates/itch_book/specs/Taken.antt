@@ -1,9 +1,9 @@
--- What is answered where shares were taken.
+-- What is returned where shares were taken.
 use Rattle.std.specs.Prelude.{◌≡◌, ℕ, ◌<◌}
 use Rattle.itch_book.specs.declared.order.Taken.{Taken}
 use Rattle.itch_book.specs.declared.order.Taken.TheVariants.{Left, Gone}
 
--- the answer says how many shares are left, and that the order is gone where none are
+-- the result says how many shares are left, and that the order is gone where none are
 abbrev pub IsLeft : ℕ → Taken → Type 0
 IsLeft n (Left k) = (0 < n) × (k ≡ n)
 IsLeft n Gone = n ≡ 0

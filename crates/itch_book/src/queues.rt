@@ -238,7 +238,7 @@ fn either(link: Link, there: Link, other: Link) -> Link
     }
 }
 
-// The head of a queue with one more node at its end, with so many shares, after the node of a link.
+// The head of a queue with one more node at its end, with these shares, after the node of a link.
 fn head_with(head: Head, link: Link, before: Link, shares: u32) -> Head
     requires orders { head.orders + 1 < 2 ^ 64 }
     requires shares { head.shares + shares < 2 ^ 128 }

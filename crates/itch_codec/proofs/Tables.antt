@@ -16,7 +16,7 @@ use Rattle.itch_codec.proofs.Numbers.{read-spells, spells-read}
 abbrev side_fault_of : ℕ → Bool → Bool → Option CodecFault
 side_fault_of offset buy sell = cond (buy || sell) None (Some (BadSide offset))
 
--- a side's byte tells the side, and is no fault
+-- a side's byte decides the side, and is no fault
 side_there : (byte : ℕ) (side : Side) → byte ≡ side_byte side → side ≡ side_of byte
 side_there byte Buy h = rw h refl
 side_there byte Sell h = rw h refl

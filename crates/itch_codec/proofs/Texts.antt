@@ -51,7 +51,7 @@ printable-none bytes h =
 
 pub ruleset printing = (none-printable, printable-none)
 
--- what stands behind the text is spaces
+-- what stands after the text is spaces
 pub text-whole : (field : List ℕ) (len : ℕ) → len ≤ length field → ((k : ℕ) → len ≤ k → k < length field → slice_index field k ≡ 32)
     → field ≡ padded_to (length field) (take len field)
 text-whole field len within spaces =

@@ -13,11 +13,11 @@ use Rattle.itch_codec.specs.Layouts.{Class, Integer, Price, Text, OneSide, Code,
 abbrev pub AreBytes : List ℕ → Type 0
 AreBytes bytes = AllByRecursion (λ byte. byte < 256) bytes
 
--- bytes, and so many
+-- n bytes
 abbrev pub IsBytes : ℕ → List ℕ → Type 0
 IsBytes width bytes = (length bytes ≡ width) × AreBytes bytes
 
--- printable bytes, and so many
+-- n printable bytes
 abbrev pub IsAlpha : ℕ → List ℕ → Type 0
 IsAlpha width bytes = (length bytes ≡ width) × IsPrintable bytes
 
@@ -135,7 +135,7 @@ abbrev pub first_fault : List ℕ → List Column → Option CodecFault
 first_fault payload [] = None
 first_fault payload (column ∷ columns) = first_of (field_fault payload column) (first_fault payload columns)
 
--- what is read is so, and nothing has a fault; or the fault is told
+-- what is read is so, and nothing has a fault; or this is the fault
 abbrev pub Reads : {X : Type 0} → (X → Type 0) → Option CodecFault → Result X CodecFault → Type 0
 Reads Is fault (Ok x) = Is x × (fault ≡ None)
 Reads Is fault (Err found) = fault ≡ Some found

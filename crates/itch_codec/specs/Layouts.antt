@@ -23,7 +23,7 @@ pub record Layout : Type 0 where
   pub size : ℕ
   pub columns : List Column
 
--- a column of so many bytes from this place on
+-- a column of this many bytes from this place on
 abbrev pub column : ℕ → ℕ → Class → Column
 column offset width class = record { offset = offset; width = width; class = class }
 

@@ -6,7 +6,7 @@ use Rattle.std.specs.Str.{all_ascii_digits}
 use Rattle.std.specs.Str.Parse.{digits_value}
 use Rattle.byteorder.specs.Endian.{big_number, big_bytes}
 
--- the bytes of a message from this place on, so many
+-- the bytes of a message from this place on, n of them
 unfoldable pub slice_at : ℕ → ℕ → List ℕ → List ℕ
 slice_at offset width payload = slice_range payload offset (offset + width)
 
@@ -18,7 +18,7 @@ number_at offset width payload = big_number width (slice_range payload offset (o
 abbrev pub byte_at : ℕ → List ℕ → ℕ
 byte_at offset payload = slice_index payload offset
 
--- a number in so many bytes, the highest first
+-- a number in n bytes, the highest first
 unfoldable pub be : ℕ → ℕ → List ℕ
 be width number = big_bytes width number
 
@@ -53,7 +53,7 @@ after_spaces field = drop (prefix_len is_space field) field
 unfoldable pub digits_in_front : List ℕ → List ℕ
 digits_in_front text = take (prefix_len is_ascii_digit text) text
 
--- what stands behind the digits that a text begins with
+-- what stands after the digits that a text begins with
 unfoldable pub behind_digits : List ℕ → List ℕ
 behind_digits text = drop (prefix_len is_ascii_digit text) text
 
@@ -61,7 +61,7 @@ behind_digits text = drop (prefix_len is_ascii_digit text) text
 abbrev pub number_of_digits : List ℕ → Option ℕ
 number_of_digits digits = if nat_le (digits_value 10 digits) (10 ^ 19) then Some (digits_value 10 digits) else None
 
--- the number of these digits, if there are any, and only spaces behind them
+-- the number of these digits, if there are any, and only spaces after them
 abbrev pub number_of_parts : List ℕ → List ℕ → Option ℕ
 number_of_parts [] right = None
 number_of_parts (digit ∷ digits) right = if list_all is_space right then number_of_digits (digit ∷ digits) else None

@@ -19,7 +19,7 @@ is_unprintable byte = nat_lt byte 32 || nat_lt 126 byte
 unfoldable pub first_unprintable : List ℕ → Option ℕ
 first_unprintable bytes = position is_unprintable bytes
 
--- a text with spaces behind it, up to the width of its field
+-- a text with spaces after it, up to the width of its field
 abbrev pub padded_to : ℕ → List ℕ → List ℕ
 padded_to width text = text ++ replicate (width - length text) 32
 

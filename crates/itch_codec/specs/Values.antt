@@ -22,7 +22,7 @@ use Rattle.itch_codec.specs.declared.trades.CrossTrade.{CrossTrade}
 use Rattle.itch_codec.specs.declared.trades.BrokenTrade.{BrokenTrade}
 use Rattle.itch_codec.specs.Fields.{Value, Number, Bytes, TheSide}
 
--- the values of a header, and those behind it
+-- the values of a header, and those after it
 abbrev pub header_values : Header → List Value → List Value
 header_values h values = Number h.locate ∷ Number h.tracking ∷ Number h.stamp ∷ values
 
@@ -59,7 +59,7 @@ abbrev pub participant_position_values : ParticipantPosition → List Value
 participant_position_values m =
     header_values m.header (Bytes m.mpid ∷ Bytes m.stock ∷ Number m.primary_market_maker ∷ Number m.mode ∷ Number m.state ∷ [])
 
--- the values of a new order, and those behind it
+-- the values of a new order, and those after it
 abbrev pub order_values : AddOrder → List Value → List Value
 order_values m values =
     header_values m.header (Number m.reference ∷ TheSide m.side ∷ Number m.shares ∷ Bytes m.stock ∷ Number m.price ∷ values)
@@ -72,7 +72,7 @@ add_order_values m = order_values m []
 abbrev pub attributed_add_order_values : AttributedAddOrder → List Value
 attributed_add_order_values m = order_values m.order (Bytes m.attribution ∷ [])
 
--- the values of an execution, and those behind it
+-- the values of an execution, and those after it
 abbrev pub execution_values : OrderExecuted → List Value → List Value
 execution_values m values = header_values m.header (Number m.reference ∷ Number m.shares ∷ Number m.match_number ∷ values)
 
@@ -146,7 +146,7 @@ header_of vs = record { locate = number 0 vs; tracking = number 1 vs; stamp = nu
 abbrev pub system_event_of : List Value → SystemEvent
 system_event_of vs = record { header = header_of vs; code = number 3 vs }
 
--- the directory entry in the values behind a header
+-- the directory entry in the values after a header
 abbrev pub directory_of : List Value → Directory
 directory_of vs = record {
   stock = bytes 3 vs;

@@ -21,7 +21,7 @@ use crate::undecoded::Undecoded;
 
 /// The message that a payload spells.
 ///
-/// A payload that spells no message has a fault, which is answered: its length, or else that of the first field that has one.
+/// A payload that spells no message has a fault, which is returned: its length, or else that of the first field that has one.
 pub fn decode(payload: &[u8]) -> Result<Message<'_>, CodecFault>
     ensures found { IfOk result (λ m. Spells m payload.entry.now) }
     ensures only { (m : MessageValue) → Spells m payload.entry.now → result ≡ Ok m }

@@ -4,7 +4,7 @@ use thiserror::Error;
 
 /// Why a payload was not decoded. Offsets count from 0, at the payload's first byte.
 ///
-/// The length is tested first, then the fields in order; the first fault is answered.
+/// The length is tested first, then the fields in order; the first fault is returned.
 #[derive(Clone, Copy, Debug, PartialEq, Eq, Error)]
 pub enum CodecFault {
     /// The payload has no bytes.

@@ -94,7 +94,7 @@ pub fn number20(number: u64) -> [u8; 20]
 
 /// Reads spaces, at least one digit, and spaces; leading zeros are allowed.
 ///
-/// The number is 0 to 10^19; any other field is answered `None`.
+/// The number is 0 to 10^19; for any other field `None` is returned.
 pub fn read_number20(field: &[u8; 20]) -> Option<u64>
     ensures spelled { IfSome result (λ number. SpellsNumber field.now number) }
     ensures complete { (number : ℕ) → SpellsNumber field.now number → result ≡ Some number }
@@ -139,7 +139,7 @@ fn count_spaces(field: &[u8]) -> usize
     field.iter().take_while(|byte| **byte == b' ').count()
 }
 
-// The digits that the text begins with, and what stands behind them.
+// The digits that the text begins with, and what stands after them.
 #[tactic(auto, using(crate::proofs::Numbers::fronts), unfolding(crate::specs::Numbers::digits_in_front, crate::specs::Numbers::behind_digits))]
 fn split_digits(text: &[u8]) -> (&[u8], &[u8])
     ensures digits { result.0.now ≡ digits_in_front text.entry.now }

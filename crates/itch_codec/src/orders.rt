@@ -45,7 +45,7 @@ impl AddOrder {
         })
     }
 
-    // The fields of a new order, behind this first byte.
+    // The fields of a new order, after this first byte.
     #[tactic(auto, using(crate::proofs::Joining::joining), unfolding(crate::specs::Fields::joined))]
     fn begin(&self, kind: u8) -> Buffer
         ensures bytes { result.items ≡ kind ∷ joined (with_header (order_columns [])) (order_values self.now []) }
@@ -160,7 +160,7 @@ impl OrderExecuted {
         }
     }
 
-    // The fields of an execution, behind this first byte.
+    // The fields of an execution, after this first byte.
     #[tactic(auto, using(crate::proofs::Joining::joining), unfolding(crate::specs::Fields::joined))]
     fn begin(&self, kind: u8) -> Buffer
         ensures bytes { result.items ≡ kind ∷ joined (with_header (execution_columns [])) (execution_values self.now []) }

@@ -41,7 +41,7 @@ impl<const N: usize> Alpha<N> {
 
     /// Pads `text` on the right with spaces.
     ///
-    /// A text that is too long is answered so, whatever its bytes are.
+    /// A text that is too long is refused for that, whatever its bytes are.
     pub fn from_text(text: &str) -> Result<Alpha<N>, AlphaFault>
         ensures taken { IfOk result (λ alpha. alpha ≡ padded_to N text.now) }
         ensures accepts { IsOk result ↔ ((length text.now ≤ N) × IsPrintable text.now) }
@@ -59,7 +59,7 @@ impl<const N: usize> Alpha<N> {
         })
     }
 
-    /// Takes bytes that are all printable; else the first that is not is answered.
+    /// Takes bytes that are all printable; else the first that is not is the fault.
     pub fn from_bytes(bytes: &[u8; N]) -> Result<Alpha<N>, AlphaFault>
         ensures taken { IfOk result (λ alpha. alpha ≡ bytes.now) }
         ensures accepts { IsOk result ↔ IsPrintable bytes.now }
@@ -96,7 +96,7 @@ impl<const N: usize> Alpha<N> {
         str::from_utf8(trimmed(&self.bytes)).unwrap()
     }
 
-    /// The characters with the spaces behind them.
+    /// The characters with the spaces after them.
     pub fn bytes(&self) -> &[u8; N]
         ensures bytes { result.now ≡ self.now }
         ensures printable { IsPrintable self.now }
@@ -124,7 +124,7 @@ fn unprintable(bytes: &[u8]) -> Option<usize>
     bytes.iter().position(|byte| *byte < b' ' || *byte > b'~')
 }
 
-// The text, with spaces behind it.
+// The text, with spaces after it.
 fn padded<const N: usize>(text: &[u8]) -> [u8; N]
     requires { length text.now ≤ N }
     ensures { result ≡ padded_to N text.now }

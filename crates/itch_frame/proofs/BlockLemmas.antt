@@ -5,7 +5,7 @@ use Rattle.std.proofs.lemmas.List.{take_at, drop_at, append-nil}
 use Rattle.std.proofs.lemmas.List.Concat.{flat_map-append}
 use Rattle.itch_frame.specs.Blocks.{IsPayload, block, blocks, Blocks}
 
--- where two streams begin with a block and are the same, the payloads are the same, and what stands behind them
+-- where two streams begin with a block and are the same, the payloads are the same, and what stands after them
 pub same_block : (p q r s : List ℕ) → IsPayload p → IsPayload q → block p ++ r ≡ block q ++ s → (p ≡ q) × (r ≡ s)
 same_block p q r s p_fits q_fits same =
     let high : length p / 256 % 256 ≡ length q / 256 % 256 = cc in

@@ -1,4 +1,4 @@
--- What a read into the room behind the bytes held leaves.
+-- What a read into the room after the bytes held leaves.
 use Rattle.std.proofs.Common.{◌≡◌, ℕ, ◌+◌, ◌≤◌, List, ◌++◌, length, take, sym, ap, subst, ◌∙◌, append_assoc, arith, length-append, Option, Some, None}
 use borrow.Rule.Slice.PartMut.{put_mid, post_of}
 use Rattle.std.proofs.lemmas.List.{length-take-le, take-append-le}
@@ -7,7 +7,7 @@ use Rattle.std.specs.Io.KnownBytes.{prepend_known, Keeps, Consumes}
 use Rattle.itch_frame.specs.Needs.{need}
 use Rattle.itch_frame.proofs.SplitterLemmas.{still_begun}
 
--- the first bytes of a buffer, a part of which was written behind them
+-- the first bytes of a buffer, a part of which was written after them
 pub front_filled : (buffer part : List ℕ) (len room count : ℕ) → len ≤ length buffer → count ≤ length part
     → take (len + count) (put_mid len room buffer part) ≡ take len buffer ++ take count part
 front_filled buffer part len room count within given =
@@ -41,7 +41,7 @@ filled_keeps start old new buffer part len room count within given kept read =
     subst (λ (bytes : List ℕ). Keeps start (prepend_known bytes new)) (sym (front_filled buffer part len room count within given))
     (Keeps-read start old new (take len buffer) (take count part) kept read)
 
--- what was held first is held still, and more behind it
+-- what was held first is held still, and more after it
 pub filled_front : (buffer part first : List ℕ) (len room count : ℕ) → len ≤ length buffer → count ≤ length part
     → ((more : List ℕ) × (take len buffer ≡ first ++ more)) → (more : List ℕ) × (take (len + count) (put_mid len room buffer part) ≡ first ++ more)
 filled_front buffer part first len room count within given (more, front) = (

@@ -22,7 +22,7 @@ no_byte x y rest (inr wide) payload more fits same = let low : y ≡ length payl
 one_byte : (x : ℕ) → HasNoBlock (x ∷ [])
 one_byte x payload more fits same = cc
 
--- the bytes behind two length bytes, where enough follow, are a payload and what stands behind it
+-- the bytes after two length bytes, where enough follow, are a payload and what stands after it
 front_block : (x y : ℕ) (rest : List ℕ) → x < 256 → y < 256 → x * 256 + y ≤ length rest → x ∷ y ∷ rest ≡ block (take (x * 256 + y) rest) ++ drop (x * 256 + y) rest
 front_block x y rest x_fits y_fits enough =
     let n : length (take (x * 256 + y) rest) ≡ x * 256 + y = length-take-le (x * 256 + y) rest enough in

@@ -51,7 +51,7 @@ need_start [] short = refl
 need_start (x ∷ []) short = refl
 need_start (x ∷ y ∷ payload) short = absurd (omega arith)
 
--- once both are there, what follows tells no other length
+-- once both are there, what follows gives no other length
 need-append : (held more : List ℕ) → 2 ≤ length held → need (held ++ more) ≡ need held
 need-append [] more long = absurd (omega arith)
 need-append (x ∷ []) more long = absurd (omega arith)
@@ -107,7 +107,7 @@ two_moves held piece mid rest new first second begun first_is mid_is rest_is sec
   mid_begun : length mid ≤ need mid
   mid_begun = subst (λ (m : List ℕ). length m ≤ need m) (sym mid_is) (still_begun held (take first piece) (omega (arith, first_length)))
 
-  -- what is held behind the first move, and some of the second
+  -- what is held after the first move, and some of the second
   reach : (k : ℕ) → first ≤ k → held ++ take k piece ≡ mid ++ take (k - first) rest
   reach k far =
       let parts : k ≡ first + (k - first) = omega arith in

@@ -22,7 +22,7 @@ Appends-more (Some a) (Some b) (Some c) xs ys first second = second ∙ ap (λ t
 pub Appends-same : (old new : Option (List ℕ)) (xs ys : List ℕ) → xs ≡ ys → Appends old new xs → Appends old new ys
 Appends-same old new xs ys same wrote = subst (Appends old new) same wrote
 
--- the first bytes of a list, and then the first of those behind them
+-- the first bytes of a list, and then the first of those after them
 pub Appends-on : (old mid new : Option (List ℕ)) (bytes behind : List ℕ) (sent count : ℕ) → behind ≡ take (length bytes - sent) (drop sent bytes) → count ≤ length bytes - sent
     → Appends old mid (take sent bytes) → Appends mid new (take count behind) → Appends old new (take (sent + count) bytes)
 Appends-on old mid new bytes behind sent count is within first second =
@@ -39,7 +39,7 @@ Appends-block old mid new done payload first second =
     (Appends-more old mid new (blocks done) (block payload) first second)
 
 module _ {W : Type 0} (contents : W → Option (List ℕ)) (failures : W → Failures) where
-  -- a block that was not written whole, behind some that were
+  -- a block that was not written whole, after some that were
   pub part_written : (old mid new : W) (done : List (List ℕ)) (payload : List ℕ) (more all : List (List ℕ)) → all ≡ done ++ payload ∷ more → IsPayload payload
       → Appends (contents old) (contents mid) (blocks done) → failures mid ≡ failures old
       → (fault : FrameFault) → WriteBlock contents failures mid payload (Err fault) new → WriteBlocks contents failures old all (Err fault) new

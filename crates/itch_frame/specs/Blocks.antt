@@ -34,7 +34,7 @@ pub record Blocks (bytes : List ℕ) (payloads : List (List ℕ)) (rest : List �
   pub each : AllByRecursion IsPayload payloads
   pub no_more : HasNoBlock rest
 
--- what may end a day: nothing, or an empty block and anything behind it
+-- what may end a day: nothing, or an empty block and anything after it
 abbrev pub Ends : List ℕ → Type 0
 Ends rest = (rest ≡ []) ⊎ ((more : List ℕ) × (rest ≡ block [] ++ more))
 

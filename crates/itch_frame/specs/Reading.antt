@@ -28,7 +28,7 @@ abbrev pub bytes_left : {R : Type 0} → (R → Option (List ℕ)) → Reading R
 bytes_left remaining r = prepend_known r.held (remaining r.reader)
 
 module _ {R : Type 0} (remaining : R → Option (List ℕ)) (failures : R → Failures) where
-  -- what a call that asks for the next block may answer, and leave
+  -- what a call that asks for the next block may return, and leave
   abbrev pub NextBlock : Reading R → Result (Option (Bor (List ℕ))) FrameFault → Reading R → Type 0
   -- a block came off the front, and nothing after it was read
   NextBlock old (Ok (Some p)) new =
@@ -47,7 +47,7 @@ module _ {R : Type 0} (remaining : R → Option (List ℕ)) (failures : R → Fa
   NextBlock old (Err (Write sent error)) new = ⊥
   NextBlock old (Err TooLong) new = ⊥
 
--- what the answer was, once the input has ended, is the answer ever after, and nothing is read
+-- once the input has ended, each call returns what the first did, and nothing is read
 abbrev pub StaysEnded : {R : Type 0} → Reading R → Result (Option (Bor (List ℕ))) FrameFault → Reading R → Type 0
 StaysEnded old r new =
     (old.stage ≡ Ended → (r ≡ Ok None) × (new ≡ old)) × (old.stage ≡ Cut → (r ≡ Err (Truncated (length old.held))) × (new ≡ old))

@@ -8,7 +8,7 @@ use Rattle.itch_frame.specs.declared.fault.FrameFault.{FrameFault}
 use Rattle.itch_frame.specs.declared.fault.FrameFault.TheVariants.{Read, Truncated, Write, TooLong}
 
 module _ {W : Type 0} (contents : W → Option (List ℕ)) (failures : W → Failures) where
-  -- what writing these bytes may answer, and leave; `before` of the block were written before them
+  -- what writing these bytes may return, and leave; `before` of the block were written before them
   abbrev pub WritePart : W → ℕ → List ℕ → Result (Unit {0}) FrameFault → W → Type 0
   WritePart old before bytes (Ok done) new =
       Appends (contents old) (contents new) bytes × (failures new ≡ failures old)
@@ -20,7 +20,7 @@ module _ {W : Type 0} (contents : W → Option (List ℕ)) (failures : W → Fai
   WritePart old before bytes (Err (Read error)) new = ⊥
   WritePart old before bytes (Err (Truncated held)) new = ⊥
 
-  -- what writing the block of this payload may answer, and leave
+  -- what writing the block of this payload may return, and leave
   abbrev pub WriteBlock : W → List ℕ → Result (Unit {0}) FrameFault → W → Type 0
   WriteBlock old payload (Ok done) new = IsPayload payload × WritePart old 0 (block payload) (Ok done) new
   WriteBlock old payload (Err (Write sent error)) new = IsPayload payload × WritePart old 0 (block payload) (Err (Write sent error)) new
@@ -29,7 +29,7 @@ module _ {W : Type 0} (contents : W → Option (List ℕ)) (failures : W → Fai
   WriteBlock old payload (Err (Read error)) new = ⊥
   WriteBlock old payload (Err (Truncated held)) new = ⊥
 
-  -- what writing the blocks of these payloads may answer, and leave
+  -- what writing the blocks of these payloads may return, and leave
   abbrev pub WriteBlocks : W → List (List ℕ) → Result ℕ FrameFault → W → Type 0
   WriteBlocks old payloads (Ok count) new =
       Appends (contents old) (contents new) (blocks payloads) × (failures new ≡ failures old) × (count ≡ length payloads)

@@ -8,7 +8,7 @@ pub enum FrameFault {
     /// What was read so far is kept, and the call may be made again.
     #[error("read failed")]
     Read(io::Error),
-    /// The input ended in an unfinished block of which so many bytes are held.
+    /// The input ended in an unfinished block, of which `held` bytes are held.
     #[error("truncated, {held} bytes held")]
     Truncated { held: usize },
     /// Exactly the first `sent` bytes of the block were written.

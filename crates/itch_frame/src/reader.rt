@@ -62,8 +62,8 @@ impl<R: CountedRead, A: Allocator> BlockReader<R, A> {
 
     /// The payload of the next block, or `None` at the end of input. The block given before is dropped.
     ///
-    /// After `Read` what was read so far is kept, and the call may be made again. `None` and `Truncated` are
-    /// answered ever after, and nothing more is read.
+    /// After `Read` what was read so far is kept, and the call may be made again. After `None` and `Truncated` each call
+    /// returns the same, and nothing more is read.
     pub fn next_block(&mut self) -> Result<Option<&[u8]>, FrameFault>
         ensures* next { sem 𝓛 (Rests (reader_row R.row A.row R.CountedRead A.Allocator) self.entry (λ new.
             NextBlock R.remaining R.failures self.old result new × StaysEnded self.old result new)) }

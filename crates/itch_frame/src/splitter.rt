@@ -33,7 +33,7 @@ impl<A: Allocator> Splitter<A> {
         Ok(Splitter { held: room(alloc)? })
     }
 
-    /// Takes bytes from the front of `piece` up to the end of the block at hand, and answers how many: 0 while a block is ready.
+    /// Takes bytes from the front of `piece` up to the end of the block at hand, and returns how many: 0 while a block is ready.
     pub fn take(&mut self, piece: &[u8]) -> usize
         ensures { IsTake self.old piece.now result self.new }
     {
@@ -91,7 +91,7 @@ pub(crate) fn lacking(held: &[u8]) -> usize
     }
 }
 
-/// Moves as much of the piece as the block at hand lacks, and answers how much.
+/// Moves as much of the piece as the block at hand lacks, and returns how much.
 fn fill<A: Allocator>(held: &mut Vec<u8, A>, piece: &[u8]) -> usize
     requires room { 65537 ≤ vec_capacity held.old }
     requires begun { length held.old.items ≤ need held.old.items }

@@ -102,7 +102,7 @@ fn reads_on_after_a_failure(rt: HostRuntime) -> Result<(), Fail> {
     Ok(())
 }
 
-// Reads blocks and writes them again, going on after each failed read, and answers how many reads failed.
+// Reads blocks and writes them again, going on after each failed read, and returns how many reads failed.
 fn copy_blocks<R: CountedRead, W: CountedWrite, A: Allocator>(
     reader: &mut BlockReader<R, A>,
     writer: &mut W,

@@ -21,7 +21,7 @@ pub fn write_block<W: CountedWrite>(writer: &mut W, payload: &[u8]) -> Result<()
 
 /// Writes bytes as they are: a part of what is sent together, `before` bytes of which were written before it.
 ///
-/// The only fault is `Write`, and tells how much of the whole was written.
+/// The only fault is `Write`, and says how much of the whole was written.
 pub fn write_part<W: CountedWrite>(
     writer: &mut W,
     bytes: &[u8],

@@ -119,7 +119,7 @@ by_type : (t : PacketType) (others : Option PacketType) (kind : ℕ) (rest : Lis
 by_type t others kind rest from found later true e h = found (eqb-true kind t.kind e) h
 by_type t others kind rest from found later false e h = later h
 
--- a packet without fields, or with all bytes behind the type
+-- a packet without fields, or with all bytes after the type
 plain : (packet : Packet) (kind : ℕ) (rest : List ℕ) (from : Origin) → HasParts (kind ∷ rest) (packet_type packet).parts (packet_values packet)
     → kind ≡ (packet_type packet).kind → fault_by_type (Some (packet_type packet)) kind (kind ∷ rest) from ≡ None → IsSpelled (kind ∷ rest) from
 plain packet kind rest from holds same h = (packet, spelled_by packet kind rest from same h (λ _. holds))

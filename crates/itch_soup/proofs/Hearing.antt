@@ -111,7 +111,7 @@ packets-push [] (q ∷ qs) packet payload spelled fits last = absurd spelled
 packets-push (p ∷ ps) [] packet payload spelled fits last = absurd spelled
 packets-push (p ∷ ps) (q ∷ qs) packet payload spelled fits last = (spelled.0, packets-push ps qs packet payload spelled.1 fits last)
 
--- how far a session is, by what it has told
+-- how far a session is, by what it has received
 abbrev Phase : Stage → ℕ → List ClientAct → List (List ℕ) → Type 0
 Phase stage.Before next told payloads = (told ≡ []) × (payloads ≡ [])
 Phase stage.Accepted next told payloads = (told ≡ act.Accepted 1 ∷ numbered 1 payloads) × (next ≡ 1 + length payloads)
@@ -333,7 +333,7 @@ module _ (start : Client) (old mid new : Option (List ℕ)) (count : ℕ) (c : C
   heard_end act.Ended is takes done finishes = absurd takes
   heard_end (act.Fault f) is takes done finishes = absurd takes
 
--- the next packet, as the step tells of it
+-- the next packet, as the step has it
 pub hearing_on : (start : Client) (old mid new : Option (List ℕ)) (count : ℕ) (c later : Client) (load after : Load) → Hearing start old mid count c load
     → HearsNext (is_enough count) c load mid new (Ok false) later after → Hearing start old new (count + 1) later after
 hearing_on start old mid new count c c_after load after so_far (room, (payload, fits, consumed, (packet, spelled, is, takes))) =

@@ -27,7 +27,7 @@ pub written : (named passed asked block user password session number : List ℕ)
 written named passed asked block user password session number long e1 e2 e3 e4 =
     sym (take_all 47 block (omega arith)) ∙ rw (e4, e3, e2, e1) (simp (append_assoc, append-nil))
 
--- a field behind so many bytes
+-- a field after this many bytes
 field_at : (offset width : ℕ) (front field rest block : List ℕ) → length front ≡ offset → length field ≡ width → block ≡ front ++ (field ++ rest)
     → field ≡ slice_at offset width block
 unfolding slice_at

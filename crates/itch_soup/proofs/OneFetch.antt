@@ -317,12 +317,12 @@ one_run k c ps (x ∷ xs) (y ∷ ys) (p ∷ read) [] b d r s good h e same told 
 one_run k c ps [] ys (p ∷ read) eaten b d r s good h e same told tell = absurd h
 one_run k c ps (x ∷ xs) ys [] eaten b d r s good h e same told tell = absurd h
 
--- what answers tell, before the login was accepted or after it
+-- what answers say, before the login was accepted or after it
 abbrev Tells : Bool → ℕ → List ClientAct → List (List ℕ) → Type 0
 Tells false n told qs = Hears told qs
 Tells true n told qs = told ≡ numbered n qs
 
--- the first answer, and what is told then
+-- the first answer, and what follows it
 abbrev Next : Bool → ℕ → ClientAct → List ClientAct → List (List ℕ) → Type 0
 Next at n act.Nothing told qs = Tells at n told qs
 Next false n (act.Accepted first) told qs = (first ≡ 1) × Tells true 1 told qs
@@ -420,7 +420,7 @@ closes_here (Ok done) k c ps x q bytes n p room fits spelled is closing =
     ([], [], block q ++ bytes, refl, (Some bytes, (room, (q, fits, refl, (x, spelled, subst (λ a. Closes a ps done) (sym is) closing)))))
 closes_here (Err f) k c ps x q bytes n p room fits spelled is closing = absurd closing
 
--- all that is told is these messages, and then what ends the fetch
+-- all that is received is these messages, and then what ends the fetch
 module _ (tail all : List (List ℕ)) (b : List ℕ) (r : Answer) (close : (p : List ℕ) (rest : List (List ℕ)) → tail ≡ p ∷ rest → Closing r all p) where
   abbrev Told : ℕ → Client → List Packet → List (List ℕ) → List (List ℕ) → List (List ℕ) → Bool → ℕ → Type 0
   Told k c xs read ps qs at n =

@@ -13,7 +13,7 @@ none_found : (field : List ℕ) (found : Option ℕ) → read20 field ≡ found 
 none_found field None e h = refl
 none_found field (Some n) e h = h n (read-spells field n e)
 
--- what is answered exactly where a field spells a number is the number that is read
+-- what is returned exactly where a field spells a number is the number that is read
 pub answer-read : (field : List ℕ) (answer : Option ℕ) → IfSome answer (λ n. SpellsNumber field n)
     → ((n : ℕ) → SpellsNumber field n → answer ≡ Some n) → answer ≡ read20 field
 answer-read field None spelled complete = none_found field (read20 field) refl complete

@@ -114,7 +114,7 @@ pub of_block : (block : List ℕ) (from : Origin) → OfBlock (packet_fault bloc
 of_block [] from = tt
 of_block (kind ∷ rest) from = of_type (type_of kind) kind (kind ∷ rest) from
 
--- a session's own faults are told
+-- a session's own faults are decided by what is received
 abbrev ToldTurn : ClientAct → Type 0
 ToldTurn (act.Fault f) = IsToldFetch (Err f)
 ToldTurn answer = Unit {0}

@@ -160,7 +160,7 @@ spelled-none packet (kind ∷ rest) from h =
     ap (λ t. fault_by_type t kind (kind ∷ rest) from) (ap type_of h.first ∙ type_of-kind packet)
     ∙ typed_none (packet_type packet) kind (packet_values packet) (kind ∷ rest) from h
 
--- so a function that reads packets answers each that is spelled
+-- so a function that reads packets returns each that is spelled
 pub only_read : (answer : Result Packet SoupFault) (block : List ℕ) (from : Origin)
     → Reads (λ packet. PacketSpells packet block from) (packet_fault block from) answer
     → (packet : Packet) → PacketSpells packet block from → answer ≡ Ok packet

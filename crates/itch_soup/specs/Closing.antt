@@ -74,7 +74,7 @@ ClientCloses (ToPacket (client.Fault found)) = Unit {0}
 ClientCloses (ToTick tick.Lost) = Unit {0}
 ClientCloses answer = ⊥
 
--- a closed session answers each packet that it is closed, and each tick with nothing
+-- a closed session answers each packet with `Closed`, and each tick with nothing
 abbrev pub closed_reply : {Act : Type 0} → Act → Call → Answer Act
 closed_reply closed (OnPacket packet now) = ToPacket closed
 closed_reply closed (OnTick now) = ToTick tick.Nothing

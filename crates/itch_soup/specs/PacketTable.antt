@@ -6,13 +6,13 @@ use Rattle.itch_soup.specs.declared.origin.Origin.TheVariants.{Client, Server}
 use Rattle.itch_soup.specs.declared.types.Sender.{Sender}
 use Rattle.itch_soup.specs.declared.types.Sender.TheVariants.{Only, Either}
 
--- what stands behind the type byte: a field as messages have it, the number that a login asks for, or all bytes from a place on
+-- what stands after the type byte: a field as messages have it, the number that a login asks for, or all bytes from a place on
 pub data Part : Type 0 where
   Field : (column : Column) → Part
   Request : (offset : ℕ) → Part
   Rest : (offset : ℕ) → Part
 
--- a packet type: its byte, who sends it, its length with the type byte (none: any from 1), and what stands behind the type byte
+-- a packet type: its byte, who sends it, its length with the type byte (none: any from 1), and what stands after the type byte
 pub record PacketType : Type 0 where
   pub kind : ℕ
   pub sender : Sender
@@ -31,7 +31,7 @@ sends (Only Server) Server = true
 abbrev pub fixed : ℕ → Origin → ℕ → List Part → PacketType
 fixed kind side size parts = record { kind = kind; sender = Only side; size = Some size; parts = parts }
 
--- a type of packets of any length, with bytes behind the type
+-- a type of packets of any length, with bytes after the type
 abbrev pub carrier : ℕ → Sender → PacketType
 carrier kind sender = record { kind = kind; sender = sender; size = None; parts = Rest 1 ∷ [] }
 

@@ -35,7 +35,7 @@ login_accepted_values login = Bytes login.session ∷ Number login.next ∷ []
 abbrev pub login_request_values : LoginRequest → List Value
 login_request_values login = Bytes login.username ∷ Bytes login.password ∷ Bytes login.session ∷ Number login.number ∷ []
 
--- what stands behind the type byte of a packet, in the order of its type
+-- what stands after the type byte of a packet, in the order of its type
 abbrev pub packet_values : Packet → List Value
 packet_values (is.Debug payload) = Bytes payload ∷ []
 packet_values (is.LoginAccepted login) = login_accepted_values login
@@ -149,7 +149,7 @@ abbrev pub packet_fault : List ℕ → Origin → Option SoupFault
 packet_fault [] from = Some EmptyPacket
 packet_fault (kind ∷ rest) from = fault_by_type (type_of kind) kind (kind ∷ rest) from
 
--- what is read is so, and nothing has a fault; or the fault is told
+-- what is read is so, and nothing has a fault; or this is the fault
 abbrev pub Reads : {X : Type 0} → (X → Type 0) → Option SoupFault → Result X SoupFault → Type 0
 Reads Is fault (Ok x) = Is x × (fault ≡ None)
 Reads Is fault (Err found) = fault ≡ Some found

@@ -59,7 +59,7 @@ server_turn config total stage.Before (is.LoginRequest login) = judged config to
 server_turn config total stage.Accepted (is.LoginRequest login) = (act.Fault fault.SecondLogin, stage.Closed)
 server_turn config total at packet = (act.Fault (fault.WrongSide (packet_type packet).kind), stage.Closed)
 
--- a session of so many messages that begins at this moment
+-- a session of n messages that begins at this moment
 abbrev pub new_server : ServerConfig → ℕ → ℕ → Server
 new_server config total now = record { config = config; total = total; connection = opened now }
 

@@ -9,7 +9,7 @@ use thiserror::Error;
 
 /// Why a block is no packet, or what ended a session. Offsets count from 0, at the packet's type byte.
 ///
-/// A block is judged in the order of the first six; the first fault is answered.
+/// A block is judged in the order of the first six; the first fault is returned.
 #[derive(Clone, Copy, Debug, Error)]
 pub enum SoupFault {
     /// The block has no bytes.

@@ -9,7 +9,7 @@ use crate::packet::{LoginAccepted, LoginRequest, Packet};
 use crate::payload::Payload;
 use crate::types::{sender_of_type, size_of_type};
 
-/// Reads a packet that came from that side: the type byte and what stands behind it, without the length in front.
+/// Reads a packet that came from that side: the type byte and what stands after it, without the length in front.
 ///
 /// # Errors
 ///

@@ -1,4 +1,4 @@
-//! Bytes behind a packet's type.
+//! Bytes after a packet's type.
 ghost use Rattle.std.specs.Prelude.{◌≡◌, ◌≤◌, ℕ, List, length, drop, nat_eq};
 ghost use Rattle.std.specs.Cmp.Lexicographic.{pointwise};
 ghost use Rattle.std.specs.Cmp.Rules.{comparing};
@@ -6,7 +6,7 @@ ghost use Rattle.std.proofs.Common.{rules};
 
 use std::marker::Model;
 
-/// The bytes behind the type of a packet that carries a message or a text. There may be none.
+/// The bytes after the type of a packet that carries a message or a text. There may be none.
 ///
 /// Equality is that of the bytes.
 #[derive(Debug, Drop)]
@@ -35,7 +35,7 @@ impl<'a> Payload<'a> {
         self.bytes
     }
 
-    // What stands behind the type of a block.
+    // What stands after the type of a block.
     pub(crate) fn behind_type(block: &'a [u8]) -> Payload<'a>
         requires { 1 ≤ length block.now }
         ensures { result ≡ drop 1 block.entry.now }

@@ -21,7 +21,7 @@ lines_push n (first ∷ endings) ending =
     ∙ sym (append_assoc (connection_line n first) (connection_lines (n + 1) endings) (connection_line (n + length (first ∷ endings)) ending))
 
 module _ {W : Type 0} (contents : W → Option (List ℕ)) (failures : W → Failures) (m : Content) (next : ℕ) (config : ServerConfig) where
-  -- so many connections were served
+  -- this many connections were served
   pub record AreServed (old : W) (count : ℕ) (mid : W) : Type 0 where
     pub endings : List Ending
     pub counted : length endings ≡ count

@@ -95,7 +95,7 @@ module _ {W : Type 0} (contents : W → Option (List ℕ)) (failures : W → Fai
   abbrev pub ServesAll : Content → ℕ → ServerConfig → List Ending → W → W → Type 0
   ServesAll m next config endings old new = AllByRecursion (IsEnding m next config) endings × Wrote contents failures (connection_lines 1 endings) old new
 
-  -- so many connections are served; or fewer, and then this went wrong with the next one
+  -- this many connections are served; or fewer, and then this went wrong with the next one
   abbrev pub ServesOn : Content → ℕ → ServerConfig → ℕ → W → Result Bool ToolFault → W → Type 0
   ServesOn m next config count old (Ok answer) new =
       (answer ≡ true) × ((endings : List Ending) × (length endings ≡ count) × ServesAll m next config endings old new)

@@ -11,7 +11,7 @@ use std::fmt::{self, Debug, Formatter};
 pub enum Job<'a> {
     /// A request over files and standard streams.
     Files(Request<'a>),
-    /// Serve the market of a file to so many connections.
+    /// Serve the market of a file to `count` connections.
     Serve {
         file: &'a str,
         peer: Peer<'a>,

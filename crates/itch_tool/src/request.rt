@@ -110,7 +110,7 @@ fn read_book<'a>(alloc: Global, options: &ArgMatches<'a>) -> Result<Request<'a>,
     })
 }
 
-// The number behind `--after`, in decimal digits alone.
+// The number after `--after`, in decimal digits alone.
 fn read_after<'a>(alloc: Global, options: &ArgMatches<'a>) -> Result<Option<u64>, Error> {
     let Some(text) = options.get_str("after") else {
         return Ok(None);

@@ -19,7 +19,7 @@ use std::alloc::{Alloc, Allocator};
 use std::net::{Ipv4Addr, Net, TcpListener, TcpStream};
 use std::rt::Clock;
 
-/// A snapshot with so many messages has no number left for its End of Snapshot's packet: 10^19 - 1.
+/// A snapshot with this many messages has no number left for its End of Snapshot's packet: 10^19 - 1.
 const TOO_MANY: u128 = 9_999_999_999_999_999_999;
 
 /// Serves the market of a day file on a port of 127.0.0.1, as [`serve_on`] does: the snapshot after all of its messages.
@@ -84,7 +84,7 @@ fn listen<N: Net<Listener = TcpListener, Stream = TcpStream>>(
     }
 }
 
-/// Serves a market to so many connections, one after the other, and writes a line for each: how it was answered, or that it
+/// Serves a market to `count` connections, one after the other, and writes a line for each: how it was answered, or that it
 /// had a fault, which ends nothing else. A peer has 15 seconds for its login, and as long for each write.
 ///
 /// The caller keeps the snapshot below 10^19 - 1 messages: `snapshot_len` counts them.

@@ -3,7 +3,7 @@ use super::vectors::*;
 use crate::{CodecFault, Message, decode, encode};
 use std::process::Abort;
 
-// Whether the fault tells of this byte at this place.
+// Whether the fault is about this byte at this place.
 fn is_fault_at(fault: CodecFault, at: usize, byte: u8) -> bool {
     match fault {
         CodecFault::BadText { offset } => offset == at && !(0x20..=0x7e).contains(&byte),

@@ -45,7 +45,7 @@ head_found orders n js y h = ap (λ o. first (shown o (found orders js))) h
 module _ (references : List (ℕ × ℕ)) (bids asks : List (Place × ℕ)) (w : Seen) (is : IsIndexed references bids asks w)
     (r k : ℕ) (node : node_of references r ≡ Some k) (next : Option ℕ)
     (told : (q : ℕ) (before behind_it : List ℕ) → w.keys q ≡ Some (before ++ k ∷ behind_it) → next ≡ first_or behind_it None) where
-  -- the node behind it has an order
+  -- the node after it has an order
   next_some : (n : ℕ) → next ≡ Some n → IsSome (w.orders n)
   next_some n h =
       let known = is.known r k node in
@@ -68,7 +68,7 @@ module _ (references : List (ℕ × ℕ)) (bids asks : List (Place × ℕ)) (w :
       let live = live_is references bids asks w is r k x node here in
       after_tail (indexed w bids asks) is.book r x live ∙ next_here (indexed w bids asks) is.book r x live y level
 
-  -- or none stands behind it at its price
+  -- or none stands after it at its price
   none_level : (x : Order) (here : w.orders k ≡ Some x) → next ≡ None → find (is_level x.locate x.side x.price) (behind r (indexed w bids asks)) ≡ None
   none_level x here h =
       let place = is.listed k x here in
