@@ -1,5 +1,5 @@
 -- Bytes compared with those of a market's snapshot, message by message.
-use Rattle.std.proofs.Common.{Bool, true, false, ◌≡◌, ◌≢◌, ◌↔◌, ◌==◌, length, List, [], ◌∷◌, ◌++◌, map, ℕ, Option, None, Some, refl, sym, ap, ◌∙◌, append-nil, append_assoc, arith}
+use Rattle.std.proofs.Common.{Bool, true, false, ◌≡◌, ◌≢◌, ◌↔◌, ◌==◌, length, List, [], ◌∷◌, ◌++◌, map, ℕ, Option, None, Some, refl, sym, ap, ◌∙◌, subst, append-nil, append_assoc, arith}
 use Rattle.std.proofs.lemmas.Bool.{true≢false, eqb-true}
 use Rattle.std.proofs.lemmas.List.{map-append, append_cancel_left}
 use Rattle.std.specs.Borrow.{Bor}
@@ -14,7 +14,9 @@ use Rattle.itch_market.specs.Content.{Content}
 use Rattle.itch_market.specs.Goods.{IsGood}
 use Rattle.itch_snapshot.specs.Bytes.{canon, closing}
 use Rattle.itch_snapshot.specs.Snapshot.{snap}
-use Rattle.itch_snapshot.proofs.Sent.{message_short}
+use Rattle.std.specs.List.{AllByRecursion}
+use Rattle.itch_book.proofs.Lists.{All-right_rec}
+use Rattle.itch_snapshot.proofs.Sent.{IsShort, snap_short}
 use Rattle.itch_commands.specs.Canons.{StripsFront}
 
 -- what is stripped in two parts is stripped
@@ -37,7 +39,8 @@ matched_first m bytes = record { messages = refl; front = refl }
 module _ (m : Content) (bytes : List ℕ) (seen left : List Message) (rest : List ℕ) (so_far : Matched m bytes seen left rest) where
   -- the spelling of the next message fits a block
   next_short : (x : Message) (others : List Message) → IsGood m → left ≡ x ∷ others → IsPayload (spelling x)
-  next_short x others good next = message_short m seen others x good (so_far.messages ∙ ap (λ ms. seen ++ ms) next)
+  next_short x others good next =
+      (All-right_rec IsShort seen (x ∷ others) (subst (AllByRecursion IsShort) (so_far.messages ∙ ap (λ ms. seen ++ ms) next) (snap_short m good))).0
 
   -- one message more
   pub matched_on : (x : Message) (others : List Message) (more : List ℕ) → IsGood m → left ≡ x ∷ others → (IsPayload (spelling x) → rest ≡ block (spelling x) ++ more)

@@ -5,17 +5,19 @@ use Rattle.std.specs.Option.{option_map}
 use Rattle.std.specs.FinMap as map
 use Rattle.itch_codec.specs.declared.fault.CodecFault.{CodecFault}
 use Rattle.itch_codec.specs.Fields.{AreBytes}
-use Rattle.itch_codec.specs.Messages.{fault, message_of}
+use Rattle.itch_book.proofs.Lists.{by_test}
+use Rattle.itch_codec.specs.Messages.{fault, message_of, spelling}
 use Rattle.itch_codec.proofs.Spelling.{IsMessage-Spells, Spells-message_of}
 use Rattle.itch_market.specs.declared.refusal.Refusal.{Refusal}
 use Rattle.itch_market.specs.declared.refusal.Refusal.TheVariants as why
+use Rattle.itch_market.specs.declared.stop.Stop.{Stop}
 use Rattle.itch_market.specs.declared.stop.Stop.TheVariants as stop
 use Rattle.itch_market.specs.Content.{Content, laid}
 use Rattle.itch_market.specs.Effects.{effect, takes_memory}
 use Rattle.itch_market.specs.Reasons.{reason}
 use Rattle.itch_market.specs.Replays.{IsRefusal, TakesOne}
 use Rattle.itch_market.specs.Stops.{cause_by}
-use Rattle.itch_snapshot.specs.Loads.{TakesNext, closing_number, is_full}
+use Rattle.itch_snapshot.specs.Loads.{TakesNext, closing_number, is_full, is_skipped}
 use Rattle.itch_join.specs.declared.fault.Cause.{Cause}
 use Rattle.itch_join.specs.declared.fault.Cause.TheVariants as cause
 use Rattle.itch_join.specs.declared.fault.JoinFault.{JoinFault}
@@ -29,14 +31,17 @@ use Rattle.itch_join.specs.declared.state.LiveCase.TheVariants as live
 use Rattle.itch_join.specs.declared.state.Stopped.{Stopped}
 use Rattle.itch_join.specs.declared.state.Stopped.TheVariants.{Refused, NoMemory}
 use Rattle.itch_join.specs.Positions.{Position}
-use Rattle.itch_join.specs.Rules.{refused_by, market_rules}
+use Rattle.itch_join.specs.Rules.{Rules, refused_by, market_rules, rules_of}
 use Rattle.itch_join.specs.States.{Reading, State, unread, is_number}
 use Rattle.itch_join.specs.Applying.{Front, front_of, advanced, at_hand, Applies, standing, result_by}
 use Rattle.itch_join.specs.Steps.{SnapFails, message_case, payload_case, snapshot_case, Takes, SnapshotBy, started, live_case, LiveBy, NextBy}
 use Rattle.itch_join.proofs.Cases.{IsLiveCase, live_case_is}
 use Rattle.itch_join.proofs.Lawful.{faultless, reasonless}
 use Rattle.itch_join.proofs.Maps.{get-remove, get-from}
+use Rattle.itch_join.proofs.Skipping.{refused_here, effect_here, memory_here, refused_skipped, effect_skipped}
 use Rattle.itch_join.proofs.Taking.{case_here}
+use Rattle.itch_commands.specs.AsRead.{idle, as_read}
+use Rattle.itch_commands.proofs.AsRead.{idle_clean, idle_read, idle_fitting, read_skipped, read_stays, read_number}
 use Rattle.itch_commands.specs.Joiners.{half_market, IsReading, position_of, IsJoined, FeedsOne, IsOfSnapshot, snapshot_fault, IsOfFeed, feed_stop}
 
 -- why a message is refused, as a joiner and as a replay say it -----------------
@@ -99,139 +104,188 @@ none_left : (b : Bool) (o : Option (List ℕ)) → o ≡ None → cond b None o 
 none_left true o none = refl
 none_left false o none = none
 
--- a message of the snapshot ----------------------------------------------------
+-- the same of a joiner that is restricted to some locates -------------------------
 
-module _ (s : State) (taken : ℕ) (p : List ℕ) (is : IsReading taken s) (bytes : AreBytes p) where
-  abbrev m : Content
-  m = half_market s.half
+idle_taken : (m n : Content) → n ≡ m → TakesOne m (spelling idle) (Ok tt) (laid n)
+idle_taken m n same = (
+  ap (λ f. cause_by f m (spelling idle)) idle_clean ∙ ap (λ x. option_map stop.Rule (reason m x)) idle_read,
+  idle_fitting,
+  ap laid (same ∙ sym (ap (effect m) idle_read)),
+)
 
-  abbrev pub Given : Result Snap JoinFault → State → Type 0
-  Given (Ok snap.More) now = TakesNext taken (half_market s.half) p (Ok None) (half_market now.half) × IsReading (taken + 1) now
-  Given (Ok (snap.Joined next)) now =
-      TakesNext taken (half_market s.half) p (Ok (Some next)) (half_market s.half)
-      × (IsJoined now × (position_of now ≡ record { next = next; market = half_market s.half }))
-  Given (Err f) now = IsOfSnapshot f × TakesNext taken (half_market s.half) p (Err (snapshot_fault f (taken + 1))) (half_market s.half)
+module _ (wanted : ℕ → Bool) where
+  abbrev R : Rules
+  R = rules_of wanted
 
-  given_by : (result r : Result Snap JoinFault) (now n : State) → result ≡ r → now ≡ n → Given r n → Given result now
-  given_by result r now n one two g = subst (λ x. Given x now) (sym one) (subst (Given r) (sym two) g)
+  module _ (m : Content) (p : List ℕ) where
+    stays : (c : Cause) → R.refused m p ≡ Some c → is_skipped wanted p ≡ false
+    stays c some =
+        by_test (is_skipped wanted p) (λ skip. absurd (let none : None ≡ Some c = sym (refused_skipped wanted m p skip) ∙ some in let no_one : ⊥ = cc in no_one)) (λ wants. wants)
 
-  one_more : (result : Result Snap JoinFault) (now : State) → is_full taken ≡ false → closing_number p ≡ None → refused_by (fault p) m p ≡ None
-      → Takes market_rules s taken m p result now → Given result now
-  one_more (Ok outcome) now room unclosed none (more, left) =
-      given_by (Ok outcome) (Ok snap.More) now (record s { half = Reading (taken + 1) (laid (effect m (message_of p))) }) (ap Ok more) left
-      ((room, one_taken m p bytes none), record { waits = is.waits; half = refl; unjoined = is.unjoined; running = is.running })
-  one_more (Err f) now room unclosed none (memory, takes, left) =
-      given_by (Err f) (Err (join.OutOfMemory false)) now s (ap Err memory) left (tt, (room, refl, unclosed, one_unmade m p none takes))
+    refused_as : (c : Cause) (result : Result (Unit {0}) Stop) → (refused_by (fault p) m p ≡ Some c → TakesOne m p result m) → R.refused m p ≡ Some c → TakesOne m (as_read wanted p) result m
+    refused_as c result here some =
+        let wants = stays c some in
+        subst (λ q. TakesOne m q result m) (sym (read_stays wanted p wants)) (here (sym (refused_here wanted m p wants) ∙ some))
 
-  one_fails : (place : ℕ) (c : Cause) (now : State) → place ≡ taken + 1 → is_full taken ≡ false → closing_number p ≡ None → refused_by (fault p) m p ≡ Some c
-      → Given (Err (join.BadSnapshot place c)) now
-  one_fails place (cause.Codec f) now here room unclosed some = (tt, (room, here, one_faulty m p f some))
-  one_fails place (cause.Rule r) now here room unclosed some = (tt, (room, here, unclosed, one_refused m p r some))
-  one_fails place cause.TooMany now here room unclosed some = absurd (never_many m p (fault p) some)
+    taken_as : AreBytes p → R.refused m p ≡ None → TakesOne m (as_read wanted p) (Ok tt) (laid (R.effect m p))
+    taken_as bytes none =
+        by_test (is_skipped wanted p)
+        (λ skip.
+        subst (λ q. TakesOne m q (Ok tt) (laid (R.effect m p))) (sym (read_skipped wanted p skip)) (idle_taken m (R.effect m p) (effect_skipped wanted m p skip)))
+        (λ wants.
+        subst (λ q. TakesOne m q (Ok tt) (laid (R.effect m p))) (sym (read_stays wanted p wants))
+        (subst (λ n. TakesOne m p (Ok tt) (laid n)) (sym (effect_here wanted m p wants)) (one_taken m p bytes (sym (refused_here wanted m p wants) ∙ none))))
 
-  by_refused : (o : Option Cause) (result : Result Snap JoinFault) (now : State) → is_full taken ≡ false → closing_number p ≡ None → refused_by (fault p) m p ≡ o
-      → SnapshotBy market_rules s p (message_case taken m o) result now → Given result now
-  by_refused None result now room unclosed none h = one_more result now room unclosed none h
-  by_refused (Some c) result now room unclosed some (answer, left) =
-      subst (λ r. Given r now) (sym answer) (one_fails (taken + 1) c now refl room unclosed some)
+    unmade_as : R.refused m p ≡ None → R.takes_memory m p ≡ true → TakesOne m (as_read wanted p) (Err (stop.Rule why.OutOfMemory)) m
+    unmade_as none memory =
+        by_test (is_skipped wanted p)
+        (λ skip. absurd (let no : false ≡ true = sym (ap (λ b. cond b false (market_rules.takes_memory m p)) skip) ∙ memory in let no_one : ⊥ = cc in no_one))
+        (λ wants.
+        subst (λ q. TakesOne m q (Err (stop.Rule why.OutOfMemory)) m) (sym (read_stays wanted p wants))
+        (one_unmade m p (sym (refused_here wanted m p wants) ∙ none) (sym (memory_here wanted m p wants) ∙ memory)))
 
-  by_full : (b : Bool) (result : Result Snap JoinFault) (now : State) → is_full taken ≡ b → closing_number p ≡ None
-      → SnapshotBy market_rules s p (cond b (SnapFails (10 ^ 19) cause.TooMany) (message_case taken m (refused_by (fault p) m p))) result now → Given result now
-  by_full true result now full unclosed (answer, left) = subst (λ r. Given r now) (sym answer) (tt, (full, unclosed, refl))
-  by_full false result now room unclosed h = by_refused (refused_by (fault p) m p) result now room unclosed refl h
+    never_as : R.refused m p ≡ Some cause.TooMany → ⊥
+    never_as some = never_many m p (fault p) (sym (refused_here wanted m p (stays cause.TooMany some)) ∙ some)
 
-  abbrev start_at : ℕ → Front
-  start_at next = started s next m
+  -- a message of the snapshot ----------------------------------------------------
 
-  ends_by : (next : ℕ) (ps : List (List ℕ)) (ending : Result (Unit {0}) Stopped) (b : Front) (result : Result Snap JoinFault) (now : State) → closing_number p ≡ Some next
-      → Applies market_rules (start_at next) None ps ending b → result ≡ result_by snap.Joined true ending b.next → now ≡ standing unread ending b → Given result now
-  ends_by next [] (Ok done) b result now closes (ends, same) answer left =
-      given_by result (Ok (snap.Joined b.next)) now (standing unread (Ok done) b) answer left
-      (subst (λ (f : Front). Given (Ok (snap.Joined f.next)) (standing unread (Ok done) f)) (sym same) (
-        (refl, closes),
-        (record { waits = λ i. get-from s.wait next i ∙ none_there (not (nat_lt i next)) (map.get s.wait i) (is.waits i); joined = refl; running = refl }, refl),
-      ))
-  ends_by next [] (Err stopped) b result now closes (ends, same) answer left = absurd ends
-  ends_by next (q ∷ ps) ending b result now closes (hand, clean, rest) answer left = absurd (let no_one : ⊥ = cc in no_one)
+  module _ (s : State) (taken : ℕ) (p : List ℕ) (is : IsReading taken s) (bytes : AreBytes p) where
+    abbrev m : Content
+    m = half_market s.half
 
-  by_number : (o : Option ℕ) (result : Result Snap JoinFault) (now : State) → closing_number p ≡ o
-      → SnapshotBy market_rules s p (payload_case taken m o (refused_by (fault p) m p)) result now → Given result now
-  by_number (Some next) result now closes h =
-      let none : at_hand (start_at next) ≡ None = get-from s.wait next next ∙ none_there (not (nat_lt next next)) (map.get s.wait next) (is.waits next) in
-      ends_by next h.payloads h.ending h.front result now closes (subst (λ o. Applies market_rules (start_at next) o h.payloads h.ending h.front) none h.applies) h.returned h.left
-  by_number None result now unclosed h = by_full (is_full taken) result now refl unclosed h
+    abbrev seen : List ℕ
+    seen = as_read wanted p
 
-  pub given : (result : Result Snap JoinFault) (now : State) → SnapshotBy market_rules s p (snapshot_case market_rules s p) result now → Given result now
-  given result now h =
-      by_number (closing_number p) result now refl
-      (subst (λ k. SnapshotBy market_rules s p k result now)
-      (case_here s taken m p (closing_number p) (refused_by (fault p) m p) is.running (ap is_some is.unjoined) is.half refl refl) h)
+    unclosed_as : closing_number p ≡ None → closing_number seen ≡ None
+    unclosed_as unclosed = read_number wanted p ∙ unclosed
 
--- a message of the feed --------------------------------------------------------
+    abbrev pub Given : Result Snap JoinFault → State → Type 0
+    Given (Ok snap.More) now = TakesNext taken (half_market s.half) (as_read wanted p) (Ok None) (half_market now.half) × IsReading (taken + 1) now
+    Given (Ok (snap.Joined next)) now =
+        TakesNext taken (half_market s.half) (as_read wanted p) (Ok (Some next)) (half_market s.half)
+        × (IsJoined now × (position_of now ≡ record { next = next; market = half_market s.half }))
+    Given (Err f) now = IsOfSnapshot f × TakesNext taken (half_market s.half) (as_read wanted p) (Err (snapshot_fault f (taken + 1))) (half_market s.half)
 
-module _ (cap number : ℕ) (s : State) (p : List ℕ) (is : IsJoined s) (low : 0 < number) (high : number < 10 ^ 19) (within : number ≤ Position.next (position_of s)) (bytes : AreBytes p) where
-  abbrev j : Position
-  j = position_of s
+    given_by : (result r : Result Snap JoinFault) (now n : State) → result ≡ r → now ≡ n → Given r n → Given result now
+    given_by result r now n one two g = subst (λ x. Given x now) (sym one) (subst (Given r) (sym two) g)
 
-  abbrev pub Heard : Result Live JoinFault → State → Type 0
-  Heard (Ok outcome) now = FeedsOne number (position_of s) p (Ok tt) (position_of now) × IsJoined now
-  Heard (Err f) now = IsOfFeed f × FeedsOne number (position_of s) p (Err (feed_stop f)) (position_of now)
+    one_more : (result : Result Snap JoinFault) (now : State) → is_full taken ≡ false → closing_number p ≡ None → R.refused m p ≡ None
+        → Takes R s taken m p result now → Given result now
+    one_more (Ok outcome) now room unclosed none (more, left) =
+        given_by (Ok outcome) (Ok snap.More) now (record s { half = Reading (taken + 1) (laid (R.effect m p)) }) (ap Ok more) left
+        ((room, taken_as m p bytes none), record { waits = is.waits; half = refl; unjoined = is.unjoined; running = is.running })
+    one_more (Err f) now room unclosed none (memory, takes, left) =
+        given_by (Err f) (Err (join.OutOfMemory false)) now s (ap Err memory) left (tt, (room, refl, unclosed_as unclosed, unmade_as m p none takes))
 
-  heard_by : (result r : Result Live JoinFault) (now n : State) → result ≡ r → now ≡ n → Heard r n → Heard result now
-  heard_by result r now n one two g = subst (λ x. Heard x now) (sym one) (subst (Heard r) (sym two) g)
+    one_fails : (place : ℕ) (c : Cause) (now : State) → place ≡ taken + 1 → is_full taken ≡ false → closing_number p ≡ None → R.refused m p ≡ Some c
+        → Given (Err (join.BadSnapshot place c)) now
+    one_fails place (cause.Codec f) now here room unclosed some = (tt, (room, here, refused_as m p (cause.Codec f) (Err (stop.Codec f)) (one_faulty m p f) some))
+    one_fails place (cause.Rule r) now here room unclosed some = (tt, (room, here, unclosed_as unclosed, refused_as m p (cause.Rule r) (Err (stop.Rule r)) (one_refused m p r) some))
+    one_fails place cause.TooMany now here room unclosed some = absurd (never_as m p some)
 
-  refused_one : (c : Cause) (next : ℕ) (now : State) → j.next ≡ number → refused_by (fault p) j.market p ≡ Some c → Heard (Err (join.Halted next c)) now
-  refused_one (cause.Codec f) next now here some = (tt, (here, one_faulty j.market p f some))
-  refused_one (cause.Rule r) next now here some = (tt, (here, one_refused j.market p r some))
-  refused_one cause.TooMany next now here some = absurd (never_many j.market p (fault p) some)
+    by_refused : (o : Option Cause) (result : Result Snap JoinFault) (now : State) → is_full taken ≡ false → closing_number p ≡ None → R.refused m p ≡ o
+        → SnapshotBy R s p (message_case taken m o) result now → Given result now
+    by_refused None result now room unclosed none h = one_more result now room unclosed none h
+    by_refused (Some c) result now room unclosed some (answer, left) =
+        subst (λ r. Given r now) (sym answer) (one_fails (taken + 1) c now refl room unclosed some)
 
-  after_one : (taken : Bool) (q : List ℕ) (qs : List (List ℕ)) (ending : Result (Unit {0}) Stopped) (b : Front) (result : Result Live JoinFault) (now : State) → j.next ≡ number
-      → q ≡ p → refused_by (fault p) j.market p ≡ None → Applies market_rules (advanced market_rules (front_of s j) p) None qs ending b
-      → result ≡ result_by hears.Applied taken ending b.next → now ≡ standing s.half ending b → Heard result now
-  after_one taken q [] (Ok done) b result now here this none (ends, same) answer left =
-      heard_by result (Ok (hears.Applied b.next)) now (standing s.half (Ok done) b) answer left
-      (subst (λ (f : Front). Heard (Ok (hears.Applied f.next)) (standing s.half (Ok done) f)) (sym same) (
-        inr (here, one_taken j.market p bytes none, ap (λ n. n + 1) here),
-        record { waits = λ i. get-remove s.wait j.next i ∙ none_left (i == j.next) (map.get s.wait i) (is.waits i); joined = refl; running = refl },
-      ))
-  after_one taken q [] (Err stopped) b result now here this none (ends, same) answer left = absurd ends
-  after_one taken q (r ∷ qs) ending b result now here this none (hand, clean, rest) answer left = absurd (let no_one : ⊥ = cc in no_one)
+    by_full : (b : Bool) (result : Result Snap JoinFault) (now : State) → is_full taken ≡ b → closing_number p ≡ None
+        → SnapshotBy R s p (cond b (SnapFails (10 ^ 19) cause.TooMany) (message_case taken m (R.refused m p))) result now → Given result now
+    by_full true result now full unclosed (answer, left) = subst (λ r. Given r now) (sym answer) (tt, (full, unclosed_as unclosed, refl))
+    by_full false result now room unclosed h = by_refused (R.refused m p) result now room unclosed refl h
 
-  applied : (taken : Bool) (ps : List (List ℕ)) (ending : Result (Unit {0}) Stopped) (b : Front) (result : Result Live JoinFault) (now : State) → j.next ≡ number
-      → Applies market_rules (front_of s j) (Some p) ps ending b
-      → result ≡ result_by hears.Applied taken ending b.next → now ≡ standing s.half ending b → Heard result now
-  applied taken [] (Ok done) b result now here (ends, same) answer left = absurd ends
-  applied taken [] (Err (Refused c)) b result now here (ends, same) answer left =
-      subst (λ r. Heard r now) (sym answer) (refused_one c b.next now here ends)
-  applied taken [] (Err NoMemory) b result now here (ends, same) answer left =
-      subst (λ r. Heard r now) (sym answer) (tt, (here, one_unmade j.market p ends.0 ends.1))
-  applied taken (q ∷ ps) ending b result now here (hand, none, rest) answer left =
-      let this : q ≡ p = cc in
-      let clean : refused_by (fault p) j.market p ≡ None = subst (λ x. refused_by (fault x) j.market x ≡ None) this none in
-      let on : Applies market_rules (advanced market_rules (front_of s j) p) (at_hand (advanced market_rules (front_of s j) p)) ps ending b =
-      subst (λ x. Applies market_rules (advanced market_rules (front_of s j) x) (at_hand (advanced market_rules (front_of s j) x)) ps ending b) this rest in
-      let gone : at_hand (advanced market_rules (front_of s j) p) ≡ None =
-      get-remove s.wait j.next (j.next + 1) ∙ none_left (j.next + 1 == j.next) (map.get s.wait (j.next + 1)) (is.waits (j.next + 1)) in
-      after_one taken q ps ending b result now here this clean (subst (λ o. Applies market_rules (advanced market_rules (front_of s j) p) o ps ending b) gone on) answer left
+    abbrev start_at : ℕ → Front
+    start_at next = started s next m
 
-  numbered : is_number number ≡ true
-  numbered = grind (arith, nat_tests)
+    ends_by : (next : ℕ) (ps : List (List ℕ)) (ending : Result (Unit {0}) Stopped) (b : Front) (result : Result Snap JoinFault) (now : State) → closing_number p ≡ Some next
+        → Applies R (start_at next) None ps ending b → result ≡ result_by snap.Joined true ending b.next → now ≡ standing unread ending b → Given result now
+    ends_by next [] (Ok done) b result now closes (ends, same) answer left =
+        given_by result (Ok (snap.Joined b.next)) now (standing unread (Ok done) b) answer left
+        (subst (λ (f : Front). Given (Ok (snap.Joined f.next)) (standing unread (Ok done) f)) (sym same) (
+          (refl, read_number wanted p ∙ closes),
+          (record { waits = λ i. get-from s.wait next i ∙ none_there (not (nat_lt i next)) (map.get s.wait i) (is.waits i); joined = refl; running = refl }, refl),
+        ))
+    ends_by next [] (Err stopped) b result now closes (ends, same) answer left = absurd ends
+    ends_by next (q ∷ ps) ending b result now closes (hand, clean, rest) answer left = absurd (let no_one : ⊥ = cc in no_one)
 
-  by_kind : (kind : LiveCase) (result : Result Live JoinFault) (now : State) → IsLiveCase cap s number p kind → LiveBy market_rules cap s number p kind result now → Heard result now
-  by_kind (live.Halted h) result now halted by = absurd (let no : None ≡ Some h = sym is.running ∙ halted in let no_one : ⊥ = cc in no_one)
-  by_kind live.BadNumber result now (none, bad) by = absurd (let no : true ≡ false = sym numbered ∙ bad in let no_one : ⊥ = cc in no_one)
-  by_kind live.Old result now (none, k, there, below) (answer, left) =
-      let same : k ≡ j = let e : Some k ≡ Some j = sym there ∙ is.joined in cc in
-      heard_by result (Ok hears.Old) now s answer left (inl (subst (λ (i : Position). number < i.next) same below, refl), is)
-  by_kind live.Conflict result now (none, w, there, other) by = absurd (let no : None ≡ Some w = sym (is.waits number) ∙ there in let no_one : ⊥ = cc in no_one)
-  by_kind live.Next result now (none, num, k, there, at) by =
-      let same : k ≡ j = let e : Some k ≡ Some j = sym there ∙ is.joined in cc in
-      let here : j.next ≡ number = ap (λ (i : Position). i.next) (sym same) ∙ sym at in
-      let goes = subst (λ o. NextBy market_rules s number p o result now) is.joined by in
-      applied _ goes.payloads goes.ending goes.front result now here goes.applies goes.returned goes.left
-  by_kind live.Kept result now (none, waits, above) by = absurd (let less : j.next < number = above j is.joined in omega arith)
-  by_kind live.Full result now (none, full, above) by = absurd (let less : j.next < number = above j is.joined in omega arith)
-  by_kind live.Stored result now (none, num, room, free, above) by = absurd (let less : j.next < number = above j is.joined in omega arith)
+    by_number : (o : Option ℕ) (result : Result Snap JoinFault) (now : State) → closing_number p ≡ o
+        → SnapshotBy R s p (payload_case taken m o (R.refused m p)) result now → Given result now
+    by_number (Some next) result now closes h =
+        let none : at_hand (start_at next) ≡ None = get-from s.wait next next ∙ none_there (not (nat_lt next next)) (map.get s.wait next) (is.waits next) in
+        ends_by next h.payloads h.ending h.front result now closes (subst (λ o. Applies R (start_at next) o h.payloads h.ending h.front) none h.applies) h.returned h.left
+    by_number None result now unclosed h = by_full (is_full taken) result now refl unclosed h
 
-  pub heard : (result : Result Live JoinFault) (now : State) → LiveBy market_rules cap s number p (live_case cap s number p) result now → Heard result now
-  heard result now h = by_kind (live_case cap s number p) result now (live_case_is cap s number p) h
+    pub given : (result : Result Snap JoinFault) (now : State) → SnapshotBy R s p (snapshot_case R s p) result now → Given result now
+    given result now h =
+        by_number (closing_number p) result now refl
+        (subst (λ k. SnapshotBy R s p k result now)
+        (case_here wanted s taken m p (closing_number p) (R.refused m p) is.running (ap is_some is.unjoined) is.half refl refl) h)
+
+  -- a message of the feed --------------------------------------------------------
+
+  module _ (cap number : ℕ) (s : State) (p : List ℕ) (is : IsJoined s) (low : 0 < number) (high : number < 10 ^ 19) (within : number ≤ Position.next (position_of s)) (bytes : AreBytes p) where
+    abbrev j : Position
+    j = position_of s
+
+    abbrev pub Heard : Result Live JoinFault → State → Type 0
+    Heard (Ok outcome) now = FeedsOne number (position_of s) (as_read wanted p) (Ok tt) (position_of now) × IsJoined now
+    Heard (Err f) now = IsOfFeed f × FeedsOne number (position_of s) (as_read wanted p) (Err (feed_stop f)) (position_of now)
+
+    heard_by : (result r : Result Live JoinFault) (now n : State) → result ≡ r → now ≡ n → Heard r n → Heard result now
+    heard_by result r now n one two g = subst (λ x. Heard x now) (sym one) (subst (Heard r) (sym two) g)
+
+    refused_one : (c : Cause) (next : ℕ) (now : State) → j.next ≡ number → R.refused j.market p ≡ Some c → Heard (Err (join.Halted next c)) now
+    refused_one (cause.Codec f) next now here some = (tt, (here, refused_as j.market p (cause.Codec f) (Err (stop.Codec f)) (one_faulty j.market p f) some))
+    refused_one (cause.Rule r) next now here some = (tt, (here, refused_as j.market p (cause.Rule r) (Err (stop.Rule r)) (one_refused j.market p r) some))
+    refused_one cause.TooMany next now here some = absurd (never_as j.market p some)
+
+    after_one : (taken : Bool) (q : List ℕ) (qs : List (List ℕ)) (ending : Result (Unit {0}) Stopped) (b : Front) (result : Result Live JoinFault) (now : State) → j.next ≡ number
+        → q ≡ p → R.refused j.market p ≡ None → Applies R (advanced R (front_of s j) p) None qs ending b
+        → result ≡ result_by hears.Applied taken ending b.next → now ≡ standing s.half ending b → Heard result now
+    after_one taken q [] (Ok done) b result now here this none (ends, same) answer left =
+        heard_by result (Ok (hears.Applied b.next)) now (standing s.half (Ok done) b) answer left
+        (subst (λ (f : Front). Heard (Ok (hears.Applied f.next)) (standing s.half (Ok done) f)) (sym same) (
+          inr (here, taken_as j.market p bytes none, ap (λ n. n + 1) here),
+          record { waits = λ i. get-remove s.wait j.next i ∙ none_left (i == j.next) (map.get s.wait i) (is.waits i); joined = refl; running = refl },
+        ))
+    after_one taken q [] (Err stopped) b result now here this none (ends, same) answer left = absurd ends
+    after_one taken q (r ∷ qs) ending b result now here this none (hand, clean, rest) answer left = absurd (let no_one : ⊥ = cc in no_one)
+
+    applied : (taken : Bool) (ps : List (List ℕ)) (ending : Result (Unit {0}) Stopped) (b : Front) (result : Result Live JoinFault) (now : State) → j.next ≡ number
+        → Applies R (front_of s j) (Some p) ps ending b
+        → result ≡ result_by hears.Applied taken ending b.next → now ≡ standing s.half ending b → Heard result now
+    applied taken [] (Ok done) b result now here (ends, same) answer left = absurd ends
+    applied taken [] (Err (Refused c)) b result now here (ends, same) answer left =
+        subst (λ r. Heard r now) (sym answer) (refused_one c b.next now here ends)
+    applied taken [] (Err NoMemory) b result now here (ends, same) answer left =
+        subst (λ r. Heard r now) (sym answer) (tt, (here, unmade_as j.market p ends.0 ends.1))
+    applied taken (q ∷ ps) ending b result now here (hand, none, rest) answer left =
+        let this : q ≡ p = cc in
+        let clean : R.refused j.market p ≡ None = subst (λ x. R.refused j.market x ≡ None) this none in
+        let on : Applies R (advanced R (front_of s j) p) (at_hand (advanced R (front_of s j) p)) ps ending b =
+        subst (λ x. Applies R (advanced R (front_of s j) x) (at_hand (advanced R (front_of s j) x)) ps ending b) this rest in
+        let gone : at_hand (advanced R (front_of s j) p) ≡ None =
+        get-remove s.wait j.next (j.next + 1) ∙ none_left (j.next + 1 == j.next) (map.get s.wait (j.next + 1)) (is.waits (j.next + 1)) in
+        after_one taken q ps ending b result now here this clean (subst (λ o. Applies R (advanced R (front_of s j) p) o ps ending b) gone on) answer left
+
+    numbered : is_number number ≡ true
+    numbered = grind (arith, nat_tests)
+
+    by_kind : (kind : LiveCase) (result : Result Live JoinFault) (now : State) → IsLiveCase cap s number p kind → LiveBy R cap s number p kind result now → Heard result now
+    by_kind (live.Halted h) result now halted by = absurd (let no : None ≡ Some h = sym is.running ∙ halted in let no_one : ⊥ = cc in no_one)
+    by_kind live.BadNumber result now (none, bad) by = absurd (let no : true ≡ false = sym numbered ∙ bad in let no_one : ⊥ = cc in no_one)
+    by_kind live.Old result now (none, k, there, below) (answer, left) =
+        let same : k ≡ j = let e : Some k ≡ Some j = sym there ∙ is.joined in cc in
+        heard_by result (Ok hears.Old) now s answer left (inl (subst (λ (i : Position). number < i.next) same below, refl), is)
+    by_kind live.Conflict result now (none, w, there, other) by = absurd (let no : None ≡ Some w = sym (is.waits number) ∙ there in let no_one : ⊥ = cc in no_one)
+    by_kind live.Next result now (none, num, k, there, at) by =
+        let same : k ≡ j = let e : Some k ≡ Some j = sym there ∙ is.joined in cc in
+        let here : j.next ≡ number = ap (λ (i : Position). i.next) (sym same) ∙ sym at in
+        let goes = subst (λ o. NextBy R s number p o result now) is.joined by in
+        applied _ goes.payloads goes.ending goes.front result now here goes.applies goes.returned goes.left
+    by_kind live.Kept result now (none, waits, above) by = absurd (let less : j.next < number = above j is.joined in omega arith)
+    by_kind live.Full result now (none, full, above) by = absurd (let less : j.next < number = above j is.joined in omega arith)
+    by_kind live.Stored result now (none, num, room, free, above) by = absurd (let less : j.next < number = above j is.joined in omega arith)
+
+    pub heard : (result : Result Live JoinFault) (now : State) → LiveBy R cap s number p (live_case cap s number p) result now → Heard result now
+    heard result now h = by_kind (live_case cap s number p) result now (live_case_is cap s number p) h

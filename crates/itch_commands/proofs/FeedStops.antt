@@ -1,10 +1,10 @@
 -- What the reading of a feed says of a feed whose bytes are known.
-use Rattle.std.proofs.Common.{◌≡◌, ℕ, ◌+◌, ◌-◌, ◌^◌, ◌<◌, ◌≤◌, ◌==◌, nat_lt, min, Bool, true, false, cond, List, [], ◌∷◌, ◌++◌, length, Option, None, Some, IfSome, refl, sym, ap, subst, ◌∙◌, inl, inr, arith, length-append, eq-eqb}
+use Rattle.std.proofs.Common.{◌≡◌, ℕ, ◌+◌, ◌-◌, ◌^◌, ◌<◌, ◌≤◌, ◌==◌, nat_lt, min, Bool, true, false, cond, List, [], ◌∷◌, ◌++◌, map, length, Option, None, Some, IfSome, refl, sym, ap, subst, ◌∙◌, inl, inr, arith, length-append, append-nil, eq-eqb}
 use Rattle.std.specs.Option.{option_map}
 use Rattle.std.specs.List.{AllByRecursion}
 use Rattle.std.proofs.lemmas.Bool.{ne_eqb, eqb-false, eqb-true}
 use Rattle.std.proofs.lemmas.Bool.Decides.{nat_tests}
-use Rattle.std.proofs.lemmas.List.{drop-append-le, length-drop}
+use Rattle.std.proofs.lemmas.List.{drop-append-le, length-drop, length-map, map-append}
 use Rattle.itch_codec.specs.Messages.{message_of}
 use Rattle.itch_frame.specs.Blocks.{block, blocks, Ends, Open, IsFull, Day}
 use Rattle.itch_frame.proofs.Days.{day_on, day_behind, day_some}
@@ -16,9 +16,11 @@ use Rattle.itch_market.specs.Content.{Content}
 use Rattle.itch_market.specs.Effects.{takes_memory}
 use Rattle.itch_market.specs.Reasons.{reason}
 use Rattle.itch_market.specs.Stops.{cause_by, cause, cause_at, end_of, last_stop}
-use Rattle.itch_market.specs.Replays.{NoCause, IsRefusal, Refuses, TakesOff, Halts, IsTold}
+use Rattle.itch_market.specs.Firsts.{IsFirst}
+use Rattle.itch_market.specs.Replays.{NoCause, IsRefusal, Refuses, TakesOff, IsTold}
 use Rattle.itch_market.proofs.Causes.{cause_behind, cause_before}
 use Rattle.itch_market.proofs.Stopping.{chosen, passed_over, ends_stop, open_stops}
+use Rattle.itch_commands.specs.AsRead.{HaltsAs}
 use Rattle.itch_commands.specs.Joining.{Start, from_number, joined_market, TakesFeed, IsOfMessage, EndsFeed, feed_cause_at, feed_stop_at, StopsFeed}
 
 -- a message that is refused, and not for want of memory, is refused for its reason
@@ -64,103 +66,132 @@ module _ (start : Start) where
       ∙ cause_behind start.0 (from_number start.1 done) p more
 
   -- all payloads are taken
-  none_ends : (bytes : List ℕ) (ps : List (List ℕ)) (rest : List ℕ) → Day bytes ps rest → length ps ≤ most → NoCause start.0 (from_number start.1 ps) → StopsFeed start bytes (length ps) (end_of rest)
-  none_ends bytes ps rest day few none = record {
-    payloads = ps;
-    rest = rest;
-    day = day;
-    first = record {
-      here =
-          at_last ps rest (length ps) (omega arith)
-          ∙ ap Some (passed_over (nat_lt most (length ps)) TooManyMessages (end_of rest) (grind (arith, nat_tests)));
-      before = λ k early. before_last ps rest k (omega arith) ∙ ap (λ qs. feed_cause_at start qs k) (sym (nothing_more ps)) ∙ none_before ps [] k none early;
-    };
-  } where
-    nothing_more : (qs : List (List ℕ)) → qs ++ [] ≡ qs
-    nothing_more [] = refl
-    nothing_more (q ∷ qs) = ap (λ t. q ∷ t) (nothing_more qs)
-
-  -- a payload after those that are taken, and a day after it
-  day_after : (bytes unread : List ℕ) (done : List (List ℕ)) (p : List ℕ) → bytes ≡ blocks done ++ (block p ++ unread) → AllByRecursion IsFull done → IsFull p
-      → (more : List (List ℕ)) × (rest : List ℕ) × Day bytes (done ++ p ∷ more) rest
-  day_after bytes unread done p whole full_done full = found (day_some unread) where
-    found : (ps : List (List ℕ)) × (rest : List ℕ) × Day unread ps rest → (more : List (List ℕ)) × (rest : List ℕ) × Day bytes (done ++ p ∷ more) rest
-    found (more, rest, later) =
-        let all : Day (blocks done ++ (block p ++ unread)) (done ++ p ∷ more) rest = day_behind done (block p ++ unread) (p ∷ more) rest full_done (day_on p unread more rest full later) in
-        (more, rest, record { whole = whole ∙ all.whole; each = all.each; last = all.last })
+  first_end : (ps : List (List ℕ)) (rest : List ℕ) → length ps ≤ most → NoCause start.0 (from_number start.1 ps) → IsFirst (feed_stop_at start ps rest) (length ps) (end_of rest)
+  first_end ps rest few none = record {
+    here =
+        at_last ps rest (length ps) (omega arith)
+        ∙ ap Some (passed_over (nat_lt most (length ps)) TooManyMessages (end_of rest) (grind (arith, nat_tests)));
+    before = λ k early. before_last ps rest k (omega arith) ∙ ap (λ qs. feed_cause_at start qs k) (sym (append-nil ps)) ∙ none_before ps [] k none early;
+  }
 
   -- a payload is not taken
-  one_stops : (bytes unread : List ℕ) (done : List (List ℕ)) (p : List ℕ) (why : Stop) → bytes ≡ blocks done ++ (block p ++ unread) → AllByRecursion IsFull done → IsFull p → length done < most
-      → NoCause start.0 (from_number start.1 done) → start.1 ≤ length done + 1 → cause (joined_market start done) p ≡ Some why → StopsFeed start bytes (length done) why
-  one_stops bytes unread done p why whole full_done full few none low is = found (day_after bytes unread done p whole full_done full) where
-    found : (more : List (List ℕ)) × (rest : List ℕ) × Day bytes (done ++ p ∷ more) rest → StopsFeed start bytes (length done) why
-    found (more, rest, day) =
-        let longer : length done < length (done ++ p ∷ more) = omega (arith, length-append done (p ∷ more)) in
-        record {
-          payloads = done ++ p ∷ more;
-          rest = rest;
-          day = day;
-          first = record {
-            here = before_last (done ++ p ∷ more) rest (length done) (omega arith) ∙ next_cause done p more low ∙ is;
-            before = λ k early. before_last (done ++ p ∷ more) rest k (omega arith) ∙ none_before done (p ∷ more) k none early;
-          };
-        }
+  first_fault : (done : List (List ℕ)) (p : List ℕ) (more : List (List ℕ)) (rest : List ℕ) (why : Stop) → length done < most → NoCause start.0 (from_number start.1 done)
+      → start.1 ≤ length done + 1 → cause (joined_market start done) p ≡ Some why → IsFirst (feed_stop_at start (done ++ p ∷ more) rest) (length done) why
+  first_fault done p more rest why few none low is =
+      let longer : length done < length (done ++ p ∷ more) = omega (arith, length-append done (p ∷ more)) in
+      record {
+        here = before_last (done ++ p ∷ more) rest (length done) (omega arith) ∙ next_cause done p more low ∙ is;
+        before = λ k early. before_last (done ++ p ∷ more) rest k (omega arith) ∙ none_before done (p ∷ more) k none early;
+      }
 
   -- as many were taken as may be, and there is one more
-  full_stops : (bytes unread : List ℕ) (done : List (List ℕ)) (p : List ℕ) → bytes ≡ blocks done ++ (block p ++ unread) → AllByRecursion IsFull done → IsFull p → length done ≡ most
-      → NoCause start.0 (from_number start.1 done) → StopsFeed start bytes (length done) TooManyMessages
-  full_stops bytes unread done p whole full_done full many none = found (day_after bytes unread done p whole full_done full) where
-    found : (more : List (List ℕ)) × (rest : List ℕ) × Day bytes (done ++ p ∷ more) rest → StopsFeed start bytes (length done) TooManyMessages
-    found (more, rest, day) =
-        let longer : length done < length (done ++ p ∷ more) = omega (arith, length-append done (p ∷ more)) in
-        record {
-          payloads = done ++ p ∷ more;
-          rest = rest;
-          day = day;
-          first = record {
-            here =
-                at_last (done ++ p ∷ more) rest (length done) (omega arith)
-                ∙ ap Some (chosen (nat_lt most (length (done ++ p ∷ more))) TooManyMessages (end_of rest) (grind (arith, nat_tests)));
-            before = λ k early. before_last (done ++ p ∷ more) rest k (omega arith) ∙ none_before done (p ∷ more) k none early;
-          };
-        }
+  first_over : (done : List (List ℕ)) (p : List ℕ) (more : List (List ℕ)) (rest : List ℕ) → length done ≡ most → NoCause start.0 (from_number start.1 done)
+      → IsFirst (feed_stop_at start (done ++ p ∷ more) rest) (length done) TooManyMessages
+  first_over done p more rest many none =
+      let longer : length done < length (done ++ p ∷ more) = omega (arith, length-append done (p ∷ more)) in
+      record {
+        here =
+            at_last (done ++ p ∷ more) rest (length done) (omega arith)
+            ∙ ap Some (chosen (nat_lt most (length (done ++ p ∷ more))) TooManyMessages (end_of rest) (grind (arith, nat_tests)));
+        before = λ k early. before_last (done ++ p ∷ more) rest k (omega arith) ∙ none_before done (p ∷ more) k none early;
+      }
 
-  not_full : (count : ℕ) → count ≤ 10 ^ 19 - 1 → (count == 10 ^ 19 - 1) ≡ false → count < 10 ^ 19 - 1
-  not_full count few room = let other : count ≡ 10 ^ 19 - 1 → ⊥ = eqb-false count (10 ^ 19 - 1) room in omega arith
+-- a payload after those that are taken, and a day after it
+pub day_after : (bytes unread : List ℕ) (done : List (List ℕ)) (p : List ℕ) → bytes ≡ blocks done ++ (block p ++ unread) → AllByRecursion IsFull done → IsFull p
+    → (more : List (List ℕ)) × (rest : List ℕ) × Day bytes (done ++ p ∷ more) rest
+day_after bytes unread done p whole full_done full = found (day_some unread) where
+  found : (ps : List (List ℕ)) × (rest : List ℕ) × Day unread ps rest → (more : List (List ℕ)) × (rest : List ℕ) × Day bytes (done ++ p ∷ more) rest
+  found (more, rest, later) =
+      let all : Day (blocks done ++ (block p ++ unread)) (done ++ p ∷ more) rest = day_behind done (block p ++ unread) (p ∷ more) rest full_done (day_on p unread more rest full later) in
+      (more, rest, record { whole = whole ∙ all.whole; each = all.each; last = all.last })
+
+not_full : (count : ℕ) → count ≤ 10 ^ 19 - 1 → (count == 10 ^ 19 - 1) ≡ false → count < 10 ^ 19 - 1
+not_full count few room = let other : count ≡ 10 ^ 19 - 1 → ⊥ = eqb-false count (10 ^ 19 - 1) room in omega arith
+
+module _ (read : List ℕ → List ℕ) (start : Start) where
+  none_ends : (bytes : List ℕ) (ps : List (List ℕ)) (rest : List ℕ) → Day bytes ps rest → length ps ≤ 10 ^ 19 - 1 → NoCause start.0 (from_number start.1 (map read ps))
+      → StopsFeed read start bytes (length ps) (end_of rest)
+  none_ends bytes ps rest day few none =
+      let size : length (map read ps) ≡ length ps = length-map ps read in
+      record {
+        payloads = ps;
+        rest = rest;
+        day = day;
+        first =
+            subst (λ k. IsFirst (feed_stop_at start (map read ps) rest) k (end_of rest)) size
+            (first_end start (map read ps) rest (omega (arith, size, few)) none);
+      }
+
+  -- the payloads as they are read, one of which stops it
+  stopped_at : (done : List (List ℕ)) (p : List ℕ) (more : List (List ℕ)) (rest : List ℕ) (why : Stop) → IsFirst (feed_stop_at start (map read done ++ read p ∷ map read more) rest) (length (map read done)) why
+      → IsFirst (feed_stop_at start (map read (done ++ p ∷ more)) rest) (length done) why
+  stopped_at done p more rest why first =
+      subst (λ k. IsFirst (feed_stop_at start (map read (done ++ p ∷ more)) rest) k why) (length-map done read)
+      (subst (λ qs. IsFirst (feed_stop_at start qs rest) (length (map read done)) why) (sym (map-append read done (p ∷ more))) first)
+
+  one_stops : (bytes unread : List ℕ) (done : List (List ℕ)) (p : List ℕ) (why : Stop) → bytes ≡ blocks done ++ (block p ++ unread) → AllByRecursion IsFull done → IsFull p
+      → length done < 10 ^ 19 - 1 → NoCause start.0 (from_number start.1 (map read done)) → start.1 ≤ length done + 1 → cause (joined_market start (map read done)) (read p) ≡ Some why
+      → StopsFeed read start bytes (length done) why
+  one_stops bytes unread done p why whole full_done full few none low is = found (day_after bytes unread done p whole full_done full) where
+    size : length (map read done) ≡ length done
+    size = length-map done read
+
+    found : (more : List (List ℕ)) × (rest : List ℕ) × Day bytes (done ++ p ∷ more) rest → StopsFeed read start bytes (length done) why
+    found (more, rest, day) = record {
+      payloads = done ++ p ∷ more;
+      rest = rest;
+      day = day;
+      first =
+          stopped_at done p more rest why
+          (first_fault start (map read done) (read p) (map read more) rest why (omega (arith, size, few)) none (omega (arith, size, low)) is);
+    }
+
+  full_stops : (bytes unread : List ℕ) (done : List (List ℕ)) (p : List ℕ) → bytes ≡ blocks done ++ (block p ++ unread) → AllByRecursion IsFull done → IsFull p → length done ≡ 10 ^ 19 - 1
+      → NoCause start.0 (from_number start.1 (map read done)) → StopsFeed read start bytes (length done) TooManyMessages
+  full_stops bytes unread done p whole full_done full many none = found (day_after bytes unread done p whole full_done full) where
+    found : (more : List (List ℕ)) × (rest : List ℕ) × Day bytes (done ++ p ∷ more) rest → StopsFeed read start bytes (length done) TooManyMessages
+    found (more, rest, day) = record {
+      payloads = done ++ p ∷ more;
+      rest = rest;
+      day = day;
+      first =
+          stopped_at done p more rest TooManyMessages
+          (first_over start (map read done) (read p) (map read more) rest (length-map done read ∙ many) none);
+    }
 
   -- after the payloads that were taken the rest of the feed follows
-  module _ (b c : List ℕ) (ps : List (List ℕ)) (takes : TakesFeed start (Some b) (Some c) ps) where
+  module _ (b c : List ℕ) (ps : List (List ℕ)) (takes : TakesFeed read start (Some b) (Some c) ps) where
     one_more : (new : Option (List ℕ)) (p : List ℕ) → TakesOff (Some c) new p → (unread : List ℕ) × (b ≡ blocks ps ++ (block p ++ unread))
     one_more None p off = absurd off.1
     one_more (Some d) p off = (d, takes.bytes ∙ ap (λ t. blocks ps ++ t) off.1)
 
-    ended : Ends c → StopsFeed start b (length ps) End
-    ended ends = subst (StopsFeed start b (length ps)) (ends_stop c ends) (none_ends b ps c (record { whole = takes.bytes; each = takes.full; last = inl ends }) takes.few takes.taken)
+    ended : Ends c → StopsFeed read start b (length ps) End
+    ended ends = subst (StopsFeed read start b (length ps)) (ends_stop c ends) (none_ends b ps c (record { whole = takes.bytes; each = takes.full; last = inl ends }) takes.few takes.taken)
 
-    cut : Open c → StopsFeed start b (length ps) (Frame (Truncated (length c)))
-    cut part = subst (StopsFeed start b (length ps)) (open_stops c part) (none_ends b ps c (record { whole = takes.bytes; each = takes.full; last = inr part }) takes.few takes.taken)
+    cut : Open c → StopsFeed read start b (length ps) (Frame (Truncated (length c)))
+    cut part = subst (StopsFeed read start b (length ps)) (open_stops c part) (none_ends b ps c (record { whole = takes.bytes; each = takes.full; last = inr part }) takes.few takes.taken)
 
-    told_by : (new : Option (List ℕ)) (why : Stop) → (IsOfMessage why → start.1 ≤ length ps + 1) → Halts (length ps == 10 ^ 19 - 1) (joined_market start ps) (Some c) new why → IsTold why
-        → StopsFeed start b (length ps) why
+    told_by : (new : Option (List ℕ)) (why : Stop) → (IsOfMessage why → start.1 ≤ length ps + 1) → HaltsAs read (length ps == 10 ^ 19 - 1) (joined_market start (map read ps)) (Some c) new why → IsTold why
+        → StopsFeed read start b (length ps) why
     told_by new End low (inl at_end) told = ended (inl at_end)
     told_by None End low (inr empty) told = absurd empty
     told_by (Some d) End low (inr empty) told = ended (inr (d, empty))
-    told_by new (Frame (Truncated held)) low (part, count) told = subst (λ h. StopsFeed start b (length ps) (Frame (Truncated h))) (sym count) (cut part)
+    told_by new (Frame (Truncated held)) low (part, count) told = subst (λ h. StopsFeed read start b (length ps) (Frame (Truncated h))) (sym count) (cut part)
     told_by new (Frame (Read error)) low halts told = absurd told
     told_by new (Frame (Write sent error)) low halts told = absurd halts
     told_by new (Frame TooLong) low halts told = absurd halts
     told_by new (Codec f) low (p, off, room, is) told =
         let more = one_more new p off in
-        one_stops b more.0 ps p (Codec f) more.1 takes.full off.0 (not_full (length ps) takes.few room) takes.taken (low tt) (ap (λ o. cause_by o (joined_market start ps) p) is)
+        one_stops b more.0 ps p (Codec f) more.1 takes.full off.0 (not_full (length ps) takes.few room) takes.taken (low tt) (ap (λ o. cause_by o (joined_market start (map read ps)) (read p)) is)
     told_by new (Rule why) low (p, off, room, refuses) told =
         let more = one_more new p off in
-        one_stops b more.0 ps p (Rule why) more.1 takes.full off.0 (not_full (length ps) takes.few room) takes.taken (low tt) (refused (joined_market start ps) p why told refuses)
+        one_stops b more.0 ps p (Rule why) more.1 takes.full off.0 (not_full (length ps) takes.few room) takes.taken (low tt) (refused (joined_market start (map read ps)) (read p) why told refuses)
     told_by new TooManyMessages low (p, off, full) told =
         let more = one_more new p off in
         full_stops b more.0 ps p more.1 takes.full off.0 (eqb-true (length ps) (10 ^ 19 - 1) full) takes.taken
 
   -- the stop is the one that the feed has
-  pub feed_told : (old new : Option (List ℕ)) (ps : List (List ℕ)) (why : Stop) → EndsFeed start old new ps why → IfSome old (λ b. IsTold why → StopsFeed start b (length ps) why)
+  pub feed_told : (old new : Option (List ℕ)) (ps : List (List ℕ)) (why : Stop) → EndsFeed read start old new ps why → IfSome old (λ b. IsTold why → StopsFeed read start b (length ps) why)
   feed_told None new ps why ends = tt
   feed_told (Some b) new ps why (None, takes, low, halts) = absurd takes.bytes
   feed_told (Some b) new ps why (Some c, takes, low, halts) = λ told. told_by b c ps takes new why low halts told

@@ -1,91 +1,42 @@
--- What a joiner has taken of a snapshot, and then of a feed, and one block more.
-use Rattle.std.proofs.Common.{◌≡◌, ℕ, ◌+◌, ◌-◌, ◌^◌, ◌<◌, ◌≤◌, ◌==◌, max, false, List, [], ◌∷◌, ◌++◌, map, length, Option, Some, None, Ok, Err, refl, sym, ap, ◌∙◌, subst, inl, inr, arith, length-append, append-nil}
+-- What a joiner has taken of a feed, and one block more.
+use Rattle.std.proofs.Common.{◌≡◌, ℕ, ◌+◌, ◌-◌, ◌^◌, ◌<◌, ◌≤◌, ◌==◌, max, Bool, false, List, [], ◌∷◌, ◌++◌, map, length, Option, Some, None, Result, Ok, Err, refl, sym, ap, ◌∙◌, subst, inl, inr, arith, length-append}
 use Rattle.std.proofs.lemmas.Bool.Decides.{nat_tests}
-use Rattle.std.proofs.lemmas.List.{drop_all, drop-append-le}
-use Rattle.std.specs.Ordering.{nat_cmp}
-use Rattle.std.specs.FinMap as finite
+use Rattle.std.proofs.lemmas.List.{drop_all, drop-append-le, length-map, map-append}
 use Rattle.std.specs.Io.KnownBytes.{Consumes}
-use Rattle.std.proofs.KnownBytes.{Consumes-nil, Consumes-trans}
-use Rattle.itch_book.proofs.Lists.{All-map_rec}
-use Rattle.itch_book.proofs.OrderLemmas.{lay_fit}
-use Rattle.itch_codec.specs.Messages.{message_of, Spells}
-use Rattle.itch_codec.specs.Widths.{IsMessage, IsSequence}
-use Rattle.itch_codec.specs.declared.message.Message.TheVariants as is
+use Rattle.std.proofs.KnownBytes.{Consumes-nil}
+use Rattle.itch_codec.specs.Messages.{message_of}
 use Rattle.itch_frame.specs.Blocks.{block, blocks, IsFull}
-use Rattle.itch_frame.proofs.BlockLemmas.{blocks-append, each-push}
-use Rattle.itch_market.specs.Content.{Content, empty, laid}
+use Rattle.itch_frame.proofs.BlockLemmas.{each-push}
+use Rattle.itch_market.specs.Content.{Content, laid}
 use Rattle.itch_market.specs.Effects.{effect}
 use Rattle.itch_market.specs.Goods.{IsGood}
-use Rattle.itch_market.specs.Runs.{after, run}
-use Rattle.itch_market.specs.Replays.{Fits, NoCause, Takes, Halts}
+use Rattle.itch_market.specs.Runs.{after}
+use Rattle.itch_market.specs.Replays.{Fits, NoCause, Halts}
 use Rattle.itch_market.specs.Stops.{cause}
+use Rattle.itch_market.specs.Wanted.{Wanted, has}
 use Rattle.itch_market.specs.declared.stop.Stop.{Stop}
 use Rattle.itch_market.specs.declared.stop.Stop.TheVariants as stop
-use Rattle.itch_market.proofs.Causes.{cause-laid, halts-laid, no_reason, none_more, none_follows, after_more}
-use Rattle.itch_market.proofs.Goods.{effect_good, empty_good, laid_good, run_good}
-use Rattle.itch_market.proofs.Laid.{effect-laid, laid_twice}
-use Rattle.itch_market.proofs.Taking.{Going, going_first}
-use Rattle.itch_snapshot.specs.Reads.{ReadsNext, ReadsAll}
-use Rattle.itch_snapshot.proofs.FileLemmas.{Spells-number}
+use Rattle.itch_market.proofs.Causes.{cause-laid, halts-laid, refuses-laid, no_reason, none_more, after_more}
+use Rattle.itch_market.proofs.Goods.{effect_good}
+use Rattle.itch_market.proofs.Laid.{effect-laid}
 use Rattle.itch_join.specs.Positions.{Position}
-use Rattle.itch_join.specs.States.{State, new}
+use Rattle.itch_join.specs.States.{State}
+use Rattle.itch_commands.specs.AsRead.{as_read, HaltsAs}
 use Rattle.itch_commands.specs.Joining.{Start, from_number, joined_market, joined_next, TakesFeed, EndsFeed}
-use Rattle.itch_commands.specs.Joiners.{half_market, position_of, IsReading, IsJoined, IsStart, IsAfter, FeedStep, StartsAll, DeliversAll, StaysJoined, start_of}
-
--- the snapshot -------------------------------------------------------------------
-
--- at first nothing was taken
-pub reads_first : (s : State) → s ≡ new → IsReading 0 s
-reads_first s is = subst (IsReading 0) (sym is) (record { waits = λ i. finite.get-empty nat_cmp i; half = refl; unjoined = refl; running = refl })
-
-pub empty_first : (s : State) (bytes : Option (List ℕ)) → s ≡ new → Going empty bytes bytes 0 (half_market s.half)
-empty_first s bytes is =
-    subst (λ (t : State). Going empty bytes bytes 0 (half_market t.half)) (sym is)
-    (going_first empty bytes empty_good (ap (λ os. let m : Content = record empty { orders = os } in m) (lay_fit [] tt)))
-
--- End of Snapshot
-pub end_read : (before mid later : Option (List ℕ)) (taken next : ℕ) (n k : Content) (s : State) → Going empty before mid taken n → ReadsNext taken n mid later (Ok (Some next)) k
-    → IsJoined s → position_of s ≡ record { next = next; market = n } → StartsAll before later (Ok next) s
-end_read before mid later taken next n k s going (payload, off, (same, closes)) joined at =
-    let market : Position.market (position_of s) ≡ n = ap (λ (j : Position). j.market) at in (
-      (
-        going.payloads,
-        mid,
-        subst (Takes empty before mid going.payloads) (sym market) going.takes,
-        subst (λ c. c ≤ 10 ^ 19 - 1) (sym going.counted) going.few,
-        (payload, off, closes),
-      ),
-      ap (λ (j : Position). j.next) at,
-      joined,
-    )
-
--- a snapshot that was read leaves a market and a number
-pub is_start : (before later : Option (List ℕ)) (next : ℕ) (n : Content) → ReadsAll empty before later (Ok next) n → IsStart (n, next)
-is_start before later next n (ps, mid, takes, few, (payload, off, closes)) =
-    let good : IsGood (run (map message_of ps)) = run_good (map message_of ps) (All-map_rec IsMessage message_of ps takes.fits) (none_follows empty ps takes.none) in
-    record {
-      good = subst IsGood (sym takes.left) (laid_good (run (map message_of ps)) good);
-      in_order = subst (λ m. laid m ≡ m) (sym takes.left) (laid_twice (run (map message_of ps)));
-      number = number_fits payload next (Spells-number payload next closes);
-    } where
-      number_fits : (p : List ℕ) (number : ℕ) → Spells (is.End number) p → IsSequence number
-      number_fits p number spells =
-          let field = spells.fields.0 in
-          record { low = field.1; high = field.0.3.bounded }
-
--- the feed -----------------------------------------------------------------------
+use Rattle.itch_commands.specs.Joiners.{position_of, IsJoined, IsStart, IsAfter, FeedStep, DeliversAll, StaysJoined, start_of}
+use Rattle.itch_commands.proofs.Fronts.{consumed_more}
 
 -- these payloads of a feed were taken, and a joiner stands after them
-pub record Feeding (start : Start) (old new : Option (List ℕ)) (count : ℕ) (j : Position) : Type 0 where
+pub record Feeding (read : List ℕ → List ℕ) (start : Start) (old new : Option (List ℕ)) (count : ℕ) (j : Position) : Type 0 where
   pub payloads : List (List ℕ)
-  pub takes : TakesFeed start old new payloads
+  pub takes : TakesFeed read start old new payloads
   pub counted : length payloads ≡ count
-  pub good : IsGood (joined_market start payloads)
-  pub market : j.market ≡ laid (joined_market start payloads)
+  pub good : IsGood (joined_market start (map read payloads))
+  pub market : j.market ≡ laid (joined_market start (map read payloads))
   pub next : j.next ≡ joined_next start payloads
 
-pub feeding_first : (bytes : Option (List ℕ)) (j : Position) → IsStart (start_of j) → Feeding (start_of j) bytes bytes 0 j
-feeding_first bytes j is =
+pub feeding_first : (read : List ℕ → List ℕ) (bytes : Option (List ℕ)) (j : Position) → IsStart (start_of j) → Feeding read (start_of j) bytes bytes 0 j
+feeding_first read bytes j is =
     let none : from_number j.next [] ≡ [] = drop_all (j.next - 1) [] (omega arith) in
     let same : joined_market (start_of j) [] ≡ j.market = ap (λ ps. after j.market (map message_of ps)) none in
     let low : 1 ≤ j.next = is.number.low in
@@ -100,14 +51,21 @@ feeding_first bytes j is =
       first_next : (n : ℕ) → 1 ≤ n → n ≡ max n (0 + 1)
       first_next n low = omega (arith, low)
 
-module _ (start : Start) (old mid new : Option (List ℕ)) (count : ℕ) (j k : Position) (going : Feeding start old mid count j) (p : List ℕ) where
+module _ (read : List ℕ → List ℕ) (start : Start) (old mid new : Option (List ℕ)) (count : ℕ) (j k : Position) (going : Feeding read start old mid count j) (p : List ℕ) where
   abbrev ps : List (List ℕ)
   ps = going.payloads
 
-  consumed : Consumes mid new (block p) → Consumes old new (blocks (ps ++ p ∷ []))
-  consumed off =
-      subst (Consumes old new) (ap (λ last. blocks ps ++ last) (sym (append-nil (block p))) ∙ sym (blocks-append ps (p ∷ [])))
-      (Consumes-trans old mid new (blocks ps) (block p) going.takes.bytes off)
+  abbrev qs : List (List ℕ)
+  qs = map read ps
+
+  abbrev q : List ℕ
+  q = read p
+
+  pushed : map read (ps ++ p ∷ []) ≡ qs ++ q ∷ []
+  pushed = map-append read ps (p ∷ [])
+
+  size : length qs ≡ count
+  size = length-map ps read ∙ going.counted
 
   longer : length (ps ++ p ∷ []) ≡ count + 1
   longer = length-append ps (p ∷ []) ∙ ap (λ c. c + 1) going.counted
@@ -118,19 +76,20 @@ module _ (start : Start) (old mid new : Option (List ℕ)) (count : ℕ) (j k : 
     one_left c l d one same few room = grind (arith, nat_tests)
 
   -- a message below the snapshot's number
-  old_one : IsFull p → Consumes mid new (block p) → (count == 10 ^ 19 - 1) ≡ false → count + 1 < j.next → k ≡ j → Feeding start old new (count + 1) k
+  old_one : IsFull p → Consumes mid new (block p) → (count == 10 ^ 19 - 1) ≡ false → count + 1 < j.next → k ≡ j → Feeding read start old new (count + 1) k
   old_one full off room below same =
       let next : j.next ≡ max start.1 (length ps + 1) = going.next in
       let here : length ps ≡ count = going.counted in
       let more : length (ps ++ p ∷ []) ≡ count + 1 = longer in
       let high : count + 1 < start.1 = omega (arith, next, here, below) in
-      let quiet : from_number start.1 (ps ++ p ∷ []) ≡ from_number start.1 ps =
-      drop_all (start.1 - 1) (ps ++ p ∷ []) (omega (arith, more, high)) ∙ sym (drop_all (start.1 - 1) ps (omega (arith, here, high))) in
-      let market : joined_market start (ps ++ p ∷ []) ≡ joined_market start ps = ap (λ qs. after start.0 (map message_of qs)) quiet in
+      let all : length (map read (ps ++ p ∷ [])) ≡ length (ps ++ p ∷ []) = length-map (ps ++ p ∷ []) read in
+      let quiet : from_number start.1 (map read (ps ++ p ∷ [])) ≡ from_number start.1 qs =
+      drop_all (start.1 - 1) (map read (ps ++ p ∷ [])) (omega (arith, all, more, high)) ∙ sym (drop_all (start.1 - 1) qs (omega (arith, size, high))) in
+      let market : joined_market start (map read (ps ++ p ∷ [])) ≡ joined_market start qs = ap (λ qs. after start.0 (map message_of qs)) quiet in
       record {
         payloads = ps ++ p ∷ [];
         takes = record {
-          bytes = consumed off;
+          bytes = consumed_more old mid new ps p going.takes.bytes off;
           full = each-push IsFull ps p going.takes.full full;
           taken = subst (NoCause start.0) (sym quiet) going.takes.taken;
           few = room_left room;
@@ -145,59 +104,72 @@ module _ (start : Start) (old mid new : Option (List ℕ)) (count : ℕ) (j k : 
 
   -- the next message
   next_one : IsFull p → Consumes mid new (block p) → (count == 10 ^ 19 - 1) ≡ false → j.next ≡ count + 1
-      → cause j.market p ≡ None → Fits p → k.market ≡ laid (effect j.market (message_of p)) → k.next ≡ count + 1 + 1 → Feeding start old new (count + 1) k
+      → cause j.market q ≡ None → Fits q → k.market ≡ laid (effect j.market (message_of q)) → k.next ≡ count + 1 + 1 → Feeding read start old new (count + 1) k
   next_one full off room at clean fits left onto =
       let next : j.next ≡ max start.1 (length ps + 1) = going.next in
       let here : length ps ≡ count = going.counted in
       let more : length (ps ++ p ∷ []) ≡ count + 1 = longer in
-      let low : start.1 - 1 ≤ length ps = omega (arith, next, here, at) in
-      let qs = from_number start.1 ps in
-      let so_far = joined_market start ps in
-      let pushed : from_number start.1 (ps ++ p ∷ []) ≡ qs ++ p ∷ [] = drop-append-le (start.1 - 1) ps (p ∷ []) low in
-      let market : joined_market start (ps ++ p ∷ []) ≡ effect so_far (message_of p) = ap (λ xs. after start.0 (map message_of xs)) pushed ∙ after_more start.0 qs p in
-      let taken : cause so_far p ≡ None = sym (cause-laid so_far p going.good) ∙ ap (λ x. cause x p) (sym going.market) ∙ clean in
+      let low : start.1 - 1 ≤ length qs = omega (arith, next, here, size, at) in
+      let rs = from_number start.1 qs in
+      let so_far = joined_market start qs in
+      let grown : from_number start.1 (map read (ps ++ p ∷ [])) ≡ rs ++ q ∷ [] = ap (from_number start.1) pushed ∙ drop-append-le (start.1 - 1) qs (q ∷ []) low in
+      let market : joined_market start (map read (ps ++ p ∷ [])) ≡ effect so_far (message_of q) = ap (λ xs. after start.0 (map message_of xs)) grown ∙ after_more start.0 rs q in
+      let taken : cause so_far q ≡ None = sym (cause-laid so_far q going.good) ∙ ap (λ x. cause x q) (sym going.market) ∙ clean in
       record {
         payloads = ps ++ p ∷ [];
         takes = record {
-          bytes = consumed off;
+          bytes = consumed_more old mid new ps p going.takes.bytes off;
           full = each-push IsFull ps p going.takes.full full;
-          taken = subst (NoCause start.0) (sym pushed) (none_more start.0 qs p going.takes.taken taken);
+          taken = subst (NoCause start.0) (sym grown) (none_more start.0 rs q going.takes.taken taken);
           few = room_left room;
         };
         counted = longer;
-        good = subst IsGood (sym market) (effect_good so_far (message_of p) going.good fits (no_reason so_far p taken));
-        market = left ∙ ap (λ x. laid (effect x (message_of p))) going.market ∙ effect-laid so_far (message_of p) going.good ∙ ap laid (sym market);
+        good = subst IsGood (sym market) (effect_good so_far (message_of q) going.good fits (no_reason so_far q taken));
+        market = left ∙ ap (λ x. laid (effect x (message_of q))) going.market ∙ effect-laid so_far (message_of q) going.good ∙ ap laid (sym market);
         next = onto ∙ one_on start.1 j.next (length ps) (length (ps ++ p ∷ [])) count next here more at;
       } where
         one_on : (s n l d c : ℕ) → n ≡ max s (l + 1) → l ≡ c → d ≡ c + 1 → n ≡ c + 1 → c + 1 + 1 ≡ max s (d + 1)
         one_on s n l d c next here more at = omega (arith, next, here, more, at)
 
-pub feeding_on : (start : Start) (old mid new : Option (List ℕ)) (count : ℕ) (j k : Position) → Feeding start old mid count j → FeedStep count j mid new (Ok tt) k → Feeding start old new (count + 1) k
-feeding_on start old mid new count j k going (p, off, room, inl (below, same)) = old_one start old mid new count j k going p off.0 off.1 room below same
-feeding_on start old mid new count j k going (p, off, room, inr (at, (clean, fits, left), onto)) =
-    next_one start old mid new count j k going p off.0 off.1 room at clean fits left onto
+feeding_on : (read : List ℕ → List ℕ) (start : Start) (old mid new : Option (List ℕ)) (count : ℕ) (j k : Position) → Feeding read start old mid count j → FeedStep read count j mid new (Ok tt) k → Feeding read start old new (count + 1) k
+feeding_on read start old mid new count j k going (p, off, room, inl (below, same)) = old_one read start old mid new count j k going p off.0 off.1 room below same
+feeding_on read start old mid new count j k going (p, off, room, inr (at, (clean, fits, left), onto)) =
+    next_one read start old mid new count j k going p off.0 off.1 room at clean fits left onto
+
+-- a laid market halts it no other way
+halts_as-laid : (read : List ℕ → List ℕ) (full : Bool) (m : Content) (old new : Option (List ℕ)) (why : Stop) → IsGood m → HaltsAs read full (laid m) old new why → HaltsAs read full m old new why
+halts_as-laid read full m old new stop.End good halts = halts
+halts_as-laid read full m old new (stop.Frame f) good halts = halts-laid full m old new (stop.Frame f) good halts
+halts_as-laid read full m old new (stop.Codec f) good halts = halts
+halts_as-laid read full m old new (stop.Rule why) good (p, off, room, refuses) = (p, off, room, refuses-laid m (read p) why good refuses)
+halts_as-laid read full m old new stop.TooManyMessages good halts = halts
 
 -- and there it stops
-pub feeding_stops : (start : Start) (old mid new : Option (List ℕ)) (count : ℕ) (j k : Position) (why : Stop) (going : Feeding start old mid count j) → FeedStep count j mid new (Err why) k
-    → EndsFeed start old new going.payloads why
-feeding_stops start old mid new count j k why going (low, halts) =
-    let so_far = joined_market start going.payloads in (
+feeding_stops : (read : List ℕ → List ℕ) (start : Start) (old mid new : Option (List ℕ)) (count : ℕ) (j k : Position) (why : Stop) (going : Feeding read start old mid count j) → FeedStep read count j mid new (Err why) k
+    → EndsFeed read start old new going.payloads why
+feeding_stops read start old mid new count j k why going (low, halts) =
+    let so_far = joined_market start (map read going.payloads) in (
       mid,
       going.takes,
       λ is. bound start.1 j.next (length going.payloads) count going.next going.counted (low is),
-      subst (λ c. Halts (c == 10 ^ 19 - 1) so_far mid new why) (sym going.counted)
-          (halts-laid (count == 10 ^ 19 - 1) so_far mid new why going.good (subst (λ x. Halts (count == 10 ^ 19 - 1) x mid new why) going.market halts)),
+      subst (λ c. HaltsAs read (c == 10 ^ 19 - 1) so_far mid new why) (sym going.counted)
+          (halts_as-laid read (count == 10 ^ 19 - 1) so_far mid new why going.good (subst (λ x. HaltsAs read (count == 10 ^ 19 - 1) x mid new why) going.market halts)),
     ) where
       bound : (s n l c : ℕ) → n ≡ max s (l + 1) → l ≡ c → n ≤ c + 1 → s ≤ l + 1
       bound s n l c next here low = omega (arith, next, here, low)
 
-pub delivered : (start : Start) (old mid new : Option (List ℕ)) (count : ℕ) (s t : State) (why : Stop) (going : Feeding start old mid count (position_of s)) → IsJoined s
-    → FeedStep count (position_of s) mid new (Err why) (position_of t) → StaysJoined s (Err why) t → DeliversAll start old new (record { count = count; stop = why }) t
-delivered start old mid new count s t why going joined step stays = (
+delivered : (read : List ℕ → List ℕ) (start : Start) (old mid new : Option (List ℕ)) (count : ℕ) (s t : State) (why : Stop) (going : Feeding read start old mid count (position_of s)) → IsJoined s
+    → FeedStep read count (position_of s) mid new (Err why) (position_of t) → StaysJoined s (Err why) t → DeliversAll read start old new (record { count = count; stop = why }) t
+delivered read start old mid new count s t why going joined step stays = (
   going.payloads,
   going.counted,
-  feeding_stops start old mid new count (position_of s) (position_of t) why going step,
-  λ ends. subst (IsAfter start going.payloads) (sym (unmoved why ends stays)) (record { joined = joined; good = going.good; market = going.market; next = going.next }),
+  feeding_stops read start old mid new count (position_of s) (position_of t) why going step,
+  λ ends. subst (IsAfter start (map read going.payloads)) (sym (unmoved why ends stays)) (record {
+    joined = joined;
+    good = going.good;
+    market = going.market;
+    next = going.next ∙ ap (λ l. max start.1 (l + 1)) (sym (length-map going.payloads read));
+  }),
 ) where
   unmoved : (w : Stop) → w ≡ stop.End → StaysJoined s (Err w) t → t ≡ s
   unmoved stop.End ends stays = stays
@@ -206,7 +178,23 @@ delivered start old mid new count s t why going joined step stays = (
   unmoved (stop.Rule w) ends stays = absurd (let no_one : ⊥ = cc in no_one)
   unmoved stop.TooManyMessages ends stays = absurd (let no_one : ⊥ = cc in no_one)
 
-module _ (start : Start) (old new : Option (List ℕ)) (count : ℕ) (j : Position) (going : Feeding start old new count j) where
+-- the same where the set is another name for the same
+module _ (s t : Wanted) (same : s ≡ t) where
+  along : (count : ℕ) (j : Position) (old new : Option (List ℕ)) (result : Result (Unit {0}) Stop) (k : Position) → FeedStep (as_read (has s)) count j old new result k
+      → FeedStep (as_read (has t)) count j old new result k
+  along count j old new result k h = subst (λ u. FeedStep (as_read (has u)) count j old new result k) same h
+
+  pub on_along : (start : Start) (old mid new : Option (List ℕ)) (count : ℕ) (j k : Position) → Feeding (as_read (has t)) start old mid count j
+      → FeedStep (as_read (has s)) count j mid new (Ok tt) k → Feeding (as_read (has t)) start old new (count + 1) k
+  on_along start old mid new count j k going h = feeding_on (as_read (has t)) start old mid new count j k going (along count j mid new (Ok tt) k h)
+
+  pub delivered_along : (start : Start) (old mid new : Option (List ℕ)) (count : ℕ) (a b : State) (why : Stop) → Feeding (as_read (has t)) start old mid count (position_of a) → IsJoined a
+      → FeedStep (as_read (has s)) count (position_of a) mid new (Err why) (position_of b) → StaysJoined a (Err why) b
+      → DeliversAll (as_read (has t)) start old new (record { count = count; stop = why }) b
+  delivered_along start old mid new count a b why going joined h stays =
+      delivered (as_read (has t)) start old mid new count a b why going joined (along count (position_of a) mid new (Err why) (position_of b) h) stays
+
+module _ (read : List ℕ → List ℕ) (start : Start) (old new : Option (List ℕ)) (count : ℕ) (j : Position) (going : Feeding read start old new count j) where
   pub feeding_few : count ≤ 10 ^ 19 - 1
   feeding_few = subst (λ c. c ≤ 10 ^ 19 - 1) going.counted going.takes.few
 

@@ -1,6 +1,8 @@
 -- What is written of a snapshot and the feed that was joined to it.
 use Rattle.std.proofs.Common.{◌≡◌, ℕ, ◌^◌, ◌<◌, ◌≤◌, Bool, true, List, ◌++◌, length, Option, Result, Ok, Err, refl, ap, ◌∙◌, subst, inl, inr}
+use Rattle.itch_frame.specs.Reading.{Reading}
 use Rattle.itch_frame.specs.declared.tally.Failures.{Failures}
+use Rattle.itch_market.specs.Wanted.{Wanted, has}
 use Rattle.itch_snapshot.specs.Bytes.{canon, closing}
 use Rattle.itch_snapshot.specs.Snapshot.{snap}
 use Rattle.itch_snapshot.proofs.OneSnapshot.{snap-laid}
@@ -9,9 +11,15 @@ use Rattle.itch_join.specs.Positions.{Position}
 use Rattle.itch_join.specs.States.{State}
 use Rattle.itch_commands.specs.declared.fault.ToolFault.{ToolFault}
 use Rattle.itch_commands.specs.declared.fault.ToolFault.TheVariants as tool
+use Rattle.itch_commands.specs.AsRead.{as_read}
 use Rattle.itch_commands.specs.Joiners.{IsAfter, WritesRoom, position_of}
-use Rattle.itch_commands.specs.Joining.{Start, joined_market, joined, Then, HasRoom}
+use Rattle.itch_commands.specs.Joining.{Start, ReadsFeed, joined_market, joined, Then, HasRoom}
 use Rattle.itch_commands.specs.Outputs.{WritesOutput, Outputs, closed_bytes}
+
+-- the same set says so too
+pub feeds_along : {R : Type 0} (remaining : R → Option (List ℕ)) (failures : R → Failures) (s t : Wanted) (old new : Reading R) (start : Start) (result : Result (List (List ℕ)) ToolFault) → s ≡ t
+    → ReadsFeed (as_read (has s)) remaining failures old new start result → ReadsFeed (as_read (has t)) remaining failures old new start result
+feeds_along remaining failures s t old new start result same h = subst (λ u. ReadsFeed (as_read (has u)) remaining failures old new start result) same h
 
 module _ {W : Type 0} (contents : W → Option (List ℕ)) (failures : W → Failures) (starts : Result Start ToolFault → Type 0) (untouched : Type 0)
     (follows : Start → Result (List (List ℕ)) ToolFault → Type 0) (old new : W) (result : Result Bool ToolFault) where

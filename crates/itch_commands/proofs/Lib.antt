@@ -5,6 +5,10 @@ pub mod Snapshots
 pub mod Keeping
 pub mod Closings
 pub mod Comparisons
+pub mod AsRead
+pub mod Seen
+pub mod Fronts
+pub mod Starting
 pub mod Deliveries
 pub mod Feeding
 pub mod FeedStops

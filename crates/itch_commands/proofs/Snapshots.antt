@@ -1,13 +1,18 @@
 -- The snapshot of what a file's messages leave.
-use Rattle.std.proofs.Common.{◌≡◌, ℕ, ◌+◌, ◌<◌, ◌≤◌, ◌^◌, List, ◌++◌, map, length, Option, Ok, sym, ap, ◌∙◌, arith}
+use Rattle.std.proofs.Common.{◌≡◌, ℕ, ◌+◌, ◌<◌, ◌≤◌, ◌^◌, List, ◌++◌, map, length, Bool, not, Option, Some, Ok, refl, sym, ap, ◌∙◌, arith}
 use Rattle.std.specs.List.{AllByRecursion}
 use Rattle.std.proofs.lemmas.List.{length-map}
+use Rattle.std.proofs.lemmas.List.Filters.{length-filter_both}
 use Rattle.itch_book.proofs.Lists.{All-map_rec}
-use Rattle.itch_codec.specs.Messages.{message_of}
+use Rattle.itch_codec.specs.Messages.{message_of, spelling}
+use Rattle.itch_codec.specs.declared.message.Message.{Message}
+use Rattle.itch_frame.specs.Blocks.{blocks}
 use Rattle.itch_codec.specs.Widths.{IsMessage}
 use Rattle.itch_market.specs.Content.{Content, empty, laid}
 use Rattle.itch_market.specs.Goods.{IsGood}
+use Rattle.itch_market.specs.Partial.{skips, kept, only}
 use Rattle.itch_market.specs.Runs.{AreMessages, run, Follows}
+use Rattle.itch_market.specs.Wanted.{Wanted, has}
 use Rattle.itch_market.specs.Replays.{Fits, NoCause}
 use Rattle.itch_market.proofs.Causes.{none_follows}
 use Rattle.itch_market.proofs.Goods.{run_good}
@@ -15,10 +20,11 @@ use Rattle.itch_market.proofs.Sames.{laid_is_same}
 use Rattle.itch_snapshot.specs.Bytes.{canon, closing}
 use Rattle.itch_snapshot.specs.Snapshot.{snap}
 use Rattle.itch_snapshot.specs.Reads.{ReadsSnapshot}
-use Rattle.itch_snapshot.proofs.OneSnapshot.{snap_same}
+use Rattle.itch_snapshot.proofs.Cut.{snap_only}
+use Rattle.itch_snapshot.proofs.OneSnapshot.{snap_same, snap-laid}
 use Rattle.itch_snapshot.proofs.Sizes.{short_snap}
 use Rattle.itch_snapshot.proofs.Wires.{canon-laid}
-use Rattle.itch_commands.specs.Outputs.{snapshot_of}
+use Rattle.itch_commands.specs.Outputs.{snapshot_of, snapshot_in}
 use Rattle.itch_commands.proofs.Parts.{Applied}
 
 -- what was taken from the empty market has no more messages than were taken
@@ -54,3 +60,23 @@ module _ (after : Option ℕ) (bytes new : Option (List ℕ)) (count : ℕ) (n :
       let ms = map message_of applied.payloads in
       ap (λ bytes. bytes ++ closing (count + 1)) (ap canon applied.left ∙ canon-laid (run ms) good)
       ∙ ap (λ k. canon (run ms) ++ closing (k + 1)) (sym applied.counted)
+
+  same_list : snap n ≡ snap (run (map message_of applied.payloads))
+  same_list = ap snap applied.left ∙ snap-laid (run (map message_of applied.payloads)) good
+
+  -- cut down to some locates, too
+  module _ (set : Wanted) where
+    abbrev passes : Message → Bool
+    passes x = not (skips (has set) x)
+
+    pub cut_short : length (snap (only (has set) n)) ≤ count
+    cut_short =
+        omega (arith, ap length (snap_only (has set) n), length-filter_both passes (λ x. not (passes x)) (λ x. refl) (snap n), applied_short)
+
+    same_cut : snap (only (has set) n) ≡ snap (only (has set) (run (map message_of applied.payloads)))
+    same_cut = snap_only (has set) n ∙ ap (kept (has set)) same_list ∙ sym (snap_only (has set) (run (map message_of applied.payloads)))
+
+    pub cut_snapshot : canon (only (has set) n) ++ closing (count + 1) ≡ snapshot_in (Some set) applied.payloads
+    cut_snapshot =
+        ap (λ xs. blocks (map spelling xs) ++ closing (count + 1)) same_cut
+        ∙ ap (λ k. canon (only (has set) (run (map message_of applied.payloads))) ++ closing (k + 1)) (sym applied.counted)

@@ -1,18 +1,17 @@
 -- A joiner in which nothing waits: while it reads a snapshot, and once it has joined.
-use Rattle.std.specs.Prelude.{◌≡◌, ℕ, ◌+◌, ◌-◌, ◌<◌, ◌≤◌, ◌^◌, ◌==◌, ◌⊎◌, true, false, Bool, List, length, ⊤, Option, Some, None, Result, Ok, Err}
-use Rattle.std.specs.FinMap as map
+use Rattle.std.specs.Prelude.{◌≡◌, ℕ, ◌+◌, ◌-◌, ◌<◌, ◌≤◌, ◌^◌, ◌==◌, ◌⊎◌, true, false, Bool, List, map, length, ⊤, Option, Some, None, Result, Ok, Err}
+use Rattle.std.specs.FinMap as finite
 use Rattle.itch_codec.specs.Widths.{IsSequence}
 use Rattle.itch_frame.specs.declared.tally.Failures.{Failures}
 use Rattle.itch_market.specs.Content.{Content, empty, laid}
 use Rattle.itch_market.specs.Goods.{IsGood}
-use Rattle.itch_market.specs.Replays.{TakesOne, TakesOff, Halts}
+use Rattle.itch_market.specs.Replays.{TakesOne, TakesOff}
 use Rattle.itch_market.specs.declared.refusal.Refusal.TheVariants as why
 use Rattle.itch_market.specs.declared.stop.ReplayEnd.{ReplayEnd}
 use Rattle.itch_market.specs.declared.stop.Stop.{Stop}
 use Rattle.itch_market.specs.declared.stop.Stop.TheVariants as stop
 use Rattle.itch_snapshot.specs.declared.fault.SnapFault.{SnapFault}
 use Rattle.itch_snapshot.specs.declared.fault.SnapFault.TheVariants as snapshot
-use Rattle.itch_snapshot.specs.Reads.{ReadsAll}
 use Rattle.itch_snapshot.specs.Snapshot.{snap}
 use Rattle.itch_join.specs.Positions.{Position}
 use Rattle.itch_join.specs.States.{HalfRead, Reading, Broken, State}
@@ -21,6 +20,7 @@ use Rattle.itch_join.specs.declared.fault.JoinFault.{JoinFault}
 use Rattle.itch_join.specs.declared.fault.JoinFault.TheVariants as join
 use Rattle.itch_commands.specs.declared.fault.ToolFault.{ToolFault}
 use Rattle.itch_commands.specs.declared.fault.ToolFault.TheVariants as tool
+use Rattle.itch_commands.specs.AsRead.{ReadsAs, HaltsAs}
 use Rattle.itch_commands.specs.Joining.{Start, IsOfMessage, EndsFeed, joined_market, joined_next}
 use Rattle.itch_commands.specs.Outputs.{WritesOutput, closed_bytes}
 
@@ -31,7 +31,7 @@ half_market (Broken place why) = empty
 
 -- nothing but this many messages of a snapshot was taken
 pub record IsReading (taken : ℕ) (s : State) : Type 0 where
-  pub waits : (i : ℕ) → map.get s.wait i ≡ None
+  pub waits : (i : ℕ) → finite.get s.wait i ≡ None
   pub half : s.half ≡ Reading taken (half_market s.half)
   pub unjoined : s.joined ≡ None
   pub running : s.halt ≡ None
@@ -46,7 +46,7 @@ position_of s = position_by s.joined
 
 -- a joiner has joined, and stands there
 pub record IsJoined (s : State) : Type 0 where
-  pub waits : (i : ℕ) → map.get s.wait i ≡ None
+  pub waits : (i : ℕ) → finite.get s.wait i ≡ None
   pub joined : s.joined ≡ Some (position_of s)
   pub running : s.halt ≡ None
 
@@ -69,10 +69,10 @@ FeedsOne number old payload (Ok done) new =
 FeedsOne number old payload (Err why) new = (old.next ≡ number) × TakesOne old.market payload (Err why) old.market
 
 -- what the block after `count` of a feed does: its message is taken, or the reading stops
-abbrev pub FeedStep : ℕ → Position → Option (List ℕ) → Option (List ℕ) → Result (Unit {0}) Stop → Position → Type 0
-FeedStep count old before after (Ok done) new =
-    (payload : List ℕ) × TakesOff before after payload × ((count == 10 ^ 19 - 1) ≡ false) × FeedsOne (count + 1) old payload (Ok done) new
-FeedStep count old before after (Err why) new = (IsOfMessage why → old.next ≤ count + 1) × Halts (count == 10 ^ 19 - 1) old.market before after why
+abbrev pub FeedStep : (List ℕ → List ℕ) → ℕ → Position → Option (List ℕ) → Option (List ℕ) → Result (Unit {0}) Stop → Position → Type 0
+FeedStep read count old before after (Ok done) new =
+    (payload : List ℕ) × TakesOff before after payload × ((count == 10 ^ 19 - 1) ≡ false) × FeedsOne (count + 1) old (read payload) (Ok done) new
+FeedStep read count old before after (Err why) new = (IsOfMessage why → old.next ≤ count + 1) × HaltsAs read (count == 10 ^ 19 - 1) old.market before after why
 
 -- a joiner goes on after a message, and is left as it was at the end of the feed
 abbrev pub StaysJoined : State → Result (Unit {0}) Stop → State → Type 0
@@ -117,10 +117,10 @@ pub record IsStart (start : Start) : Type 0 where
   pub number : IsSequence start.1
 
 -- a joiner was given the messages of a snapshot, up to its End of Snapshot
-abbrev pub StartsAll : Option (List ℕ) → Option (List ℕ) → Result ℕ SnapFault → State → Type 0
-StartsAll before after (Ok next) now =
-    ReadsAll empty before after (Ok next) (Position.market (position_of now)) × (Position.next (position_of now) ≡ next) × IsJoined now
-StartsAll before after (Err fault) now = (n : Content) × ReadsAll empty before after (Err fault) n
+abbrev pub StartsAll : (List ℕ → List ℕ) → Option (List ℕ) → Option (List ℕ) → Result ℕ SnapFault → State → Type 0
+StartsAll read before after (Ok next) now =
+    ReadsAs read before after (Ok next) (Position.market (position_of now)) × (Position.next (position_of now) ≡ next) × IsJoined now
+StartsAll read before after (Err fault) now = (n : Content) × ReadsAs read before after (Err fault) n
 
 -- a joiner starts from the snapshot that was read
 abbrev pub StartsJoiner : (Result Start ToolFault → Type 0) → Result (Unit {0}) ToolFault → State → Type 0
@@ -135,10 +135,10 @@ pub record IsAfter (start : Start) (payloads : List (List ℕ)) (s : State) : Ty
   pub next : Position.next (position_of s) ≡ joined_next start payloads
 
 -- a joiner was given the messages of a feed, as far as they were taken
-abbrev pub DeliversAll : Start → Option (List ℕ) → Option (List ℕ) → ReplayEnd → State → Type 0
-DeliversAll start before after end now =
-    (payloads : List (List ℕ)) × (length payloads ≡ end.count) × EndsFeed start before after payloads end.stop
-    × (end.stop ≡ stop.End → IsAfter start payloads now)
+abbrev pub DeliversAll : (List ℕ → List ℕ) → Start → Option (List ℕ) → Option (List ℕ) → ReplayEnd → State → Type 0
+DeliversAll read start before after end now =
+    (payloads : List (List ℕ)) × (length payloads ≡ end.count) × EndsFeed read start before after payloads end.stop
+    × (end.stop ≡ stop.End → IsAfter start (map read payloads) now)
 
 -- a joiner has the market of the feed that was read
 abbrev pub FeedsJoiner : (Start → Result (List (List ℕ)) ToolFault → Type 0) → Position → Result (Unit {0}) ToolFault → State → Type 0

@@ -1,4 +1,4 @@
--- What is read of a snapshot and of the feed that is joined to it.
+-- What is read of a snapshot and of the feed that is joined to it. Payloads of a feed stand here as they are read.
 use Rattle.std.specs.Prelude.{◌≡◌, ◌≢◌, ℕ, ◌+◌, ◌-◌, ◌≤◌, ◌<◌, ◌^◌, ◌==◌, ◌⊎◌, max, min, nat_lt, if◌then◌else◌, List, map, length, drop, ⊤, Option, Some, None, IfSome, Result, Ok, Err}
 use Rattle.std.specs.List.{AllByRecursion}
 use Rattle.std.specs.Io.KnownBytes.{Consumes}
@@ -6,19 +6,19 @@ use Rattle.itch_codec.specs.Messages.{message_of}
 use Rattle.itch_frame.specs.Blocks.{blocks, IsFull, Day}
 use Rattle.itch_frame.specs.Reading.{Reading, bytes_left}
 use Rattle.itch_frame.specs.declared.tally.Failures.{Failures}
-use Rattle.itch_market.specs.Content.{Content, empty}
+use Rattle.itch_market.specs.Content.{Content}
 use Rattle.itch_market.specs.Firsts.{IsFirst}
 use Rattle.itch_market.specs.Runs.{after}
 use Rattle.itch_market.specs.Stops.{cause_at, last_stop}
-use Rattle.itch_market.specs.Replays.{NoCause, Halts, Counts, IsTold}
+use Rattle.itch_market.specs.Replays.{NoCause, Counts, IsTold}
 use Rattle.itch_market.specs.declared.stop.Stop.{Stop}
 use Rattle.itch_market.specs.declared.stop.Stop.TheVariants as stop
-use Rattle.itch_snapshot.specs.Files.{IsFaultOf}
-use Rattle.itch_snapshot.specs.Reads.{ReadsAll, CountsFault, IsToldFault}
+use Rattle.itch_snapshot.specs.Reads.{CountsFault, IsToldFault}
 use Rattle.itch_snapshot.specs.Snapshot.{snap}
 use Rattle.itch_commands.specs.declared.fault.ToolFault.{ToolFault}
 use Rattle.itch_commands.specs.declared.fault.ToolFault.TheVariants as tool
 use Rattle.itch_commands.specs.declared.fault.Source.TheVariants.{Only, Snapshot}
+use Rattle.itch_commands.specs.AsRead.{ReadsAs, IsFaultAs, HaltsAs}
 use Rattle.itch_commands.specs.Readings.{IsWhole, LeavesDay}
 
 -- the market that a snapshot leaves, and the number of the feed's first message that it does not contain
@@ -41,12 +41,12 @@ joined_next start payloads = max start.1 (length payloads + 1)
 abbrev pub joined : Start × List (List ℕ) → Content × ℕ
 joined both = (joined_market both.0 both.1, joined_next both.0 both.1)
 
--- These payloads of a feed came off the front, and none is empty. From the snapshot's number on none is faulty or refused;
--- nothing is asked of those below it.
-pub record TakesFeed (start : Start) (old new : Option (List ℕ)) (payloads : List (List ℕ)) : Type 0 where
+-- These payloads of a feed came off the front, and none is empty. As they are read, none from the snapshot's number on is
+-- faulty or refused; nothing is asked of those below it.
+pub record TakesFeed (read : List ℕ → List ℕ) (start : Start) (old new : Option (List ℕ)) (payloads : List (List ℕ)) : Type 0 where
   pub bytes : Consumes old new (blocks payloads)
   pub full : AllByRecursion IsFull payloads
-  pub taken : NoCause start.0 (from_number start.1 payloads)
+  pub taken : NoCause start.0 (from_number start.1 (map read payloads))
   pub few : length payloads ≤ 10 ^ 19 - 1
 
 -- a message is the cause of the stop
@@ -56,10 +56,10 @@ IsOfMessage (stop.Rule why) = ⊤
 IsOfMessage why = ⊥
 
 -- These payloads are taken, and then this keeps the next one from being taken: no message below the snapshot's number does.
-abbrev pub EndsFeed : Start → Option (List ℕ) → Option (List ℕ) → List (List ℕ) → Stop → Type 0
-EndsFeed start old new payloads why =
-    (mid : Option (List ℕ)) × TakesFeed start old mid payloads × (IsOfMessage why → start.1 ≤ length payloads + 1)
-    × Halts (length payloads == 10 ^ 19 - 1) (joined_market start payloads) mid new why
+abbrev pub EndsFeed : (List ℕ → List ℕ) → Start → Option (List ℕ) → Option (List ℕ) → List (List ℕ) → Stop → Type 0
+EndsFeed read start old new payloads why =
+    (mid : Option (List ℕ)) × TakesFeed read start old mid payloads × (IsOfMessage why → start.1 ≤ length payloads + 1)
+    × HaltsAs read (length payloads == 10 ^ 19 - 1) (joined_market start (map read payloads)) mid new why
 
 -- why the payload after the first k of a feed is not taken: one below the snapshot's number always is
 abbrev pub feed_cause_at : Start → List (List ℕ) → ℕ → Option Stop
@@ -71,33 +71,34 @@ feed_stop_at start payloads rest k =
     if k == min (10 ^ 19 - 1) (length payloads) then Some (last_stop (10 ^ 19 - 1) payloads rest) else feed_cause_at start payloads k
 
 -- the first k messages of a feed are taken after a snapshot, and then this stops it: a search of the whole feed for its first bad place
-pub record StopsFeed (start : Start) (bytes : List ℕ) (k : ℕ) (why : Stop) : Type 0 where
+pub record StopsFeed (read : List ℕ → List ℕ) (start : Start) (bytes : List ℕ) (k : ℕ) (why : Stop) : Type 0 where
   pub payloads : List (List ℕ)
   pub rest : List ℕ
   pub day : Day bytes payloads rest
-  pub first : IsFirst (feed_stop_at start payloads rest) k why
+  pub first : IsFirst (feed_stop_at start (map read payloads) rest) k why
 
-module _ {R : Type 0} (remaining : R → Option (List ℕ)) (failures : R → Failures) where
+module _ (read : List ℕ → List ℕ) {R : Type 0} (remaining : R → Option (List ℕ)) (failures : R → Failures) where
   -- What reading a snapshot up to its End of Snapshot returns, and leaves of its reader: nothing after that is read.
   abbrev pub ReadsStart : Reading R → Reading R → Result Start ToolFault → Type 0
   ReadsStart old new (Ok start) =
-      ReadsAll empty (bytes_left remaining old) (bytes_left remaining new) (Ok start.1) start.0 × (failures new.reader ≡ failures old.reader)
+      ReadsAs read (bytes_left remaining old) (bytes_left remaining new) (Ok start.1) start.0 × (failures new.reader ≡ failures old.reader)
   -- where the file alone decides, it is the file's one fault
   ReadsStart old new (Err (tool.Snap at fault)) =
-      (at ≡ Snapshot) × ((n : Content) × ReadsAll empty (bytes_left remaining old) (bytes_left remaining new) (Err fault) n)
-      × IfSome (bytes_left remaining old) (λ b. IsToldFault fault → IsFaultOf b fault) × CountsFault fault (failures old.reader) (failures new.reader)
+      (at ≡ Snapshot) × ((n : Content) × ReadsAs read (bytes_left remaining old) (bytes_left remaining new) (Err fault) n)
+      × IfSome (bytes_left remaining old) (λ b. IsToldFault fault → IsFaultAs read b fault) × CountsFault fault (failures old.reader) (failures new.reader)
   ReadsStart old new (Err fault) = ⊥
 
-  -- What reading a feed after a snapshot returns, and leaves of its reader: all of its payloads
+  -- What reading a feed after a snapshot returns, and leaves of its reader: all of its payloads, as they are read
   abbrev pub ReadsFeed : Reading R → Reading R → Start → Result (List (List ℕ)) ToolFault → Type 0
-  ReadsFeed old new start (Ok payloads) =
-      IfSome (bytes_left remaining old) (λ b. IsWhole b payloads) × EndsFeed start (bytes_left remaining old) (bytes_left remaining new) payloads stop.End
+  ReadsFeed old new start (Ok seen) =
+      (payloads : List (List ℕ)) × (seen ≡ map read payloads)
+      × IfSome (bytes_left remaining old) (λ b. IsWhole b payloads) × EndsFeed read start (bytes_left remaining old) (bytes_left remaining new) payloads stop.End
       × (failures new.reader ≡ failures old.reader) × LeavesDay (Ok (length payloads)) None old new
   -- or this many were taken, and then this stopped it; where the file alone decides, it is the first bad place of the feed
   ReadsFeed old new start (Err (tool.Stopped at end)) =
       (at ≡ Only) × (end.stop ≢ stop.End)
-      × ((payloads : List (List ℕ)) × (length payloads ≡ end.count) × EndsFeed start (bytes_left remaining old) (bytes_left remaining new) payloads end.stop)
-      × IfSome (bytes_left remaining old) (λ b. IsTold end.stop → StopsFeed start b end.count end.stop)
+      × ((payloads : List (List ℕ)) × (length payloads ≡ end.count) × EndsFeed read start (bytes_left remaining old) (bytes_left remaining new) payloads end.stop)
+      × IfSome (bytes_left remaining old) (λ b. IsTold end.stop → StopsFeed read start b end.count end.stop)
       × Counts end.stop (failures old.reader) (failures new.reader) × LeavesDay (Err (tool.Stopped at end)) None old new
   ReadsFeed old new start (Err fault) = ⊥
 

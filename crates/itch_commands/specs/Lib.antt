@@ -5,5 +5,6 @@ pub mod Canons
 pub mod Showing
 pub mod Comparing
 pub mod Books
+pub mod AsRead
 pub mod Joining
 pub mod Joiners

@@ -1,11 +1,13 @@
 -- What a command writes and returns.
-use Rattle.std.specs.Prelude.{◌≡◌, ℕ, ◌+◌, ◌<◌, ◌⊎◌, Bool, List, ◌++◌, length, map, take, codes, decimal, Option, Result, Ok, Err}
+use Rattle.std.specs.Prelude.{◌≡◌, ℕ, ◌+◌, ◌<◌, ◌⊎◌, Bool, List, ◌++◌, length, map, take, codes, decimal, Option, None, Some, Result, Ok, Err}
 use Rattle.std.specs.Io.KnownBytes.{Appends}
 use Rattle.itch_frame.specs.Counting.{failed}
 use Rattle.itch_frame.specs.declared.tally.Failures.{Failures}
 use Rattle.itch_codec.specs.Messages.{message_of}
 use Rattle.itch_market.specs.Content.{Content}
+use Rattle.itch_market.specs.Partial.{only}
 use Rattle.itch_market.specs.Runs.{run}
+use Rattle.itch_market.specs.Wanted.{Wanted, has}
 use Rattle.itch_snapshot.specs.Bytes.{canon, closing}
 use Rattle.itch_commands.specs.declared.fault.ToolFault.{ToolFault}
 use Rattle.itch_commands.specs.declared.fault.ToolFault.TheVariants as tool
@@ -21,6 +23,11 @@ ok_line_of payloads = ok_line (length payloads)
 -- the bytes of the snapshot after these messages: canonical bytes, and the block of End of Snapshot with the next number
 abbrev pub snapshot_of : List (List ℕ) → List ℕ
 snapshot_of payloads = canon (run (map message_of payloads)) ++ closing (length payloads + 1)
+
+-- the same cut down to the locates of a set, where there is one
+abbrev pub snapshot_in : Option Wanted → List (List ℕ) → List ℕ
+snapshot_in None payloads = snapshot_of payloads
+snapshot_in (Some set) payloads = canon (only (has set) (run (map message_of payloads))) ++ closing (length payloads + 1)
 
 -- the bytes of the snapshot of a market, with the number of the first message that it does not contain
 abbrev pub closed_bytes : Content × ℕ → List ℕ

@@ -2,7 +2,9 @@
 ghost use Rattle.std.specs.Prelude.{◌≡◌, ◌<◌, ◌≤◌, ◌-◌, ◌+◌, ◌^◌, None, Some, OnOk, MatchResult};
 ghost use Rattle.itch_frame.specs.Reading.{bytes_left};
 ghost use Rattle.itch_market.specs.Replays.{Counts, LeavesReaderFirst};
+ghost use Rattle.itch_market.specs.Wanted.{has};
 ghost use Rattle.itch_join.specs.Positions.{Position};
+ghost use Rattle.itch_commands.specs.AsRead.{as_read};
 ghost use Rattle.itch_commands.specs.Joiners.{IsJoined, IsStart, DeliversAll, start_of, IsOfFeed, FeedsOne, FeedStep, FeedsJoiner, StaysJoined, position_of, feed_stop};
 ghost use Rattle.itch_commands.specs.Joining.{ReadsFeed};
 
@@ -24,7 +26,7 @@ pub fn read_feed<R: CountedRead, A: Allocator, B: OrderBook>(
 ) -> Result<(), ToolFault>
     requires joined { IsJoined joiner.old.state }
     requires start { IsStart (start_of (position_of joiner.old.state)) }
-    ensures { FeedsJoiner (ReadsFeed R.remaining R.failures reader.old reader.new) (position_of joiner.old.state) result joiner.new.state }
+    ensures { FeedsJoiner (ReadsFeed (as_read (has joiner.old.set)) R.remaining R.failures reader.old reader.new) (position_of joiner.old.state) result joiner.new.state }
 {
     match deliver(reader, joiner) {
         ReplayEnd {
@@ -44,7 +46,7 @@ fn deliver<R: CountedRead, A: Allocator, B: OrderBook>(
 ) -> ReplayEnd
     requires joined { IsJoined joiner.old.state }
     requires start { IsStart (start_of (position_of joiner.old.state)) }
-    ensures steps { DeliversAll (start_of (position_of joiner.old.state)) (bytes_left R.remaining reader.old) (bytes_left R.remaining reader.new) result joiner.new.state }
+    ensures steps { DeliversAll (as_read (has joiner.old.set)) (start_of (position_of joiner.old.state)) (bytes_left R.remaining reader.old) (bytes_left R.remaining reader.new) result joiner.new.state }
     ensures failures { Counts result.stop (R.failures reader.old.reader) (R.failures reader.new.reader) }
     ensures reader { LeavesReaderFirst reader.old result.count (Some result.stop) reader.new }
 {
@@ -65,8 +67,9 @@ fn deliver_next<R: CountedRead, A: Allocator, B: OrderBook>(
     requires room { count ≤ 10 ^ 19 - 1 }
     requires joined { IsJoined joiner.old.state }
     requires number { count < Position.next (position_of joiner.old.state) }
-    ensures step { FeedStep count (position_of joiner.old.state) (bytes_left R.remaining reader.old) (bytes_left R.remaining reader.new) result (position_of joiner.new.state) }
+    ensures step { FeedStep (as_read (has joiner.old.set)) count (position_of joiner.old.state) (bytes_left R.remaining reader.old) (bytes_left R.remaining reader.new) result (position_of joiner.new.state) }
     ensures joined { StaysJoined joiner.old.state result joiner.new.state }
+    ensures set { joiner.new.set ≡ joiner.old.set }
     ensures failures { MatchResult result (λ _. R.failures reader.new.reader ≡ R.failures reader.old.reader)
         (λ stop. Counts stop (R.failures reader.old.reader) (R.failures reader.new.reader)) }
     ensures reader { MatchResult result (λ _. LeavesReaderFirst reader.old 1 None reader.new) (λ stop. LeavesReaderFirst reader.old 0 (Some stop) reader.new) }
@@ -96,8 +99,9 @@ fn deliver_message<B: OrderBook>(
     requires room { number < 10 ^ 19 }
     requires joined { IsJoined joiner.old.state }
     requires number { number ≤ Position.next (position_of joiner.old.state) }
-    ensures feeds { FeedsOne number (position_of joiner.old.state) payload.now result (position_of joiner.new.state) }
+    ensures feeds { FeedsOne number (position_of joiner.old.state) (as_read (has joiner.old.set) payload.now) result (position_of joiner.new.state) }
     ensures joined { OnOk result (IsJoined joiner.new.state) }
+    ensures set { joiner.new.set ≡ joiner.old.set }
 {
     match joiner.live(number, payload) {
         Ok(_taken) => Ok(()),

@@ -1,8 +1,10 @@
 //! `join`: a snapshot, and the feed that goes on after it.
 ghost use Rattle.std.specs.Prelude.{◌≡◌, true};
 ghost use Rattle.itch_codec.specs.Widths.{IsSequence};
+ghost use Rattle.itch_market.specs.Wanted.{has};
 ghost use Rattle.itch_join.specs.Positions.{Position};
 ghost use Rattle.itch_join.specs.States.{new as fresh};
+ghost use Rattle.itch_commands.specs.AsRead.{as_read, read_by};
 ghost use Rattle.itch_commands.specs.Joiners.{IsJoined, WritesRoom, position_of};
 ghost use Rattle.itch_commands.specs.Joining.{ReadsStart, ReadsFeed, Then, HasRoom, joined};
 ghost use Rattle.itch_commands.specs.Outputs.{Outputs, closed_bytes};
@@ -18,6 +20,7 @@ use itch_codec::Seq;
 use itch_frame::BlockReader;
 use itch_frame::counted::{CountedRead, CountedWrite};
 use itch_join::Joiner;
+use itch_market::LocateSet;
 use itch_snapshot::snapshot_len;
 use std::alloc::Allocator;
 
@@ -31,6 +34,9 @@ const MOST: u128 = 9_999_999_999_999_999_999;
 /// The snapshot is read up to its End of Snapshot, before anything of the feed. The feed's messages are numbered from 1, and
 /// those below the snapshot's number are not decoded. A feed that ends before that number leaves the snapshot as it is.
 ///
+/// With a set, messages at locates that it does not contain are decoded, in both files, but follow no rule and change
+/// nothing: what is written is the snapshot cut down to the set.
+///
 /// # Faults
 ///
 /// `Snap` for the snapshot, `Stopped` for the feed, with the count of the messages before; in both, want of memory at a message
@@ -40,15 +46,16 @@ pub fn join<R: CountedRead + Drop, S: CountedRead + Drop, A: Allocator + Copy, W
     alloc: A,
     snapshot: R,
     feed: S,
+    only: Option<LocateSet<A>>,
     out: &mut W,
 ) -> Result<bool, ToolFault>
     ensures { Outputs W.contents W.failures (FromReader snapshot (λ a b. FromReader feed (λ c d.
-        HasRoom (Then (ReadsStart R.remaining R.failures a b) (d ≡ c) (ReadsFeed S.remaining S.failures c d)))))
+        HasRoom (Then (ReadsStart (read_by only) R.remaining R.failures a b) (d ≡ c) (ReadsFeed (read_by only) S.remaining S.failures c d)))))
         (λ both. closed_bytes (joined both)) (λ _. true) out.old result out.new }
 {
     let mut snapshot = BlockReader::new(alloc, snapshot)?;
     let mut feed = BlockReader::new(alloc, feed)?;
-    join_blocks(alloc, &mut snapshot, &mut feed, out)
+    join_blocks(alloc, &mut snapshot, &mut feed, only, out)
 }
 
 /// The same over readers of blocks, which are left where the reading ended: that of the snapshot after its End of Snapshot.
@@ -64,13 +71,25 @@ pub fn join_blocks<
     alloc: A,
     snapshot: &mut BlockReader<R, B>,
     feed: &mut BlockReader<S, C>,
+    only: Option<LocateSet<A>>,
     out: &mut W,
 ) -> Result<bool, ToolFault>
-    ensures { Outputs W.contents W.failures (HasRoom (Then (ReadsStart R.remaining R.failures snapshot.old snapshot.new) (feed.new ≡ feed.old)
-        (ReadsFeed S.remaining S.failures feed.old feed.new))) (λ both. closed_bytes (joined both)) (λ _. true) out.old result out.new }
+    ensures { Outputs W.contents W.failures (HasRoom (Then (ReadsStart (read_by only) R.remaining R.failures snapshot.old snapshot.new) (feed.new ≡ feed.old)
+        (ReadsFeed (read_by only) S.remaining S.failures feed.old feed.new))) (λ both. closed_bytes (joined both)) (λ _. true) out.old result out.new }
 {
-    let mut joiner: Joiner<Book<A>> = Joiner::new(alloc, 0);
+    let mut joiner: Joiner<Book<A>> = new_joiner(alloc, only);
     join_with(&mut joiner, snapshot, feed, out)
+}
+
+// A joiner in which nothing may wait.
+fn new_joiner<B: OrderBook>(alloc: B::Alloc, only: Option<LocateSet<B::Alloc>>) -> Joiner<B>
+    ensures state { result.state ≡ fresh }
+    ensures read { as_read (has result.set) ≡ read_by only }
+{
+    match only {
+        Some(set) => Joiner::only(alloc, 0, set),
+        None => Joiner::new(alloc, 0),
+    }
 }
 
 // The same with a joiner that has taken nothing.
@@ -88,8 +107,8 @@ fn join_with<
     out: &mut W,
 ) -> Result<bool, ToolFault>
     requires { joiner.old.state ≡ fresh }
-    ensures { Outputs W.contents W.failures (HasRoom (Then (ReadsStart R.remaining R.failures snapshot.old snapshot.new) (feed.new ≡ feed.old)
-        (ReadsFeed S.remaining S.failures feed.old feed.new))) (λ both. closed_bytes (joined both)) (λ _. true) out.old result out.new }
+    ensures { Outputs W.contents W.failures (HasRoom (Then (ReadsStart (as_read (has joiner.old.set)) R.remaining R.failures snapshot.old snapshot.new) (feed.new ≡ feed.old)
+        (ReadsFeed (as_read (has joiner.old.set)) S.remaining S.failures feed.old feed.new))) (λ both. closed_bytes (joined both)) (λ _. true) out.old result out.new }
 {
     if let Err(fault) = read_start(snapshot, joiner) {
         return Err(fault);

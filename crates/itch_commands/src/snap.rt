@@ -1,34 +1,38 @@
 //! `snap`: the canonical snapshot of a file.
 ghost use Rattle.std.specs.Prelude.{true};
-ghost use Rattle.itch_commands.specs.Outputs.{Outputs, snapshot_of};
+ghost use Rattle.std.specs.Option.{option_copied};
+ghost use Rattle.itch_commands.specs.Outputs.{Outputs, snapshot_in};
 ghost use Rattle.itch_commands.specs.Readings.{ReadsDay, FromReader};
 ghost use Rattle.itch_commands.specs.declared.fault.Source.TheVariants.{Only};
 
 use crate::book::Book;
 use crate::fault::{Source, ToolFault};
 use crate::reading::read_market;
-use crate::writing::write_closed;
+use crate::writing::{write_closed, write_cut};
 use itch_book::OrderBook;
 use itch_codec::Seq;
 use itch_frame::BlockReader;
 use itch_frame::counted::{CountedRead, CountedWrite};
-use itch_market::Market;
+use itch_market::{LocateSet, Market};
 use std::alloc::Allocator;
 
 /// Writes the canonical snapshot after a day file's messages, or after its first ones: the canonical bytes of the market
 /// that they leave, and an End of Snapshot with the number of the first message that it does not contain.
 ///
 /// With `after`, reading stops after that many messages. A fault before that is returned as it is, and an earlier end as `Short`.
+///
+/// With a set, the snapshot is cut down to its locates. Every message follows the order rules all the same.
 pub fn snap<R: CountedRead + Drop, A: Allocator + Copy, W: CountedWrite>(
     alloc: A,
     reader: R,
     after: Option<u64>,
+    only: Option<&LocateSet<A>>,
     out: &mut W,
 ) -> Result<bool, ToolFault>
-    ensures { Outputs W.contents W.failures (FromReader reader (ReadsDay R.remaining R.failures Only after)) snapshot_of (λ _. true) out.old result out.new }
+    ensures { Outputs W.contents W.failures (FromReader reader (ReadsDay R.remaining R.failures Only after)) (snapshot_in (option_copied only.entry)) (λ _. true) out.old result out.new }
 {
     let mut reader = BlockReader::new(alloc, reader)?;
-    snap_blocks(alloc, &mut reader, after, out)
+    snap_blocks(alloc, &mut reader, after, only, out)
 }
 
 /// The same over a reader of blocks, which is left where the reading ended: after the first messages, where those are wanted.
@@ -36,11 +40,12 @@ pub fn snap_blocks<R: CountedRead, B: Allocator, A: Allocator + Copy, W: Counted
     alloc: A,
     reader: &mut BlockReader<R, B>,
     after: Option<u64>,
+    only: Option<&LocateSet<A>>,
     out: &mut W,
 ) -> Result<bool, ToolFault>
-    ensures { Outputs W.contents W.failures (ReadsDay R.remaining R.failures Only after reader.old reader.new) snapshot_of (λ _. true) out.old result out.new }
+    ensures { Outputs W.contents W.failures (ReadsDay R.remaining R.failures Only after reader.old reader.new) (snapshot_in (option_copied only.entry)) (λ _. true) out.old result out.new }
 {
-    snap_over::<R, B, Book<A>, W>(alloc, reader, after, out)
+    snap_over::<R, B, Book<A>, W>(alloc, reader, after, only, out)
 }
 
 // The same with any book of orders.
@@ -48,9 +53,10 @@ fn snap_over<R: CountedRead, A: Allocator, B: OrderBook, W: CountedWrite>(
     alloc: B::Alloc,
     reader: &mut BlockReader<R, A>,
     after: Option<u64>,
+    only: Option<&LocateSet<B::Alloc>>,
     out: &mut W,
 ) -> Result<bool, ToolFault>
-    ensures { Outputs W.contents W.failures (ReadsDay R.remaining R.failures Only after reader.old reader.new) snapshot_of (λ _. true) out.old result out.new }
+    ensures { Outputs W.contents W.failures (ReadsDay R.remaining R.failures Only after reader.old reader.new) (snapshot_in (option_copied only.entry)) (λ _. true) out.old result out.new }
 {
     let mut market: Market<B> = Market::new(alloc);
     let count = match read_market(reader, &mut market, after, Source::Only) {
@@ -60,5 +66,8 @@ fn snap_over<R: CountedRead, A: Allocator, B: OrderBook, W: CountedWrite>(
     let Some(next) = Seq::new(count + 1) else {
         unreachable!()
     };
-    write_closed(&market, next, out)
+    match only {
+        Some(set) => write_cut(&market, set, next, out),
+        None => write_closed(&market, next, out),
+    }
 }

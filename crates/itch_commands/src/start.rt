@@ -1,9 +1,11 @@
 //! A snapshot that a joiner starts from.
 ghost use Rattle.std.specs.Prelude.{◌≡◌, ◌≤◌, ◌-◌, ◌+◌, ◌^◌, MatchResult};
 ghost use Rattle.itch_frame.specs.Reading.{bytes_left};
+ghost use Rattle.itch_market.specs.Wanted.{has};
 ghost use Rattle.itch_snapshot.specs.Loads.{TakesNext};
-ghost use Rattle.itch_snapshot.specs.Reads.{ReadsNext, CountsFault};
+ghost use Rattle.itch_snapshot.specs.Reads.{CountsFault};
 ghost use Rattle.itch_join.specs.States.{State, new as fresh};
+ghost use Rattle.itch_commands.specs.AsRead.{as_read, ReadsNextAs};
 ghost use Rattle.itch_commands.specs.Joiners.{IsReading, IsOfSnapshot, Starts, StartsAll, StartsJoiner, half_market, started_market, snapshot_fault};
 ghost use Rattle.itch_commands.specs.Joining.{ReadsStart};
 
@@ -16,13 +18,14 @@ use itch_market::Refusal;
 use itch_snapshot::SnapFault;
 use std::alloc::Allocator;
 
-/// Gives a joiner the messages of a snapshot, up to its End of Snapshot.
+/// Gives a joiner the messages of a snapshot, up to its End of Snapshot. The joiner's set says how they are read.
 pub fn read_start<R: CountedRead, A: Allocator, B: OrderBook>(
     reader: &mut BlockReader<R, A>,
     joiner: &mut Joiner<B>,
 ) -> Result<(), ToolFault>
     requires { joiner.old.state ≡ fresh }
-    ensures { StartsJoiner (ReadsStart R.remaining R.failures reader.old reader.new) result joiner.new.state }
+    ensures start { StartsJoiner (ReadsStart (as_read (has joiner.old.set)) R.remaining R.failures reader.old reader.new) result joiner.new.state }
+    ensures set { joiner.new.set ≡ joiner.old.set }
 {
     match start(reader, joiner) {
         Ok(_next) => Ok(()),
@@ -38,7 +41,8 @@ fn start<R: CountedRead, A: Allocator, B: OrderBook>(
     joiner: &mut Joiner<B>,
 ) -> Result<u64, SnapFault>
     requires { joiner.old.state ≡ fresh }
-    ensures steps { StartsAll (bytes_left R.remaining reader.old) (bytes_left R.remaining reader.new) result joiner.new.state }
+    ensures steps { StartsAll (as_read (has joiner.old.set)) (bytes_left R.remaining reader.old) (bytes_left R.remaining reader.new) result joiner.new.state }
+    ensures set { joiner.new.set ≡ joiner.old.set }
     ensures failures { MatchResult result (λ _. R.failures reader.new.reader ≡ R.failures reader.old.reader)
         (λ fault. CountsFault fault (R.failures reader.old.reader) (R.failures reader.new.reader)) }
 {
@@ -58,9 +62,10 @@ fn start_next<R: CountedRead, A: Allocator, B: OrderBook>(
 ) -> Result<Option<u64>, SnapFault>
     requires room { taken ≤ 10 ^ 19 - 1 }
     requires reading { IsReading taken joiner.old.state }
-    ensures step { ReadsNext taken (half_market (State.half joiner.old.state)) (bytes_left R.remaining reader.old) (bytes_left R.remaining reader.new)
+    ensures step { ReadsNextAs (as_read (has joiner.old.set)) taken (half_market (State.half joiner.old.state)) (bytes_left R.remaining reader.old) (bytes_left R.remaining reader.new)
         result (started_market joiner.old.state result joiner.new.state) }
     ensures joiner { Starts taken joiner.old.state result joiner.new.state }
+    ensures set { joiner.new.set ≡ joiner.old.set }
     ensures failures { MatchResult result (λ _. R.failures reader.new.reader ≡ R.failures reader.old.reader)
         (λ fault. CountsFault fault (R.failures reader.old.reader) (R.failures reader.new.reader)) }
 {
@@ -84,8 +89,9 @@ fn start_message<B: OrderBook>(
 ) -> Result<Option<u64>, SnapFault>
     requires room { taken ≤ 10 ^ 19 - 1 }
     requires reading { IsReading taken joiner.old.state }
-    ensures takes { TakesNext taken (half_market (State.half joiner.old.state)) payload.now result (started_market joiner.old.state result joiner.new.state) }
+    ensures takes { TakesNext taken (half_market (State.half joiner.old.state)) (as_read (has joiner.old.set) payload.now) result (started_market joiner.old.state result joiner.new.state) }
     ensures joiner { Starts taken joiner.old.state result joiner.new.state }
+    ensures set { joiner.new.set ≡ joiner.old.set }
 {
     match joiner.snapshot(payload) {
         Ok(Snap::More) => Ok(None),

@@ -1,7 +1,9 @@
 use Rattle.std.proofs.Common.{◌≢◌, IfSome, refl, subst, rules}
 use Rattle.itch_frame.specs.Reading.{bytes_left}
 use Rattle.itch_market.specs.Replays.{IsTold}
+use Rattle.itch_market.specs.Wanted.{has}
 use Rattle.itch_market.specs.declared.stop.Stop.TheVariants.{End}
+use Rattle.itch_commands.specs.AsRead.{as_read}
 use Rattle.itch_commands.specs.Joiners.{position_of, start_of}
 use Rattle.itch_commands.specs.Joining.{StopsFeed}
 use Rattle.itch_commands.proofs.FeedStops.{feed_told}
@@ -12,6 +14,7 @@ returns-in_default g c =
     let remaining = g.R.CountedRead.remaining in
     let old = bytes_left remaining c.args.reader.now in
     let new = bytes_left remaining c.deliver.new.reader in
+    let read = as_read (has c.args.joiner.now.set) in
     let start = start_of (position_of c.args.joiner.now.state) in
     let stop = c.deliver.result.stop in
     let steps = c.deliver.ensures.steps in
@@ -19,7 +22,7 @@ returns-in_default g c =
       refl,
       fault,
       (steps.0, steps.1, steps.2),
-      subst (λ k. IfSome old (λ b. IsTold stop → StopsFeed start b k stop)) steps.1 (feed_told start old new steps.0 stop steps.2),
+      subst (λ k. IfSome old (λ b. IsTold stop → StopsFeed read start b k stop)) steps.1 (feed_told read start old new steps.0 stop steps.2),
       c.deliver.ensures.failures,
       c.deliver.ensures.reader,
     )

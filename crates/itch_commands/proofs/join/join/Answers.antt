@@ -1,4 +1,5 @@
 use Rattle.std.proofs.Common.{◌≡◌, true, inr}
+use Rattle.itch_commands.specs.AsRead.{read_by}
 use Rattle.itch_commands.specs.Joining.{ReadsStart, ReadsFeed, Then, HasRoom, joined}
 use Rattle.itch_commands.specs.Outputs.{closed_bytes}
 use Rattle.itch_commands.specs.Readings.{FromReader}
@@ -7,8 +8,8 @@ use Rattle.itch_commands.proofs.join.join.Goals as goal
 
 pub returns : goal.returns
 returns g c =
-    let starts = ReadsStart g.R.CountedRead.remaining g.R.CountedRead.failures in
-    let follows = ReadsFeed g.S.CountedRead.remaining g.S.CountedRead.failures in
+    let starts = ReadsStart (read_by c.args.only) g.R.CountedRead.remaining g.R.CountedRead.failures in
+    let follows = ReadsFeed (read_by c.args.only) g.S.CountedRead.remaining g.S.CountedRead.failures in
     let a = c.in_ok-snapshot.snapshot in
     let b = c.join_blocks.new.snapshot in
     let x = c.in_ok-feed.feed in
