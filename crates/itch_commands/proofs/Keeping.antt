@@ -84,6 +84,7 @@ module _ (old mid new : Option (List ℕ)) (load : Load) (count : ℕ) (kept : L
   kept_refused tool.Open n more h = absurd h
   kept_refused tool.BadUser n more h = absurd h
   kept_refused tool.BadPassword n more h = absurd h
+  kept_refused tool.BadLocates n more h = absurd h
   kept_refused tool.TooMany n more h = absurd h
   kept_refused (tool.Soup fault) n more h = absurd h
   kept_refused tool.Socket n more h = absurd h
@@ -134,6 +135,7 @@ module _ {R : Type 0} (remaining : R → Option (List ℕ)) (failures : R → Fa
   refused_before new tool.Open n kept h counts = absurd h
   refused_before new tool.BadUser n kept h counts = absurd h
   refused_before new tool.BadPassword n kept h counts = absurd h
+  refused_before new tool.BadLocates n kept h counts = absurd h
   refused_before new tool.TooMany n kept h counts = absurd h
   refused_before new (tool.Soup fault) n kept h counts = absurd h
   refused_before new tool.Socket n kept h counts = absurd h
@@ -154,6 +156,7 @@ module _ {R : Type 0} (remaining : R → Option (List ℕ)) (failures : R → Fa
     refused_after tool.Open h counts = absurd h
     refused_after tool.BadUser h counts = absurd h
     refused_after tool.BadPassword h counts = absurd h
+    refused_after tool.BadLocates h counts = absurd h
     refused_after tool.TooMany h counts = absurd h
     refused_after (tool.Soup fault) h counts = absurd h
     refused_after tool.Socket h counts = absurd h

@@ -25,6 +25,7 @@ module _ {W : Type 0} (contents : W → Option (List ℕ)) (failures : W → Fai
   text_fails xs ys old new tool.Open h = absurd h
   text_fails xs ys old new tool.BadUser h = absurd h
   text_fails xs ys old new tool.BadPassword h = absurd h
+  text_fails xs ys old new tool.BadLocates h = absurd h
   text_fails xs ys old new tool.TooMany h = absurd h
   text_fails xs ys old new (tool.Soup f) h = absurd h
   text_fails xs ys old new tool.Socket h = absurd h
@@ -49,6 +50,7 @@ module _ {W : Type 0} (contents : W → Option (List ℕ)) (failures : W → Fai
   text_then xs ys old mid new (Err tool.Open) first h = absurd h
   text_then xs ys old mid new (Err tool.BadUser) first h = absurd h
   text_then xs ys old mid new (Err tool.BadPassword) first h = absurd h
+  text_then xs ys old mid new (Err tool.BadLocates) first h = absurd h
   text_then xs ys old mid new (Err tool.TooMany) first h = absurd h
   text_then xs ys old mid new (Err (tool.Soup f)) first h = absurd h
   text_then xs ys old mid new (Err tool.Socket) first h = absurd h

@@ -43,6 +43,7 @@ status_of tool.OutOfMemory = 4
 status_of tool.Open = 3
 status_of tool.BadUser = 2
 status_of tool.BadPassword = 2
+status_of tool.BadLocates = 2
 status_of tool.TooMany = 1
 status_of (tool.Soup fault) = soup_status fault
 status_of tool.Socket = 3

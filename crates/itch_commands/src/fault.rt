@@ -58,6 +58,8 @@ pub enum ToolFault {
     BadUser,
     /// The password is not 1 to 10 printable characters.
     BadPassword,
+    /// The text is no list of locates.
+    BadLocates,
     /// A market has too many messages for a snapshot, or a snapshot too many to be served: its End of Snapshot would have no number.
     TooMany,
     /// A session ended without a snapshot.
@@ -77,7 +79,7 @@ impl ToolFault {
             ToolFault::Short { .. } | ToolFault::UnknownLocate => 1,
             ToolFault::Write(_) | ToolFault::Open => 3,
             ToolFault::OutOfMemory => 4,
-            ToolFault::BadUser | ToolFault::BadPassword => 2,
+            ToolFault::BadUser | ToolFault::BadPassword | ToolFault::BadLocates => 2,
             ToolFault::TooMany => 1,
             ToolFault::Soup(fault) => soup_status(fault),
             ToolFault::Socket => 3,
@@ -162,6 +164,7 @@ impl fmt::Display for ToolFault {
             ToolFault::Open => f.write_str("cannot open"),
             ToolFault::BadUser => f.write_str("bad user"),
             ToolFault::BadPassword => f.write_str("bad password"),
+            ToolFault::BadLocates => f.write_str("bad locate list"),
             ToolFault::TooMany => f.write_str("too many messages"),
             ToolFault::Soup(fault) => write_soup(fault, f),
             ToolFault::Socket => f.write_str("socket failed"),

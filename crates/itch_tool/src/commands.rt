@@ -51,7 +51,8 @@ fn snap<'a>(alloc: Global) -> Result<Command<'a>, AllocError> {
     Command::new(alloc, "snap")
         .about("Write the snapshot of a file of messages")
         .arg(file(alloc))?
-        .arg(after)
+        .arg(after)?
+        .arg(only(alloc))
 }
 
 fn check<'a>(alloc: Global) -> Result<Command<'a>, AllocError> {
@@ -89,7 +90,8 @@ fn join<'a>(alloc: Global) -> Result<Command<'a>, AllocError> {
             "SNAP",
             "The snapshot, read up to its End of Snapshot",
         ))?
-        .arg(named(alloc, "FEED", "The feed, from its first message on"))
+        .arg(named(alloc, "FEED", "The feed, from its first message on"))?
+        .arg(only(alloc))
 }
 
 fn show<'a>(alloc: Global) -> Result<Command<'a>, AllocError> {
@@ -107,6 +109,13 @@ fn book<'a>(alloc: Global) -> Result<Command<'a>, AllocError> {
         .about("Write the prices of a locate")
         .arg(locate)?
         .arg(file(alloc))
+}
+
+fn only<'a>(alloc: Global) -> Arg<'a> {
+    Arg::new(alloc, "only")
+        .long("only")
+        .value_name("LIST")
+        .help("Keep only these locates, as 1,2,40")
 }
 
 fn named<'a>(alloc: Global, name: &'a str, help: &'a str) -> Arg<'a> {

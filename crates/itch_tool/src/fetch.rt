@@ -3,6 +3,7 @@ ghost use Rattle.std.specs.Prelude.{true};
 ghost use Rattle.itch_commands.specs.Outputs.{Outputs, closed_bytes};
 ghost use Rattle.itch_tool.specs.Sessions.{FetchesMarket};
 
+use itch_book::OrderBook;
 use itch_codec::Seq;
 use itch_commands::{Book, ToolFault, write_closed};
 use itch_frame::BlockReader;
@@ -26,7 +27,22 @@ pub fn fetch<R: CountedRead, B: Allocator, A: Allocator + Copy, V: CountedWrite,
         (FetchesMarket R.remaining R.failures V.contents V.failures credentials.now reader.old writer.old reader.new writer.new)
         closed_bytes (λ _. true) out.old result out.new }
 {
-    let fetched: Result<(Market<Book<A>>, Seq), SoupFault> = fetch_one(
+    fetch_over::<R, B, Book<A>, V, W>(alloc, reader, writer, credentials, out)
+}
+
+// The same with any book of orders.
+fn fetch_over<R: CountedRead, A: Allocator, B: OrderBook, V: CountedWrite, W: CountedWrite>(
+    alloc: B::Alloc,
+    reader: &mut BlockReader<R, A>,
+    writer: &mut V,
+    credentials: &Credentials,
+    out: &mut W,
+) -> Result<bool, ToolFault>
+    ensures { Outputs W.contents W.failures
+        (FetchesMarket R.remaining R.failures V.contents V.failures credentials.now reader.old writer.old reader.new writer.new)
+        closed_bytes (λ _. true) out.old result out.new }
+{
+    let fetched: Result<(Market<B>, Seq), SoupFault> = fetch_one(
         alloc,
         reader,
         writer,

@@ -7,10 +7,11 @@ use std::alloc::Global;
 /// What the program is asked to do. Where no file is named, it reads standard input.
 #[derive(Clone, Copy, Debug, PartialEq, Eq)]
 pub enum Request<'a> {
-    /// Write the snapshot after the whole file, or after its first messages.
+    /// Write the snapshot after the whole file, or after its first messages; or of it what a list of locates wants.
     Snap {
         file: Option<&'a str>,
         after: Option<u64>,
+        only: Option<&'a str>,
     },
     /// Count the messages of a file that follows the order rules.
     Check {
@@ -35,10 +36,11 @@ pub enum Request<'a> {
         locate: u16,
         file: Option<&'a str>,
     },
-    /// Join a feed to a snapshot, and write the snapshot after both.
+    /// Join a feed to a snapshot, and write the snapshot after both; or do so for a list of locates.
     Join {
         snapshot: &'a str,
         feed: &'a str,
+        only: Option<&'a str>,
     },
 }
 
@@ -53,6 +55,14 @@ impl<'a> Request<'a> {
             | Request::Book { file, .. } => file,
             Request::Compare { first, .. } => Some(first),
             Request::Join { snapshot, .. } => Some(snapshot),
+        }
+    }
+
+    /// The list of the locates that are wanted, where not all are.
+    pub fn only(&self) -> Option<&'a str> {
+        match *self {
+            Request::Snap { only, .. } | Request::Join { only, .. } => only,
+            _ => None,
         }
     }
 }
@@ -85,6 +95,7 @@ fn read_snap<'a>(alloc: Global, options: &ArgMatches<'a>) -> Result<Request<'a>,
     Ok(Request::Snap {
         file: options.get_str("FILE"),
         after,
+        only: options.get_str("only"),
     })
 }
 
@@ -97,7 +108,11 @@ fn read_compare<'a>(alloc: Global, options: &ArgMatches<'a>) -> Result<Request<'
 
 fn read_join<'a>(alloc: Global, options: &ArgMatches<'a>) -> Result<Request<'a>, Error> {
     match (options.get_str("SNAP"), options.get_str("FEED")) {
-        (Some(snapshot), Some(feed)) => Ok(Request::Join { snapshot, feed }),
+        (Some(snapshot), Some(feed)) => Ok(Request::Join {
+            snapshot,
+            feed,
+            only: options.get_str("only"),
+        }),
         _ => Err(usage_fault(alloc, "join takes a snapshot and a feed")?),
     }
 }

@@ -1,4 +1,5 @@
 //! The commands over files and standard streams.
+ghost use Rattle.std.specs.Option.{option_copied};
 ghost use Rattle.itch_tool.specs.Requests.{IsOverOne, Performs};
 
 use crate::job::Job;
@@ -11,10 +12,11 @@ use itch_commands::join::join_blocks;
 use itch_commands::levels::book_blocks;
 use itch_commands::show::show_blocks;
 use itch_commands::snap::snap_blocks;
-use itch_commands::{ToolFault, system_fault};
+use itch_commands::{ToolFault, read_locates, system_fault};
 use itch_frame::BlockReader;
 use itch_frame::counted::{Buffered, Counted, CountedRead, CountedWrite};
-use std::alloc::Allocator;
+use itch_market::LocateSet;
+use std::alloc::{Allocator, Global};
 use std::fs;
 use std::io::{self, BufReader, BufWriter, Read, Write};
 use std::net::{Net, TcpListener, TcpStream};
@@ -41,29 +43,44 @@ fn run_request<R: Files + Input + Print + AllocGlobal>(
     request: Request<'_>,
 ) -> Result<bool, ToolFault> {
     let alloc = rt.alloc();
+    let only = match request.only() {
+        Some(list) => Some(read_locates(alloc, list)?),
+        None => None,
+    };
     let Ok(buffered) = BufWriter::with_capacity(alloc, PIECE, io::writer(rt)) else {
         return Err(ToolFault::OutOfMemory);
     };
     let mut out = Counted::new(buffered);
-    let answer = match request {
-        Request::Compare { first, second } => {
-            let first = open(rt, first)?;
-            let second = open(rt, second)?;
-            compare_over(alloc, first, second, &mut out)?
-        }
-        Request::Join { snapshot, feed } => {
-            let snapshot = open(rt, snapshot)?;
-            let feed = open(rt, feed)?;
-            join_over(alloc, snapshot, feed, &mut out)?
-        }
-        _ => match request.file() {
-            Some(path) => perform_over(alloc, request, open(rt, path)?, &mut out)?,
-            None => perform_over(alloc, request, rt.reader(), &mut out)?,
-        },
-    };
+    let answer = answer(rt, request, only, &mut out)?;
     match out.into_inner().flush() {
         Ok(()) => Ok(answer),
         Err(error) => Err(ToolFault::Write(error)),
+    }
+}
+
+// Opens what a request reads, and performs it.
+fn answer<R: Files + Input + AllocGlobal, W: CountedWrite>(
+    rt: &R,
+    request: Request<'_>,
+    only: Option<LocateSet<Global>>,
+    out: &mut W,
+) -> Result<bool, ToolFault> {
+    let alloc = rt.alloc();
+    match request {
+        Request::Compare { first, second } => {
+            let first = open(rt, first)?;
+            let second = open(rt, second)?;
+            compare_over(alloc, first, second, out)
+        }
+        Request::Join { snapshot, feed, .. } => {
+            let snapshot = open(rt, snapshot)?;
+            let feed = open(rt, feed)?;
+            join_over(alloc, snapshot, feed, only, out)
+        }
+        _ => match request.file() {
+            Some(path) => perform_over(alloc, request, only.as_ref(), open(rt, path)?, out),
+            None => perform_over(alloc, request, only.as_ref(), rt.reader(), out),
+        },
     }
 }
 
@@ -91,11 +108,12 @@ fn join_over<A: Allocator + Copy, R: Read + Drop, W: CountedWrite>(
     alloc: A,
     snapshot: R,
     feed: R,
+    only: Option<LocateSet<A>>,
     out: &mut W,
 ) -> Result<bool, ToolFault> {
     let mut snapshot = blocks(alloc, snapshot)?;
     let mut feed = blocks(alloc, feed)?;
-    join_blocks(alloc, &mut snapshot, &mut feed, out)
+    join_blocks(alloc, &mut snapshot, &mut feed, only, out)
 }
 
 // A reader of the blocks of a file.
@@ -113,27 +131,29 @@ fn blocks<A: Allocator + Copy, R: Read + Drop>(
 fn perform_over<A: Allocator + Copy, R: Read + Drop, W: CountedWrite>(
     alloc: A,
     request: Request<'_>,
+    only: Option<&LocateSet<A>>,
     reader: R,
     out: &mut W,
 ) -> Result<bool, ToolFault>
     requires { IsOverOne request }
 {
     let mut reader = blocks(alloc, reader)?;
-    perform(alloc, request, &mut reader, out)
+    perform(alloc, request, only, &mut reader, out)
 }
 
 /// Performs a request over the blocks of its file.
 fn perform<R: CountedRead, B: Allocator, A: Allocator + Copy, W: CountedWrite>(
     alloc: A,
     request: Request<'_>,
+    only: Option<&LocateSet<A>>,
     reader: &mut BlockReader<R, B>,
     out: &mut W,
 ) -> Result<bool, ToolFault>
     requires { IsOverOne request }
-    ensures { Performs R.remaining R.failures W.contents W.failures request.entry reader.old reader.new out.old result out.new }
+    ensures { Performs R.remaining R.failures W.contents W.failures request.entry (option_copied only.entry) reader.old reader.new out.old result out.new }
 {
     match request {
-        Request::Snap { after, .. } => snap_blocks(alloc, reader, after, out),
+        Request::Snap { after, .. } => snap_blocks(alloc, reader, after, only, out),
         Request::Check { .. } => check_blocks(alloc, reader, out),
         Request::Show { .. } => show_blocks(reader, out),
         Request::Canon { check, .. } => canon_blocks(alloc, reader, check, out),

@@ -38,7 +38,24 @@ where
     R: Clock + Alloc<A = A> + Net<Listener = TcpListener, Stream = TcpStream>,
     ensures { ServesDay W.contents W.failures (ReadsDay F.remaining F.failures Only None reader.old reader.new) config.now count out.old result out.new }
 {
-    let mut market: Market<Book<A>> = Market::new(rt.alloc());
+    serve_over::<R, F, D, Book<A>, W>(rt, rt.alloc(), reader, port, config, count, out)
+}
+
+// The same with any book of orders.
+fn serve_over<R, F: CountedRead, D: Allocator, B: OrderBook, W: CountedWrite>(
+    rt: &R,
+    alloc: B::Alloc,
+    reader: &mut BlockReader<F, D>,
+    port: u16,
+    config: &ServerConfig,
+    count: u64,
+    out: &mut W,
+) -> Result<bool, ToolFault>
+where
+    R: Clock + Alloc + Net<Listener = TcpListener, Stream = TcpStream>,
+    ensures { ServesDay W.contents W.failures (ReadsDay F.remaining F.failures Only None reader.old reader.new) config.now count out.old result out.new }
+{
+    let mut market: Market<B> = Market::new(alloc);
     let read = match read_market(reader, &mut market, None, Source::Only) {
         Ok(read) => read,
         Err(fault) => return Err(fault),

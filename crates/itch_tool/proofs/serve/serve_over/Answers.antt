@@ -4,7 +4,7 @@ use Rattle.itch_commands.specs.declared.fault.Source.TheVariants.{Only}
 use Rattle.itch_commands.specs.Readings.{ReadsDay}
 use Rattle.itch_tool.proofs.Lines.{day_served}
 use Rattle.itch_commands.proofs.Parts.{read_done, day_done, day_fails}
-use Rattle.itch_tool.proofs.serve.serve_blocks.Goals as goal
+use Rattle.itch_tool.proofs.serve.serve_over.Goals as goal
 
 pub returns-in-Err : goal.returns-in-Err
 returns-in-Err g c = inl (

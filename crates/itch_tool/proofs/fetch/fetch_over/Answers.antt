@@ -1,6 +1,6 @@
 use Rattle.std.proofs.Common.{inr}
 use Rattle.itch_tool.proofs.Fetched.{fetched_short}
-use Rattle.itch_tool.proofs.fetch.fetch.Goals as goal
+use Rattle.itch_tool.proofs.fetch.fetch_over.Goals as goal
 
 pub write_closed-requires : goal.write_closed-requires
 write_closed-requires g c =
