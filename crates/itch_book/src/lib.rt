@@ -17,6 +17,3 @@ pub use book::OrderBook;
 pub use indexed_book::IndexedBook;
 pub use list_book::ListBook;
 pub use order::{Order, Taken};
-
-#[cfg(test)]
-mod tests;

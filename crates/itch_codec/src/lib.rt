@@ -14,8 +14,6 @@ mod orders;
 mod showing;
 mod side;
 mod stocks;
-#[cfg(test)]
-mod tests;
 mod text;
 mod trades;
 mod types;

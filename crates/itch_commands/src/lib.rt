@@ -20,8 +20,6 @@ mod reading;
 pub mod show;
 pub mod snap;
 mod start;
-#[cfg(test)]
-mod tests;
 mod writing;
 
 pub use book::Book;

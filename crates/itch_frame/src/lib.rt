@@ -19,8 +19,6 @@ mod splitter;
 mod stage;
 pub mod tally;
 pub mod testing;
-#[cfg(test)]
-mod tests;
 mod writer;
 
 pub use fault::FrameFault;

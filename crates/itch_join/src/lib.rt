@@ -12,8 +12,6 @@ pub mod laws;
 mod outcome;
 mod position;
 mod state;
-#[cfg(test)]
-mod tests;
 mod waiting;
 
 pub use fault::{Cause, JoinFault};

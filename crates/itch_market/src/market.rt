@@ -10,8 +10,6 @@ ghost use Rattle.itch_market.specs.Goods.{IsGood};
 
 mod actions;
 mod rules;
-#[cfg(test)]
-mod tests;
 
 use crate::locates::Locates;
 use crate::refusal::Refusal;

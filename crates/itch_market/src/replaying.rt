@@ -8,9 +8,6 @@ ghost use Rattle.itch_market.specs.Runs.{after};
 ghost use Rattle.itch_market.specs.Stops.{Stops};
 ghost use Rattle.itch_market.specs.Replays.{Counts, CountsFirst, LeavesReader, LeavesReaderFirst, StopsAgain, Step, TakesOne, Replays, ReplaysFirst, IsTold};
 
-#[cfg(test)]
-mod tests;
-
 use crate::market::Market;
 use crate::stop::{ReplayEnd, Stop};
 use itch_book::OrderBook;

@@ -12,8 +12,6 @@ mod read;
 mod reader;
 mod stage;
 mod states;
-#[cfg(test)]
-mod tests;
 mod write;
 
 pub use compare::{part_place, same_market};

@@ -23,8 +23,6 @@ mod payload;
 mod sending;
 mod serve;
 mod server;
-#[cfg(test)]
-mod tests;
 mod types;
 
 pub use client::{ClientAct, ClientSession};

@@ -1,0 +1,153 @@
+//! Files that are refused: the line and the status of each.
+
+use super::blocks::*;
+use super::files::{file, snapshot};
+use itch_commands::check::check;
+use itch_commands::{Source, ToolFault, status, system_fault};
+use itch_frame::testing::{FuseWriter, PieceReader};
+use itch_market::{Refusal, ReplayEnd, Stop};
+use std::io;
+use std::test::Fail;
+
+#[test]
+fn a_refused_file_has_its_line_and_status(rt: HostRuntime) -> Result<(), Fail> {
+    let two: [&str; 3] = [AAPL, MSFT, BUY_1];
+    let cases: [(&[&str], &str, &str); 24] = [
+        (&[AAPL, END_2], "", "message 2: unexpected end"),
+        (&[AAPL, MSFT_AT_1], "", "message 2: stock mismatch"),
+        (&[TRADING_AT_3], "", "message 1: unknown locate"),
+        (&["00"], "", "message 1: truncated, 1 bytes held"),
+        (
+            &[SHORT_AAPL],
+            "",
+            "message 1: wrong length for R: want 39, got 38",
+        ),
+        (&[AAPL, HALT_AT_2], "", "message 2: unknown locate"),
+        (
+            &[AAPL, SHORT_HALT],
+            "",
+            "message 2: wrong length for h: want 21, got 20",
+        ),
+        (&[START, UNPRINTABLE], "", "message 2: bad text at 13"),
+        (&[AAPL, BUY_1], BUY_1, "message 3: duplicate reference"),
+        (
+            &[AAPL, BUY_1, EXECUTE_100],
+            DELETE_1,
+            "message 4: unknown reference",
+        ),
+        (
+            &[AAPL, BUY_1],
+            EXECUTE_101,
+            "message 3: too many shares, 100 remain",
+        ),
+        (
+            &[AAPL, BUY_1, CANCEL_40],
+            PRICED_61,
+            "message 4: too many shares, 60 remain",
+        ),
+        (&two, EXECUTE_AT_2, "message 4: locate mismatch"),
+        (&two, REPLACE_1_BY_1, "message 4: duplicate reference"),
+        (&two, REPLACE_BY_NONE, "message 4: zero shares"),
+        (&two, REPLACE_AT_2, "message 4: locate mismatch"),
+        (&two, BUY_1_OF_0, "message 4: zero shares"),
+        (&two, BUY_9_AT_3, "message 4: unknown locate"),
+        (&two, DELETE_9, "message 4: unknown reference"),
+        (&two, END_4, "message 4: unexpected end"),
+        (&[START, "000c53"], "", "message 2: truncated, 3 bytes held"),
+        (
+            &["000147"],
+            "",
+            "message 1: wrong length for G: want 21, got 1",
+        ),
+        (
+            &[AAPL, "0015470000000000000000000000000000000000000000"],
+            "",
+            "message 2: bad number",
+        ),
+        (
+            &[AAPL, BUY_1, BUY_2],
+            "0002",
+            "message 4: truncated, 2 bytes held",
+        ),
+    ];
+    let alloc = rt.alloc();
+    for (before, last, reason) in cases {
+        let mut input = file(alloc, before)?;
+        let ending = file(alloc, &[last])?;
+        input.extend_from_slice(ending.as_slice())?;
+        let line = format!(in alloc; "itchsnap: {reason}")?;
+        let (answer, written) = snapshot(alloc, input.as_slice(), 5, None)?;
+        let fault = answer.err().ok_or("a refusal by snap")?;
+        assert_eq!(rt; format!(in alloc; "{fault}")?.as_str(), line.as_str());
+        assert_eq!(rt; fault.status(), 1);
+        assert!(rt; written.is_empty(), "{reason}");
+        let mut out = FuseWriter::new(alloc, 64, None);
+        let answer = check(
+            alloc,
+            PieceReader::new(input.as_slice(), 64, None),
+            &mut out,
+        );
+        let fault = answer.err().ok_or("a refusal by check")?;
+        assert_eq!(rt; format!(in alloc; "{fault}")?.as_str(), line.as_str());
+        assert!(rt; out.written().is_empty(), "{reason}");
+    }
+    Ok(())
+}
+
+#[test]
+fn every_fault_has_its_line_and_status(rt: HostRuntime) -> Result<(), Fail> {
+    let alloc = rt.alloc();
+    let error = io::Error::from(io::ErrorKind::Other);
+    let want_of_memory = ReplayEnd {
+        count: 1,
+        stop: Stop::Rule(Refusal::OutOfMemory),
+    };
+    let too_many = ReplayEnd {
+        count: 9_999_999_999_999_999_999,
+        stop: Stop::TooManyMessages,
+    };
+    let cases = [
+        (
+            ToolFault::Stopped {
+                file: Source::Only,
+                end: want_of_memory,
+            },
+            "message 2: out of memory",
+            4,
+        ),
+        (
+            ToolFault::Stopped {
+                file: Source::First,
+                end: too_many,
+            },
+            "first: message 10000000000000000000: too many messages",
+            1,
+        ),
+        (ToolFault::Short { count: 3 }, "only 3 messages", 1),
+        (ToolFault::Write(error), "write failed", 3),
+        (ToolFault::OutOfMemory, "out of memory", 4),
+        (ToolFault::Open, "cannot open", 3),
+    ];
+    for (fault, reason, wanted) in cases.iter() {
+        let line = format!(in alloc; "itchsnap: {reason}")?;
+        assert_eq!(rt; format!(in alloc; "{fault}")?.as_str(), line.as_str());
+        assert_eq!(rt; fault.status(), *wanted, "{reason}");
+    }
+    assert_eq!(rt; status(&Err(ToolFault::Open)), 3);
+    assert_eq!(rt; status(&Ok(true)), 0);
+    assert_eq!(rt; status(&Ok(false)), 1);
+    Ok(())
+}
+
+#[test]
+fn want_of_memory_is_told_apart(rt: HostRuntime) {
+    let refused = io::Error::from(io::ErrorKind::OutOfMemory);
+    let missing = io::Error::from(io::ErrorKind::NotFound);
+    assert!(rt;
+        matches!(
+            system_fault(refused, ToolFault::Open),
+            ToolFault::OutOfMemory
+        )
+    );
+    assert!(rt; matches!(system_fault(missing, ToolFault::Open), ToolFault::Open));
+}

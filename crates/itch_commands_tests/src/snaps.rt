@@ -1,0 +1,142 @@
+//! Snapshots of files, and their messages counted.
+use super::blocks::*;
+use super::files::{file, snapshot};
+use itch_commands::ToolFault;
+use itch_commands::check::check;
+use itch_commands::snap::snap;
+use itch_frame::counted::Counted;
+use itch_frame::testing::{FuseWriter, PieceReader};
+use std::io::BufReader;
+use std::test::Fail;
+
+#[test]
+fn snap_writes_the_canonical_snapshot(rt: HostRuntime) -> Result<(), Fail> {
+    let cases: [(&[&str], &[&str]); 16] = [
+        (&[], &[END_1]),
+        (
+            &[AAPL, POSITION_ZZZZ, HALT_X, POSITION_ABCD, HALT_Q, RESUME_X],
+            &[AAPL, HALT_Q, RESUME_X, POSITION_ABCD, POSITION_ZZZZ, END_7],
+        ),
+        (
+            &[START_STAMPED, AAPL_STAMPED, BUY_1_STAMPED],
+            &[START, AAPL, BUY_1, END_4],
+        ),
+        (
+            &[START_STAMPED, AAPL_STAMPED, BUY_1_STAMPED, "0000deadbeef01"],
+            &[START, AAPL, BUY_1, END_4],
+        ),
+        (&[MAX, SELL_MAX], &[MAX, SELL_MAX, END_3]),
+        (
+            &[AAPL, BUY_1, BUY_2_HIGH, BUY_3_OF_300, BUY_4_HIGH],
+            &[AAPL, BUY_2_HIGH, BUY_4_HIGH, BUY_1, BUY_3_OF_300, END_6],
+        ),
+        (
+            &[AAPL, BUY_2_HIGH, BUY_4_HIGH, BUY_1, BUY_3_OF_300],
+            &[AAPL, BUY_2_HIGH, BUY_4_HIGH, BUY_1, BUY_3_OF_300, END_6],
+        ),
+        (
+            &[AAPL, TRADING_RESERVED_0, BUY_7_OF_300, EXECUTE_7, CANCEL_7],
+            &[AAPL, TRADING, BUY_7_OF_150, END_6],
+        ),
+        (
+            &[AAPL_LATE, TRADING_RESERVED_58, BUY_7_OF_150],
+            &[AAPL, TRADING, BUY_7_OF_150, END_4],
+        ),
+        (
+            &[AAPL, ATTRIBUTED_1, BUY_2_OF_200, REPLACE_1_BY_3],
+            &[AAPL, BUY_2_OF_200, ATTRIBUTED_3, END_5],
+        ),
+        (&[AAPL, BUY_1, EXECUTE_0], &[AAPL, BUY_1, END_4]),
+        (&[AAPL, BUY_1, AAPL_LOT_200], &[AAPL_LOT_200, BUY_1, END_4]),
+        (&[AAPL, BROKEN], &[AAPL, END_3]),
+        (&[AAPL, BUY_1, EXECUTE_100], &[AAPL, END_4]),
+        (
+            &[MSFT, START, AAPL, UNRESTRICTED, TRADING],
+            &[START, AAPL, TRADING, UNRESTRICTED, MSFT, END_6],
+        ),
+        (
+            &[MSFT, START, AAPL, UNRESTRICTED, TRADING, "0000ff"],
+            &[START, AAPL, TRADING, UNRESTRICTED, MSFT, END_6],
+        ),
+    ];
+    let alloc = rt.alloc();
+    for (case, (input, wanted)) in cases.iter().enumerate() {
+        let input = file(alloc, input)?;
+        let wanted = file(alloc, wanted)?;
+        for piece in [1, 2, 7, 4096] {
+            let (answer, written) = snapshot(alloc, input.as_slice(), piece, None)?;
+            assert!(rt;
+                matches!(answer, Ok(true)),
+                "case {case} in pieces of {piece}"
+            );
+            assert_eq!(rt;
+                written.as_slice(),
+                wanted.as_slice(),
+                "case {case} in pieces of {piece}"
+            );
+        }
+    }
+    Ok(())
+}
+
+#[test]
+fn snap_reads_through_any_buffer(rt: HostRuntime) -> Result<(), Fail> {
+    let alloc = rt.alloc();
+    let input = file(
+        alloc,
+        &[MSFT, START, AAPL, UNRESTRICTED, TRADING, "0000", "ff"],
+    )?;
+    let wanted = file(alloc, &[START, AAPL, TRADING, UNRESTRICTED, MSFT, END_6])?;
+    for capacity in 1..=150 {
+        let reader = BufReader::with_capacity(alloc, capacity, input.as_slice())?;
+        let mut out = FuseWriter::new(alloc, 4096, None);
+        let answer = snap(alloc, Counted::new(reader), None, &mut out);
+        assert!(rt; matches!(answer, Ok(true)), "behind {capacity} bytes");
+        assert_eq!(rt; out.written(), wanted.as_slice(), "behind {capacity} bytes");
+    }
+    Ok(())
+}
+
+#[test]
+fn snap_stops_after_so_many_messages(rt: HostRuntime) -> Result<(), Fail> {
+    let alloc = rt.alloc();
+    let cases: [(&[&str], u64, &[&str]); 4] = [
+        (&[START, AAPL, BUY_1], 2, &[START, AAPL, END_3]),
+        (&[MSFT, START, AAPL], 1, &[MSFT, END_2]),
+        (&[MSFT, START, AAPL], 0, &[END_1]),
+        (&[AAPL, MSFT_AT_1], 1, &[AAPL, END_2]),
+    ];
+    for (input, after, wanted) in cases {
+        let input = file(alloc, input)?;
+        let wanted = file(alloc, wanted)?;
+        let (answer, written) = snapshot(alloc, input.as_slice(), 7, Some(after))?;
+        assert!(rt; matches!(answer, Ok(true)), "after {after}");
+        assert_eq!(rt; written.as_slice(), wanted.as_slice(), "after {after}");
+    }
+    let input = file(alloc, &[START, AAPL, BUY_1])?;
+    let (answer, written) = snapshot(alloc, input.as_slice(), 7, Some(4))?;
+    assert!(rt; matches!(answer, Err(ToolFault::Short { count: 3 })));
+    assert!(rt; written.is_empty());
+    Ok(())
+}
+
+#[test]
+fn check_counts_the_messages(rt: HostRuntime) -> Result<(), Fail> {
+    let alloc = rt.alloc();
+    let cases: [(&[&str], &str); 6] = [
+        (&[], "ok 0 messages\n"),
+        (&[START, AAPL, BUY_1], "ok 3 messages\n"),
+        (&[AAPL, BUY_1, DELETE_1, BUY_1], "ok 4 messages\n"),
+        (&[AAPL, BUY_1, EXECUTE_0], "ok 3 messages\n"),
+        (&[IMBALANCE, LOWER_Z], "ok 2 messages\n"),
+        (&[AAPL, "0000", END_1], "ok 1 messages\n"),
+    ];
+    for (input, wanted) in cases {
+        let input = file(alloc, input)?;
+        let mut out = FuseWriter::new(alloc, 3, None);
+        let answer = check(alloc, PieceReader::new(input.as_slice(), 2, None), &mut out);
+        assert!(rt; matches!(answer, Ok(true)), "{wanted}");
+        assert_eq!(rt; out.written(), wanted.as_bytes());
+    }
+    Ok(())
+}

@@ -1,5 +1,0 @@
-use Rattle.std.proofs.Common.{◌<◌, ◌^◌, length}
-use Rattle.itch_snapshot.proofs.tests.counts_what_is_still_to_come.Given as goal
-
-abbrev pub invariant-loop-want : goal.invariant-loop-want
-invariant-loop-want g l = length l.messages < 2 ^ 64

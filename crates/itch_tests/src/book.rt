@@ -1,0 +1,200 @@
+//! Books by what their calls return. The helpers take any book.
+use itch_book::{IndexedBook, ListBook, Order, OrderBook, Taken};
+use itch_codec::Side;
+use std::alloc::AllocError;
+use std::process::Abort;
+use std::test::Fail;
+
+// An order of locate 1.
+pub(super) fn order(reference: u64, side: Side, shares: u32, price: u32) -> Order {
+    Order {
+        reference,
+        locate: 1,
+        side,
+        shares,
+        price,
+        mpid: None,
+    }
+}
+
+pub(super) fn add<B: OrderBook>(
+    rt: &impl Abort,
+    book: &mut B,
+    order: Order,
+) -> Result<(), AllocError> {
+    assert!(rt; order.shares > 0);
+    assert!(rt; book.get(order.reference).is_none());
+    book.add(order)
+}
+
+pub(super) fn take<B: OrderBook>(
+    rt: &impl Abort,
+    book: &mut B,
+    reference: u64,
+    shares: u32,
+) -> Taken {
+    let Some(order) = book.get(reference).copied() else {
+        panic!(rt; "{reference} is not live");
+    };
+    assert!(rt; shares <= order.shares);
+    book.take(reference, shares)
+}
+
+pub(super) fn delete<B: OrderBook>(rt: &impl Abort, book: &mut B, reference: u64) -> Order {
+    assert!(rt; book.get(reference).is_some());
+    book.delete(reference)
+}
+
+pub(super) fn replace<B: OrderBook>(
+    rt: &impl Abort,
+    book: &mut B,
+    original: u64,
+    reference: u64,
+    shares: u32,
+    price: u32,
+) -> Result<(), AllocError> {
+    assert!(rt; book.get(original).is_some());
+    assert!(rt; shares > 0);
+    assert!(rt; book.get(reference).is_none());
+    book.replace(original, reference, shares, price)
+}
+
+// The reference of the next order of the same locate, or 0.
+fn next<B: OrderBook>(rt: &impl Abort, book: &B, reference: u64) -> u64 {
+    assert!(rt; book.get(reference).is_some());
+    match book.after(reference) {
+        Some(order) => order.reference,
+        None => 0,
+    }
+}
+
+// The reference of an order, or 0.
+pub(super) fn reference(order: Option<&Order>) -> u64 {
+    match order {
+        Some(order) => order.reference,
+        None => 0,
+    }
+}
+
+// Checks each call of a book that is empty.
+fn check_calls<B: OrderBook>(rt: &impl Abort, book: &mut B) -> Result<(), AllocError> {
+    assert_eq!(rt; book.len(), 0);
+    for (number, shares, price) in [
+        (1, 100, 1500000),
+        (2, 200, 1500100),
+        (3, 300, 1500000),
+        (4, 400, 1500100),
+    ] {
+        add(rt, book, order(number, Side::Buy, shares, price))?;
+    }
+    add(rt, book, order(5, Side::Sell, 500, 1500300))?;
+    add(rt, book, order(6, Side::Sell, 600, 1500200))?;
+    let last = Order {
+        locate: u16::MAX,
+        ..order(u64::MAX, Side::Sell, u32::MAX, u32::MAX)
+    };
+    add(rt, book, last)?;
+    assert_eq!(rt; book.len(), 7);
+    assert_eq!(rt; reference(book.first(1)), 2);
+    for (number, want) in [
+        (2, 4),
+        (4, 1),
+        (1, 3),
+        (3, 6),
+        (6, 5),
+        (5, 0),
+        (u64::MAX, 0),
+    ] {
+        assert_eq!(rt; next(rt, book, number), want, "after {number}");
+    }
+    assert_eq!(rt; reference(book.first(2)), 0);
+    assert_eq!(rt; reference(book.front(1, Side::Buy)), 2);
+    assert_eq!(rt; reference(book.front(1, Side::Sell)), 6);
+    assert_eq!(rt; reference(book.front(u16::MAX, Side::Buy)), 0);
+    for (side, last, want) in [
+        (Side::Buy, None, Some(1500100)),
+        (Side::Buy, Some(1500100), Some(1500000)),
+        (Side::Buy, Some(1500000), None),
+        (Side::Sell, None, Some(1500200)),
+        (Side::Sell, Some(1500200), Some(1500300)),
+        (Side::Sell, Some(1500300), None),
+    ] {
+        assert_eq!(rt; book.next_price(1, side, last), want, "after {last:?}");
+    }
+    assert_eq!(rt; book.level_total(1, Side::Buy, 1500100), (600, 2));
+    assert_eq!(rt; book.level_total(1, Side::Buy, 1500000), (400, 2));
+    assert_eq!(rt; book.level_total(1, Side::Sell, 1500000), (0, 0));
+    assert_eq!(rt;
+        book.level_total(u16::MAX, Side::Sell, u32::MAX),
+        (4294967295, 1)
+    );
+    check_changes(rt, book)
+}
+
+// Checks each change of the orders 1 to 6.
+fn check_changes<B: OrderBook>(rt: &impl Abort, book: &mut B) -> Result<(), AllocError> {
+    assert_eq!(rt; take(rt, book, 1, 40), Taken::Left(60));
+    assert_eq!(rt; book.level_total(1, Side::Buy, 1500000), (360, 2));
+    assert_eq!(rt; next(rt, book, 4), 1);
+    assert_eq!(rt; take(rt, book, 1, 60), Taken::Gone);
+    assert!(rt; book.get(1).is_none());
+    assert_eq!(rt; take(rt, book, 3, 0), Taken::Left(300));
+    assert_eq!(rt; delete(rt, book, 6), order(6, Side::Sell, 600, 1500200));
+    assert_eq!(rt; book.next_price(1, Side::Sell, None), Some(1500300));
+    replace(rt, book, 2, 7, 50, 1500000)?;
+    assert!(rt; book.get(2).is_none());
+    assert_eq!(rt;
+        book.get(7).copied(),
+        Some(order(7, Side::Buy, 50, 1500000))
+    );
+    assert_eq!(rt; next(rt, book, 3), 7);
+    assert_eq!(rt; book.level_total(1, Side::Buy, 1500100), (400, 1));
+    assert_eq!(rt; book.len(), 5);
+    Ok(())
+}
+
+// Checks a level of a thousand orders, of which three change.
+fn check_priority<B: OrderBook>(rt: &impl Abort, book: &mut B) -> Result<(), AllocError> {
+    for number in 1..1001 {
+        add(rt, book, order(number, Side::Buy, 10, 1500000))?;
+    }
+    delete(rt, book, 500);
+    assert_eq!(rt; take(rt, book, 1, 10), Taken::Gone);
+    replace(rt, book, 1000, 2000, 5, 1500000)?;
+    assert_eq!(rt; book.level_total(1, Side::Buy, 1500000), (9975, 998));
+    assert_eq!(rt; reference(book.front(1, Side::Buy)), 2);
+    assert_eq!(rt; next(rt, book, 499), 501);
+    assert_eq!(rt; next(rt, book, 999), 2000);
+    assert_eq!(rt; next(rt, book, 2000), 0);
+    Ok(())
+}
+
+#[test]
+fn list_book_calls(rt: HostRuntime) -> Result<(), Fail> {
+    let mut book: ListBook = ListBook::new(rt.alloc());
+    check_calls(&rt, &mut book)?;
+    Ok(())
+}
+
+#[test]
+fn indexed_book_calls(rt: HostRuntime) -> Result<(), Fail> {
+    let mut book: IndexedBook = IndexedBook::new(rt.alloc());
+    check_calls(&rt, &mut book)?;
+    Ok(())
+}
+
+#[test]
+fn list_book_keeps_priority(rt: HostRuntime) -> Result<(), Fail> {
+    let mut book: ListBook = ListBook::new(rt.alloc());
+    check_priority(&rt, &mut book)?;
+    Ok(())
+}
+
+#[test]
+fn indexed_book_keeps_priority(rt: HostRuntime) -> Result<(), Fail> {
+    let mut book: IndexedBook = IndexedBook::new(rt.alloc());
+    check_priority(&rt, &mut book)?;
+    Ok(())
+}
+
+mod side_by_side;

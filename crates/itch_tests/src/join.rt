@@ -1,0 +1,355 @@
+//! Joins by what their calls return and the markets that they lead to. The helpers take a joiner over any book.
+use itch_book::{IndexedBook, ListBook, OrderBook};
+use itch_codec::{CodecFault, Message, encode};
+use itch_join::{Cause, JoinFault, Joiner, Live, Snap, laws};
+use itch_market::Refusal;
+use itch_snapshot::SnapshotIter;
+use std::alloc::{AllocError, Global};
+use std::process::Abort;
+use std::test::Fail;
+
+mod refused_memory;
+mod restricted;
+
+const OPENS: &[u8] = b"S\0\0\0\0\0\0\0\0\0\0O";
+
+const CLOSES: &[u8] = b"S\0\0\0\0\0\0\0\0\0\0C";
+
+const AAPL: &[u8] = b"R\0\x01\0\0\0\0\0\0\0\0AAPL    QN\0\0\0dNCZ PNN1N\0\0\0\0N";
+
+const ADD_1: &[u8] = b"A\0\x01\0\0\0\0\0\0\0\0\0\0\0\0\0\0\0\x01B\0\0\0dAAPL    \0\x16\xe3\x60";
+// The same at a locate that is not in the directory.
+const ADD_1_AT_9: &[u8] =
+    b"A\0\x09\0\0\0\0\0\0\0\0\0\0\0\0\0\0\0\x01B\0\0\0\x01AAPL    \0\x16\xe3\x60";
+
+const ADD_2: &[u8] = b"A\0\x01\0\0\0\0\0\0\0\0\0\0\0\0\0\0\0\x02B\0\0\0\xc8AAPL    \0\x16\xe3\x60";
+
+const ADD_3: &[u8] =
+    b"A\0\x01\0\0\0\0\0\0\0\0\0\0\0\0\0\0\0\x03S\0\0\x01\x2cAAPL    \0\x16\xe3\xc4";
+
+const ADD_4: &[u8] = b"A\0\x01\0\0\0\0\0\0\0\0\0\0\0\0\0\0\0\x04B\0\0\0\x46AAPL    \0\x16\xe3\x60";
+
+const EXECUTE_1: &[u8] = b"E\0\x01\0\0\0\0\0\0\0\0\0\0\0\0\0\0\0\x01\0\0\0\x32\0\0\0\0\0\0\0\x01";
+// Order 4 of 70 shares in place of order 1.
+const REPLACE_1: &[u8] =
+    b"U\0\x01\0\0\0\0\0\0\0\0\0\0\0\0\0\0\0\x01\0\0\0\0\0\0\0\x04\0\0\0\x46\0\x16\xe3\x60";
+
+const DELETE_3: &[u8] = b"D\0\x01\0\0\0\0\0\0\0\0\0\0\0\0\0\0\0\x03";
+
+const NAMED_5: &[u8] =
+    b"F\0\x01\0\0\0\0\0\0\0\0\0\0\0\0\0\0\0\x05S\0\0\0\x0aAAPL    \0\x16\xe4\x28ABCD";
+
+const BROKEN_TRADE: &[u8] = b"B\0\x01\0\0\0\0\0\0\0\0\0\0\0\0\0\0\0\x01";
+
+const END_1: &[u8] = b"G                   1";
+
+const END_3: &[u8] = b"G                   3";
+
+const END_6: &[u8] = b"G                   6";
+
+// The snapshot of the messages before the sixth, without its End of Snapshot.
+const BEFORE_6: &[&[u8]] = &[OPENS, AAPL, ADD_1, ADD_2, ADD_3];
+
+// The program's joiner.
+type Indexed = Joiner<IndexedBook>;
+
+// One call and its result. These helpers have no contract, so that a proof of a test need not carry what each call leaves.
+fn live<B: OrderBook>(
+    rt: &impl Abort,
+    joiner: &mut Joiner<B>,
+    number: u64,
+    payload: &[u8],
+    want: Result<Live, JoinFault>,
+) {
+    assert_eq!(rt; joiner.live(number, payload), want, "message {number}");
+}
+
+fn snapshot<B: OrderBook>(
+    rt: &impl Abort,
+    joiner: &mut Joiner<B>,
+    payload: &[u8],
+    want: Result<Snap, JoinFault>,
+) {
+    assert_eq!(rt; joiner.snapshot(payload), want);
+}
+
+fn resume<B: OrderBook>(
+    rt: &impl Abort,
+    joiner: &mut Joiner<B>,
+    want: Result<Option<u64>, JoinFault>,
+) {
+    assert_eq!(rt; joiner.resume(), want);
+}
+
+fn restart<B: OrderBook>(joiner: &mut Joiner<B>) {
+    joiner.restart();
+}
+
+// The number that comes next, which there is once there is a market, and how many messages wait.
+fn stands<B: OrderBook>(rt: &impl Abort, joiner: &Joiner<B>, next: Option<u64>, waiting: usize) {
+    assert_eq!(rt; joiner.next(), next);
+    assert_eq!(rt; joiner.market().is_some(), next.is_some());
+    assert_eq!(rt; joiner.waiting(), waiting);
+}
+
+// Delivers messages of the live feed.
+fn deliver<B: OrderBook>(
+    rt: &impl Abort,
+    joiner: &mut Joiner<B>,
+    rows: &[(u64, &[u8], Result<Live, JoinFault>)],
+) {
+    for (number, payload, want) in rows {
+        live(rt, joiner, *number, payload, *want);
+    }
+}
+
+// Takes messages of a snapshot, which none of them ends.
+fn read<B: OrderBook>(rt: &impl Abort, joiner: &mut Joiner<B>, payloads: &[&[u8]]) {
+    for payload in payloads {
+        snapshot(rt, joiner, payload, Ok(Snap::More));
+    }
+}
+
+// The payloads of the snapshot of a joiner's market, one after another.
+fn spelled<B: OrderBook>(alloc: Global, joiner: &Joiner<B>) -> Result<Vec<u8>, Fail> {
+    let market = joiner.market().ok_or("a market")?;
+    let mut bytes = Vec::new(alloc);
+    for message in SnapshotIter::new(market) {
+        push(&mut bytes, &message)?;
+    }
+    Ok(bytes)
+}
+
+fn push(bytes: &mut Vec<u8>, message: &Message<'_>) -> Result<(), AllocError> {
+    bytes.extend_from_slice(encode(message).bytes())
+}
+
+fn joined_up(alloc: Global, payloads: &[&[u8]]) -> Result<Vec<u8>, AllocError> {
+    let mut bytes = Vec::new(alloc);
+    for payload in payloads {
+        bytes.extend_from_slice(payload)?;
+    }
+    Ok(bytes)
+}
+
+// The snapshot of the joiner's market has these messages.
+fn check_market<B: OrderBook>(
+    rt: &impl Abort,
+    alloc: Global,
+    joiner: &Joiner<B>,
+    want: &[&[u8]],
+) -> Result<(), Fail> {
+    assert_eq!(rt; spelled(alloc, joiner)?, joined_up(alloc, want)?);
+    Ok(())
+}
+
+// A joiner of the first two messages.
+fn joined_at_3(rt: &impl Abort, alloc: Global, cap: usize) -> Indexed {
+    let mut joiner = Joiner::new(alloc, cap);
+    read(rt, &mut joiner, &[OPENS, AAPL]);
+    snapshot(rt, &mut joiner, END_3, Ok(Snap::Joined { next: 3 }));
+    joiner
+}
+
+// Messages 7 and 8 come before the snapshot of the first five, and 9 when there is room for it.
+fn check_late_join<B: OrderBook>(
+    rt: &impl Abort,
+    global: Global,
+    alloc: B::Alloc,
+) -> Result<(), Fail> {
+    let mut joiner: Joiner<B> = Joiner::new(alloc, 2);
+    deliver(
+        rt,
+        &mut joiner,
+        &[
+            (8, DELETE_3, Ok(Live::Kept)),
+            (7, REPLACE_1, Ok(Live::Kept)),
+            (9, NAMED_5, Err(JoinFault::Full { cap: 2 })),
+        ],
+    );
+    read(rt, &mut joiner, BEFORE_6);
+    assert_eq!(rt; joiner.next(), None);
+    assert!(rt; joiner.market().is_none());
+    resume(rt, &mut joiner, Ok(None));
+    snapshot(rt, &mut joiner, END_6, Ok(Snap::Joined { next: 6 }));
+    deliver(
+        rt,
+        &mut joiner,
+        &[
+            (6, EXECUTE_1, Ok(Live::Applied { next: 9 })),
+            (6, EXECUTE_1, Ok(Live::Old)),
+            (9, NAMED_5, Ok(Live::Applied { next: 10 })),
+        ],
+    );
+    stands(rt, &joiner, Some(10), 0);
+    check_market(rt, global, &joiner, &[OPENS, AAPL, ADD_2, ADD_4, NAMED_5])
+}
+
+#[test]
+fn joins_late(rt: HostRuntime) -> Result<(), Fail> {
+    laws::lawful_market();
+    laws::late_joiner();
+    laws::last_result();
+    laws::snapshot_of_feed();
+    laws::whole_feed();
+    check_late_join::<IndexedBook>(&rt, rt.alloc(), rt.alloc())?;
+    check_late_join::<ListBook>(&rt, rt.alloc(), rt.alloc())
+}
+
+#[test]
+fn a_refused_message_halts_for_good(rt: HostRuntime) -> Result<(), Fail> {
+    let mut joiner = joined_at_3(&rt, rt.alloc(), 1);
+    let halted = JoinFault::Halted {
+        number: 3,
+        cause: Cause::Rule(Refusal::UnknownLocate),
+    };
+    deliver(
+        &rt,
+        &mut joiner,
+        &[
+            (4, ADD_2, Ok(Live::Kept)),
+            (3, ADD_1_AT_9, Err(halted)),
+            (3, ADD_1, Err(halted)),
+            (0, ADD_1, Err(halted)),
+            (1, OPENS, Err(halted)),
+        ],
+    );
+    snapshot(&rt, &mut joiner, END_3, Err(halted));
+    resume(&rt, &mut joiner, Err(halted));
+    restart(&mut joiner);
+    resume(&rt, &mut joiner, Err(halted));
+    stands(&rt, &joiner, Some(3), 1);
+    check_market(&rt, rt.alloc(), &joiner, &[OPENS, AAPL])
+}
+
+// The message that is refused waits, and one before it is delivered.
+#[test]
+fn a_waiting_message_halts(rt: HostRuntime) -> Result<(), Fail> {
+    let mut joiner = joined_at_3(&rt, rt.alloc(), 2);
+    let halted = JoinFault::Halted {
+        number: 4,
+        cause: Cause::Codec(CodecFault::Empty),
+    };
+    deliver(
+        &rt,
+        &mut joiner,
+        &[
+            (4, b"", Ok(Live::Kept)),
+            (5, ADD_2, Ok(Live::Kept)),
+            (3, ADD_1, Err(halted)),
+        ],
+    );
+    stands(&rt, &joiner, Some(4), 2);
+    check_market(&rt, rt.alloc(), &joiner, &[OPENS, AAPL, ADD_1])
+}
+
+#[test]
+fn a_broken_snapshot_is_restarted(rt: HostRuntime) -> Result<(), Fail> {
+    let mut joiner: Indexed = Joiner::new(rt.alloc(), 1);
+    let broken = JoinFault::BadSnapshot {
+        place: 1,
+        cause: Cause::Rule(Refusal::UnknownLocate),
+    };
+    snapshot(&rt, &mut joiner, ADD_1, Err(broken));
+    snapshot(&rt, &mut joiner, END_1, Err(broken));
+    deliver(
+        &rt,
+        &mut joiner,
+        &[
+            (1, OPENS, Ok(Live::Kept)),
+            (1, OPENS, Ok(Live::Kept)),
+            (1, CLOSES, Err(JoinFault::Conflict { number: 1 })),
+            (2, AAPL, Err(JoinFault::Full { cap: 1 })),
+            (0, AAPL, Err(JoinFault::BadNumber)),
+            (10_000_000_000_000_000_000, AAPL, Err(JoinFault::BadNumber)),
+        ],
+    );
+    restart(&mut joiner);
+    assert_eq!(rt; joiner.waiting(), 1);
+    snapshot(&rt, &mut joiner, END_1, Ok(Snap::Joined { next: 2 }));
+    assert_eq!(rt; joiner.waiting(), 0);
+    snapshot(&rt, &mut joiner, END_1, Err(JoinFault::Joined));
+    restart(&mut joiner);
+    resume(&rt, &mut joiner, Ok(Some(2)));
+    check_market(&rt, rt.alloc(), &joiner, &[OPENS])
+}
+
+#[test]
+fn a_thousand_messages_wait(rt: HostRuntime) -> Result<(), Fail> {
+    let mut joiner: Indexed = Joiner::new(rt.alloc(), 1000);
+    for back in 0..1000u64 {
+        live(&rt, &mut joiner, 1000 - back, BROKEN_TRADE, Ok(Live::Kept));
+    }
+    snapshot(&rt, &mut joiner, END_1, Ok(Snap::Joined { next: 1001 }));
+    assert_eq!(rt; joiner.waiting(), 0);
+    Ok(())
+}
+
+// No message may wait: a feed in order from its first message on.
+#[test]
+fn joins_a_feed_in_order(rt: HostRuntime) -> Result<(), Fail> {
+    let mut joiner = joined_at_3(&rt, rt.alloc(), 0);
+    deliver(
+        &rt,
+        &mut joiner,
+        &[
+            (1, OPENS, Ok(Live::Old)),
+            (2, AAPL, Ok(Live::Old)),
+            (4, ADD_2, Err(JoinFault::Full { cap: 0 })),
+            (3, ADD_1, Ok(Live::Applied { next: 4 })),
+        ],
+    );
+    check_market(&rt, rt.alloc(), &joiner, &[OPENS, AAPL, ADD_1])
+}
+
+#[test]
+fn a_feed_with_nothing_new(rt: HostRuntime) -> Result<(), Fail> {
+    let mut joiner = joined_at_3(&rt, rt.alloc(), 0);
+    live(&rt, &mut joiner, 1, OPENS, Ok(Live::Old));
+    stands(&rt, &joiner, Some(3), 0);
+    check_market(&rt, rt.alloc(), &joiner, &[OPENS, AAPL])
+}
+
+#[test]
+fn a_snapshot_without_its_end(rt: HostRuntime) {
+    let mut joiner: Indexed = Joiner::new(rt.alloc(), 0);
+    read(&rt, &mut joiner, &[AAPL]);
+    stands(&rt, &joiner, None, 0);
+}
+
+#[test]
+fn faults_have_words(rt: HostRuntime) -> Result<(), Fail> {
+    let cause = Cause::Rule(Refusal::StockMismatch);
+    let rows = [
+        (JoinFault::Full { cap: 2 }, "2 messages wait already"),
+        (
+            JoinFault::Conflict { number: 7 },
+            "message 7 waits with other bytes",
+        ),
+        (JoinFault::BadNumber, "bad message number"),
+        (
+            JoinFault::Halted { number: 3, cause },
+            "message 3: stock mismatch",
+        ),
+        (JoinFault::OutOfMemory { taken: true }, "out of memory"),
+        (JoinFault::Joined, "joined already"),
+        (
+            JoinFault::BadSnapshot {
+                place: 1,
+                cause: Cause::Codec(CodecFault::Empty),
+            },
+            "snapshot message 1: empty message",
+        ),
+        (
+            JoinFault::BadSnapshot {
+                place: 2,
+                cause: Cause::TooMany,
+            },
+            "snapshot message 2: too many messages",
+        ),
+    ];
+    for (fault, words) in rows {
+        assert_eq!(rt; format!(in rt.alloc(); "{fault}")?.as_str(), words);
+    }
+    Ok(())
+}

@@ -1,0 +1,21 @@
+//! Tests of the libraries below the commands, each over its crate's public items alone.
+//!
+//! A module has the tests of the crate of its name: `frame` those of `itch_frame`, and so on. They see what no clause says:
+//! vectors of the formats byte by byte, calls that succeed with ample memory, failures of devices, and each allocation that is
+//! refused.
+#![tactic(auto)]
+
+#[cfg(test)]
+mod book;
+#[cfg(test)]
+mod codec;
+#[cfg(test)]
+mod frame;
+#[cfg(test)]
+mod join;
+#[cfg(test)]
+mod market;
+#[cfg(test)]
+mod snapshot;
+#[cfg(test)]
+mod soup;

@@ -1,0 +1,292 @@
+//! The rows, each failure in turn, and the calls that take no memory.
+use itch_book::ListBook;
+use itch_codec::{CodecFault, Seq};
+use itch_frame::testing::{FuseWriter, PieceReader};
+use itch_frame::{BlockReader, FrameFault, write_block};
+use itch_market::{Market, Refusal, replay};
+use itch_snapshot::{
+    SnapFault, SnapshotIter, SnapshotReader, laws, part_place, read_snapshot, same_market,
+    snapshot_len, write_snapshot,
+};
+use std::alloc::Global;
+use std::test::Fail;
+
+mod again;
+mod books;
+mod partial;
+
+const EVENT: &[u8] = b"S\0\0\0\0\0\0\0\0\0\0O";
+
+const AAPL: &[u8] = b"R\0\x01\0\0\0\0\0\0\0\0AAPL    QN\0\0\0dNCZ PNN1N\0\0\0\0N";
+// The same at the ninth nanosecond.
+const AAPL_LATER: &[u8] = b"R\0\x01\0\0\0\0\0\0\0\x09AAPL    QN\0\0\0dNCZ PNN1N\0\0\0\0N";
+
+const MSFT_AT_1: &[u8] = b"R\0\x01\0\0\0\0\0\0\0\0MSFT    QN\0\0\0dNCZ PNN1N\0\0\0\0N";
+
+const MSFT: &[u8] = b"R\0\x02\0\0\0\0\0\0\0\0MSFT    QN\0\0\0dNCZ PNN1N\0\0\0\0N";
+
+const TRADES: &[u8] = b"H\0\x01\0\0\0\0\0\0\0\0AAPL    T     ";
+// The same with other reserved bytes.
+const TRADES_0: &[u8] = b"H\0\x01\0\0\0\0\0\0\0\0AAPL    T\0    ";
+
+const TRADES_X: &[u8] = b"H\0\x01\0\0\0\0\0\0\0\0AAPL    TX    ";
+
+const RESTRICTS: &[u8] = b"Y\0\x01\0\0\0\0\0\0\0\0AAPL    0";
+
+const ADD_1: &[u8] = b"A\0\x01\0\0\0\0\0\0\0\0\0\0\0\0\0\0\0\x01B\0\0\0dAAPL    \0\x16\xe3\x60";
+
+const ADD_2: &[u8] = b"A\0\x01\0\0\0\0\0\0\0\0\0\0\0\0\0\0\0\x02B\0\0\0dAAPL    \0\x16\xe3\x60";
+
+const ADD_2_OF_200: &[u8] =
+    b"A\0\x01\0\0\0\0\0\0\0\0\0\0\0\0\0\0\0\x02B\0\0\0\xc8AAPL    \0\x16\xe3\x60";
+
+const ADD_2_HIGHER: &[u8] =
+    b"A\0\x01\0\0\0\0\0\0\0\0\0\0\0\0\0\0\0\x02B\0\0\0\xc8AAPL    \0\x16\xe3\xc4";
+
+const ADD_3: &[u8] =
+    b"A\0\x01\0\0\0\0\0\0\0\0\0\0\0\0\0\0\0\x03B\0\0\x01\x2cAAPL    \0\x16\xe3\x60";
+
+const ADD_4_HIGHER: &[u8] =
+    b"A\0\x01\0\0\0\0\0\0\0\0\0\0\0\0\0\0\0\x04B\0\0\x01\x90AAPL    \0\x16\xe3\xc4";
+
+const ADD_7: &[u8] =
+    b"A\0\x01\0\0\0\0\0\0\0\x05\0\0\0\0\0\0\0\x07B\0\0\x01\x2cAAPL    \0\x16\xe3\x60";
+
+const ADD_7_OF_150: &[u8] =
+    b"A\0\x01\0\0\0\0\0\0\0\0\0\0\0\0\0\0\0\x07B\0\0\0\x96AAPL    \0\x16\xe3\x60";
+
+const EXECUTE_7: &[u8] = b"E\0\x01\0\0\0\0\0\0\0\x06\0\0\0\0\0\0\0\x07\0\0\0d\0\0\0\0\0\0\0\x01";
+
+const CANCEL_7: &[u8] = b"X\0\x01\0\0\0\0\0\0\0\x07\0\0\0\0\0\0\0\x07\0\0\0\x32";
+
+const NAMED_1: &[u8] =
+    b"F\0\x01\0\0\0\0\0\0\0\0\0\0\0\0\0\0\0\x01B\0\0\0dAAPL    \0\x16\xe3\x60ABCD";
+
+const NAMED_3: &[u8] =
+    b"F\0\x01\0\0\0\0\0\0\0\0\0\0\0\0\0\0\0\x03B\0\0\0dAAPL    \0\x16\xe3\x60ABCD";
+
+const REPLACE_1: &[u8] =
+    b"U\0\x01\0\0\0\0\0\0\0\0\0\0\0\0\0\0\0\x01\0\0\0\0\0\0\0\x03\0\0\0d\0\x16\xe3\x60";
+
+const END_1: &[u8] = b"G                   1";
+
+const END_3: &[u8] = b"G                   3";
+
+const END_4: &[u8] = b"G                   4";
+
+const END_5: &[u8] = b"G                   5";
+
+const END_6: &[u8] = b"G                   6";
+
+// A day whose last message puts a new order in place of one with attribution, and its snapshot.
+const REPLACED: &[&[u8]] = &[AAPL, NAMED_1, ADD_2_OF_200, REPLACE_1];
+
+const REPLACED_SNAPSHOT: &[&[u8]] = &[AAPL, ADD_2_OF_200, NAMED_3, END_5];
+
+// The blocks of these payloads.
+fn blocks(alloc: Global, payloads: &[&[u8]]) -> Result<FuseWriter, Fail> {
+    let mut writer = FuseWriter::new(alloc, 64, None);
+    for payload in payloads {
+        write_block(&mut writer, payload)?;
+    }
+    Ok(writer)
+}
+
+// What a day with these payloads leaves.
+fn market(alloc: Global, payloads: &[&[u8]]) -> Result<Market<ListBook>, Fail> {
+    let day = blocks(alloc, payloads)?;
+    let mut reader = BlockReader::new(alloc, PieceReader::new(day.written(), 7, None))?;
+    let mut market = Market::new(alloc);
+    replay(&mut reader, &mut market);
+    Ok(market)
+}
+
+#[test]
+fn writes_the_snapshot_of_a_day(rt: HostRuntime) -> Result<(), Fail> {
+    laws::snapshot_replays();
+    laws::late_start();
+    laws::one_snapshot();
+    laws::short_snapshot();
+    laws::canonical();
+    laws::whole_snapshot();
+    laws::headline();
+    let days: [(&[&[u8]], &[&[u8]], u64); 6] = [
+        (&[], &[END_1], 1),
+        (&[EVENT, AAPL, ADD_1], &[EVENT, AAPL, ADD_1, END_4], 4),
+        (REPLACED, REPLACED_SNAPSHOT, 5),
+        (
+            &[AAPL, TRADES_0, ADD_7, EXECUTE_7, CANCEL_7],
+            &[AAPL, TRADES, ADD_7_OF_150, END_6],
+            6,
+        ),
+        (
+            &[AAPL_LATER, TRADES_X, ADD_7_OF_150],
+            &[AAPL, TRADES, ADD_7_OF_150, END_4],
+            4,
+        ),
+        (
+            &[MSFT, EVENT, AAPL, RESTRICTS, TRADES],
+            &[EVENT, AAPL, TRADES, RESTRICTS, MSFT, END_6],
+            6,
+        ),
+    ];
+    for (day, want, next) in days {
+        let market = market(rt.alloc(), day)?;
+        let next = Seq::new(next).expect(&rt, "a sequence number");
+        let len = snapshot_len(&market);
+        assert!(rt; len < 9);
+        assert_eq!(rt; len + 1, want.len() as u128);
+        let mut writer = FuseWriter::new(rt.alloc(), 1, None);
+        assert_eq!(rt;
+            write_snapshot(&market, next, &mut writer)?,
+            want.len() as u64
+        );
+        let want = blocks(rt.alloc(), want)?;
+        assert_eq!(rt; writer.written(), want.written());
+    }
+    Ok(())
+}
+
+#[test]
+fn counts_what_is_still_to_come(rt: HostRuntime) -> Result<(), Fail> {
+    let empty = market(rt.alloc(), &[])?;
+    assert!(rt; snapshot_len(&empty) < 9);
+    assert_eq!(rt; SnapshotIter::new(&empty).remaining(), 0);
+    let replaced = market(rt.alloc(), REPLACED)?;
+    assert!(rt; snapshot_len(&replaced) < 9);
+    let mut messages = SnapshotIter::new(&replaced);
+    for want in [3, 2, 1] {
+        assert_eq!(rt; messages.remaining(), want);
+        assert!(rt; messages.next().is_some());
+    }
+    assert_eq!(rt; messages.remaining(), 0);
+    assert!(rt; messages.next().is_none());
+    Ok(())
+}
+
+#[test]
+fn tells_where_snapshots_part(rt: HostRuntime) -> Result<(), Fail> {
+    let pairs: [(&[&[u8]], &[&[u8]], Option<u64>); 5] = [
+        (&[AAPL, ADD_1, ADD_2], &[AAPL, ADD_2, ADD_1], Some(2)),
+        (
+            &[AAPL, ADD_1, ADD_2_HIGHER, ADD_3, ADD_4_HIGHER],
+            &[AAPL, ADD_2_HIGHER, ADD_4_HIGHER, ADD_1, ADD_3],
+            None,
+        ),
+        (
+            &[AAPL, TRADES_0, ADD_7, EXECUTE_7, CANCEL_7],
+            &[AAPL_LATER, TRADES_X, ADD_7_OF_150],
+            None,
+        ),
+        (&[AAPL, ADD_1], &[AAPL], Some(2)),
+        (&[], &[AAPL], Some(1)),
+    ];
+    for (one, other, want) in pairs {
+        let one = market(rt.alloc(), one)?;
+        let other = market(rt.alloc(), other)?;
+        assert!(rt; snapshot_len(&one) < 9);
+        assert_eq!(rt; part_place(&one, &other), want);
+        assert_eq!(rt; same_market(&one, &other), want.is_none());
+    }
+    Ok(())
+}
+
+// What is read from these bytes: the number of messages of the market's snapshot and the number in End of Snapshot, or a fault as it is printed.
+fn outcome(alloc: Global, bytes: &[u8]) -> Result<Result<(u128, u64), String>, Fail> {
+    let mut reader = BlockReader::new(alloc, PieceReader::new(bytes, 1, None))?;
+    match read_snapshot::<_, _, ListBook>(alloc, &mut reader) {
+        Ok((market, next)) => Ok(Ok((snapshot_len(&market), next.value()))),
+        Err(fault) => Ok(Err(format!(in alloc; "{fault:?}")?)),
+    }
+}
+
+#[test]
+fn reads_snapshots(rt: HostRuntime) -> Result<(), Fail> {
+    let files: [(&[&[u8]], &[u8], Result<(u128, u64), &str>); 7] = [
+        (&[AAPL], b"", Err("NoEnd")),
+        (&[END_1, EVENT], b"", Err("AfterEnd")),
+        (&[END_1], b"\0", Err("Frame(Truncated { held: 1 })")),
+        (&[END_1], b"\0\0\xff", Ok((0, 1))),
+        (
+            &[AAPL, MSFT_AT_1, END_3],
+            b"",
+            Err("Rule { place: 2, reason: StockMismatch }"),
+        ),
+        (
+            &[AAPL, b"G"],
+            b"",
+            Err("Codec { place: 2, fault: WrongLength { kind: 71, want: 21, got: 1 } }"),
+        ),
+        (REPLACED_SNAPSHOT, b"", Ok((3, 5))),
+    ];
+    for (payloads, rest, want) in files {
+        let front = blocks(rt.alloc(), payloads)?;
+        let mut file = Vec::from_slice(rt.alloc(), front.written())?;
+        file.extend_from_slice(rest)?;
+        match (outcome(rt.alloc(), &file)?, want) {
+            (Ok(read), Ok(want)) => assert_eq!(rt; read, want),
+            (Err(said), Err(want)) => assert_eq!(rt; said.as_str(), want),
+            _ => assert!(rt; false, "read or refused by mistake"),
+        }
+    }
+    Ok(())
+}
+
+// A market is handed out after its End of Snapshot, and not before.
+#[test]
+fn hands_a_market_out_at_its_end(rt: HostRuntime) -> Result<(), Fail> {
+    let want = market(rt.alloc(), REPLACED)?;
+    assert!(rt; snapshot_len(&want) < 9);
+    let mut snapshot: SnapshotReader<ListBook> = SnapshotReader::new(rt.alloc());
+    for payload in [AAPL, ADD_2_OF_200, NAMED_3] {
+        assert!(rt; matches!(snapshot.message(payload), Ok(None)));
+    }
+    assert!(rt; same_market(&want, snapshot.market()));
+    let Err(mut snapshot) = snapshot.finish() else {
+        panic!(rt; "handed out before its end");
+    };
+    assert!(rt; matches!(snapshot.message(END_5), Ok(Some(_))));
+    assert!(rt; matches!(snapshot.message(END_5), Err(SnapFault::AfterEnd)));
+    let Ok((handed_out, next)) = snapshot.finish() else {
+        panic!(rt; "kept after its end");
+    };
+    assert_eq!(rt; next.value(), 5);
+    assert!(rt; same_market(&want, &handed_out));
+    Ok(())
+}
+
+#[test]
+fn says_what_failed(rt: HostRuntime) -> Result<(), Fail> {
+    let fault = CodecFault::BadSide { offset: 19 };
+    for (fault, want) in [
+        (SnapFault::NoEnd, "no end of snapshot"),
+        (
+            SnapFault::Frame(FrameFault::Truncated { held: 1 }),
+            "truncated, 1 bytes held",
+        ),
+        (
+            SnapFault::Codec { place: 3, fault },
+            "message 3: bad side at 19",
+        ),
+        (
+            SnapFault::Rule {
+                place: 2,
+                reason: Refusal::TooManyShares { remain: 60 },
+            },
+            "message 2: too many shares, 60 remain",
+        ),
+        (
+            SnapFault::Rule {
+                place: 2,
+                reason: Refusal::OutOfMemory,
+            },
+            "out of memory",
+        ),
+        (SnapFault::AfterEnd, "message after end of snapshot"),
+        (SnapFault::TooManyMessages, "too many messages"),
+    ] {
+        let said = format!(in rt.alloc(); "{fault}")?;
+        assert_eq!(rt; said.as_str(), want);
+    }
+    Ok(())
+}

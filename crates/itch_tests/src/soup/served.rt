@@ -1,0 +1,255 @@
+//! One served and one fetched session over memory: the rows, each failure in turn, and the calls that take no memory.
+use super::{alpha, seq};
+use itch_book::ListBook;
+use itch_codec::Seq;
+use itch_frame::counted::CountedRead;
+use itch_frame::testing::{FuseWriter, PieceReader};
+use itch_frame::{BlockReader, FrameFault};
+use itch_market::{Market, replay};
+use itch_snapshot::{same_market, snapshot_len};
+use itch_soup::{
+    Credentials, Served, ServerConfig, SoupFault, fetch_one, laws, serve_one, write_data,
+};
+use std::alloc::{AllocError, Allocator, Global};
+use std::process::Abort;
+use std::test::Fail;
+
+// A day: an event, a directory, and two orders.
+const DAY: &[u8] = b"\0\x0cS\0\0\0\0\0\0\0\0\0\0O\
+    \0\x27R\0\x01\0\0\0\0\0\0\0\0AAPL    QN\0\0\0dNCZ PNN1N\0\0\0\0N\
+    \0\x24A\0\x01\0\0\0\0\0\0\0\0\0\0\0\0\0\0\0\x01B\0\0\0dAAPL    \0\x16\xe3\x60\
+    \0\x24A\0\x01\0\0\0\0\0\0\0\0\0\0\0\0\0\0\0\x02B\0\0\0\xc8AAPL    \0\x16\xe3\x60";
+
+// The answers to logins for all of it, for the orders, and for what follows the End of Snapshot.
+const FROM_1: &[u8] = b"\0\x1fA  ITCHSNAP                   1\
+    \0\x0dSS\0\0\0\0\0\0\0\0\0\0O\
+    \0\x28SR\0\x01\0\0\0\0\0\0\0\0AAPL    QN\0\0\0dNCZ PNN1N\0\0\0\0N\
+    \0\x25SA\0\x01\0\0\0\0\0\0\0\0\0\0\0\0\0\0\0\x01B\0\0\0dAAPL    \0\x16\xe3\x60\
+    \0\x25SA\0\x01\0\0\0\0\0\0\0\0\0\0\0\0\0\0\0\x02B\0\0\0\xc8AAPL    \0\x16\xe3\x60\
+    \0\x16SG                   5\0\x01Z";
+
+const FROM_3: &[u8] = b"\0\x1fA  ITCHSNAP                   3\
+    \0\x25SA\0\x01\0\0\0\0\0\0\0\0\0\0\0\0\0\0\0\x01B\0\0\0dAAPL    \0\x16\xe3\x60\
+    \0\x25SA\0\x01\0\0\0\0\0\0\0\0\0\0\0\0\0\0\0\x02B\0\0\0\xc8AAPL    \0\x16\xe3\x60\
+    \0\x16SG                   5\0\x01Z";
+
+const FROM_6: &[u8] = b"\0\x1fA  ITCHSNAP                   6\0\x01Z";
+
+const LOGIN_1: &[u8] = b"\0\x2fLuser  secret                                 1";
+
+const LOGIN_3: &[u8] = b"\0\x2fLuser  secret                                 3";
+
+fn config(rt: &impl Abort) -> ServerConfig {
+    ServerConfig {
+        username: alpha(rt, "user"),
+        password: alpha(rt, "secret"),
+        session: alpha(rt, "ITCHSNAP"),
+    }
+}
+
+fn credentials(rt: &impl Abort) -> Credentials {
+    Credentials {
+        username: alpha(rt, "user"),
+        password: alpha(rt, "secret"),
+        session: alpha(rt, ""),
+    }
+}
+
+// What the day leaves.
+fn market<A: Allocator + Copy>(alloc: A) -> Result<Market<ListBook<A>>, AllocError> {
+    let mut reader = BlockReader::new(alloc, PieceReader::new(DAY, 64, None))?;
+    let mut market = Market::new(alloc);
+    replay(&mut reader, &mut market);
+    Ok(market)
+}
+
+// Logins, what they are answered, and the bytes of the answer.
+fn logins<'a>(rt: &impl Abort) -> [(&'a [u8], Served, &'a [u8]); 12] {
+    let accepted = |from, packets| Served::Accepted {
+        from: seq(rt, from),
+        packets,
+    };
+    [
+        (LOGIN_3, accepted(3, 3), FROM_3),
+        (LOGIN_1, accepted(1, 5), FROM_1),
+        (
+            b"\0\x2fLuser  secret                                 0",
+            accepted(1, 5),
+            FROM_1,
+        ),
+        (
+            b"\0\x2fLuser  secret                                  ",
+            accepted(1, 5),
+            FROM_1,
+        ),
+        (
+            b"\0\x01R\0\x01U\0\x01+\0\x2fLuser  secret                                 6",
+            accepted(6, 0),
+            FROM_6,
+        ),
+        (
+            b"\0\x2fLuser  secret                                 7",
+            Served::Rejected(b'S'),
+            b"\0\x02JS",
+        ),
+        (
+            b"\0\x2fLuser  wrong                                  3",
+            Served::Rejected(b'A'),
+            b"\0\x02JA",
+        ),
+        (
+            b"\0\x2fLuser  secret    OTHER                        3",
+            Served::Rejected(b'S'),
+            b"\0\x02JS",
+        ),
+        (
+            b"\0\x2fLUSER  secret    ITCHSNAP                     3",
+            accepted(3, 3),
+            FROM_3,
+        ),
+        (b"\0\x01O", Served::Left, b""),
+        (b"\0\x01R\0\x01O", Served::Left, b""),
+        (b"\0\x01R", Served::Left, b""),
+    ]
+}
+
+#[test]
+fn logins_are_served(rt: HostRuntime) -> Result<(), Fail> {
+    laws::served_is_fetched();
+    laws::one_wait();
+    laws::some_wait();
+    laws::one_fetch();
+    laws::some_fetch();
+    laws::waits_by_the_table();
+    let market = market(rt.alloc())?;
+    assert!(rt; snapshot_len(&market) < 9);
+    for (input, want, bytes) in logins(&rt) {
+        for piece in [1, 64] {
+            let mut reader = BlockReader::new(rt.alloc(), PieceReader::new(input, piece, None))?;
+            let mut writer = FuseWriter::new(rt.alloc(), piece, None);
+            let served = serve_one(&mut reader, &mut writer, &market, seq(&rt, 5), &config(&rt))?;
+            assert_eq!(rt; served, want, "{input:?}");
+            assert_eq!(rt; writer.written(), bytes, "{input:?}");
+        }
+    }
+    Ok(())
+}
+
+#[test]
+fn faults_before_a_login_are_not_answered(rt: HostRuntime) -> Result<(), Fail> {
+    let market = market(rt.alloc())?;
+    assert!(rt; snapshot_len(&market) < 9);
+    let rows: [(&[u8], &str); 5] = [
+        (b"\0\0", "empty packet"),
+        (b"\0\x01R\0\x01*", "unknown packet type 0x2a"),
+        (b"\0\x01S", "packet S from the wrong side"),
+        (b"\0\x01L", "wrong length for packet L: want 47, got 1"),
+        (b"\0\x01R\0\x2fLuser", "truncated, 7 bytes held"),
+    ];
+    for (input, want) in rows {
+        let mut reader = BlockReader::new(rt.alloc(), PieceReader::new(input, 5, None))?;
+        let mut writer = FuseWriter::new(rt.alloc(), 64, None);
+        let served = serve_one(&mut reader, &mut writer, &market, seq(&rt, 5), &config(&rt));
+        let fault = served.err().expect(&rt, "a fault");
+        assert_eq!(rt; fault.to_string(rt.alloc())?.as_str(), want);
+        assert_eq!(rt; writer.written(), b"".as_slice());
+    }
+    Ok(())
+}
+
+#[test]
+fn nothing_is_read_after_the_login(rt: HostRuntime) -> Result<(), Fail> {
+    let market = market(rt.alloc())?;
+    assert!(rt; snapshot_len(&market) < 9);
+    let input = b"\0\x2fLuser  secret                                 3\0\x01O";
+    let mut reader = BlockReader::new(rt.alloc(), PieceReader::new(input, 64, None))?;
+    let mut writer = FuseWriter::new(rt.alloc(), 64, None);
+    serve_one(&mut reader, &mut writer, &market, seq(&rt, 5), &config(&rt))?;
+    assert_eq!(rt; reader.next_block()?, Some(b"O".as_slice()));
+    Ok(())
+}
+
+// A fetch of what this reader gives, and whether it logged in.
+fn fetched<R: CountedRead + Drop>(
+    rt: &impl Abort,
+    alloc: Global,
+    reader: R,
+) -> Result<Result<(Market<ListBook>, Seq), SoupFault>, Fail> {
+    let mut reader = BlockReader::new(alloc, reader)?;
+    let mut writer = FuseWriter::new(alloc, 64, None);
+    let result = fetch_one(alloc, &mut reader, &mut writer, &credentials(rt));
+    assert_eq!(rt; writer.written(), LOGIN_1);
+    Ok(result)
+}
+
+#[test]
+fn answers_are_fetched(rt: HostRuntime) -> Result<(), Fail> {
+    let want = market(rt.alloc())?;
+    assert!(rt; snapshot_len(&want) < 9);
+    for piece in [1, 64] {
+        let (found, next) = fetched(&rt, rt.alloc(), PieceReader::new(FROM_1, piece, None))??;
+        assert!(rt; same_market(&want, &found));
+        assert_eq!(rt; next.value(), 5);
+    }
+    Ok(())
+}
+
+#[test]
+fn nothing_is_read_after_the_end_of_snapshot(rt: HostRuntime) -> Result<(), Fail> {
+    let mut reader = BlockReader::new(rt.alloc(), PieceReader::new(FROM_1, 64, None))?;
+    let mut writer = FuseWriter::new(rt.alloc(), 64, None);
+    let _: (Market<ListBook>, Seq) = fetch_one(
+        rt.alloc(),
+        &mut reader,
+        &mut writer,
+        &credentials(&rt),
+    )?;
+    assert_eq!(rt; reader.next_block()?, Some(b"Z".as_slice()));
+    Ok(())
+}
+
+#[test]
+fn other_answers_are_faults(rt: HostRuntime) -> Result<(), Fail> {
+    let rows: [(&[u8], &str); 10] = [
+        (FROM_3, "accepted from 3, not from 1"),
+        (b"\0\x02JA", "login rejected with A"),
+        (
+            b"\0\x1fA  ITCHSNAP                   1\0\x01Z",
+            "ended early",
+        ),
+        (b"\0\x01H\0\x01Z", "ended early"),
+        (b"\0\x1fA  ITCHSNAP                   1", "ended early"),
+        (b"\0\x1fA  ITCHSNAP", "truncated, 13 bytes held"),
+        (b"\0\x01S", "packet S before the login was accepted"),
+        (b"\0\x01R", "packet R from the wrong side"),
+        (
+            b"\0\x1fA  ITCHSNAP                   1\0\x02JA",
+            "second login",
+        ),
+        (
+            b"\0\x1fA  ITCHSNAP                   1\0\x14SD\0\x01\0\0\0\0\0\0\0\0\0\0\0\0\0\0\0\x01",
+            "message 1: unknown reference",
+        ),
+    ];
+    for (input, want) in rows {
+        let fault = fetched(&rt, rt.alloc(), PieceReader::new(input, 5, None))?
+            .err()
+            .expect(&rt, "a fault");
+        assert_eq!(rt; fault.to_string(rt.alloc())?.as_str(), want);
+    }
+    Ok(())
+}
+
+#[test]
+fn data_is_written(rt: HostRuntime) -> Result<(), Fail> {
+    let mut writer = FuseWriter::new(rt.alloc(), 64, None);
+    write_data(&mut writer, b"GG")?;
+    write_data(&mut writer, b"")?;
+    assert_eq!(rt; writer.written(), b"\0\x03SGG\0\x01S".as_slice());
+    let longest = vec![in rt.alloc(); 7; 65_535]?;
+    assert!(rt; matches!(write_data(&mut writer, &longest), Err(FrameFault::TooLong)));
+    assert_eq!(rt; writer.written().len(), 8);
+    write_data(&mut writer, &longest[1..])?;
+    assert_eq!(rt; writer.written().len(), 8 + 65_537);
+    Ok(())
+}
