@@ -76,25 +76,30 @@ pub(super) fn reference(order: Option<&Order>) -> u64 {
     }
 }
 
-// Checks each call of a book that is empty.
-fn check_calls<B: OrderBook>(rt: &impl Abort, book: &mut B) -> Result<(), AllocError> {
+// Adds two levels to buy, two to sell, and the greatest order of another locate.
+fn fill<B: OrderBook>(rt: &impl Abort, book: &mut B) -> Result<(), AllocError> {
     assert_eq!(rt; book.len(), 0);
-    for (number, shares, price) in [
-        (1, 100, 1500000),
-        (2, 200, 1500100),
-        (3, 300, 1500000),
-        (4, 400, 1500100),
+    for (number, side, shares, price) in [
+        (1, Side::Buy, 100, 1500000),
+        (2, Side::Buy, 200, 1500100),
+        (3, Side::Buy, 300, 1500000),
+        (4, Side::Buy, 400, 1500100),
+        (5, Side::Sell, 500, 1500300),
+        (6, Side::Sell, 600, 1500200),
     ] {
-        add(rt, book, order(number, Side::Buy, shares, price))?;
+        add(rt, book, order(number, side, shares, price))?;
     }
-    add(rt, book, order(5, Side::Sell, 500, 1500300))?;
-    add(rt, book, order(6, Side::Sell, 600, 1500200))?;
     let last = Order {
         locate: u16::MAX,
         ..order(u64::MAX, Side::Sell, u32::MAX, u32::MAX)
     };
     add(rt, book, last)?;
     assert_eq!(rt; book.len(), 7);
+    Ok(())
+}
+
+// Checks the order of the orders.
+fn check_order<B: OrderBook>(rt: &impl Abort, book: &B) {
     assert_eq!(rt; reference(book.first(1)), 2);
     for (number, want) in [
         (2, 4),
@@ -111,6 +116,10 @@ fn check_calls<B: OrderBook>(rt: &impl Abort, book: &mut B) -> Result<(), AllocE
     assert_eq!(rt; reference(book.front(1, Side::Buy)), 2);
     assert_eq!(rt; reference(book.front(1, Side::Sell)), 6);
     assert_eq!(rt; reference(book.front(u16::MAX, Side::Buy)), 0);
+}
+
+// Checks the prices and the totals of the levels.
+fn check_levels<B: OrderBook>(rt: &impl Abort, book: &B) {
     for (side, last, want) in [
         (Side::Buy, None, Some(1500100)),
         (Side::Buy, Some(1500100), Some(1500000)),
@@ -121,26 +130,33 @@ fn check_calls<B: OrderBook>(rt: &impl Abort, book: &mut B) -> Result<(), AllocE
     ] {
         assert_eq!(rt; book.next_price(1, side, last), want, "after {last:?}");
     }
-    assert_eq!(rt; book.level_total(1, Side::Buy, 1500100), (600, 2));
-    assert_eq!(rt; book.level_total(1, Side::Buy, 1500000), (400, 2));
-    assert_eq!(rt; book.level_total(1, Side::Sell, 1500000), (0, 0));
-    assert_eq!(rt;
-        book.level_total(u16::MAX, Side::Sell, u32::MAX),
-        (4294967295, 1)
-    );
-    check_changes(rt, book)
+    for (locate, side, price, want) in [
+        (1, Side::Buy, 1500100, (600, 2)),
+        (1, Side::Buy, 1500000, (400, 2)),
+        (1, Side::Sell, 1500000, (0, 0)),
+        (u16::MAX, Side::Sell, u32::MAX, (4294967295, 1)),
+    ] {
+        assert_eq!(rt; book.level_total(locate, side, price), want);
+    }
 }
 
-// Checks each change of the orders 1 to 6.
-fn check_changes<B: OrderBook>(rt: &impl Abort, book: &mut B) -> Result<(), AllocError> {
+// Takes shares of the orders 1 and 3.
+fn check_takes<B: OrderBook>(rt: &impl Abort, book: &mut B) {
     assert_eq!(rt; take(rt, book, 1, 40), Taken::Left(60));
     assert_eq!(rt; book.level_total(1, Side::Buy, 1500000), (360, 2));
     assert_eq!(rt; next(rt, book, 4), 1);
     assert_eq!(rt; take(rt, book, 1, 60), Taken::Gone);
     assert!(rt; book.get(1).is_none());
     assert_eq!(rt; take(rt, book, 3, 0), Taken::Left(300));
+}
+
+fn check_delete<B: OrderBook>(rt: &impl Abort, book: &mut B) {
     assert_eq!(rt; delete(rt, book, 6), order(6, Side::Sell, 600, 1500200));
     assert_eq!(rt; book.next_price(1, Side::Sell, None), Some(1500300));
+}
+
+// Replaces order 2 by order 7, behind order 3.
+fn check_replace<B: OrderBook>(rt: &impl Abort, book: &mut B) -> Result<(), AllocError> {
     replace(rt, book, 2, 7, 50, 1500000)?;
     assert!(rt; book.get(2).is_none());
     assert_eq!(rt;
@@ -153,19 +169,35 @@ fn check_changes<B: OrderBook>(rt: &impl Abort, book: &mut B) -> Result<(), Allo
     Ok(())
 }
 
-// Checks a level of a thousand orders, of which three change.
-fn check_priority<B: OrderBook>(rt: &impl Abort, book: &mut B) -> Result<(), AllocError> {
+// Checks each call of a book that is empty.
+fn check_calls<B: OrderBook>(rt: &impl Abort, book: &mut B) -> Result<(), AllocError> {
+    fill(rt, book)?;
+    check_order(rt, book);
+    check_levels(rt, book);
+    check_takes(rt, book);
+    check_delete(rt, book);
+    check_replace(rt, book)
+}
+
+// Adds a level of a thousand orders.
+fn fill_level<B: OrderBook>(rt: &impl Abort, book: &mut B) -> Result<(), AllocError> {
     for number in 1..1001 {
         add(rt, book, order(number, Side::Buy, 10, 1500000))?;
     }
+    Ok(())
+}
+
+// Checks a level of a thousand orders, of which three change.
+fn check_priority<B: OrderBook>(rt: &impl Abort, book: &mut B) -> Result<(), AllocError> {
+    fill_level(rt, book)?;
     delete(rt, book, 500);
     assert_eq!(rt; take(rt, book, 1, 10), Taken::Gone);
     replace(rt, book, 1000, 2000, 5, 1500000)?;
     assert_eq!(rt; book.level_total(1, Side::Buy, 1500000), (9975, 998));
     assert_eq!(rt; reference(book.front(1, Side::Buy)), 2);
-    assert_eq!(rt; next(rt, book, 499), 501);
-    assert_eq!(rt; next(rt, book, 999), 2000);
-    assert_eq!(rt; next(rt, book, 2000), 0);
+    for (number, want) in [(499, 501), (999, 2000), (2000, 0)] {
+        assert_eq!(rt; next(rt, book, number), want);
+    }
     Ok(())
 }
 

@@ -15,42 +15,64 @@ use std::test::Fail;
 // Five blocks, one of them empty.
 const STREAM: &[u8] = b"\x00\x01S\x00\x02RR\x00\x00\x00\x05AAAAA\x00\x01D";
 
+// What the helpers say of a call is no more than they check, so that a proof of a test carries nothing else.
+// The splitter takes so many of these bytes, and then holds so many of its block, which is ready or not.
+fn takes<A: Allocator>(
+    rt: &impl Abort,
+    splitter: &mut Splitter<A>,
+    bytes: &[u8],
+    (taken, held): (usize, usize),
+    ready: Option<&[u8]>,
+) {
+    assert_eq!(rt; splitter.take(bytes), taken);
+    assert_eq!(rt; splitter.ready(), ready);
+    assert_eq!(rt; splitter.held(), held);
+}
+
 #[test]
 fn takes_up_to_the_end_of_a_block(rt: HostRuntime) -> Result<(), Fail> {
     let mut splitter = Splitter::new(rt.alloc())?;
-    assert_eq!(rt; splitter.take(&[0]), 1);
-    assert!(rt; splitter.ready().is_none());
-    assert_eq!(rt; splitter.held(), 1);
-    assert_eq!(rt; splitter.take(&[1, 0x7a, 0, 0]), 2);
-    assert_eq!(rt; splitter.ready(), Some([0x7a].as_slice()));
-    assert_eq!(rt; splitter.held(), 3);
-    assert_eq!(rt; splitter.take(&[0, 0]), 0);
+    takes(&rt, &mut splitter, &[0], (1, 1), None);
+    takes(&rt, &mut splitter, &[1, 0x7a, 0, 0], (2, 3), Some(&[0x7a]));
+    takes(&rt, &mut splitter, &[0, 0], (0, 3), Some(&[0x7a]));
     splitter.clear();
-    assert_eq!(rt; splitter.take(&[0, 0]), 2);
-    assert_eq!(rt; splitter.ready(), Some([].as_slice()));
-    assert_eq!(rt; splitter.held(), 2);
+    takes(&rt, &mut splitter, &[0, 0], (2, 2), Some(&[]));
+    Ok(())
+}
+
+#[test]
+fn the_laws_of_streams() {
+    laws::any_cut();
+    laws::one_block();
+    laws::one_reading();
+    laws::one_day();
+}
+
+// Cuts the blocks out of a piece, of at most eight, and writes them again.
+fn copy_piece<A: Allocator, W: CountedWrite>(
+    splitter: &mut Splitter<A>,
+    writer: &mut W,
+    piece: &[u8],
+) -> Result<(), FrameFault> {
+    let mut rest = piece;
+    for _ in 0..8 {
+        let taken = splitter.take(rest).min(rest.len());
+        rest = &rest[taken..];
+        if let Some(payload) = splitter.ready() {
+            write_block(writer, payload)?;
+            splitter.clear();
+        }
+    }
     Ok(())
 }
 
 #[test]
 fn cuts_a_stream_the_same_in_any_pieces(rt: HostRuntime) -> Result<(), Fail> {
-    laws::any_cut();
-    laws::one_block();
-    laws::one_reading();
-    laws::one_day();
     for size in 1..=STREAM.len() {
         let mut splitter = Splitter::new(rt.alloc())?;
         let mut writer = FuseWriter::new(rt.alloc(), 64, None);
         for piece in STREAM.chunks(size) {
-            let mut rest = piece;
-            for _ in 0..8 {
-                let taken = splitter.take(rest).min(rest.len());
-                rest = &rest[taken..];
-                if let Some(payload) = splitter.ready() {
-                    write_block(&mut writer, payload)?;
-                    splitter.clear();
-                }
-            }
+            copy_piece(&mut splitter, &mut writer, piece)?;
         }
         assert_eq!(rt; writer.written(), STREAM, "in pieces of {size}");
         assert_eq!(rt; splitter.held(), 0);
@@ -58,18 +80,51 @@ fn cuts_a_stream_the_same_in_any_pieces(rt: HostRuntime) -> Result<(), Fail> {
     Ok(())
 }
 
+// The next block is this one, or there is none.
+fn gives<R: CountedRead, A: Allocator>(
+    rt: &impl Abort,
+    reader: &mut BlockReader<R, A>,
+    want: Option<&[u8]>,
+) -> Result<(), FrameFault> {
+    assert_eq!(rt; reader.next_block()?, want);
+    Ok(())
+}
+
+fn fails<R: CountedRead, A: Allocator>(rt: &impl Abort, reader: &mut BlockReader<R, A>) {
+    assert!(rt; matches!(reader.next_block(), Err(FrameFault::Read(_))));
+}
+
+// The input ends with so many bytes of a block, however often it is asked.
+fn is_truncated<R: CountedRead, A: Allocator>(
+    rt: &impl Abort,
+    reader: &mut BlockReader<R, A>,
+    want: usize,
+) {
+    for _ in 0..2 {
+        assert!(rt;
+            matches!(reader.next_block(), Err(FrameFault::Truncated { held }) if held == want)
+        );
+    }
+}
+
+// A writer that has the block of the longest payload takes none that is longer.
+fn is_too_long(rt: &impl Abort, writer: &mut FuseWriter, payload: &[u8]) {
+    assert_eq!(rt; writer.written().len(), 65_537);
+    assert!(rt; writer.written().starts_with(&[0xff, 0xff, 0x7a]));
+    assert!(rt; matches!(write_block(writer, payload), Err(FrameFault::TooLong)));
+    assert_eq!(rt; writer.written().len(), 65_537);
+}
+
 #[test]
 fn writes_the_longest_block_and_none_longer(rt: HostRuntime) -> Result<(), Fail> {
     let long = vec![in rt.alloc(); 0x7a; 65_536]?;
+    let longest = &long[..65_535];
     let mut writer = FuseWriter::new(rt.alloc(), 70_000, None);
-    write_block(&mut writer, &long[..65_535])?;
-    assert_eq!(rt; writer.written().len(), 65_537);
-    assert!(rt; writer.written().starts_with(&[0xff, 0xff, 0x7a]));
-    assert!(rt; matches!(write_block(&mut writer, &long), Err(FrameFault::TooLong)));
-    assert_eq!(rt; writer.written().len(), 65_537);
+    write_block(&mut writer, longest)?;
+    is_too_long(&rt, &mut writer, &long);
     let mut reader = BlockReader::new(rt.alloc(), PieceReader::new(writer.written(), 1000, None))?;
-    assert_eq!(rt; reader.next_block()?, Some(&long[..65_535]));
-    assert_eq!(rt; reader.next_block()?, None);
+    gives(&rt, &mut reader, Some(longest))?;
+    gives(&rt, &mut reader, None)?;
     Ok(())
 }
 
@@ -95,10 +150,10 @@ fn tells_how_much_of_a_block_was_sent(rt: HostRuntime) -> Result<(), Fail> {
 #[test]
 fn reads_on_after_a_failure(rt: HostRuntime) -> Result<(), Fail> {
     let mut reader = BlockReader::new(rt.alloc(), PieceReader::new(b"\x00\x01z", 1, Some(2)))?;
-    assert!(rt; matches!(reader.next_block(), Err(FrameFault::Read(_))));
-    assert_eq!(rt; reader.next_block()?, Some(b"z".as_slice()));
-    assert_eq!(rt; reader.next_block()?, None);
-    assert_eq!(rt; reader.next_block()?, None);
+    fails(&rt, &mut reader);
+    for want in [Some(b"z".as_slice()), None, None] {
+        gives(&rt, &mut reader, want)?;
+    }
     Ok(())
 }
 
@@ -167,11 +222,9 @@ fn a_failed_read_below_a_buffer_is_counted(rt: HostRuntime) -> Result<(), Fail> 
     let source = PieceReader::new(b"\x00\x01z\x00", 4, Some(2));
     let source = Buffered::new(BufReader::with_capacity(rt.alloc(), 8, source)?);
     let mut reader = BlockReader::new(rt.alloc(), source)?;
-    assert_eq!(rt; reader.next_block()?, Some(b"z".as_slice()));
-    assert!(rt; matches!(reader.next_block(), Err(FrameFault::Read(_))));
-    for _ in 0..2 {
-        assert!(rt; matches!(reader.next_block(), Err(FrameFault::Truncated { held: 1 })));
-    }
+    gives(&rt, &mut reader, Some(b"z"))?;
+    fails(&rt, &mut reader);
+    is_truncated(&rt, &mut reader, 1);
     Ok(())
 }
 
@@ -266,57 +319,64 @@ fn tells_how_much_of_a_block_is_held(rt: HostRuntime) -> Result<(), Fail> {
         (b"\x00\x03ab", 4),
     ] {
         let mut reader = BlockReader::new(rt.alloc(), PieceReader::new(bytes, 7, None))?;
-        for _ in 0..2 {
-            assert!(rt;
-                matches!(reader.next_block(), Err(FrameFault::Truncated { held }) if held == want)
-            );
-        }
+        is_truncated(&rt, &mut reader, want);
     }
     Ok(())
 }
 
+// The failure of a writer that has no more room tells how much of a block was sent.
+fn has_no_room<W: CountedWrite>(rt: &impl Abort, writer: &mut W, want: usize) {
+    assert!(rt;
+        matches!(write_block(writer, b"abc"), Err(FrameFault::Write { sent, .. }) if sent == want)
+    );
+}
+
 #[test]
-fn counts_the_failures_of_standard_readers_and_writers(rt: HostRuntime) -> Result<(), Fail> {
+fn counts_the_failures_of_standard_writers(rt: HostRuntime) {
     let mut room = [0; 4];
     let mut writer = Counted::new(&mut room[..]);
-    assert!(rt;
-        matches!(
-            write_block(&mut writer, b"abc"),
-            Err(FrameFault::Write { sent: 4, .. })
-        )
-    );
+    has_no_room(&rt, &mut writer, 4);
     assert_eq!(rt; writer.get().len(), 0);
     assert_eq!(rt; writer.into_inner().len(), 0);
     assert_eq!(rt; room, *b"\x00\x03ab");
-    let mut reader = BlockReader::new(rt.alloc(), Counted::new(STREAM))?;
-    assert_eq!(rt; reader.next_block()?, Some(b"S".as_slice()));
-    let folder = File::open(&rt, "/")?;
-    let mut reader = BlockReader::new(rt.alloc(), Counted::new(folder))?;
-    assert!(rt; matches!(reader.next_block(), Err(FrameFault::Read(_))));
-    Ok(())
 }
 
 #[test]
-fn each_allocation_may_be_refused(rt: HostRuntime) -> Result<(), Fail> {
+fn counts_the_failures_of_standard_readers(rt: HostRuntime) -> Result<(), Fail> {
+    let mut reader = BlockReader::new(rt.alloc(), Counted::new(STREAM))?;
+    gives(&rt, &mut reader, Some(b"S"))?;
+    let folder = File::open(&rt, "/")?;
+    let mut reader = BlockReader::new(rt.alloc(), Counted::new(folder))?;
+    fails(&rt, &mut reader);
+    Ok(())
+}
+
+// A splitter and a reader each make one allocation.
+fn takes_one_allocation<A: Allocator + Copy>(rt: &impl Abort, alloc: &Refusing<A>, nth: u64) {
+    alloc.arm(nth);
+    assert_eq!(rt; Splitter::new(alloc).is_ok(), nth == 1);
+    assert_eq!(rt; alloc.has_refused(), nth == 0);
+    alloc.arm(nth);
+    assert_eq!(rt;
+        BlockReader::new(alloc, Counted::new(STREAM)).is_ok(),
+        nth == 1
+    );
+    assert_eq!(rt; alloc.has_refused(), nth == 0);
+}
+
+#[test]
+fn each_allocation_may_be_refused(rt: HostRuntime) {
+    let alloc = Refusing::new(rt.alloc(), 0);
     for nth in 0..2 {
-        let alloc = Refusing::new(rt.alloc(), nth);
-        assert_eq!(rt; Splitter::new(&alloc).is_ok(), nth == 1);
-        assert_eq!(rt; alloc.has_refused(), nth == 0);
-        alloc.arm(nth);
-        assert_eq!(rt;
-            BlockReader::new(&alloc, Counted::new(STREAM)).is_ok(),
-            nth == 1
-        );
-        assert_eq!(rt; alloc.has_refused(), nth == 0);
+        takes_one_allocation(&rt, &alloc, nth);
     }
+}
+
+#[test]
+fn a_writer_goes_on_after_want_of_memory(rt: HostRuntime) -> Result<(), Fail> {
     let alloc = Refusing::new(rt.alloc(), 0);
     let mut writer = FuseWriter::new(&alloc, 64, None);
-    assert!(rt;
-        matches!(
-            write_block(&mut writer, b"z"),
-            Err(FrameFault::Write { sent: 0, .. })
-        )
-    );
+    has_no_room(&rt, &mut writer, 0);
     assert!(rt; alloc.has_refused());
     write_block(&mut writer, b"z")?;
     assert_eq!(rt; writer.written(), b"\x00\x01z".as_slice());
@@ -341,8 +401,7 @@ fn blocks_take_no_memory(rt: HostRuntime) -> Result<(), Fail> {
     let mut writer = FuseWriter::new(rt.alloc(), 2, None);
     alloc.arm(0);
     assert_eq!(rt; copy_blocks(&mut reader, &mut writer)?, 1);
-    assert_eq!(rt; splitter.take(STREAM), 3);
-    assert_eq!(rt; splitter.ready(), Some(b"S".as_slice()));
+    takes(&rt, &mut splitter, STREAM, (3, 3), Some(b"S"));
     splitter.clear();
     assert_eq!(rt; splitter.held(), 0);
     assert!(rt; !alloc.has_refused());

@@ -50,9 +50,6 @@ const END_6: &[u8] = b"G                   6";
 // The snapshot of the messages before the sixth, without its End of Snapshot.
 const BEFORE_6: &[&[u8]] = &[OPENS, AAPL, ADD_1, ADD_2, ADD_3];
 
-// The program's joiner.
-type Indexed = Joiner<IndexedBook>;
-
 // One call and its result. These helpers have no contract, so that a proof of a test need not carry what each call leaves.
 fn live<B: OrderBook>(
     rt: &impl Abort,
@@ -90,17 +87,6 @@ fn stands<B: OrderBook>(rt: &impl Abort, joiner: &Joiner<B>, next: Option<u64>, 
     assert_eq!(rt; joiner.next(), next);
     assert_eq!(rt; joiner.market().is_some(), next.is_some());
     assert_eq!(rt; joiner.waiting(), waiting);
-}
-
-// Delivers messages of the live feed.
-fn deliver<B: OrderBook>(
-    rt: &impl Abort,
-    joiner: &mut Joiner<B>,
-    rows: &[(u64, &[u8], Result<Live, JoinFault>)],
-) {
-    for (number, payload, want) in rows {
-        live(rt, joiner, *number, payload, *want);
-    }
 }
 
 // Takes messages of a snapshot, which none of them ends.
@@ -143,178 +129,228 @@ fn check_market<B: OrderBook>(
     Ok(())
 }
 
-// A joiner of the first two messages.
-fn joined_at_3(rt: &impl Abort, alloc: Global, cap: usize) -> Indexed {
-    let mut joiner = Joiner::new(alloc, cap);
-    read(rt, &mut joiner, &[OPENS, AAPL]);
-    snapshot(rt, &mut joiner, END_3, Ok(Snap::Joined { next: 3 }));
-    joiner
+// A call of a joiner with its result, or what it holds by then.
+#[derive(Clone, Copy)]
+enum Step<'a> {
+    Live(u64, &'a [u8], Result<Live, JoinFault>),
+    Snapshot(&'a [u8], Result<Snap, JoinFault>),
+    // Messages of a snapshot, none of which ends it.
+    Read(&'a [&'a [u8]]),
+    Resume(Result<Option<u64>, JoinFault>),
+    Restart,
+    // The number that comes next, if there is a market, and how many messages wait.
+    Stands(Option<u64>, usize),
+    Waiting(usize),
+    // The snapshot of the market has these messages.
+    Market(&'a [&'a [u8]]),
+}
+
+fn take_step<B: OrderBook>(
+    rt: &impl Abort,
+    alloc: Global,
+    joiner: &mut Joiner<B>,
+    step: Step<'_>,
+) -> Result<(), Fail> {
+    match step {
+        Step::Live(number, payload, want) => live(rt, joiner, number, payload, want),
+        Step::Snapshot(payload, want) => snapshot(rt, joiner, payload, want),
+        Step::Read(payloads) => read(rt, joiner, payloads),
+        Step::Resume(want) => resume(rt, joiner, want),
+        Step::Restart => restart(joiner),
+        Step::Stands(next, waiting) => stands(rt, joiner, next, waiting),
+        Step::Waiting(want) => assert_eq!(rt; joiner.waiting(), want),
+        Step::Market(want) => check_market(rt, alloc, joiner, want)?,
+    }
+    Ok(())
+}
+
+fn take_steps<B: OrderBook>(
+    rt: &impl Abort,
+    alloc: Global,
+    joiner: &mut Joiner<B>,
+    steps: &[Step<'_>],
+) -> Result<(), Fail> {
+    for step in steps {
+        take_step(rt, alloc, joiner, *step)?;
+    }
+    Ok(())
+}
+
+// A joiner for which `cap` messages may wait takes these steps.
+fn check<B: OrderBook>(
+    rt: &impl Abort,
+    alloc: Global,
+    memory: B::Alloc,
+    cap: usize,
+    steps: &[Step<'_>],
+) -> Result<(), Fail> {
+    let mut joiner: Joiner<B> = Joiner::new(memory, cap);
+    take_steps(rt, alloc, &mut joiner, steps)
+}
+
+// The program's joiner takes these steps.
+fn check_indexed(
+    rt: &impl Abort,
+    alloc: Global,
+    cap: usize,
+    steps: &[Step<'_>],
+) -> Result<(), Fail> {
+    check::<IndexedBook>(rt, alloc, alloc, cap, steps)
 }
 
 // Messages 7 and 8 come before the snapshot of the first five, and 9 when there is room for it.
-fn check_late_join<B: OrderBook>(
-    rt: &impl Abort,
-    global: Global,
-    alloc: B::Alloc,
-) -> Result<(), Fail> {
-    let mut joiner: Joiner<B> = Joiner::new(alloc, 2);
-    deliver(
-        rt,
-        &mut joiner,
-        &[
-            (8, DELETE_3, Ok(Live::Kept)),
-            (7, REPLACE_1, Ok(Live::Kept)),
-            (9, NAMED_5, Err(JoinFault::Full { cap: 2 })),
-        ],
-    );
-    read(rt, &mut joiner, BEFORE_6);
-    assert_eq!(rt; joiner.next(), None);
-    assert!(rt; joiner.market().is_none());
-    resume(rt, &mut joiner, Ok(None));
-    snapshot(rt, &mut joiner, END_6, Ok(Snap::Joined { next: 6 }));
-    deliver(
-        rt,
-        &mut joiner,
-        &[
-            (6, EXECUTE_1, Ok(Live::Applied { next: 9 })),
-            (6, EXECUTE_1, Ok(Live::Old)),
-            (9, NAMED_5, Ok(Live::Applied { next: 10 })),
-        ],
-    );
-    stands(rt, &joiner, Some(10), 0);
-    check_market(rt, global, &joiner, &[OPENS, AAPL, ADD_2, ADD_4, NAMED_5])
-}
+const JOINS_LATE: &[Step<'static>] = &[
+    Step::Live(8, DELETE_3, Ok(Live::Kept)),
+    Step::Live(7, REPLACE_1, Ok(Live::Kept)),
+    Step::Live(9, NAMED_5, Err(JoinFault::Full { cap: 2 })),
+    Step::Read(BEFORE_6),
+    Step::Stands(None, 2),
+    Step::Resume(Ok(None)),
+    Step::Snapshot(END_6, Ok(Snap::Joined { next: 6 })),
+    Step::Live(6, EXECUTE_1, Ok(Live::Applied { next: 9 })),
+    Step::Live(6, EXECUTE_1, Ok(Live::Old)),
+    Step::Live(9, NAMED_5, Ok(Live::Applied { next: 10 })),
+    Step::Stands(Some(10), 0),
+    Step::Market(&[OPENS, AAPL, ADD_2, ADD_4, NAMED_5]),
+];
 
 #[test]
 fn joins_late(rt: HostRuntime) -> Result<(), Fail> {
+    check::<IndexedBook>(&rt, rt.alloc(), rt.alloc(), 2, JOINS_LATE)?;
+    check::<ListBook>(&rt, rt.alloc(), rt.alloc(), 2, JOINS_LATE)
+}
+
+#[test]
+fn the_laws_of_joins() {
     laws::lawful_market();
     laws::late_joiner();
     laws::last_result();
     laws::snapshot_of_feed();
     laws::whole_feed();
-    check_late_join::<IndexedBook>(&rt, rt.alloc(), rt.alloc())?;
-    check_late_join::<ListBook>(&rt, rt.alloc(), rt.alloc())
 }
+
+// The snapshot of the first two messages.
+const READ_2: Step<'static> = Step::Read(&[OPENS, AAPL]);
+
+const JOINED_AT_3: Step<'static> = Step::Snapshot(END_3, Ok(Snap::Joined { next: 3 }));
 
 #[test]
 fn a_refused_message_halts_for_good(rt: HostRuntime) -> Result<(), Fail> {
-    let mut joiner = joined_at_3(&rt, rt.alloc(), 1);
     let halted = JoinFault::Halted {
         number: 3,
         cause: Cause::Rule(Refusal::UnknownLocate),
     };
-    deliver(
-        &rt,
-        &mut joiner,
-        &[
-            (4, ADD_2, Ok(Live::Kept)),
-            (3, ADD_1_AT_9, Err(halted)),
-            (3, ADD_1, Err(halted)),
-            (0, ADD_1, Err(halted)),
-            (1, OPENS, Err(halted)),
-        ],
-    );
-    snapshot(&rt, &mut joiner, END_3, Err(halted));
-    resume(&rt, &mut joiner, Err(halted));
-    restart(&mut joiner);
-    resume(&rt, &mut joiner, Err(halted));
-    stands(&rt, &joiner, Some(3), 1);
-    check_market(&rt, rt.alloc(), &joiner, &[OPENS, AAPL])
+    let steps = [
+        READ_2,
+        JOINED_AT_3,
+        Step::Live(4, ADD_2, Ok(Live::Kept)),
+        Step::Live(3, ADD_1_AT_9, Err(halted)),
+        Step::Live(3, ADD_1, Err(halted)),
+        Step::Live(0, ADD_1, Err(halted)),
+        Step::Live(1, OPENS, Err(halted)),
+        Step::Snapshot(END_3, Err(halted)),
+        Step::Resume(Err(halted)),
+        Step::Restart,
+        Step::Resume(Err(halted)),
+        Step::Stands(Some(3), 1),
+        Step::Market(&[OPENS, AAPL]),
+    ];
+    check_indexed(&rt, rt.alloc(), 1, &steps)
 }
 
 // The message that is refused waits, and one before it is delivered.
 #[test]
 fn a_waiting_message_halts(rt: HostRuntime) -> Result<(), Fail> {
-    let mut joiner = joined_at_3(&rt, rt.alloc(), 2);
     let halted = JoinFault::Halted {
         number: 4,
         cause: Cause::Codec(CodecFault::Empty),
     };
-    deliver(
-        &rt,
-        &mut joiner,
-        &[
-            (4, b"", Ok(Live::Kept)),
-            (5, ADD_2, Ok(Live::Kept)),
-            (3, ADD_1, Err(halted)),
-        ],
-    );
-    stands(&rt, &joiner, Some(4), 2);
-    check_market(&rt, rt.alloc(), &joiner, &[OPENS, AAPL, ADD_1])
+    let steps = [
+        READ_2,
+        JOINED_AT_3,
+        Step::Live(4, b"", Ok(Live::Kept)),
+        Step::Live(5, ADD_2, Ok(Live::Kept)),
+        Step::Live(3, ADD_1, Err(halted)),
+        Step::Stands(Some(4), 2),
+        Step::Market(&[OPENS, AAPL, ADD_1]),
+    ];
+    check_indexed(&rt, rt.alloc(), 2, &steps)
 }
 
 #[test]
 fn a_broken_snapshot_is_restarted(rt: HostRuntime) -> Result<(), Fail> {
-    let mut joiner: Indexed = Joiner::new(rt.alloc(), 1);
     let broken = JoinFault::BadSnapshot {
         place: 1,
         cause: Cause::Rule(Refusal::UnknownLocate),
     };
-    snapshot(&rt, &mut joiner, ADD_1, Err(broken));
-    snapshot(&rt, &mut joiner, END_1, Err(broken));
-    deliver(
-        &rt,
-        &mut joiner,
-        &[
-            (1, OPENS, Ok(Live::Kept)),
-            (1, OPENS, Ok(Live::Kept)),
-            (1, CLOSES, Err(JoinFault::Conflict { number: 1 })),
-            (2, AAPL, Err(JoinFault::Full { cap: 1 })),
-            (0, AAPL, Err(JoinFault::BadNumber)),
-            (10_000_000_000_000_000_000, AAPL, Err(JoinFault::BadNumber)),
-        ],
-    );
-    restart(&mut joiner);
-    assert_eq!(rt; joiner.waiting(), 1);
-    snapshot(&rt, &mut joiner, END_1, Ok(Snap::Joined { next: 2 }));
+    let bad = Err(JoinFault::BadNumber);
+    let steps = [
+        Step::Snapshot(ADD_1, Err(broken)),
+        Step::Snapshot(END_1, Err(broken)),
+        Step::Live(1, OPENS, Ok(Live::Kept)),
+        Step::Live(1, OPENS, Ok(Live::Kept)),
+        Step::Live(1, CLOSES, Err(JoinFault::Conflict { number: 1 })),
+        Step::Live(2, AAPL, Err(JoinFault::Full { cap: 1 })),
+        Step::Live(0, AAPL, bad),
+        Step::Live(10_000_000_000_000_000_000, AAPL, bad),
+        Step::Restart,
+        Step::Waiting(1),
+        Step::Snapshot(END_1, Ok(Snap::Joined { next: 2 })),
+        Step::Waiting(0),
+        Step::Snapshot(END_1, Err(JoinFault::Joined)),
+        Step::Restart,
+        Step::Resume(Ok(Some(2))),
+        Step::Market(&[OPENS]),
+    ];
+    check_indexed(&rt, rt.alloc(), 1, &steps)
+}
+
+// A thousand messages wait for a joiner, the last one first.
+fn check_thousand<B: OrderBook>(rt: &impl Abort, memory: B::Alloc) {
+    let mut joiner: Joiner<B> = Joiner::new(memory, 1000);
+    for back in 0..1000u64 {
+        live(rt, &mut joiner, 1000 - back, BROKEN_TRADE, Ok(Live::Kept));
+    }
+    snapshot(rt, &mut joiner, END_1, Ok(Snap::Joined { next: 1001 }));
     assert_eq!(rt; joiner.waiting(), 0);
-    snapshot(&rt, &mut joiner, END_1, Err(JoinFault::Joined));
-    restart(&mut joiner);
-    resume(&rt, &mut joiner, Ok(Some(2)));
-    check_market(&rt, rt.alloc(), &joiner, &[OPENS])
 }
 
 #[test]
-fn a_thousand_messages_wait(rt: HostRuntime) -> Result<(), Fail> {
-    let mut joiner: Indexed = Joiner::new(rt.alloc(), 1000);
-    for back in 0..1000u64 {
-        live(&rt, &mut joiner, 1000 - back, BROKEN_TRADE, Ok(Live::Kept));
-    }
-    snapshot(&rt, &mut joiner, END_1, Ok(Snap::Joined { next: 1001 }));
-    assert_eq!(rt; joiner.waiting(), 0);
-    Ok(())
+fn a_thousand_messages_wait(rt: HostRuntime) {
+    check_thousand::<IndexedBook>(&rt, rt.alloc());
 }
 
 // No message may wait: a feed in order from its first message on.
 #[test]
 fn joins_a_feed_in_order(rt: HostRuntime) -> Result<(), Fail> {
-    let mut joiner = joined_at_3(&rt, rt.alloc(), 0);
-    deliver(
-        &rt,
-        &mut joiner,
-        &[
-            (1, OPENS, Ok(Live::Old)),
-            (2, AAPL, Ok(Live::Old)),
-            (4, ADD_2, Err(JoinFault::Full { cap: 0 })),
-            (3, ADD_1, Ok(Live::Applied { next: 4 })),
-        ],
-    );
-    check_market(&rt, rt.alloc(), &joiner, &[OPENS, AAPL, ADD_1])
+    let steps = [
+        READ_2,
+        JOINED_AT_3,
+        Step::Live(1, OPENS, Ok(Live::Old)),
+        Step::Live(2, AAPL, Ok(Live::Old)),
+        Step::Live(4, ADD_2, Err(JoinFault::Full { cap: 0 })),
+        Step::Live(3, ADD_1, Ok(Live::Applied { next: 4 })),
+        Step::Market(&[OPENS, AAPL, ADD_1]),
+    ];
+    check_indexed(&rt, rt.alloc(), 0, &steps)
 }
 
 #[test]
 fn a_feed_with_nothing_new(rt: HostRuntime) -> Result<(), Fail> {
-    let mut joiner = joined_at_3(&rt, rt.alloc(), 0);
-    live(&rt, &mut joiner, 1, OPENS, Ok(Live::Old));
-    stands(&rt, &joiner, Some(3), 0);
-    check_market(&rt, rt.alloc(), &joiner, &[OPENS, AAPL])
+    let steps = [
+        READ_2,
+        JOINED_AT_3,
+        Step::Live(1, OPENS, Ok(Live::Old)),
+        Step::Stands(Some(3), 0),
+        Step::Market(&[OPENS, AAPL]),
+    ];
+    check_indexed(&rt, rt.alloc(), 0, &steps)
 }
 
 #[test]
-fn a_snapshot_without_its_end(rt: HostRuntime) {
-    let mut joiner: Indexed = Joiner::new(rt.alloc(), 0);
-    read(&rt, &mut joiner, &[AAPL]);
-    stands(&rt, &joiner, None, 0);
+fn a_snapshot_without_its_end(rt: HostRuntime) -> Result<(), Fail> {
+    let steps = [Step::Read(&[AAPL]), Step::Stands(None, 0)];
+    check_indexed(&rt, rt.alloc(), 0, &steps)
 }
 
 #[test]

@@ -1,5 +1,5 @@
 //! The rows, each failure in turn, and the calls that take no memory.
-use itch_book::ListBook;
+use itch_book::{ListBook, OrderBook};
 use itch_codec::{CodecFault, Seq};
 use itch_frame::testing::{FuseWriter, PieceReader};
 use itch_frame::{BlockReader, FrameFault, write_block};
@@ -9,6 +9,7 @@ use itch_snapshot::{
     snapshot_len, write_snapshot,
 };
 use std::alloc::Global;
+use std::process::Abort;
 use std::test::Fail;
 
 mod again;
@@ -102,7 +103,7 @@ fn market(alloc: Global, payloads: &[&[u8]]) -> Result<Market<ListBook>, Fail> {
 }
 
 #[test]
-fn writes_the_snapshot_of_a_day(rt: HostRuntime) -> Result<(), Fail> {
+fn the_laws_of_snapshots() {
     laws::snapshot_replays();
     laws::late_start();
     laws::one_snapshot();
@@ -110,6 +111,32 @@ fn writes_the_snapshot_of_a_day(rt: HostRuntime) -> Result<(), Fail> {
     laws::canonical();
     laws::whole_snapshot();
     laws::headline();
+}
+
+// The snapshot of a market, closed with the number `next` and written to an empty writer, has these payloads.
+fn check_snapshot<B: OrderBook>(
+    rt: &impl Abort,
+    alloc: Global,
+    market: &Market<B>,
+    next: u64,
+    mut writer: FuseWriter,
+    want: &[&[u8]],
+) -> Result<(), Fail> {
+    let next = Seq::new(next).expect(rt, "a sequence number");
+    let len = snapshot_len(market);
+    assert!(rt; len < 9);
+    assert_eq!(rt; len + 1, want.len() as u128);
+    assert_eq!(rt;
+        write_snapshot(market, next, &mut writer)?,
+        want.len() as u64
+    );
+    let want = blocks(alloc, want)?;
+    assert_eq!(rt; writer.written(), want.written());
+    Ok(())
+}
+
+#[test]
+fn writes_the_snapshot_of_a_day(rt: HostRuntime) -> Result<(), Fail> {
     let days: [(&[&[u8]], &[&[u8]], u64); 6] = [
         (&[], &[END_1], 1),
         (&[EVENT, AAPL, ADD_1], &[EVENT, AAPL, ADD_1, END_4], 4),
@@ -132,36 +159,50 @@ fn writes_the_snapshot_of_a_day(rt: HostRuntime) -> Result<(), Fail> {
     ];
     for (day, want, next) in days {
         let market = market(rt.alloc(), day)?;
-        let next = Seq::new(next).expect(&rt, "a sequence number");
-        let len = snapshot_len(&market);
-        assert!(rt; len < 9);
-        assert_eq!(rt; len + 1, want.len() as u128);
-        let mut writer = FuseWriter::new(rt.alloc(), 1, None);
-        assert_eq!(rt;
-            write_snapshot(&market, next, &mut writer)?,
-            want.len() as u64
-        );
-        let want = blocks(rt.alloc(), want)?;
-        assert_eq!(rt; writer.written(), want.written());
+        let writer = FuseWriter::new(rt.alloc(), 1, None);
+        check_snapshot(&rt, rt.alloc(), &market, next, writer, want)?;
     }
     Ok(())
 }
 
-#[test]
-fn counts_what_is_still_to_come(rt: HostRuntime) -> Result<(), Fail> {
-    let empty = market(rt.alloc(), &[])?;
-    assert!(rt; snapshot_len(&empty) < 9);
-    assert_eq!(rt; SnapshotIter::new(&empty).remaining(), 0);
-    let replaced = market(rt.alloc(), REPLACED)?;
-    assert!(rt; snapshot_len(&replaced) < 9);
-    let mut messages = SnapshotIter::new(&replaced);
-    for want in [3, 2, 1] {
-        assert_eq!(rt; messages.remaining(), want);
+// Before each message of a market's snapshot so many are to come, and then none.
+fn check_counts<B: OrderBook>(rt: &impl Abort, market: &Market<B>, wants: &[u64]) {
+    assert!(rt; snapshot_len(market) < 9);
+    let mut messages = SnapshotIter::new(market);
+    for want in wants {
+        assert_eq!(rt; messages.remaining(), *want);
         assert!(rt; messages.next().is_some());
     }
     assert_eq!(rt; messages.remaining(), 0);
     assert!(rt; messages.next().is_none());
+}
+
+#[test]
+fn counts_what_is_still_to_come(rt: HostRuntime) -> Result<(), Fail> {
+    check_counts(&rt, &market(rt.alloc(), &[])?, &[]);
+    check_counts(&rt, &market(rt.alloc(), REPLACED)?, &[3, 2, 1]);
     Ok(())
+}
+
+// Whether two small markets are the same.
+fn are_same<A: OrderBook, B: OrderBook>(
+    rt: &impl Abort,
+    one: &Market<A>,
+    other: &Market<B>,
+) -> bool {
+    assert!(rt; snapshot_len(one) < 9);
+    same_market(one, other)
+}
+
+fn check_parting<A: OrderBook, B: OrderBook>(
+    rt: &impl Abort,
+    one: &Market<A>,
+    other: &Market<B>,
+    want: Option<u64>,
+) {
+    assert!(rt; snapshot_len(one) < 9);
+    assert_eq!(rt; part_place(one, other), want);
+    assert_eq!(rt; same_market(one, other), want.is_none());
 }
 
 #[test]
@@ -184,9 +225,7 @@ fn tells_where_snapshots_part(rt: HostRuntime) -> Result<(), Fail> {
     for (one, other, want) in pairs {
         let one = market(rt.alloc(), one)?;
         let other = market(rt.alloc(), other)?;
-        assert!(rt; snapshot_len(&one) < 9);
-        assert_eq!(rt; part_place(&one, &other), want);
-        assert_eq!(rt; same_market(&one, &other), want.is_none());
+        check_parting(&rt, &one, &other, want);
     }
     Ok(())
 }
@@ -232,26 +271,43 @@ fn reads_snapshots(rt: HostRuntime) -> Result<(), Fail> {
     Ok(())
 }
 
-// A market is handed out after its End of Snapshot, and not before.
-#[test]
-fn hands_a_market_out_at_its_end(rt: HostRuntime) -> Result<(), Fail> {
-    let want = market(rt.alloc(), REPLACED)?;
-    assert!(rt; snapshot_len(&want) < 9);
-    let mut snapshot: SnapshotReader<ListBook> = SnapshotReader::new(rt.alloc());
-    for payload in [AAPL, ADD_2_OF_200, NAMED_3] {
+// Reads payloads of a snapshot, of which none ends it.
+fn check_more<B: OrderBook>(rt: &impl Abort, snapshot: &mut SnapshotReader<B>, payloads: &[&[u8]]) {
+    for payload in payloads {
         assert!(rt; matches!(snapshot.message(payload), Ok(None)));
     }
-    assert!(rt; same_market(&want, snapshot.market()));
+}
+
+// Reads this End of Snapshot, and no second one.
+fn check_end<B: OrderBook>(rt: &impl Abort, snapshot: &mut SnapshotReader<B>, end: &[u8]) {
+    assert!(rt; matches!(snapshot.message(end), Ok(Some(_))));
+    assert!(rt; matches!(snapshot.message(end), Err(SnapFault::AfterEnd)));
+}
+
+// A market that is the same as another is handed out after its End of Snapshot, and not before.
+fn check_finish<A: OrderBook, B: OrderBook>(
+    rt: &impl Abort,
+    want: &Market<A>,
+    mut snapshot: SnapshotReader<B>,
+) {
+    check_more(rt, &mut snapshot, &[AAPL, ADD_2_OF_200, NAMED_3]);
+    assert!(rt; are_same(rt, want, snapshot.market()));
     let Err(mut snapshot) = snapshot.finish() else {
         panic!(rt; "handed out before its end");
     };
-    assert!(rt; matches!(snapshot.message(END_5), Ok(Some(_))));
-    assert!(rt; matches!(snapshot.message(END_5), Err(SnapFault::AfterEnd)));
+    check_end(rt, &mut snapshot, END_5);
     let Ok((handed_out, next)) = snapshot.finish() else {
         panic!(rt; "kept after its end");
     };
     assert_eq!(rt; next.value(), 5);
-    assert!(rt; same_market(&want, &handed_out));
+    assert!(rt; are_same(rt, want, &handed_out));
+}
+
+#[test]
+fn hands_a_market_out_at_its_end(rt: HostRuntime) -> Result<(), Fail> {
+    let want = market(rt.alloc(), REPLACED)?;
+    let snapshot: SnapshotReader<ListBook> = SnapshotReader::new(rt.alloc());
+    check_finish(&rt, &want, snapshot);
     Ok(())
 }
 

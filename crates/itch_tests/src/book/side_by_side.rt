@@ -131,20 +131,30 @@ fn check_side<B: OrderBook, C: OrderBook>(
     }
 }
 
+// Makes random calls of both books, and checks both after each.
+fn check_calls<B: OrderBook, C: OrderBook>(
+    rt: &impl Abort,
+    one: &mut B,
+    other: &mut C,
+) -> Result<(), AllocError> {
+    let mut random = Random { state: 1 };
+    for _ in 0..100000 {
+        call(rt, &mut random, one, other)?;
+        assert_eq!(rt; other.len(), one.len());
+        for locate in [1, 2, u16::MAX] {
+            check_orders(rt, one, other, locate);
+            check_side(rt, one, other, locate, Side::Buy);
+            check_side(rt, one, other, locate, Side::Sell);
+        }
+    }
+    assert!(rt; one.len() > 10);
+    Ok(())
+}
+
 #[test]
 fn both_books_stay_the_same(rt: HostRuntime) -> Result<(), Fail> {
     let mut one: ListBook = ListBook::new(rt.alloc());
     let mut other: IndexedBook = IndexedBook::new(rt.alloc());
-    let mut random = Random { state: 1 };
-    for _ in 0..100000 {
-        call(&rt, &mut random, &mut one, &mut other)?;
-        assert_eq!(rt; other.len(), one.len());
-        for locate in [1, 2, u16::MAX] {
-            check_orders(&rt, &one, &other, locate);
-            check_side(&rt, &one, &other, locate, Side::Buy);
-            check_side(&rt, &one, &other, locate, Side::Sell);
-        }
-    }
-    assert!(rt; one.len() > 10);
+    check_calls(&rt, &mut one, &mut other)?;
     Ok(())
 }

@@ -2,14 +2,12 @@
 use super::{
     AAPL, AAPL_LATER, ADD_1, ADD_2_HIGHER, ADD_3, ADD_4_HIGHER, ADD_7, ADD_7_OF_150, CANCEL_7,
     END_1, END_3, END_4, END_5, END_6, EVENT, EXECUTE_7, MSFT, MSFT_AT_1, REPLACED,
-    REPLACED_SNAPSHOT, RESTRICTS, TRADES, TRADES_0, TRADES_X, blocks,
+    REPLACED_SNAPSHOT, RESTRICTS, TRADES, TRADES_0, TRADES_X, blocks, check_snapshot,
 };
 use itch_book::{IndexedBook, ListBook, OrderBook};
-use itch_codec::Seq;
 use itch_frame::BlockReader;
 use itch_frame::testing::{FuseWriter, PieceReader};
 use itch_market::{Market, replay};
-use itch_snapshot::{snapshot_len, write_snapshot};
 use std::alloc::Global;
 use std::process::Abort;
 use std::test::Fail;
@@ -69,6 +67,24 @@ struct File<'a> {
     snapshot: &'a [&'a [u8]],
 }
 
+// A replay of a file says what it has to.
+fn check_replay<B: OrderBook>(
+    rt: &impl Abort,
+    alloc: Global,
+    market: &mut Market<B>,
+    file: File<'_>,
+) -> Result<(), Fail> {
+    let front = blocks(alloc, file.payloads)?;
+    let mut bytes = Vec::from_slice(alloc, front.written())?;
+    bytes.extend_from_slice(file.rest)?;
+    let mut reader = BlockReader::new(alloc, PieceReader::new(&bytes, 1, None))?;
+    let end = replay(&mut reader, market);
+    assert_eq!(rt; end.count, file.count);
+    let stop = format!(in alloc; "{}", end.stop)?;
+    assert_eq!(rt; stop.as_str(), file.stop);
+    Ok(())
+}
+
 // Checks a file over a book whose memory comes from `memory`.
 fn check<B: OrderBook>(
     rt: &impl Abort,
@@ -76,25 +92,11 @@ fn check<B: OrderBook>(
     memory: B::Alloc,
     file: File<'_>,
 ) -> Result<(), Fail> {
-    let front = blocks(alloc, file.payloads)?;
-    let mut bytes = Vec::from_slice(alloc, front.written())?;
-    bytes.extend_from_slice(file.rest)?;
-    let mut reader = BlockReader::new(alloc, PieceReader::new(&bytes, 1, None))?;
     let mut market: Market<B> = Market::new(memory);
-    let end = replay(&mut reader, &mut market);
-    assert_eq!(rt; end.count, file.count);
-    let stop = format!(in alloc; "{}", end.stop)?;
-    assert_eq!(rt; stop.as_str(), file.stop);
-    let next = Seq::new(end.count.saturating_add(1)).expect(rt, "a sequence number");
-    assert!(rt; snapshot_len(&market) < 9);
-    let mut writer = FuseWriter::new(alloc, 64, None);
-    assert_eq!(rt;
-        write_snapshot(&market, next, &mut writer)?,
-        file.snapshot.len() as u64
-    );
-    let want = blocks(alloc, file.snapshot)?;
-    assert_eq!(rt; writer.written(), want.written());
-    Ok(())
+    check_replay(rt, alloc, &mut market, file)?;
+    let next = file.count.saturating_add(1);
+    let writer = FuseWriter::new(alloc, 64, None);
+    check_snapshot(rt, alloc, &market, next, writer, file.snapshot)
 }
 
 // Checks the files that end.

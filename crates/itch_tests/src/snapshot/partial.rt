@@ -1,9 +1,9 @@
 //! Snapshots cut down to sets of locates, written and read.
 use super::{AAPL, ADD_1, END_3, END_4, END_6, EVENT, MSFT, MSFT_AT_1, REPLACE_1, blocks, market};
-use itch_book::ListBook;
+use itch_book::{ListBook, OrderBook};
 use itch_codec::Seq;
 use itch_frame::testing::FuseWriter;
-use itch_market::LocateSet;
+use itch_market::{LocateSet, Market};
 use itch_snapshot::{SnapFault, SnapshotIter, SnapshotReader, laws, snapshot_len, write_partial};
 use std::alloc::{AllocError, Global};
 use std::process::Abort;
@@ -23,23 +23,24 @@ fn set_of(alloc: Global, locates: &[u16]) -> Result<LocateSet<Global>, AllocErro
     Ok(set)
 }
 
-// The snapshot of the whole market cut down to a set has these payloads, with End of Snapshot.
-fn check_partial(
+// The snapshot of a market cut down to a set, closed with the number 6, has these payloads.
+fn check_partial<B: OrderBook>(
     rt: &impl Abort,
     alloc: Global,
-    set: &LocateSet<Global>,
+    market: &Market<B>,
+    set: &LocateSet<B::Alloc>,
     want: &[&[u8]],
 ) -> Result<(), Fail> {
-    let market = market(alloc, WHOLE)?;
     let mut writer = FuseWriter::new(alloc, 1, None);
     let next = Seq::new(6).ok_or("a sequence number")?;
-    assert!(rt; snapshot_len(&market) < 9);
+    assert!(rt; snapshot_len(market) < 9);
+    let mut count = 1usize;
+    for _message in SnapshotIter::only(market, set) {
+        count = count.saturating_add(1);
+    }
+    assert_eq!(rt; count, want.len());
     assert_eq!(rt;
-        SnapshotIter::only(&market, set).count().saturating_add(1),
-        want.len()
-    );
-    assert_eq!(rt;
-        write_partial(&market, set, next, &mut writer)?,
+        write_partial(market, set, next, &mut writer)?,
         want.len() as u64
     );
     assert_eq!(rt; writer.written(), blocks(alloc, want)?.written());
@@ -47,8 +48,12 @@ fn check_partial(
 }
 
 #[test]
-fn writes_the_locates_of_a_set(rt: HostRuntime) -> Result<(), Fail> {
+fn the_laws_of_parts() {
     laws::parts_of_a_market();
+}
+
+#[test]
+fn writes_the_locates_of_a_set(rt: HostRuntime) -> Result<(), Fail> {
     let both: &[&[u8]] = &[EVENT, AAPL, ADD_1, MSFT, ADD_2_OF_MSFT, END_6];
     let rows: [(&[u16], &[&[u8]]); 5] = [
         (&[], &[EVENT, END_6]),
@@ -57,11 +62,37 @@ fn writes_the_locates_of_a_set(rt: HostRuntime) -> Result<(), Fail> {
         (&[2], &[EVENT, MSFT, ADD_2_OF_MSFT, END_6]),
         (&[2, 1], both),
     ];
+    let market = market(rt.alloc(), WHOLE)?;
     for (locates, want) in rows {
         let set = set_of(rt.alloc(), locates)?;
-        check_partial(&rt, rt.alloc(), &set, want)?;
+        check_partial(&rt, rt.alloc(), &market, &set, want)?;
     }
-    check_partial(&rt, rt.alloc(), &LocateSet::all(rt.alloc()), both)
+    check_partial(&rt, rt.alloc(), &market, &LocateSet::all(rt.alloc()), both)
+}
+
+// Reads payloads of a snapshot cut down to a set, of which none ends it.
+fn check_more<B: OrderBook>(
+    rt: &impl Abort,
+    snapshot: &mut SnapshotReader<B>,
+    set: &LocateSet<B::Alloc>,
+    payloads: &[&[u8]],
+) {
+    for payload in payloads {
+        assert!(rt; matches!(snapshot.message_only(set, payload), Ok(None)));
+    }
+}
+
+// Reads this End of Snapshot, and no second one.
+fn check_end<B: OrderBook>(
+    rt: &impl Abort,
+    snapshot: &mut SnapshotReader<B>,
+    set: &LocateSet<B::Alloc>,
+    end: &[u8],
+    next: u64,
+) -> Result<(), Fail> {
+    assert_eq!(rt; snapshot.message_only(set, end)?, Seq::new(next));
+    assert!(rt; matches!(snapshot.message_only(set, end), Err(SnapFault::AfterEnd)));
+    Ok(())
 }
 
 // Messages of other locates are decoded and counted, and follow no rule.
@@ -69,13 +100,27 @@ fn writes_the_locates_of_a_set(rt: HostRuntime) -> Result<(), Fail> {
 fn reads_the_locates_of_a_set(rt: HostRuntime) -> Result<(), Fail> {
     let set = set_of(rt.alloc(), &[2])?;
     let mut snapshot: SnapshotReader<ListBook> = SnapshotReader::new(rt.alloc());
-    for payload in [ADD_1, AAPL, MSFT_AT_1, MSFT, REPLACE_1, ADD_2_OF_MSFT] {
-        assert!(rt; matches!(snapshot.message_only(&set, payload), Ok(None)));
-    }
+    let payloads = [ADD_1, AAPL, MSFT_AT_1, MSFT, REPLACE_1, ADD_2_OF_MSFT];
+    check_more(&rt, &mut snapshot, &set, &payloads);
     assert_eq!(rt; snapshot.taken(), 6);
     assert_eq!(rt; snapshot_len(snapshot.market()), 2);
-    assert_eq!(rt; snapshot.message_only(&set, END_4)?, Seq::new(4));
-    assert!(rt; matches!(snapshot.message_only(&set, END_4), Err(SnapFault::AfterEnd)));
+    check_end(&rt, &mut snapshot, &set, END_4, 4)
+}
+
+// This payload is refused so for good.
+fn check_fault<B: OrderBook>(
+    rt: &impl Abort,
+    alloc: Global,
+    snapshot: &mut SnapshotReader<B>,
+    set: &LocateSet<B::Alloc>,
+    payload: &[u8],
+    want: &str,
+) -> Result<(), Fail> {
+    for payload in [payload, END_3] {
+        let fault = snapshot.message_only(set, payload).err().ok_or("a fault")?;
+        let said = format!(in alloc; "{fault}")?;
+        assert_eq!(rt; said.as_str(), want);
+    }
     Ok(())
 }
 
@@ -83,13 +128,8 @@ fn reads_the_locates_of_a_set(rt: HostRuntime) -> Result<(), Fail> {
 fn check_refused(rt: &impl Abort, alloc: Global, payload: &[u8], want: &str) -> Result<(), Fail> {
     let set = set_of(alloc, &[2])?;
     let mut snapshot: SnapshotReader<ListBook> = SnapshotReader::new(alloc);
-    assert!(rt; matches!(snapshot.message_only(&set, ADD_1), Ok(None)));
-    for payload in [payload, END_3] {
-        let fault = snapshot.message_only(&set, payload).err().ok_or("a fault")?;
-        let said = format!(in alloc; "{fault}")?;
-        assert_eq!(rt; said.as_str(), want);
-    }
-    Ok(())
+    check_more(rt, &mut snapshot, &set, &[ADD_1]);
+    check_fault(rt, alloc, &mut snapshot, &set, payload, want)
 }
 
 #[test]

@@ -1,6 +1,8 @@
-//! One served and one fetched session over memory: the rows, each failure in turn, and the calls that take no memory.
+//! One served and one fetched session over memory, row by row.
+ghost use Rattle.std.specs.Prelude.{◌≤◌};
+
 use super::{alpha, seq};
-use itch_book::ListBook;
+use itch_book::{ListBook, OrderBook};
 use itch_codec::Seq;
 use itch_frame::counted::CountedRead;
 use itch_frame::testing::{FuseWriter, PieceReader};
@@ -114,31 +116,74 @@ fn logins<'a>(rt: &impl Abort) -> [(&'a [u8], Served, &'a [u8]); 12] {
 }
 
 #[test]
-fn logins_are_served(rt: HostRuntime) -> Result<(), Fail> {
+fn the_laws_of_sessions() {
     laws::served_is_fetched();
     laws::one_wait();
     laws::some_wait();
     laws::one_fetch();
     laws::some_fetch();
     laws::waits_by_the_table();
+}
+
+// Serves one session, with 5 in its End of Snapshot.
+fn serve<R: CountedRead, A: Allocator, B: OrderBook>(
+    rt: &impl Abort,
+    reader: &mut BlockReader<R, A>,
+    writer: &mut FuseWriter,
+    market: &Market<B>,
+) -> Result<Served, SoupFault> {
+    assert!(rt; snapshot_len(market) < 9);
+    serve_one(reader, writer, market, seq(rt, 5), &config(rt))
+}
+
+// A login that comes in pieces is served so, and answered by these bytes.
+fn check_login<B: OrderBook>(
+    rt: &impl Abort,
+    alloc: Global,
+    market: &Market<B>,
+    piece: usize,
+    row: (&[u8], Served, &[u8]),
+) -> Result<(), Fail>
+    requires { 1 ≤ piece }
+{
+    let (input, want, bytes) = row;
+    let mut reader = BlockReader::new(alloc, PieceReader::new(input, piece, None))?;
+    let mut writer = FuseWriter::new(alloc, piece, None);
+    let served = serve(rt, &mut reader, &mut writer, market)?;
+    assert_eq!(rt; served, want, "{input:?}");
+    assert_eq!(rt; writer.written(), bytes, "{input:?}");
+    Ok(())
+}
+
+#[test]
+fn logins_are_served(rt: HostRuntime) -> Result<(), Fail> {
     let market = market(rt.alloc())?;
-    assert!(rt; snapshot_len(&market) < 9);
-    for (input, want, bytes) in logins(&rt) {
-        for piece in [1, 64] {
-            let mut reader = BlockReader::new(rt.alloc(), PieceReader::new(input, piece, None))?;
-            let mut writer = FuseWriter::new(rt.alloc(), piece, None);
-            let served = serve_one(&mut reader, &mut writer, &market, seq(&rt, 5), &config(&rt))?;
-            assert_eq!(rt; served, want, "{input:?}");
-            assert_eq!(rt; writer.written(), bytes, "{input:?}");
-        }
+    for row in logins(&rt) {
+        check_login(&rt, rt.alloc(), &market, 1, row)?;
+        check_login(&rt, rt.alloc(), &market, 64, row)?;
     }
+    Ok(())
+}
+
+// This input has a fault, and is not answered.
+fn check_fault<B: OrderBook>(
+    rt: &impl Abort,
+    alloc: Global,
+    market: &Market<B>,
+    input: &[u8],
+    want: &str,
+) -> Result<(), Fail> {
+    let mut reader = BlockReader::new(alloc, PieceReader::new(input, 5, None))?;
+    let mut writer = FuseWriter::new(alloc, 64, None);
+    let served = serve(rt, &mut reader, &mut writer, market);
+    let fault = served.err().expect(rt, "a fault");
+    assert_eq!(rt; fault.to_string(alloc)?.as_str(), want);
+    assert_eq!(rt; writer.written(), b"".as_slice());
     Ok(())
 }
 
 #[test]
 fn faults_before_a_login_are_not_answered(rt: HostRuntime) -> Result<(), Fail> {
-    let market = market(rt.alloc())?;
-    assert!(rt; snapshot_len(&market) < 9);
     let rows: [(&[u8], &str); 5] = [
         (b"\0\0", "empty packet"),
         (b"\0\x01R\0\x01*", "unknown packet type 0x2a"),
@@ -146,30 +191,44 @@ fn faults_before_a_login_are_not_answered(rt: HostRuntime) -> Result<(), Fail> {
         (b"\0\x01L", "wrong length for packet L: want 47, got 1"),
         (b"\0\x01R\0\x2fLuser", "truncated, 7 bytes held"),
     ];
+    let market = market(rt.alloc())?;
     for (input, want) in rows {
-        let mut reader = BlockReader::new(rt.alloc(), PieceReader::new(input, 5, None))?;
-        let mut writer = FuseWriter::new(rt.alloc(), 64, None);
-        let served = serve_one(&mut reader, &mut writer, &market, seq(&rt, 5), &config(&rt));
-        let fault = served.err().expect(&rt, "a fault");
-        assert_eq!(rt; fault.to_string(rt.alloc())?.as_str(), want);
-        assert_eq!(rt; writer.written(), b"".as_slice());
+        check_fault(&rt, rt.alloc(), &market, input, want)?;
     }
+    Ok(())
+}
+
+// The next block is this one.
+fn gives<R: CountedRead, A: Allocator>(
+    rt: &impl Abort,
+    reader: &mut BlockReader<R, A>,
+    want: &[u8],
+) -> Result<(), FrameFault> {
+    assert_eq!(rt; reader.next_block()?, Some(want));
     Ok(())
 }
 
 #[test]
 fn nothing_is_read_after_the_login(rt: HostRuntime) -> Result<(), Fail> {
-    let market = market(rt.alloc())?;
-    assert!(rt; snapshot_len(&market) < 9);
     let input = b"\0\x2fLuser  secret                                 3\0\x01O";
     let mut reader = BlockReader::new(rt.alloc(), PieceReader::new(input, 64, None))?;
     let mut writer = FuseWriter::new(rt.alloc(), 64, None);
-    serve_one(&mut reader, &mut writer, &market, seq(&rt, 5), &config(&rt))?;
-    assert_eq!(rt; reader.next_block()?, Some(b"O".as_slice()));
+    serve(&rt, &mut reader, &mut writer, &market(rt.alloc())?)?;
+    gives(&rt, &mut reader, b"O")?;
     Ok(())
 }
 
-// A fetch of what this reader gives, and whether it logged in.
+// Fetches over a reader and a writer.
+fn fetch<R: CountedRead, A: Allocator>(
+    rt: &impl Abort,
+    alloc: Global,
+    reader: &mut BlockReader<R, A>,
+    writer: &mut FuseWriter,
+) -> Result<(Market<ListBook>, Seq), SoupFault> {
+    fetch_one(alloc, reader, writer, &credentials(rt))
+}
+
+// A fetch of what this reader gives, which logs in.
 fn fetched<R: CountedRead + Drop>(
     rt: &impl Abort,
     alloc: Global,
@@ -177,34 +236,48 @@ fn fetched<R: CountedRead + Drop>(
 ) -> Result<Result<(Market<ListBook>, Seq), SoupFault>, Fail> {
     let mut reader = BlockReader::new(alloc, reader)?;
     let mut writer = FuseWriter::new(alloc, 64, None);
-    let result = fetch_one(alloc, &mut reader, &mut writer, &credentials(rt));
+    let result = fetch(rt, alloc, &mut reader, &mut writer);
     assert_eq!(rt; writer.written(), LOGIN_1);
     Ok(result)
+}
+
+// The market that was served is fetched in pieces.
+fn check_fetched<B: OrderBook>(
+    rt: &impl Abort,
+    alloc: Global,
+    want: &Market<B>,
+    piece: usize,
+) -> Result<(), Fail>
+    requires { 1 ≤ piece }
+{
+    let (found, next) = fetched(rt, alloc, PieceReader::new(FROM_1, piece, None))??;
+    assert!(rt; snapshot_len(want) < 9);
+    assert!(rt; same_market(want, &found));
+    assert_eq!(rt; next.value(), 5);
+    Ok(())
 }
 
 #[test]
 fn answers_are_fetched(rt: HostRuntime) -> Result<(), Fail> {
     let want = market(rt.alloc())?;
-    assert!(rt; snapshot_len(&want) < 9);
-    for piece in [1, 64] {
-        let (found, next) = fetched(&rt, rt.alloc(), PieceReader::new(FROM_1, piece, None))??;
-        assert!(rt; same_market(&want, &found));
-        assert_eq!(rt; next.value(), 5);
-    }
-    Ok(())
+    check_fetched(&rt, rt.alloc(), &want, 1)?;
+    check_fetched(&rt, rt.alloc(), &want, 64)
 }
 
 #[test]
 fn nothing_is_read_after_the_end_of_snapshot(rt: HostRuntime) -> Result<(), Fail> {
     let mut reader = BlockReader::new(rt.alloc(), PieceReader::new(FROM_1, 64, None))?;
     let mut writer = FuseWriter::new(rt.alloc(), 64, None);
-    let _: (Market<ListBook>, Seq) = fetch_one(
-        rt.alloc(),
-        &mut reader,
-        &mut writer,
-        &credentials(&rt),
-    )?;
-    assert_eq!(rt; reader.next_block()?, Some(b"Z".as_slice()));
+    fetch(&rt, rt.alloc(), &mut reader, &mut writer)?;
+    gives(&rt, &mut reader, b"Z")?;
+    Ok(())
+}
+
+// The fetch of this input has this fault.
+fn check_fetch_fault(rt: &impl Abort, alloc: Global, input: &[u8], want: &str) -> Result<(), Fail> {
+    let result = fetched(rt, alloc, PieceReader::new(input, 5, None))?;
+    let fault = result.err().expect(rt, "a fault");
+    assert_eq!(rt; fault.to_string(alloc)?.as_str(), want);
     Ok(())
 }
 
@@ -232,10 +305,7 @@ fn other_answers_are_faults(rt: HostRuntime) -> Result<(), Fail> {
         ),
     ];
     for (input, want) in rows {
-        let fault = fetched(&rt, rt.alloc(), PieceReader::new(input, 5, None))?
-            .err()
-            .expect(&rt, "a fault");
-        assert_eq!(rt; fault.to_string(rt.alloc())?.as_str(), want);
+        check_fetch_fault(&rt, rt.alloc(), input, want)?;
     }
     Ok(())
 }
