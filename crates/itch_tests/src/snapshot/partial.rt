@@ -23,7 +23,28 @@ fn set_of(alloc: Global, locates: &[u16]) -> Result<LocateSet<Global>, AllocErro
     Ok(set)
 }
 
-// The snapshot of a market cut down to a set, closed with the number 6, has these payloads.
+// The number of messages of a market's snapshot cut down to a set.
+fn count<B: OrderBook>(market: &Market<B>, set: &LocateSet<B::Alloc>) -> usize {
+    let mut count = 0usize;
+    for _message in SnapshotIter::only(market, set) {
+        count = count.saturating_add(1);
+    }
+    count
+}
+
+// Writes the snapshot of a small market cut down to a set, closed with the number 6.
+fn write<B: OrderBook>(
+    rt: &impl Abort,
+    market: &Market<B>,
+    set: &LocateSet<B::Alloc>,
+    writer: &mut FuseWriter,
+) -> Result<u64, SnapFault> {
+    let next = Seq::new(6).expect(rt, "a sequence number");
+    assert!(rt; snapshot_len(market) < 9);
+    write_partial(market, set, next, writer)
+}
+
+// The snapshot of a market cut down to a set has these payloads.
 fn check_partial<B: OrderBook>(
     rt: &impl Abort,
     alloc: Global,
@@ -31,18 +52,9 @@ fn check_partial<B: OrderBook>(
     set: &LocateSet<B::Alloc>,
     want: &[&[u8]],
 ) -> Result<(), Fail> {
+    assert_eq!(rt; count(market, set).saturating_add(1), want.len());
     let mut writer = FuseWriter::new(alloc, 1, None);
-    let next = Seq::new(6).ok_or("a sequence number")?;
-    assert!(rt; snapshot_len(market) < 9);
-    let mut count = 1usize;
-    for _message in SnapshotIter::only(market, set) {
-        count = count.saturating_add(1);
-    }
-    assert_eq!(rt; count, want.len());
-    assert_eq!(rt;
-        write_partial(market, set, next, &mut writer)?,
-        want.len() as u64
-    );
+    assert_eq!(rt; write(rt, market, set, &mut writer)?, want.len() as u64);
     assert_eq!(rt; writer.written(), blocks(alloc, want)?.written());
     Ok(())
 }

@@ -158,9 +158,10 @@ fn check_login<B: OrderBook>(
 #[test]
 fn logins_are_served(rt: HostRuntime) -> Result<(), Fail> {
     let market = market(rt.alloc())?;
-    for row in logins(&rt) {
-        check_login(&rt, rt.alloc(), &market, 1, row)?;
-        check_login(&rt, rt.alloc(), &market, 64, row)?;
+    for (input, want, bytes) in logins(&rt) {
+        for piece in [1, 64] {
+            check_login(&rt, rt.alloc(), &market, piece, (input, want, bytes))?;
+        }
     }
     Ok(())
 }
