@@ -69,11 +69,11 @@ impl Case {
     ) -> Result<bool, ToolFault> {
         match self.command {
             Command::Check => check(memory, first, out),
-            Command::Snap => snap(memory, first, None, out),
+            Command::Snap => snap(memory, first, None, None, out),
             Command::Compare => compare(memory, first, second, out),
             Command::Canon => canon(memory, first, false, out),
             Command::CanonCheck => canon(memory, first, true, out),
-            Command::Join => join(memory, first, second, out),
+            Command::Join => join(memory, first, second, None, out),
             Command::Show => show(memory, first, out),
             Command::Book => book(memory, 1, first, out),
         }

@@ -203,7 +203,7 @@ fn reads_below_a_buffer(rt: HostRuntime) -> Result<(), Fail> {
         let source = PieceReader::new(case.first.as_slice(), 50, Some(read));
         let reader = Counted::new(BufReader::with_capacity(rt.alloc(), 50, source)?);
         let mut out = FuseWriter::new(rt.alloc(), 64, None);
-        let fault = snap(rt.alloc(), reader, None, &mut out)
+        let fault = snap(rt.alloc(), reader, None, None, &mut out)
             .err()
             .ok_or("a fault")?;
         let whole = whole_before(&DAY_ENDS, 50 * read - 49);

@@ -26,7 +26,13 @@ pub(super) fn snapshot(
     requires { 1 ≤ piece }
 {
     let mut out = FuseWriter::new(alloc, 4096, None);
-    let answer = snap(alloc, PieceReader::new(bytes, piece, None), after, &mut out);
+    let answer = snap(
+        alloc,
+        PieceReader::new(bytes, piece, None),
+        after,
+        None,
+        &mut out,
+    );
     let written = out.written().to_vec(alloc)?;
     Ok((answer, written))
 }

@@ -21,6 +21,7 @@ fn joined(
         alloc,
         PieceReader::new(snapshot, 3, None),
         PieceReader::new(feed, 5, None),
+        None,
         &mut out,
     );
     assert!(rt; matches!(answer, Ok(true)));
@@ -41,6 +42,7 @@ fn refused(
         alloc,
         PieceReader::new(snapshot, 64, None),
         PieceReader::new(feed, 64, None),
+        None,
         &mut out,
     );
     let fault = answer.err().ok_or("a refusal")?;

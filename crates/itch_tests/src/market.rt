@@ -194,20 +194,29 @@ fn begun<B: OrderBook>(alloc: B::Alloc) -> Result<Market<B>, Fail> {
     Ok(market)
 }
 
-// That market refuses a message for this reason, and stays as it was.
+// That market over any book refuses a message for this reason, and stays as it was.
+fn check_refusal<B: OrderBook>(
+    rt: &impl Abort,
+    alloc: Global,
+    memory: B::Alloc,
+    message: &Message<'_>,
+    want: &str,
+) -> Result<(), Fail> {
+    let mut market: Market<B> = begun(memory)?;
+    let why = market.apply(message).err().ok_or("a refusal")?;
+    let line = format!(in alloc; "{why}")?;
+    assert_eq!(rt; line.as_str(), want);
+    assert_eq!(rt; market.book().len(), 1);
+    Ok(())
+}
+
 fn refuse(
     rt: &impl Abort,
     alloc: Global,
     message: Result<Message<'static>, Fail>,
     want: &str,
 ) -> Result<(), Fail> {
-    let message = message?;
-    let mut market: Market<ListBook> = begun(alloc)?;
-    let why = market.apply(&message).err().ok_or("a refusal")?;
-    let line = format!(in alloc; "{why}")?;
-    assert_eq!(rt; line.as_str(), want);
-    assert_eq!(rt; market.book().len(), 1);
-    Ok(())
+    check_refusal::<ListBook>(rt, alloc, alloc, &message?, want)
 }
 
 // The first check that fails gives the reason.

@@ -149,22 +149,31 @@ const JOINED_AT_6: &[Step<'static>] = &[
     Step::Snapshot(END_6, Ok(Snap::Joined { next: 6 })),
 ];
 
-// The message at hand waits already: it is refused, then taken by `resume`.
+// Message 7, which waits already, is refused when it comes again, and then taken by `resume`.
+const REFUSED_AT_7: &[Step<'static>] = &[
+    Step::Live(7, REPLACE_1, Err(TAKEN)),
+    Step::Stands(Some(7), 2),
+];
+
+const RESUMED_AT_7: &[Step<'static>] = &[
+    Step::Resume(Err(NOT_TAKEN)),
+    Step::Stands(Some(7), 2),
+    Step::Resume(Ok(Some(9))),
+    Step::Stands(Some(9), 0),
+];
+
 fn resume_at_7<B: OrderBook>(
     rt: &impl Abort,
+    alloc: Global,
     refusing: &Refusing<Global>,
     nth: u64,
     joiner: &mut Joiner<B>,
-) {
+) -> Result<(), Fail> {
     stands(rt, joiner, Some(7), 2);
     refusing.arm(nth);
-    live(rt, joiner, 7, REPLACE_1, Err(TAKEN));
-    stands(rt, joiner, Some(7), 2);
+    take_steps(rt, alloc, joiner, REFUSED_AT_7)?;
     refusing.arm(nth);
-    resume(rt, joiner, Err(NOT_TAKEN));
-    stands(rt, joiner, Some(7), 2);
-    resume(rt, joiner, Ok(Some(9)));
-    stands(rt, joiner, Some(9), 0);
+    take_steps(rt, alloc, joiner, RESUMED_AT_7)
 }
 
 // Message 6 is applied, and memory is refused at 7, which waits as 8 does. Returns whether memory was refused.
@@ -181,7 +190,7 @@ fn refuse_at_7<B: OrderBook>(
     let results = [Ok(Live::Applied { next: 9 }), Err(TAKEN)];
     let is_refused = live_short(rt, refusing, nth, &mut joiner, (6, EXECUTE_1), results);
     if is_refused {
-        resume_at_7(rt, refusing, nth, &mut joiner);
+        resume_at_7(rt, alloc, refusing, nth, &mut joiner)?;
     }
     check_market(rt, alloc, &joiner, LEFT)?;
     Ok(is_refused)
