@@ -12,7 +12,7 @@ use self::messages::{
 use itch_book::{ListBook, Order, OrderBook};
 use itch_codec::{Alpha, Message, Side};
 use itch_market::{Action, Market, Refusal, Security};
-use std::alloc::{AllocError, Global};
+use std::alloc::{AllocError, Allocator, Global};
 use std::process::Abort;
 use std::test::Fail;
 
@@ -56,7 +56,7 @@ fn takes_the_largest_values(rt: HostRuntime) -> Result<(), Fail> {
 }
 
 // Orders of two prices, in the order of their references.
-fn of_two_prices(alloc: Global) -> Result<Market<ListBook>, Fail> {
+fn of_two_prices<B: OrderBook>(alloc: B::Alloc) -> Result<Market<B>, Fail> {
     let mut market = Market::new(alloc);
     apply(&mut market, directory(1, "AAPL", 100))?;
     apply(&mut market, add(1, 1, Side::Buy, 100, "AAPL", 1500000))?;
@@ -66,12 +66,15 @@ fn of_two_prices(alloc: Global) -> Result<Market<ListBook>, Fail> {
     Ok(market)
 }
 
-#[test]
-fn keeps_price_and_time_priority(rt: HostRuntime) -> Result<(), Fail> {
-    let market = of_two_prices(rt.alloc())?;
+fn check_priority<B: OrderBook>(
+    rt: &impl Abort,
+    alloc: Global,
+    memory: B::Alloc,
+) -> Result<(), Fail> {
+    let market: Market<B> = of_two_prices(memory)?;
     let book = market.book();
     assert_eq!(rt;
-        references(&rt, rt.alloc(), &market)?.as_slice(),
+        references(rt, alloc, &market)?.as_slice(),
         [2, 4, 1, 3].as_slice()
     );
     assert_eq!(rt;
@@ -87,14 +90,22 @@ fn keeps_price_and_time_priority(rt: HostRuntime) -> Result<(), Fail> {
 }
 
 #[test]
-fn replaces_an_attributed_order(rt: HostRuntime) -> Result<(), Fail> {
-    let mut market: Market<ListBook> = Market::new(rt.alloc());
+fn keeps_price_and_time_priority(rt: HostRuntime) -> Result<(), Fail> {
+    check_priority::<ListBook>(&rt, rt.alloc(), rt.alloc())
+}
+
+fn check_replaced<B: OrderBook>(
+    rt: &impl Abort,
+    alloc: Global,
+    memory: B::Alloc,
+) -> Result<(), Fail> {
+    let mut market: Market<B> = Market::new(memory);
     apply(&mut market, directory(1, "AAPL", 100))?;
     apply(&mut market, attributed(1, 100, 1500000))?;
     apply(&mut market, add(1, 2, Side::Buy, 200, "AAPL", 1500000))?;
     apply(&mut market, replace(1, 1, 3, 100, 1500000))?;
     assert_eq!(rt;
-        references(&rt, rt.alloc(), &market)?.as_slice(),
+        references(rt, alloc, &market)?.as_slice(),
         [2, 3].as_slice()
     );
     let replaced = market.book().get(3).ok_or("the replacement")?;
@@ -104,8 +115,13 @@ fn replaces_an_attributed_order(rt: HostRuntime) -> Result<(), Fail> {
     Ok(())
 }
 
+#[test]
+fn replaces_an_attributed_order(rt: HostRuntime) -> Result<(), Fail> {
+    check_replaced::<ListBook>(&rt, rt.alloc(), rt.alloc())
+}
+
 // A market with the trading states of a security, and an order, whose directory message came twice.
-fn with_states(alloc: Global) -> Result<Market<ListBook>, Fail> {
+fn with_states<B: OrderBook>(alloc: B::Alloc) -> Result<Market<B>, Fail> {
     let mut market = Market::new(alloc);
     apply(&mut market, directory(2, "MSFT", 100))?;
     apply(&mut market, event(b'O'))?;
@@ -117,18 +133,21 @@ fn with_states(alloc: Global) -> Result<Market<ListBook>, Fail> {
     Ok(market)
 }
 
-fn locates_of(alloc: Global, market: &Market<ListBook>) -> Result<Vec<u16>, AllocError> {
+fn locates_of<B: OrderBook>(alloc: Global, market: &Market<B>) -> Result<Vec<u16>, AllocError> {
     market.locates().again().collect(alloc)
 }
 
 // A second directory message of a locate sets the entry alone.
-#[test]
-fn keeps_states_and_orders(rt: HostRuntime) -> Result<(), Fail> {
-    let empty: Market<ListBook> = Market::new(rt.alloc());
+fn check_states<B: OrderBook>(
+    rt: &impl Abort,
+    alloc: Global,
+    memory: B::Alloc,
+) -> Result<(), Fail> {
+    let empty: Market<B> = Market::new(memory);
     assert_eq!(rt; empty.phase(), None);
-    let market = with_states(rt.alloc())?;
+    let market: Market<B> = with_states(memory)?;
     assert_eq!(rt; market.phase(), Some(b'O'));
-    let locates = locates_of(rt.alloc(), &market)?;
+    let locates = locates_of(alloc, &market)?;
     assert_eq!(rt; locates.as_slice(), [1, 2].as_slice());
     let security = market.security(1).ok_or("a security")?;
     assert_eq!(rt; security.entry.round_lot_size, 200);
@@ -142,8 +161,13 @@ fn keeps_states_and_orders(rt: HostRuntime) -> Result<(), Fail> {
     Ok(())
 }
 
+#[test]
+fn keeps_states_and_orders(rt: HostRuntime) -> Result<(), Fail> {
+    check_states::<ListBook>(&rt, rt.alloc(), rt.alloc())
+}
+
 // A market of one security with halts and positions, whose directory message came twice.
-fn with_halts_and_positions(alloc: Global) -> Result<Market<ListBook>, Fail> {
+fn with_halts_and_positions<B: OrderBook>(alloc: B::Alloc) -> Result<Market<B>, Fail> {
     let mut market = Market::new(alloc);
     apply(&mut market, directory(1, "AAPL", 100))?;
     apply(&mut market, position(1, "ZZZZ", "AAPL", b'A'))?;
@@ -156,33 +180,44 @@ fn with_halts_and_positions(alloc: Global) -> Result<Market<ListBook>, Fail> {
     Ok(market)
 }
 
-fn halts_of(alloc: Global, security: &Security<Global>) -> Result<Vec<(u8, u8)>, AllocError> {
+fn halts_of<A: Allocator>(
+    alloc: Global,
+    security: &Security<A>,
+) -> Result<Vec<(u8, u8)>, AllocError> {
     security.halts().again().collect(alloc)
 }
 
-fn positions_of(
+fn positions_of<A: Allocator>(
     alloc: Global,
-    security: &Security<Global>,
+    security: &Security<A>,
 ) -> Result<Vec<(Alpha<4>, [u8; 3])>, AllocError> {
     security.positions().again().collect(alloc)
 }
 
 // An action that ends a halt stays, and a second directory message of a locate changes neither.
-#[test]
-fn keeps_halts_and_positions(rt: HostRuntime) -> Result<(), Fail> {
-    let market = with_halts_and_positions(rt.alloc())?;
+fn check_halts_and_positions<B: OrderBook>(
+    rt: &impl Abort,
+    alloc: Global,
+    memory: B::Alloc,
+) -> Result<(), Fail> {
+    let market: Market<B> = with_halts_and_positions(memory)?;
     let security = market.security(1).ok_or("a security")?;
     assert_eq!(rt; (security.halts_len(), security.positions_len()), (2, 2));
-    let halts = halts_of(rt.alloc(), security)?;
+    let halts = halts_of(alloc, security)?;
     assert_eq!(rt; halts.as_slice(), [(b'Q', b'H'), (b'X', b'T')].as_slice());
     let first = Alpha::from_text("ABCD")?;
     let last = Alpha::from_text("ZZZZ")?;
-    let positions = positions_of(rt.alloc(), security)?;
+    let positions = positions_of(alloc, security)?;
     assert_eq!(rt;
         positions.as_slice(),
         [(first, *b"NNS"), (last, *b"NND")].as_slice()
     );
     Ok(())
+}
+
+#[test]
+fn keeps_halts_and_positions(rt: HostRuntime) -> Result<(), Fail> {
+    check_halts_and_positions::<ListBook>(&rt, rt.alloc(), rt.alloc())
 }
 
 // AAPL at locate 1 with a bid for 100 shares of reference 1, and MSFT at locate 2.
@@ -303,9 +338,8 @@ fn want_of_memory_has_words(rt: HostRuntime) -> Result<(), Fail> {
 }
 
 // An order keeps its price whatever it is executed at, and is gone with its last share.
-#[test]
-fn takes_shares(rt: HostRuntime) -> Result<(), Fail> {
-    let mut market: Market<ListBook> = begun(rt.alloc())?;
+fn check_shares<B: OrderBook>(rt: &impl Abort, memory: B::Alloc) -> Result<(), Fail> {
+    let mut market: Market<B> = begun(memory)?;
     apply(&mut market, executed(1, 1, 0))?;
     apply(&mut market, cancel(1, 1, 40))?;
     let refused = market.apply(&executed_with_price(1, 1, 61, 1500100)?);
@@ -318,4 +352,9 @@ fn takes_shares(rt: HostRuntime) -> Result<(), Fail> {
     apply(&mut market, delete(1, 1))?;
     assert_eq!(rt; market.book().len(), 0);
     Ok(())
+}
+
+#[test]
+fn takes_shares(rt: HostRuntime) -> Result<(), Fail> {
+    check_shares::<ListBook>(&rt, rt.alloc())
 }

@@ -2,7 +2,7 @@
 use super::{
     AAPL, ADD_1, ADD_1_AT_9, ADD_2, ADD_3, ADD_4, BEFORE_6, BROKEN_TRADE, CLOSES, DELETE_3, END_3,
     END_6, EXECUTE_1, JOINED_AT_3, NAMED_5, OPENS, READ_2, REPLACE_1, Step, check_market, live,
-    read, resume, snapshot, stands, take_steps,
+    read, snapshot, stands, take_steps,
 };
 use itch_book::{IndexedBook, OrderBook};
 use itch_join::{Cause, JoinFault, Joiner, Live, Snap};

@@ -136,22 +136,22 @@ fn serve<R: CountedRead, A: Allocator, B: OrderBook>(
     serve_one(reader, writer, market, seq(rt, 5), &config(rt))
 }
 
-// A login that comes in pieces is served so, and answered by these bytes.
+// A login is served so, and answered by these bytes, in whatever pieces it comes.
 fn check_login<B: OrderBook>(
     rt: &impl Abort,
     alloc: Global,
     market: &Market<B>,
-    piece: usize,
-    row: (&[u8], Served, &[u8]),
-) -> Result<(), Fail>
-    requires { 1 ≤ piece }
-{
-    let (input, want, bytes) = row;
-    let mut reader = BlockReader::new(alloc, PieceReader::new(input, piece, None))?;
-    let mut writer = FuseWriter::new(alloc, piece, None);
-    let served = serve(rt, &mut reader, &mut writer, market)?;
-    assert_eq!(rt; served, want, "{input:?}");
-    assert_eq!(rt; writer.written(), bytes, "{input:?}");
+    input: &[u8],
+    want: Served,
+    bytes: &[u8],
+) -> Result<(), Fail> {
+    for piece in [1, 64] {
+        let mut reader = BlockReader::new(alloc, PieceReader::new(input, piece, None))?;
+        let mut writer = FuseWriter::new(alloc, piece, None);
+        let served = serve(rt, &mut reader, &mut writer, market)?;
+        assert_eq!(rt; served, want, "{input:?}");
+        assert_eq!(rt; writer.written(), bytes, "{input:?}");
+    }
     Ok(())
 }
 
@@ -159,9 +159,7 @@ fn check_login<B: OrderBook>(
 fn logins_are_served(rt: HostRuntime) -> Result<(), Fail> {
     let market = market(rt.alloc())?;
     for (input, want, bytes) in logins(&rt) {
-        for piece in [1, 64] {
-            check_login(&rt, rt.alloc(), &market, piece, (input, want, bytes))?;
-        }
+        check_login(&rt, rt.alloc(), &market, input, want, bytes)?;
     }
     Ok(())
 }
