@@ -24,6 +24,8 @@ mod refusals;
 #[cfg(test)]
 mod refused_memory;
 #[cfg(test)]
+mod restricted;
+#[cfg(test)]
 mod shows;
 #[cfg(test)]
 mod snaps;

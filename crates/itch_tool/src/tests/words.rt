@@ -8,12 +8,13 @@ use std::test::Fail;
 #[test]
 fn words_are_read(rt: HostRuntime) -> Result<(), Fail> {
     let alloc = rt.alloc();
-    let cases: [(&str, Result<Request<'static>, i32>); 38] = [
+    let cases: [(&str, Result<Request<'static>, i32>); 43] = [
         (
             "snap",
             Ok(Request::Snap {
                 file: None,
                 after: None,
+                only: None,
             }),
         ),
         (
@@ -21,6 +22,7 @@ fn words_are_read(rt: HostRuntime) -> Result<(), Fail> {
             Ok(Request::Snap {
                 file: Some("day.itch"),
                 after: None,
+                only: None,
             }),
         ),
         (
@@ -28,6 +30,7 @@ fn words_are_read(rt: HostRuntime) -> Result<(), Fail> {
             Ok(Request::Snap {
                 file: Some("day.itch"),
                 after: Some(0),
+                only: None,
             }),
         ),
         (
@@ -35,6 +38,7 @@ fn words_are_read(rt: HostRuntime) -> Result<(), Fail> {
             Ok(Request::Snap {
                 file: Some("day.itch"),
                 after: Some(7),
+                only: None,
             }),
         ),
         (
@@ -42,6 +46,7 @@ fn words_are_read(rt: HostRuntime) -> Result<(), Fail> {
             Ok(Request::Snap {
                 file: None,
                 after: Some(999_999_999_999),
+                only: None,
             }),
         ),
         (
@@ -50,7 +55,17 @@ fn words_are_read(rt: HostRuntime) -> Result<(), Fail> {
                 file: Some("day.itch"),
             }),
         ),
+        (
+            "snap day.itch --only 1,2 --after 3",
+            Ok(Request::Snap {
+                file: Some("day.itch"),
+                after: Some(3),
+                only: Some("1,2"),
+            }),
+        ),
         ("snap --help", Err(0)),
+        ("snap --only", Err(2)),
+        ("snap --only 1 --only 2", Err(2)),
         ("snap --after 1000000000000", Err(2)),
         ("snap --after +5", Err(2)),
         ("snap --after -5", Err(2)),
@@ -110,9 +125,19 @@ fn words_are_read(rt: HostRuntime) -> Result<(), Fail> {
             Ok(Request::Join {
                 snapshot: "a.snap",
                 feed: "b.itch",
+                only: None,
+            }),
+        ),
+        (
+            "join --only=40 a.snap b.itch",
+            Ok(Request::Join {
+                snapshot: "a.snap",
+                feed: "b.itch",
+                only: Some("40"),
             }),
         ),
         ("join a.snap", Err(2)),
+        ("check --only 1", Err(2)),
         ("join a.snap b.itch c.itch", Err(2)),
         (
             "book 1",
