@@ -17,3 +17,4 @@ pub mod Texts
 pub mod LevelLemmas
 pub mod LevelTexts
 pub mod Listings
+pub mod LocateLists

@@ -8,3 +8,4 @@ pub mod Books
 pub mod AsRead
 pub mod Joining
 pub mod Joiners
+pub mod Locates

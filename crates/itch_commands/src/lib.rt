@@ -16,6 +16,7 @@ mod feed;
 pub mod join;
 mod kept;
 pub mod levels;
+mod locates;
 mod reading;
 pub mod show;
 pub mod snap;
@@ -24,5 +25,6 @@ mod writing;
 
 pub use book::Book;
 pub use fault::{Source, ToolFault, status, system_fault};
+pub use locates::read_locates;
 pub use reading::read_market;
 pub use writing::{write_closed, write_text};
