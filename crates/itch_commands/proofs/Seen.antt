@@ -50,8 +50,7 @@ module _ (wanted : ℕ → Bool) (b c : List ℕ) (ps : List (List ℕ)) (n : Co
   at_one (Some d) p fault off next told = found (day_after b d ps p (takes.bytes ∙ ap (λ t. blocks ps ++ t) off.1) takes.full off.0) where
     found : (more : List (List ℕ)) × (rest : List ℕ) × Day b (ps ++ p ∷ more) rest → IsFaultAs read b fault
     found (more, rest, day) =
-        let unread = blocks (map read more) ++ rest in
-        (
+        let unread = blocks (map read more) ++ rest in (
           blocks qs ++ (block (read p) ++ unread),
           record {
             payloads = ps ++ p ∷ more;

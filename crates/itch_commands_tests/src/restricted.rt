@@ -59,7 +59,10 @@ fn snap_of_a_set_follows_every_rule(rt: HostRuntime) -> Result<(), Fail> {
     let reader = PieceReader::new(day.as_slice(), 64, None);
     let answer = snap(alloc, reader, None, Some(&set), &mut out);
     let fault = answer.err().ok_or("a refusal")?;
-    assert_eq!(rt; format!(in alloc; "{fault}")?.as_str(), "itchsnap: message 3: unknown reference");
+    assert_eq!(rt;
+        format!(in alloc; "{fault}")?.as_str(),
+        "itchsnap: message 3: unknown reference"
+    );
     assert!(rt; out.written().is_empty());
     Ok(())
 }
@@ -129,10 +132,28 @@ fn join_follows_no_rule_at_other_locates(rt: HostRuntime) -> Result<(), Fail> {
 fn join_reads_the_snapshot_so_too(rt: HostRuntime) -> Result<(), Fail> {
     let alloc = rt.alloc();
     let start = [START, AAPL, EXECUTE_9_AT_2, END_4];
-    joined(&rt, alloc, &start, Some("1"), Ok(&[START, AAPL, BUY_1_OF_60, END_8]))?;
-    joined(&rt, alloc, &start, None, Err("itchsnap: snapshot: message 3: unknown reference"))?;
+    joined(
+        &rt,
+        alloc,
+        &start,
+        Some("1"),
+        Ok(&[START, AAPL, BUY_1_OF_60, END_8]),
+    )?;
+    joined(
+        &rt,
+        alloc,
+        &start,
+        None,
+        Err("itchsnap: snapshot: message 3: unknown reference"),
+    )?;
     let short = [START, SHORT_AAPL, END_3];
-    joined(&rt, alloc, &short, Some("7"), Err("itchsnap: snapshot: message 2: wrong length for R: want 39, got 38"))
+    joined(
+        &rt,
+        alloc,
+        &short,
+        Some("7"),
+        Err("itchsnap: snapshot: message 2: wrong length for R: want 39, got 38"),
+    )
 }
 
 #[test]
@@ -158,13 +179,31 @@ fn lists_are_read(rt: HostRuntime) -> Result<(), Fail> {
 fn other_texts_are_no_lists(rt: HostRuntime) -> Result<(), Fail> {
     let alloc = rt.alloc();
     let texts = [
-        "", ",", "1,", ",1", "1,,2", "+1", "-1", " 1", "1 ", "1, 2", "1;2", "x", "0x1", "65536", "1,65536",
-        "99999999999999999999999", "1.0",
+        "",
+        ",",
+        "1,",
+        ",1",
+        "1,,2",
+        "+1",
+        "-1",
+        " 1",
+        "1 ",
+        "1, 2",
+        "1;2",
+        "x",
+        "0x1",
+        "65536",
+        "1,65536",
+        "99999999999999999999999",
+        "1.0",
     ];
     for text in texts {
         let fault = read_locates(alloc, text).err().ok_or("a refusal")?;
         assert_eq!(rt; fault.status(), 2, "{text}");
-        assert_eq!(rt; format!(in alloc; "{fault}")?.as_str(), "itchsnap: bad locate list");
+        assert_eq!(rt;
+            format!(in alloc; "{fault}")?.as_str(),
+            "itchsnap: bad locate list"
+        );
     }
     Ok(())
 }
@@ -174,7 +213,10 @@ fn other_texts_are_no_lists(rt: HostRuntime) -> Result<(), Fail> {
 fn list_without_memory(rt: HostRuntime) -> Result<(), Fail> {
     for nth in 0..64 {
         let refusing = Refusing::new(rt.alloc(), nth);
-        let set = read_locates(&refusing, "1,2,3,4,5,6,7,8,9,10,11,12,13,14,15,16,17,18,19,20");
+        let set = read_locates(
+            &refusing,
+            "1,2,3,4,5,6,7,8,9,10,11,12,13,14,15,16,17,18,19,20",
+        );
         if !refusing.has_refused() {
             assert!(rt; nth >= 1);
             assert!(rt; set?.contains(20));

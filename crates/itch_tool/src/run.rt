@@ -12,7 +12,7 @@ use itch_commands::join::join_blocks;
 use itch_commands::levels::book_blocks;
 use itch_commands::show::show_blocks;
 use itch_commands::snap::snap_blocks;
-use itch_commands::{ToolFault, system_fault};
+use itch_commands::{ToolFault, read_locates, system_fault};
 use itch_frame::BlockReader;
 use itch_frame::counted::{Buffered, Counted, CountedRead, CountedWrite};
 use itch_market::LocateSet;
@@ -160,9 +160,4 @@ fn perform<R: CountedRead, B: Allocator, A: Allocator + Copy, W: CountedWrite>(
         Request::Book { locate, .. } => book_blocks(alloc, locate, reader, out),
         Request::Compare { .. } | Request::Join { .. } => unreachable!(),
     }
-}
-
-fn read_locates(alloc: Global, text: &str) -> Result<LocateSet<Global>, ToolFault> {
-    let _set = LocateSet::new(alloc);
-    Err(ToolFault::BadLocates)
 }

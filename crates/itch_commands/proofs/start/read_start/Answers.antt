@@ -22,8 +22,7 @@ returns-in-Ok-clause-start g c =
 pub returns-in-Err-clause-start : goal.returns-in-Err-clause-start
 returns-in-Err-clause-start g c =
     let remaining = g.R.CountedRead.remaining in
-    let steps = c.in-Err.ensures.steps in
-    (
+    let steps = c.in-Err.ensures.steps in (
       refl,
       steps,
       fault_seen (has c.args.joiner.now.set) (bytes_left remaining c.args.reader.now) (bytes_left remaining c.start.new.reader) steps.0 c.in-Err.fault steps.1,
