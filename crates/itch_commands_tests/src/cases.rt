@@ -11,6 +11,7 @@ use itch_commands::show::show;
 use itch_commands::snap::snap;
 use itch_frame::counted::CountedWrite;
 use itch_frame::testing::PieceReader;
+use itch_market::LocateSet;
 use std::alloc::{Allocator, Global};
 use std::test::Fail;
 
@@ -59,17 +60,18 @@ impl Case {
         self.command != Command::Compare
     }
 
-    /// Performs the command over these readers of its files.
+    /// Performs the command over these readers of its files. `only` is the set of locates of `snap`.
     pub(super) fn perform<A: Allocator + Copy, W: CountedWrite>(
         &self,
         memory: A,
+        only: Option<&LocateSet<A>>,
         first: PieceReader<'_>,
         second: PieceReader<'_>,
         out: &mut W,
     ) -> Result<bool, ToolFault> {
         match self.command {
             Command::Check => check(memory, first, out),
-            Command::Snap => snap(memory, first, None, None, out),
+            Command::Snap => snap(memory, first, None, only, out),
             Command::Compare => compare(memory, first, second, out),
             Command::Canon => canon(memory, first, false, out),
             Command::CanonCheck => canon(memory, first, true, out),

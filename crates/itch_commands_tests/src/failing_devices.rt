@@ -62,7 +62,7 @@ fn failed_read(
     let one = PieceReader::new(case.first.as_slice(), 1, first);
     let other = PieceReader::new(case.second.as_slice(), 1, second);
     let fault = case
-        .perform(alloc, one, other, &mut out)
+        .perform(alloc, None, one, other, &mut out)
         .err()
         .ok_or("a fault")?;
     assert_eq!(rt; fault.status(), 3);
@@ -172,7 +172,7 @@ fn fail_writes(rt: &impl Abort, alloc: Global, command: Command) -> Result<(), F
         let mut out = FuseWriter::new(alloc, 1, Some((at as u64).saturating_add(1)));
         let first = PieceReader::new(case.first.as_slice(), 64, None);
         let second = PieceReader::new(case.second.as_slice(), 64, None);
-        let answer = case.perform(alloc, first, second, &mut out);
+        let answer = case.perform(alloc, None, first, second, &mut out);
         assert!(rt; matches!(answer, Err(ToolFault::Write(_))), "write {at}");
         assert_eq!(rt; Some(out.written()), case.wanted.get(..at), "write {at}");
     }

@@ -34,7 +34,7 @@ fn refuse(rt: &impl Abort, alloc: Global, case: &Case, nth: u64) -> bool {
     let mut out = FuseWriter::new(alloc, 64, None);
     let first = PieceReader::new(case.first.as_slice(), 64, None);
     let second = PieceReader::new(case.second.as_slice(), 64, None);
-    let answer = case.perform(&refusing, first, second, &mut out);
+    let answer = case.perform(&refusing, None, first, second, &mut out);
     let (written, wanted) = (out.written(), case.wanted.as_slice());
     is_refused(rt, &refusing, &answer, written, wanted, case.is_true())
 }

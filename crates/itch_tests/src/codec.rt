@@ -239,10 +239,14 @@ fn trades(rt: HostRuntime) {
 }
 
 #[test]
-fn end_and_undecoded(rt: HostRuntime) {
+fn ends(rt: HostRuntime) {
     let next = Seq::new(4).expect(&rt, "a sequence number");
     agree(&rt, END, Message::End { next });
     assert_eq!(rt; decode(b"G  0004              "), Ok(Message::End { next }));
+}
+
+#[test]
+fn undecoded(rt: HostRuntime) {
     let other = Undecoded::new(UNDECODED).expect(&rt, "a type that is not decoded");
     assert_eq!(rt; (other.kind(), other.payload()), (b'N', UNDECODED));
     agree(&rt, UNDECODED, Message::Other(other));
@@ -298,6 +302,19 @@ fn faults(rt: HostRuntime) {
     }
 }
 
+// A text is taken as these bytes, which are taken as the text, or has this fault.
+fn check_text(rt: &impl Abort, text: &str, want: Result<&[u8; 4], AlphaFault>) {
+    match (Alpha::<4>::from_text(text), want) {
+        (Ok(alpha), Ok(bytes)) => {
+            assert_eq!(rt; alpha.bytes(), bytes);
+            assert_eq!(rt; alpha.text(), text);
+            assert_eq!(rt; Alpha::from_bytes(bytes), Ok(alpha));
+        }
+        (Err(fault), Err(want)) => assert_eq!(rt; fault, want),
+        _ => assert!(rt; false, "{text} is answered the other way"),
+    }
+}
+
 #[test]
 fn texts(rt: HostRuntime) {
     let rows: [(&str, Result<&[u8; 4], AlphaFault>); 6] = [
@@ -309,22 +326,14 @@ fn texts(rt: HostRuntime) {
         ("\x7f\n\x7f\n\x7f", Err(AlphaFault::TooLong)),
     ];
     for (text, want) in rows {
-        match (Alpha::<4>::from_text(text), want) {
-            (Ok(alpha), Ok(bytes)) => {
-                assert_eq!(rt; alpha.bytes(), bytes);
-                assert_eq!(rt; alpha.text(), text);
-                assert_eq!(rt; Alpha::from_bytes(bytes), Ok(alpha));
-            }
-            (Err(fault), Err(want)) => assert_eq!(rt; fault, want),
-            _ => assert!(rt; false, "{text} is answered the other way"),
-        }
+        check_text(&rt, text, want);
     }
     let bad = Alpha::from_bytes(b"AB\x1f\x80");
     assert_eq!(rt; bad, Err(AlphaFault::NotPrintable { at: 2 }));
 }
 
 #[test]
-fn numbers(rt: HostRuntime) {
+fn numbers_are_written(rt: HostRuntime) {
     let written: [(u64, &[u8; 20]); 4] = [
         (0, b"                   0"),
         (7, b"                   7"),
@@ -334,6 +343,10 @@ fn numbers(rt: HostRuntime) {
     for (number, field) in written {
         assert_eq!(rt; number20(number), *field);
     }
+}
+
+#[test]
+fn numbers_are_read(rt: HostRuntime) {
     let read: [(&[u8; 20], Option<u64>); 9] = [
         (b"                   0", Some(0)),
         (b"00000000000000000012", Some(12)),
@@ -348,6 +361,10 @@ fn numbers(rt: HostRuntime) {
     for (field, number) in read {
         assert_eq!(rt; read_number20(field), number);
     }
+}
+
+#[test]
+fn sequence_numbers_and_timestamps_have_limits(rt: HostRuntime) {
     assert_eq!(rt; Seq::new(0), None);
     assert_eq!(rt; Seq::new(10_000_000_000_000_000_001), None);
     assert_eq!(rt;
@@ -362,7 +379,7 @@ fn numbers(rt: HostRuntime) {
 }
 
 #[test]
-fn displays(rt: HostRuntime) -> Result<(), Fail> {
+fn faults_of_messages_have_words(rt: HostRuntime) -> Result<(), Fail> {
     let rows = [
         (CodecFault::Empty, "empty message"),
         (
@@ -380,6 +397,11 @@ fn displays(rt: HostRuntime) -> Result<(), Fail> {
     for (fault, text) in rows {
         assert_eq!(rt; format!(in rt.alloc(); "{fault}")?.as_str(), text);
     }
+    Ok(())
+}
+
+#[test]
+fn faults_of_texts_have_words(rt: HostRuntime) -> Result<(), Fail> {
     let texts = [
         (AlphaFault::TooLong, "the text is too long"),
         (

@@ -32,9 +32,19 @@ fn check_largest<B: OrderBook>(rt: &impl Abort, alloc: B::Alloc) -> Result<(), F
         &mut market,
         add(65535, u64::MAX, Side::Sell, u32::MAX, "MAX", u32::MAX),
     )?;
+    check_last_security(rt, &market)?;
+    check_largest_order(rt, &market);
+    Ok(())
+}
+
+fn check_last_security<B: OrderBook>(rt: &impl Abort, market: &Market<B>) -> Result<(), Fail> {
     let security = market.security(65535).ok_or("a security")?;
     assert_eq!(rt; security.entry.stock, stock("MAX")?);
     assert!(rt; market.security(0).is_none());
+    Ok(())
+}
+
+fn check_largest_order<B: OrderBook>(rt: &impl Abort, market: &Market<B>) {
     let best = Order {
         reference: u64::MAX,
         locate: 65535,
@@ -47,7 +57,6 @@ fn check_largest<B: OrderBook>(rt: &impl Abort, alloc: B::Alloc) -> Result<(), F
     assert!(rt; market.best(65535, Side::Buy).is_none());
     let total = market.book().level_total(65535, Side::Sell, u32::MAX);
     assert_eq!(rt; total, (4294967295, 1));
-    Ok(())
 }
 
 #[test]
