@@ -75,49 +75,55 @@ fn of_two_prices<B: OrderBook>(alloc: B::Alloc) -> Result<Market<B>, Fail> {
     Ok(market)
 }
 
-fn check_priority<B: OrderBook>(
+// The orders have these references, in snapshot order.
+fn check_references<B: OrderBook>(
     rt: &impl Abort,
     alloc: Global,
-    memory: B::Alloc,
+    market: &Market<B>,
+    want: &[u64],
 ) -> Result<(), Fail> {
-    let market: Market<B> = of_two_prices(memory)?;
-    let book = market.book();
-    assert_eq!(rt;
-        references(rt, alloc, &market)?.as_slice(),
-        [2, 4, 1, 3].as_slice()
-    );
-    assert_eq!(rt;
-        market.best(1, Side::Buy).map(|order| order.reference),
-        Some(2)
-    );
-    assert_eq!(rt; book.next_price(1, Side::Buy, None), Some(1500100));
-    assert_eq!(rt; book.next_price(1, Side::Buy, Some(1500100)), Some(1500000));
-    assert_eq!(rt; book.next_price(1, Side::Buy, Some(1500000)), None);
-    assert_eq!(rt; book.level_total(1, Side::Buy, 1500100), (600, 2));
-    assert_eq!(rt; book.level_total(1, Side::Buy, 1500000), (400, 2));
+    assert_eq!(rt; references(rt, alloc, market)?.as_slice(), want);
     Ok(())
+}
+
+fn check_levels<B: OrderBook>(rt: &impl Abort, book: &B) {
+    for (last, want) in [
+        (None, Some(1500100)),
+        (Some(1500100), Some(1500000)),
+        (Some(1500000), None),
+    ] {
+        assert_eq!(rt; book.next_price(1, Side::Buy, last), want);
+    }
+    for (price, want) in [(1500100, (600, 2)), (1500000, (400, 2))] {
+        assert_eq!(rt; book.level_total(1, Side::Buy, price), want);
+    }
+}
+
+fn check_best<B: OrderBook>(rt: &impl Abort, market: &Market<B>, want: u64) {
+    let best = market.best(1, Side::Buy).map(|order| order.reference);
+    assert_eq!(rt; best, Some(want));
 }
 
 #[test]
 fn keeps_price_and_time_priority(rt: HostRuntime) -> Result<(), Fail> {
-    check_priority::<ListBook>(&rt, rt.alloc(), rt.alloc())
+    let market: Market<ListBook> = of_two_prices(rt.alloc())?;
+    check_best(&rt, &market, 2);
+    check_levels(&rt, market.book());
+    check_references(&rt, rt.alloc(), &market, &[2, 4, 1, 3])
 }
 
-fn check_replaced<B: OrderBook>(
-    rt: &impl Abort,
-    alloc: Global,
-    memory: B::Alloc,
-) -> Result<(), Fail> {
-    let mut market: Market<B> = Market::new(memory);
+// An attributed order is replaced by order 3, behind order 2.
+fn with_replacement<B: OrderBook>(alloc: B::Alloc) -> Result<Market<B>, Fail> {
+    let mut market = Market::new(alloc);
     apply(&mut market, directory(1, "AAPL", 100))?;
     apply(&mut market, attributed(1, 100, 1500000))?;
     apply(&mut market, add(1, 2, Side::Buy, 200, "AAPL", 1500000))?;
     apply(&mut market, replace(1, 1, 3, 100, 1500000))?;
-    assert_eq!(rt;
-        references(rt, alloc, &market)?.as_slice(),
-        [2, 3].as_slice()
-    );
-    let replaced = market.book().get(3).ok_or("the replacement")?;
+    Ok(market)
+}
+
+fn check_replacement<B: OrderBook>(rt: &impl Abort, book: &B) -> Result<(), Fail> {
+    let replaced = book.get(3).ok_or("the replacement")?;
     let attribution: Alpha<4> = Alpha::from_text("ABCD")?;
     assert_eq!(rt; replaced.mpid, Some(attribution));
     assert_eq!(rt; replaced.shares, 100);
@@ -126,7 +132,9 @@ fn check_replaced<B: OrderBook>(
 
 #[test]
 fn replaces_an_attributed_order(rt: HostRuntime) -> Result<(), Fail> {
-    check_replaced::<ListBook>(&rt, rt.alloc(), rt.alloc())
+    let market: Market<ListBook> = with_replacement(rt.alloc())?;
+    check_replacement(&rt, market.book())?;
+    check_references(&rt, rt.alloc(), &market, &[2, 3])
 }
 
 // A market with the trading states of a security, and an order, whose directory message came twice.
@@ -146,33 +154,41 @@ fn locates_of<B: OrderBook>(alloc: Global, market: &Market<B>) -> Result<Vec<u16
     market.locates().again().collect(alloc)
 }
 
-// A second directory message of a locate sets the entry alone.
-fn check_states<B: OrderBook>(
-    rt: &impl Abort,
-    alloc: Global,
-    memory: B::Alloc,
-) -> Result<(), Fail> {
-    let empty: Market<B> = Market::new(memory);
-    assert_eq!(rt; empty.phase(), None);
-    let market: Market<B> = with_states(memory)?;
-    assert_eq!(rt; market.phase(), Some(b'O'));
-    let locates = locates_of(alloc, &market)?;
-    assert_eq!(rt; locates.as_slice(), [1, 2].as_slice());
-    let security = market.security(1).ok_or("a security")?;
-    assert_eq!(rt; security.entry.round_lot_size, 200);
+fn check_states<A: Allocator>(rt: &impl Abort, security: &Security<A>) {
     let action = Action {
         state: b'T',
         reason: *b"    ",
     };
+    assert_eq!(rt; security.entry.round_lot_size, 200);
     assert_eq!(rt; security.action, Some(action));
     assert_eq!(rt; security.sho, Some(b'0'));
-    assert_eq!(rt; market.book().len(), 1);
+}
+
+fn check_locates<B: OrderBook>(
+    rt: &impl Abort,
+    alloc: Global,
+    market: &Market<B>,
+    want: &[u16],
+) -> Result<(), Fail> {
+    let locates = locates_of(alloc, market)?;
+    assert_eq!(rt; locates.as_slice(), want);
     Ok(())
 }
 
 #[test]
+fn an_empty_market_has_no_phase(rt: HostRuntime) {
+    let empty: Market<ListBook> = Market::new(rt.alloc());
+    assert_eq!(rt; empty.phase(), None);
+}
+
+// A second directory message of a locate sets the entry alone.
+#[test]
 fn keeps_states_and_orders(rt: HostRuntime) -> Result<(), Fail> {
-    check_states::<ListBook>(&rt, rt.alloc(), rt.alloc())
+    let market: Market<ListBook> = with_states(rt.alloc())?;
+    assert_eq!(rt; market.phase(), Some(b'O'));
+    assert_eq!(rt; market.book().len(), 1);
+    check_states(&rt, market.security(1).ok_or("a security")?);
+    check_locates(&rt, rt.alloc(), &market, &[1, 2])
 }
 
 // A market of one security with halts and positions, whose directory message came twice.
@@ -203,17 +219,23 @@ fn positions_of<A: Allocator>(
     security.positions().again().collect(alloc)
 }
 
-// An action that ends a halt stays, and a second directory message of a locate changes neither.
-fn check_halts_and_positions<B: OrderBook>(
+fn check_halts<A: Allocator>(
     rt: &impl Abort,
     alloc: Global,
-    memory: B::Alloc,
+    security: &Security<A>,
 ) -> Result<(), Fail> {
-    let market: Market<B> = with_halts_and_positions(memory)?;
-    let security = market.security(1).ok_or("a security")?;
-    assert_eq!(rt; (security.halts_len(), security.positions_len()), (2, 2));
+    assert_eq!(rt; security.halts_len(), 2);
     let halts = halts_of(alloc, security)?;
     assert_eq!(rt; halts.as_slice(), [(b'Q', b'H'), (b'X', b'T')].as_slice());
+    Ok(())
+}
+
+fn check_positions<A: Allocator>(
+    rt: &impl Abort,
+    alloc: Global,
+    security: &Security<A>,
+) -> Result<(), Fail> {
+    assert_eq!(rt; security.positions_len(), 2);
     let first = Alpha::from_text("ABCD")?;
     let last = Alpha::from_text("ZZZZ")?;
     let positions = positions_of(alloc, security)?;
@@ -224,9 +246,13 @@ fn check_halts_and_positions<B: OrderBook>(
     Ok(())
 }
 
+// An action that ends a halt stays, and a second directory message of a locate changes neither.
 #[test]
 fn keeps_halts_and_positions(rt: HostRuntime) -> Result<(), Fail> {
-    check_halts_and_positions::<ListBook>(&rt, rt.alloc(), rt.alloc())
+    let market: Market<ListBook> = with_halts_and_positions(rt.alloc())?;
+    let security = market.security(1).ok_or("a security")?;
+    check_halts(&rt, rt.alloc(), security)?;
+    check_positions(&rt, rt.alloc(), security)
 }
 
 // AAPL at locate 1 with a bid for 100 shares of reference 1, and MSFT at locate 2.
@@ -346,24 +372,30 @@ fn want_of_memory_has_words(rt: HostRuntime) -> Result<(), Fail> {
     Ok(())
 }
 
-// An order keeps its price whatever it is executed at, and is gone with its last share.
-fn check_shares<B: OrderBook>(rt: &impl Abort, memory: B::Alloc) -> Result<(), Fail> {
-    let mut market: Market<B> = begun(memory)?;
-    apply(&mut market, executed(1, 1, 0))?;
-    apply(&mut market, cancel(1, 1, 40))?;
+// An order keeps its price whatever it is executed at.
+fn take_some<B: OrderBook>(rt: &impl Abort, market: &mut Market<B>) -> Result<(), Fail> {
+    apply(market, executed(1, 1, 0))?;
+    apply(market, cancel(1, 1, 40))?;
     let refused = market.apply(&executed_with_price(1, 1, 61, 1500100)?);
     assert_eq!(rt; refused, Err(Refusal::TooManyShares { remain: 60 }));
-    apply(&mut market, executed_with_price(1, 1, 20, 1500100))?;
+    apply(market, executed_with_price(1, 1, 20, 1500100))?;
     assert_eq!(rt; market.book().level_total(1, Side::Buy, 1500000), (40, 1));
-    apply(&mut market, executed(1, 1, 40))?;
+    Ok(())
+}
+
+// An order is gone with its last share.
+fn take_the_rest<B: OrderBook>(rt: &impl Abort, market: &mut Market<B>) -> Result<(), Fail> {
+    apply(market, executed(1, 1, 40))?;
     assert_eq!(rt; market.apply(&delete(1, 1)?), Err(Refusal::UnknownRef));
-    apply(&mut market, add(1, 1, Side::Sell, 5, "AAPL", 1500000))?;
-    apply(&mut market, delete(1, 1))?;
+    apply(market, add(1, 1, Side::Sell, 5, "AAPL", 1500000))?;
+    apply(market, delete(1, 1))?;
     assert_eq!(rt; market.book().len(), 0);
     Ok(())
 }
 
 #[test]
 fn takes_shares(rt: HostRuntime) -> Result<(), Fail> {
-    check_shares::<ListBook>(&rt, rt.alloc())
+    let mut market: Market<ListBook> = begun(rt.alloc())?;
+    take_some(&rt, &mut market)?;
+    take_the_rest(&rt, &mut market)
 }

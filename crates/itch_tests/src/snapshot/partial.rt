@@ -1,4 +1,7 @@
 //! Snapshots cut down to sets of locates, written and read.
+ghost use Rattle.std.specs.Prelude.{◌<◌, ◌^◌, length};
+ghost use Rattle.itch_snapshot.specs.Snapshot.{snap};
+
 use super::{AAPL, ADD_1, END_3, END_4, END_6, EVENT, MSFT, MSFT_AT_1, REPLACE_1, blocks, market};
 use itch_book::{ListBook, OrderBook};
 use itch_codec::Seq;
@@ -32,19 +35,19 @@ fn count<B: OrderBook>(market: &Market<B>, set: &LocateSet<B::Alloc>) -> usize {
     count
 }
 
-// Writes the snapshot of a small market cut down to a set, closed with the number 6.
+// Writes the snapshot of a market cut down to a set, closed with the number 6.
 fn write<B: OrderBook>(
-    rt: &impl Abort,
     market: &Market<B>,
     set: &LocateSet<B::Alloc>,
     writer: &mut FuseWriter,
-) -> Result<u64, SnapFault> {
-    let next = Seq::new(6).expect(rt, "a sequence number");
-    assert!(rt; snapshot_len(market) < 9);
-    write_partial(market, set, next, writer)
+) -> Result<u64, Fail>
+    requires { length (snap market.now) < 10 ^ 19 }
+{
+    let next = Seq::new(6).ok_or("a sequence number")?;
+    Ok(write_partial(market, set, next, writer)?)
 }
 
-// The snapshot of a market cut down to a set has these payloads.
+// The snapshot of a small market cut down to a set has these payloads.
 fn check_partial<B: OrderBook>(
     rt: &impl Abort,
     alloc: Global,
@@ -52,9 +55,10 @@ fn check_partial<B: OrderBook>(
     set: &LocateSet<B::Alloc>,
     want: &[&[u8]],
 ) -> Result<(), Fail> {
+    assert!(rt; snapshot_len(market) < 9);
     assert_eq!(rt; count(market, set).saturating_add(1), want.len());
     let mut writer = FuseWriter::new(alloc, 1, None);
-    assert_eq!(rt; write(rt, market, set, &mut writer)?, want.len() as u64);
+    assert_eq!(rt; write(market, set, &mut writer)?, want.len() as u64);
     assert_eq!(rt; writer.written(), blocks(alloc, want)?.written());
     Ok(())
 }
