@@ -57,7 +57,7 @@ fn agree(rt: &impl Abort, bytes: &[u8], message: Message<'_>) {
 }
 
 #[test]
-fn stocks(rt: HostRuntime) {
+fn events_and_directories(rt: HostRuntime) {
     agree(
         &rt,
         SYSTEM_EVENT,
@@ -90,6 +90,10 @@ fn stocks(rt: HostRuntime) {
             entry,
         }),
     );
+}
+
+#[test]
+fn states_of_stocks(rt: HostRuntime) {
     agree(
         &rt,
         TRADING_ACTION,

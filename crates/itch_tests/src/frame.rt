@@ -15,8 +15,8 @@ use std::test::Fail;
 // Five blocks, one of them empty.
 const STREAM: &[u8] = b"\x00\x01S\x00\x02RR\x00\x00\x00\x05AAAAA\x00\x01D";
 
-// What the helpers say of a call is no more than they check, so that a proof of a test carries nothing else.
-// The splitter takes so many of these bytes, and then holds so many of its block, which is ready or not.
+// The splitter takes so many of these bytes, and then holds so many of its block, which is ready or not. This helper and those
+// below have no contract, so that a proof of a test need not carry what each call leaves.
 fn takes<A: Allocator>(
     rt: &impl Abort,
     splitter: &mut Splitter<A>,

@@ -3,6 +3,9 @@
 //! A module has the tests of the crate of its name: `frame` those of `itch_frame`, and so on. They see what no clause says:
 //! vectors of the formats byte by byte, calls that succeed with ample memory, failures of devices, and each allocation that is
 //! refused.
+//!
+//! The helpers take any book and most have no contract: what owns a market or a joiner of a concrete book then has few exits, and
+//! the proof of a test does not carry what each call leaves.
 #![tactic(auto)]
 
 #[cfg(test)]

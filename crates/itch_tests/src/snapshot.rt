@@ -1,4 +1,4 @@
-//! The rows, each failure in turn, and the calls that take no memory.
+//! Worked days and snapshots: what is written of each, what is read, and how each is refused.
 use itch_book::{ListBook, OrderBook};
 use itch_codec::{CodecFault, Seq};
 use itch_frame::testing::{FuseWriter, PieceReader};

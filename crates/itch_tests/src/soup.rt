@@ -241,24 +241,23 @@ fn passwords_are_not_shown(rt: HostRuntime) -> Result<(), Fail> {
     Ok(())
 }
 
-#[test]
-fn client_sessions(rt: HostRuntime) -> Result<(), Fail> {
-    let data = || Packet::SequencedData(Payload::new(b"m"));
-    let heard = |number| ClientAct::Data {
+fn data<'a>() -> Packet<'a> {
+    Packet::SequencedData(Payload::new(b"m"))
+}
+
+fn heard<'a>(number: u64) -> ClientAct<'a> {
+    ClientAct::Data {
         number,
         payload: Payload::new(b"m"),
-    };
-    let closed = || ClientAct::Fault(SoupFault::Closed);
+    }
+}
 
-    client_answers(
-        &rt,
-        rt.alloc(),
-        &mut client(&rt),
-        &[
-            (data(), ClientAct::Fault(SoupFault::Early(83))),
-            (data(), closed()),
-        ],
-    )?;
+fn client_fault<'a>(fault: SoupFault) -> ClientAct<'a> {
+    ClientAct::Fault(fault)
+}
+
+#[test]
+fn a_client_counts_data(rt: HostRuntime) -> Result<(), Fail> {
     client_answers(
         &rt,
         rt.alloc(),
@@ -269,7 +268,33 @@ fn client_sessions(rt: HostRuntime) -> Result<(), Fail> {
             (data(), heard(4)),
             (Packet::ServerHeartbeat, ClientAct::Nothing),
             (Packet::EndOfSession, ClientAct::Ended),
-            (Packet::EndOfSession, closed()),
+            (Packet::EndOfSession, client_fault(SoupFault::Closed)),
+        ],
+    )?;
+    let greatest = 10_000_000_000_000_000_000;
+    let next = seq(&rt, greatest);
+    client_answers(
+        &rt,
+        rt.alloc(),
+        &mut client(&rt),
+        &[
+            (accepted(&rt, greatest), ClientAct::Accepted { next }),
+            (data(), client_fault(SoupFault::TooManyMessages)),
+        ],
+    )?;
+    Ok(())
+}
+
+#[test]
+fn a_client_is_let_in_once(rt: HostRuntime) -> Result<(), Fail> {
+    let rejected = || Packet::LoginRejected { code: b'A' };
+    client_answers(
+        &rt,
+        rt.alloc(),
+        &mut client(&rt),
+        &[
+            (data(), client_fault(SoupFault::Early(83))),
+            (data(), client_fault(SoupFault::Closed)),
         ],
     )?;
     client_answers(
@@ -278,25 +303,7 @@ fn client_sessions(rt: HostRuntime) -> Result<(), Fail> {
         &mut client(&rt),
         &[
             (accepted(&rt, 3), ClientAct::Accepted { next: seq(&rt, 3) }),
-            (
-                Packet::LoginRejected { code: b'A' },
-                ClientAct::Fault(SoupFault::SecondLogin),
-            ),
-        ],
-    )?;
-    let greatest = 10_000_000_000_000_000_000;
-    client_answers(
-        &rt,
-        rt.alloc(),
-        &mut client(&rt),
-        &[
-            (
-                accepted(&rt, greatest),
-                ClientAct::Accepted {
-                    next: seq(&rt, greatest),
-                },
-            ),
-            (data(), ClientAct::Fault(SoupFault::TooManyMessages)),
+            (rejected(), client_fault(SoupFault::SecondLogin)),
         ],
     )?;
     client_answers(
@@ -304,11 +311,8 @@ fn client_sessions(rt: HostRuntime) -> Result<(), Fail> {
         rt.alloc(),
         &mut client(&rt),
         &[
-            (
-                Packet::LoginRejected { code: b'A' },
-                ClientAct::Rejected(b'A'),
-            ),
-            (accepted(&rt, 3), closed()),
+            (rejected(), ClientAct::Rejected(b'A')),
+            (accepted(&rt, 3), client_fault(SoupFault::Closed)),
         ],
     )?;
     Ok(())
