@@ -4,11 +4,33 @@ use super::blocks::*;
 use super::files::file;
 use itch_commands::join::join;
 use itch_frame::testing::{FuseWriter, PieceReader};
+use itch_market::LocateSet;
 use std::alloc::Global;
 use std::process::Abort;
 use std::test::Fail;
 
-// The feed is joined to the snapshot so.
+// The feed is joined to the snapshot so, for these locates.
+fn joined_for(
+    rt: &impl Abort,
+    alloc: Global,
+    snapshot: &[u8],
+    feed: &[u8],
+    only: Option<LocateSet<Global>>,
+    wanted: &[u8],
+) {
+    let mut out = FuseWriter::new(alloc, 7, None);
+    let answer = join(
+        alloc,
+        PieceReader::new(snapshot, 3, None),
+        PieceReader::new(feed, 5, None),
+        only,
+        &mut out,
+    );
+    assert!(rt; matches!(answer, Ok(true)));
+    assert_eq!(rt; out.written(), wanted);
+}
+
+// The feed is joined to the snapshot so, and also for the set of all locates.
 fn joined(
     rt: &impl Abort,
     alloc: Global,
@@ -16,16 +38,9 @@ fn joined(
     feed: &[u8],
     wanted: &[u8],
 ) -> Result<(), Fail> {
-    let mut out = FuseWriter::new(alloc, 7, None);
-    let answer = join(
-        alloc,
-        PieceReader::new(snapshot, 3, None),
-        PieceReader::new(feed, 5, None),
-        None,
-        &mut out,
-    );
-    assert!(rt; matches!(answer, Ok(true)));
-    assert_eq!(rt; out.written(), wanted);
+    joined_for(rt, alloc, snapshot, feed, None, wanted);
+    let all = LocateSet::all(alloc);
+    joined_for(rt, alloc, snapshot, feed, Some(all), wanted);
     Ok(())
 }
 

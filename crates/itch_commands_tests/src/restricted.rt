@@ -2,10 +2,12 @@
 
 use super::blocks::*;
 use super::files::file;
+use super::snaps::ROWS;
 use itch_commands::join::join;
 use itch_commands::read_locates;
 use itch_commands::snap::snap;
 use itch_frame::testing::{FuseWriter, PieceReader};
+use itch_market::LocateSet;
 use refusing::Refusing;
 use std::alloc::Global;
 use std::process::Abort;
@@ -42,6 +44,21 @@ fn snap_is_cut_down_to_a_set(rt: HostRuntime) -> Result<(), Fail> {
     ];
     for (list, wanted) in cases {
         cut(&rt, rt.alloc(), &day, list, wanted)?;
+    }
+    Ok(())
+}
+
+#[test]
+fn snap_of_all_locates_is_the_whole(rt: HostRuntime) -> Result<(), Fail> {
+    let alloc = rt.alloc();
+    let all = LocateSet::all(alloc);
+    for (day, wanted) in ROWS {
+        let day = file(alloc, day)?;
+        let mut out = FuseWriter::new(alloc, 4096, None);
+        let reader = PieceReader::new(day.as_slice(), 7, None);
+        let answer = snap(alloc, reader, None, Some(&all), &mut out);
+        assert!(rt; matches!(answer, Ok(true)));
+        assert_eq!(rt; out.written(), file(alloc, wanted)?.as_slice());
     }
     Ok(())
 }
