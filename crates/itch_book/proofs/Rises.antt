@@ -84,10 +84,10 @@ Rises-same R key one_way (x ∷ xs) (y ∷ ys) h k same =
     (λ f.
     let f' : (key x == key y) ≡ false = grind (arith, nat_tests) in
     let e' : (key y == key y) ≡ true = grind (arith, nat_tests) in
-    let behind_y : x ∷ filter (λ z. key z == key x) xs ≡ filter (λ z. key z == key x) ys = simp (e, f) at (same (key x)) in
-    let behind_x : filter (λ z. key z == key y) xs ≡ y ∷ filter (λ z. key z == key y) ys = simp (e', f') at (same (key y)) in
-    let yx = subst (AllByRecursion (R y)) (sym behind_y) (All-filter_rec (R y) (λ z. key z == key x) ys k.0) in
-    let xy = subst (AllByRecursion (R x)) behind_x (All-filter_rec (R x) (λ z. key z == key y) xs h.0) in
+    let following_y : x ∷ filter (λ z. key z == key x) xs ≡ filter (λ z. key z == key x) ys = simp (e, f) at (same (key x)) in
+    let following_x : filter (λ z. key z == key y) xs ≡ y ∷ filter (λ z. key z == key y) ys = simp (e', f') at (same (key y)) in
+    let yx = subst (AllByRecursion (R y)) (sym following_y) (All-filter_rec (R y) (λ z. key z == key x) ys k.0) in
+    let xy = subst (AllByRecursion (R x)) following_x (All-filter_rec (R x) (λ z. key z == key y) xs h.0) in
     absurd (one_way x y xy.0 yx.0))
 
 -- a stable sort: what is after another is so by the comparison, or ties and came later

@@ -12,7 +12,7 @@ pub mod Taking
 pub mod Stopping
 pub mod Places
 pub mod Rules
-pub mod Told
+pub mod Decided
 pub mod Searches
 pub mod OneStop
 pub mod Runs

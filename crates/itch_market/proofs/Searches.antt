@@ -38,7 +38,7 @@ module _ {A : Type 0} (f : ℕ → Option A) where
   searched (suc n) = searched_on n (f n) refl (searched n)
 
   pub first_is_there : (n : ℕ) (x : A) → f n ≡ Some x → (k : ℕ) × (y : A) × IsFirst f k y
-  first_is_there n x told = elim (searched n) [
-    | inl none ↦ (n, x, record { here = told; before = none })
+  first_is_there n x decided = elim (searched n) [
+    | inl none ↦ (n, x, record { here = decided; before = none })
     | inr found ↦ found
   ]

@@ -1,4 +1,4 @@
--- The bytes of a whole snapshot, with End of Snapshot, tell the market and the number.
+-- The bytes of a whole snapshot, with End of Snapshot, have one market and one number.
 use Rattle.std.proofs.Common.{◌≡◌, ℕ, List, [], ◌∷◌, ◌++◌, map, sym, ap, ◌∙◌}
 use Rattle.std.specs.List.{AllByRecursion}
 use Rattle.std.proofs.lemmas.List.{map-append, same_from_push}

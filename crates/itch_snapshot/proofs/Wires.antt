@@ -57,4 +57,4 @@ pub canon-laid : (m : Content) → IsGood m → canon (laid m) ≡ canon m
 canon-laid m good = canon_same (laid m) m (laid_is_same m good)
 
 pub runs_same : (ms ns : List Message) → AreMessages ms → AreMessages ns → Follows ms → Follows ns → canon (run ms) ≡ canon (run ns) → Same (run ms) (run ns)
-runs_same ms ns fit fine follows behind e = same_canon (run ms) (run ns) (run_good ms fit follows) (run_good ns fine behind) e
+runs_same ms ns fit fine follows following e = same_canon (run ms) (run ns) (run_good ms fit follows) (run_good ns fine following) e

@@ -102,10 +102,10 @@ abbrev pub begun : Load
 begun = record { taken = 0; market = empty; stage = Taking }
 
 -- a message that was taken is counted
-abbrev pub taken_behind : ℕ → Result (Option ℕ) SnapFault → ℕ
-taken_behind taken (Ok None) = taken + 1
-taken_behind taken (Ok (Some next)) = taken
-taken_behind taken (Err fault) = taken
+abbrev pub taken_after : ℕ → Result (Option ℕ) SnapFault → ℕ
+taken_after taken (Ok None) = taken + 1
+taken_after taken (Ok (Some next)) = taken
+taken_after taken (Err fault) = taken
 
 -- a fault stays, but for want of memory
 abbrev pub broken_by : SnapFault → Stage
@@ -113,15 +113,15 @@ broken_by (Rule place OutOfMemory) = Taking
 broken_by fault = Broken fault
 
 -- how far it is after a message
-abbrev pub stage_behind : Result (Option ℕ) SnapFault → Stage
-stage_behind (Ok None) = Taking
-stage_behind (Ok (Some next)) = Closed next
-stage_behind (Err fault) = broken_by fault
+abbrev pub stage_after : Result (Option ℕ) SnapFault → Stage
+stage_after (Ok None) = Taking
+stage_after (Ok (Some next)) = Closed next
+stage_after (Err fault) = broken_by fault
 
 -- the next message at each stage
 abbrev pub TakesAt : Stage → Load → List ℕ → Result (Option ℕ) SnapFault → Load → Type 0
 TakesAt Taking old payload answer new =
-    TakesNext old.taken old.market payload answer new.market × (new.taken ≡ taken_behind old.taken answer) × (new.stage ≡ stage_behind answer)
+    TakesNext old.taken old.market payload answer new.market × (new.taken ≡ taken_after old.taken answer) × (new.stage ≡ stage_after answer)
 TakesAt (Broken fault) old payload answer new = (answer ≡ Err fault) × (new ≡ old)
 TakesAt (Closed next) old payload answer new = (answer ≡ Err AfterEnd) × (new ≡ old)
 
@@ -132,7 +132,7 @@ Loads old payload answer new = TakesAt old.stage old payload answer new
 -- the same at each stage, where messages of some locates are skipped
 abbrev pub TakesAtOnly : (ℕ → Bool) → Stage → Load → List ℕ → Result (Option ℕ) SnapFault → Load → Type 0
 TakesAtOnly wanted Taking old payload answer new =
-    TakesNextOnly wanted old.taken old.market payload answer new.market × (new.taken ≡ taken_behind old.taken answer) × (new.stage ≡ stage_behind answer)
+    TakesNextOnly wanted old.taken old.market payload answer new.market × (new.taken ≡ taken_after old.taken answer) × (new.stage ≡ stage_after answer)
 TakesAtOnly wanted (Broken fault) old payload answer new = (answer ≡ Err fault) × (new ≡ old)
 TakesAtOnly wanted (Closed next) old payload answer new = (answer ≡ Err AfterEnd) × (new ≡ old)
 

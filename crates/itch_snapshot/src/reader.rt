@@ -39,7 +39,7 @@ impl<B: OrderBook> Model for SnapshotReader<B> {
 impl<B: OrderBook> SnapshotReader<B> {
     ghost use Rattle.itch_market.specs.Wanted.{has};
     ghost use Rattle.itch_snapshot.specs.declared.stage.Stage.TheVariants.{Taking};
-    ghost use Rattle.itch_snapshot.specs.Loads.{begun, taken_behind, stage_behind, Loads, LoadsOnly, Finishes};
+    ghost use Rattle.itch_snapshot.specs.Loads.{begun, taken_after, stage_after, Loads, LoadsOnly, Finishes};
 
     /// Nothing is taken yet, neither messages nor memory.
     pub fn new(alloc: B::Alloc) -> Self
@@ -85,7 +85,7 @@ impl<B: OrderBook> SnapshotReader<B> {
     fn settle(&mut self, taken: Result<Option<Seq>, SnapFault>) -> Result<Option<Seq>, SnapFault>
         requires room { IfOk taken (λ next. IfNone next (self.old.taken < 10 ^ 19 - 1)) }
         requires taking { self.old.stage ≡ Taking }
-        ensures left { self.new ≡ record self.old { taken = taken_behind self.old.taken taken; stage = stage_behind taken } }
+        ensures left { self.new ≡ record self.old { taken = taken_after self.old.taken taken; stage = stage_after taken } }
         ensures same { result ≡ taken }
     {
         match taken {

@@ -206,7 +206,7 @@ fn check_parting<A: OrderBook, B: OrderBook>(
 }
 
 #[test]
-fn tells_where_snapshots_part(rt: HostRuntime) -> Result<(), Fail> {
+fn says_where_snapshots_part(rt: HostRuntime) -> Result<(), Fail> {
     let pairs: [(&[&[u8]], &[&[u8]], Option<u64>); 5] = [
         (&[AAPL, ADD_1, ADD_2], &[AAPL, ADD_2, ADD_1], Some(2)),
         (

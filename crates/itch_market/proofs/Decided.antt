@@ -16,7 +16,7 @@ use Rattle.itch_market.specs.Reasons.{reason}
 use Rattle.itch_market.specs.Effects.{takes_memory}
 use Rattle.itch_market.specs.Runs.{after}
 use Rattle.itch_market.specs.Stops.{cause_by, cause, Stops}
-use Rattle.itch_market.specs.Replays.{IsRefusal, Refuses, TakesOff, Halts, Takes, Replays, IsTold}
+use Rattle.itch_market.specs.Replays.{IsRefusal, Refuses, TakesOff, Halts, Takes, Replays, IsDecided}
 use Rattle.itch_market.proofs.Stopping.{none_ends, one_stops, full_stops, ends_stop, open_stops}
 
 -- a payload with a fault is not taken for that
@@ -24,10 +24,10 @@ faulty : (m : Content) (p : List ℕ) (f : CodecFault) → fault p ≡ Some f �
 faulty m p f is = ap (λ o. cause_by o m p) is
 
 -- a message that is refused, and not for want of memory, is refused for its reason
-refused : (m : Content) (p : List ℕ) (why : Refusal) → IsTold (Rule why) → Refuses m p why → cause m p ≡ Some (Rule why)
-refused m p why told (clean, refusal) = ap (λ o. cause_by o m p) clean ∙ ap (option_map Rule) (by_reason (reason m (message_of p)) refusal) where
+refused : (m : Content) (p : List ℕ) (why : Refusal) → IsDecided (Rule why) → Refuses m p why → cause m p ≡ Some (Rule why)
+refused m p why decided (clean, refusal) = ap (λ o. cause_by o m p) clean ∙ ap (option_map Rule) (by_reason (reason m (message_of p)) refusal) where
   by_reason : (r : Option Refusal) → IsRefusal r (takes_memory m (message_of p)) why → r ≡ Some why
-  by_reason None (wanting, takes) = absurd (subst (λ w. IsTold (Rule w)) wanting told)
+  by_reason None (wanting, takes) = absurd (subst (λ w. IsDecided (Rule w)) wanting decided)
   by_reason (Some r) same = ap Some (sym same)
 
 not_full : (count : ℕ) → count ≤ 10 ^ 19 - 1 → (count == 10 ^ 19 - 1) ≡ false → count < 10 ^ 19 - 1
@@ -46,32 +46,32 @@ module _ (m n : Content) (b c : List ℕ) (ps : List (List ℕ)) (takes : Takes 
   one_more None p off = absurd off.1
   one_more (Some d) p off = (d, takes.bytes ∙ ap (λ t. blocks ps ++ t) off.1)
 
-  told_by : (new : Option (List ℕ)) (stop : Stop) → Halts (length ps == 10 ^ 19 - 1) (after m (map message_of ps)) (Some c) new stop → IsTold stop → Stops m b (length ps) stop
-  told_by new End (inl at_end) told = ended (inl at_end)
-  told_by None End (inr empty) told = absurd empty
-  told_by (Some d) End (inr empty) told = ended (inr (d, empty))
-  told_by new (Frame (Truncated held)) (part, count) told = subst (λ h. Stops m b (length ps) (Frame (Truncated h))) (sym count) (cut part)
-  told_by new (Frame (Read error)) halts told = absurd told
-  told_by new (Frame (Write sent error)) halts told = absurd halts
-  told_by new (Frame TooLong) halts told = absurd halts
-  told_by new (Codec f) (p, off, room, is) told =
+  decided_by : (new : Option (List ℕ)) (stop : Stop) → Halts (length ps == 10 ^ 19 - 1) (after m (map message_of ps)) (Some c) new stop → IsDecided stop → Stops m b (length ps) stop
+  decided_by new End (inl at_end) decided = ended (inl at_end)
+  decided_by None End (inr empty) decided = absurd empty
+  decided_by (Some d) End (inr empty) decided = ended (inr (d, empty))
+  decided_by new (Frame (Truncated held)) (part, count) decided = subst (λ h. Stops m b (length ps) (Frame (Truncated h))) (sym count) (cut part)
+  decided_by new (Frame (Read error)) halts decided = absurd decided
+  decided_by new (Frame (Write sent error)) halts decided = absurd halts
+  decided_by new (Frame TooLong) halts decided = absurd halts
+  decided_by new (Codec f) (p, off, room, is) decided =
       let more = one_more new p off in
       one_stops m b more.0 ps p (Codec f) more.1 takes.full off.0 (not_full (length ps) few room) takes.none (faulty (after m (map message_of ps)) p f is)
-  told_by new (Rule why) (p, off, room, refuses) told =
+  decided_by new (Rule why) (p, off, room, refuses) decided =
       let more = one_more new p off in
-      one_stops m b more.0 ps p (Rule why) more.1 takes.full off.0 (not_full (length ps) few room) takes.none (refused (after m (map message_of ps)) p why told refuses)
-  told_by new TooManyMessages (p, off, full) told =
+      one_stops m b more.0 ps p (Rule why) more.1 takes.full off.0 (not_full (length ps) few room) takes.none (refused (after m (map message_of ps)) p why decided refuses)
+  decided_by new TooManyMessages (p, off, full) decided =
       let more = one_more new p off in
       full_stops m b more.0 ps p more.1 takes.full off.0 (eqb-true (length ps) (10 ^ 19 - 1) full) takes.none
 
 -- the stop of a replay is the one that the file has
-pub replays_stop : (m n : Content) (old new : Option (List ℕ)) (count : ℕ) (stop : Stop) → Replays m old new count stop n → IfSome old (λ b. IsTold stop → Stops m b count stop)
+pub replays_stop : (m n : Content) (old new : Option (List ℕ)) (count : ℕ) (stop : Stop) → Replays m old new count stop n → IfSome old (λ b. IsDecided stop → Stops m b count stop)
 replays_stop m n None new count stop replays = tt
 replays_stop m n (Some b) new count stop (ps, None, takes, counted, few, halts) = absurd takes.bytes
-replays_stop m n (Some b) new count stop (ps, Some c, takes, counted, few, halts) = λ told.
+replays_stop m n (Some b) new count stop (ps, Some c, takes, counted, few, halts) = λ decided.
     subst (λ k. Stops m b k stop) counted
-    (told_by m n b c ps takes (subst (λ k. k ≤ 10 ^ 19 - 1) (sym counted) few) new stop
-    (subst (λ k. Halts (k == 10 ^ 19 - 1) (after m (map message_of ps)) (Some c) new stop) (sym counted) halts) told)
+    (decided_by m n b c ps takes (subst (λ k. k ≤ 10 ^ 19 - 1) (sym counted) few) new stop
+    (subst (λ k. Halts (k == 10 ^ 19 - 1) (after m (map message_of ps)) (Some c) new stop) (sym counted) halts) decided)
 
 -- the market left is that of the file's first messages
 pub replays_content : (m n : Content) (old new : Option (List ℕ)) (count : ℕ) (stop : Stop) → Replays m old new count stop n
