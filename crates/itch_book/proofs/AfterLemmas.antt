@@ -2,10 +2,10 @@
 use Rattle.std.proofs.Common.{◌≡◌, ℕ, ◌==◌, ◌&&◌, Bool, true, false, eqb, not, List, [], ◌∷◌, ◌++◌, filter, find, Option, Some, None, refl, sym, ap, ◌∙◌, subst}
 use Rattle.std.specs.List.{AllByRecursion}
 use Rattle.std.proofs.lemmas.Bool.{false≢true, and_parts}
-use Rattle.itch_codec.specs.declared.side.Side.{Side}
-use Rattle.itch_codec.specs.declared.side.Side.TheVariants.{Buy, Sell}
+use Rattle.itch_codec.specs.declared.orders.Side.{Side}
+use Rattle.itch_codec.specs.declared.orders.Side.TheVariants.{Buy, Sell}
 use Rattle.itch_book.specs.declared.order.Order.{Order}
-use Rattle.itch_book.specs.Stable.{IsInOrder}
+use Rattle.itch_book.specs.StableLists.{IsInOrder}
 use Rattle.itch_book.specs.Orders.{is_level, is_of, is_in, is_worse, is_next, same_side, first, stands_before, has_reference, get, following, next_in, after, IsBook}
 use Rattle.itch_book.specs.Queued.{Seen, found, shown}
 use Rattle.itch_book.specs.Indexed.{Place, orders_in, line_at, indexed, node_of, IsIndexed}

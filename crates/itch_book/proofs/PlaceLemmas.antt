@@ -9,7 +9,7 @@ use Rattle.std.proofs.lemmas.List.Folds.{find_at}
 use Rattle.std.proofs.lemmas.Grind.{common_steps}
 use Rattle.std.proofs.lemmas.Option.{slice_get_within, get_or_from_slice_get}
 use Rattle.itch_book.specs.declared.order.Order.{Order}
-use Rattle.itch_book.specs.Stable.{later_in, IsInOrder}
+use Rattle.itch_book.specs.StableLists.{later_in, IsInOrder}
 use Rattle.itch_book.specs.Orders.{IsBook, fits, lay, added, stands_before, has_reference, has_shares, less, get, without, taken, replaced_by, replaced, IsDistinct, IsLive, is_in, following, after, next_in}
 use Rattle.itch_book.proofs.Lists.{by_test, absent_in_filter}
 use Rattle.itch_book.proofs.Distinct.{own_reference, head_distinct, tail_distinct}

@@ -7,7 +7,7 @@ use Rattle.std.proofs.lemmas.Bool.Decides.{nat_tests}
 use Rattle.std.proofs.lemmas.List.Sorted.{IsPermutation-refl, IsPermutation-sym, IsPermutation-cons, IsPermutation-trans, IsPermutation-middle, sum_by-IsPermutation, All-permutation}
 use Rattle.std.proofs.lemmas.List.Sums.{length-filter}
 use Rattle.std.proofs.lemmas.List.Elements.{All-from_recursion, recursion_from_All}
-use Rattle.itch_book.specs.Stable.{earlier_in, in_order, IsInOrder}
+use Rattle.itch_book.specs.StableLists.{earlier_in, in_order, IsInOrder}
 use Rattle.itch_book.proofs.Lists.{by_test, All-weaker_rec, All-filter_rec, All-both_rec, passes_filter, filter_none}
 use Rattle.itch_book.proofs.StableLemmas.{All-earlier_in, All-in_order, IsInOrder-in_order}
 

@@ -3,7 +3,7 @@ use Rattle.std.proofs.Common.{◌≡◌, ◌≤◌, ◌+◌, Bool, true, false, 
 use Rattle.std.specs.List.{AllByRecursion}
 use Rattle.std.specs.Cmp.{IsStrictWeakOrder}
 use Rattle.std.proofs.lemmas.Bool.{cond_both, false≢true}
-use Rattle.itch_book.specs.Stable.{earlier_in, later_in, in_order, IsInOrder}
+use Rattle.itch_book.specs.StableLists.{earlier_in, later_in, in_order, IsInOrder}
 use Rattle.itch_book.proofs.Lists.{by_test, All-weaker_rec, All-filter_rec, passes_filter}
 
 -- the facts for which the comparison need not be an order

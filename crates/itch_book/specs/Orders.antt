@@ -3,9 +3,9 @@
 use Rattle.std.specs.Prelude.{◌≡◌, ℕ, ◌-◌, ◌≤◌, ◌<◌, ◌==◌, nat_lt, Bool, true, false, not, ◌&&◌, ◌||◌, if◌then◌else◌, List, [], ◌∷◌, ◌++◌, map, length, Option, Some, None, option_map, suc, zero}
 use Rattle.std.specs.List.{filter, find, sum_by, AllByRecursion}
 use Rattle.itch_book.specs.declared.order.Order.{Order}
-use Rattle.itch_codec.specs.declared.side.Side.{Side}
-use Rattle.itch_codec.specs.declared.side.Side.TheVariants.{Buy, Sell}
-use Rattle.itch_book.specs.Stable.{in_order, IsInOrder}
+use Rattle.itch_codec.specs.declared.orders.Side.{Side}
+use Rattle.itch_codec.specs.declared.orders.Side.TheVariants.{Buy, Sell}
+use Rattle.itch_book.specs.StableLists.{in_order, IsInOrder}
 
 -- a better price: a bid is better the higher it is, an ask the lower
 abbrev pub is_better : Side → ℕ → ℕ → Bool

@@ -2,15 +2,15 @@
 #![tactic(auto)]
 
 mod book;
+mod changes;
 mod index;
 mod indexed_book;
 pub mod laws;
 mod link;
 mod list_book;
-mod moves;
 mod order;
-mod places;
 mod prices;
+mod priority;
 mod queues;
 
 pub use book::OrderBook;

@@ -12,11 +12,10 @@ mod message;
 mod number;
 mod orders;
 mod showing;
-mod side;
+mod sizes;
 mod stocks;
 mod text;
 mod trades;
-mod types;
 mod undecoded;
 mod words;
 
@@ -29,10 +28,9 @@ pub use message::Message;
 pub use number::{Seq, number20, read_number20};
 pub use orders::{
     AddOrder, AttributedAddOrder, OrderCancel, OrderDelete, OrderExecuted, OrderExecutedWithPrice,
-    OrderReplace,
+    OrderReplace, Side,
 };
 pub use showing::{LineText, line, show};
-pub use side::Side;
 pub use stocks::{
     Directory, OperationalHalt, ParticipantPosition, RegSho, StockDirectory, SystemEvent,
     TradingAction,

@@ -16,7 +16,7 @@ use Rattle.itch_market.specs.Content.{Content}
 use Rattle.itch_market.specs.Effects.{takes_memory}
 use Rattle.itch_market.specs.Reasons.{reason}
 use Rattle.itch_market.specs.Stops.{cause_by, cause, cause_at, end_of, last_stop}
-use Rattle.itch_market.specs.Firsts.{IsFirst}
+use Rattle.itch_market.specs.FirstPlaces.{IsFirst}
 use Rattle.itch_market.specs.Replays.{NoCause, IsRefusal, Refuses, TakesOff, IsDecided}
 use Rattle.itch_market.proofs.Causes.{cause_after, cause_before}
 use Rattle.itch_market.proofs.Stopping.{chosen, passed_over, ends_stop, open_stops}

@@ -10,16 +10,16 @@ use Rattle.itch_frame.specs.Blocks.{block}
 use Rattle.itch_frame.specs.Reading.{Reading, bytes_left}
 use Rattle.itch_frame.specs.declared.tally.Failures.{Failures}
 use Rattle.itch_market.specs.Content.{Content, empty, laid}
-use Rattle.itch_market.specs.Goods.{IsGood}
+use Rattle.itch_market.specs.GoodMarkets.{IsGood}
 use Rattle.itch_market.specs.Runs.{AreMessages, run}
 use Rattle.itch_market.specs.Replays.{Takes}
 use Rattle.itch_market.proofs.Causes.{none_follows}
-use Rattle.itch_market.proofs.Goods.{run_good, laid_good}
+use Rattle.itch_market.proofs.GoodMarkets.{run_good, laid_good}
 use Rattle.itch_market.proofs.Taking.{Going, going_first}
-use Rattle.itch_snapshot.specs.Loads.{Load, begun}
+use Rattle.itch_snapshot.specs.TakenMessages.{Load, begun}
 use Rattle.itch_snapshot.specs.Reads.{ReadsNext, ReadsAll, ReadsEnd, CountsFault}
 use Rattle.itch_snapshot.specs.Snapshot.{snap}
-use Rattle.itch_snapshot.specs.declared.stage.Stage.TheVariants.{Taking}
+use Rattle.itch_snapshot.specs.declared.reader.Stage.TheVariants.{Taking}
 use Rattle.itch_snapshot.proofs.Reading.{message_read, fault_read, first_fault, later_fault, no_fault}
 use Rattle.itch_snapshot.proofs.Decided.{closes_here, reads_market, reads_fault}
 use Rattle.itch_snapshot.proofs.WrittenFiles.{written_alone}

@@ -2,10 +2,10 @@
 use Rattle.std.proofs.Common.{◌≡◌, ℕ, ◌<◌, ◌==◌, Bool, true, false, not, ◌&&◌, List, [], ◌∷◌, ◌++◌, length, Option, Some, None, option_map, refl, sym, ap, ◌∙◌, subst, append_assoc, append-nil, arith}
 use Rattle.std.specs.List.{filter, find, AllByRecursion}
 use Rattle.std.proofs.lemmas.Bool.Decides.{nat_tests}
-use Rattle.itch_codec.specs.declared.side.Side.{Side}
-use Rattle.itch_codec.specs.declared.side.Side.TheVariants.{Buy, Sell}
+use Rattle.itch_codec.specs.declared.orders.Side.{Side}
+use Rattle.itch_codec.specs.declared.orders.Side.TheVariants.{Buy, Sell}
 use Rattle.itch_book.specs.declared.order.Order.{Order}
-use Rattle.itch_book.specs.Stable.{IsInOrder}
+use Rattle.itch_book.specs.StableLists.{IsInOrder}
 use Rattle.itch_book.specs.Orders.{is_better, is_of, is_worse, is_at_price, next_price, level, queue, IsBook, IsQueue}
 use Rattle.itch_book.proofs.Lists.{by_test, All-weaker_rec, All-filter_rec, All-both_rec, All-right_rec, passes_filter, filter_all, filter_within}
 use Rattle.itch_book.proofs.BookLemmas.{queue-book}

@@ -11,7 +11,7 @@ use Rattle.itch_market.specs.Runs.{run}
 use Rattle.itch_snapshot.specs.declared.fault.SnapFault.{SnapFault}
 use Rattle.itch_snapshot.specs.declared.fault.SnapFault.TheVariants.{NoEnd, Frame, Codec, Rule, AfterEnd, TooManyMessages}
 use Rattle.itch_snapshot.specs.Files.{IsFaultOf}
-use Rattle.itch_snapshot.specs.Loads.{TakesNext}
+use Rattle.itch_snapshot.specs.TakenMessages.{TakesNext}
 use Rattle.itch_snapshot.specs.Reads.{EndsHere, ReadsNext, IsDecidedFault}
 use Rattle.itch_snapshot.proofs.Decided.{reads_fault}
 use Rattle.itch_commands.specs.AsRead.{as_read, TakesAs, ReadsNextAs, ReadsAs, IsSeen, IsFaultAs}

@@ -7,7 +7,7 @@ use Rattle.itch_frame.specs.Blocks.{blocks, IsFull, Day}
 use Rattle.itch_frame.specs.Reading.{Reading, bytes_left}
 use Rattle.itch_frame.specs.declared.tally.Failures.{Failures}
 use Rattle.itch_market.specs.Content.{Content}
-use Rattle.itch_market.specs.Firsts.{IsFirst}
+use Rattle.itch_market.specs.FirstPlaces.{IsFirst}
 use Rattle.itch_market.specs.Runs.{after}
 use Rattle.itch_market.specs.Stops.{cause_at, last_stop}
 use Rattle.itch_market.specs.Replays.{NoCause, Counts, IsDecided}

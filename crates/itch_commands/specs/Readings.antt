@@ -5,7 +5,7 @@ use Rattle.std.specs.Io.KnownBytes.{Consumes, IsAtEnd}
 use Rattle.itch_codec.specs.Messages.{message_of}
 use Rattle.itch_frame.specs.Blocks.{block, blocks, Ends, IsFull, Day}
 use Rattle.itch_frame.specs.Reading.{Reading, bytes_left}
-use Rattle.itch_frame.specs.declared.stage.Stage.TheVariants.{Going}
+use Rattle.itch_frame.specs.declared.reader.Stage.TheVariants.{Going}
 use Rattle.itch_frame.specs.declared.tally.Failures.{Failures}
 use Rattle.itch_market.specs.Content.{Content, empty, laid}
 use Rattle.itch_market.specs.Runs.{run}

@@ -16,13 +16,11 @@ mod fault;
 pub mod laws;
 mod reader;
 mod splitter;
-mod stage;
 pub mod tally;
 pub mod testing;
 mod writer;
 
 pub use fault::FrameFault;
-pub use reader::BlockReader;
+pub use reader::{BlockReader, Stage};
 pub use splitter::Splitter;
-pub use stage::Stage;
 pub use writer::{write_block, write_part};

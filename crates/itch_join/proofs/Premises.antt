@@ -14,19 +14,19 @@ use Rattle.itch_book.specs.Orders as book
 use Rattle.itch_book.proofs.Lists.{by_test, passes_filter, All-weaker_rec, length_filter_le}
 use Rattle.itch_book.proofs.OrderLemmas.{lay_fit}
 use Rattle.itch_market.specs.Content.{Content, empty, laid}
-use Rattle.itch_market.specs.Goods.{IsGood}
+use Rattle.itch_market.specs.GoodMarkets.{IsGood}
 use Rattle.itch_market.specs.Reasons.{reason}
 use Rattle.itch_market.specs.Effects.{effect}
 use Rattle.itch_market.specs.Runs as runs
 use Rattle.itch_market.specs.Runs.{AreMessages, FollowsFrom}
-use Rattle.itch_market.specs.Sames.{Same}
+use Rattle.itch_market.specs.SameMarkets.{Same}
 use Rattle.itch_market.specs.Partial.{skips, kept, only}
 use Rattle.itch_market.proofs.Partials.{kept_message, kept_leaves}
-use Rattle.itch_market.proofs.Goods.{effect_good, empty_good}
+use Rattle.itch_market.proofs.GoodMarkets.{effect_good, empty_good}
 use Rattle.itch_market.proofs.Laid.{reason-laid, effect-laid, laid_twice}
-use Rattle.itch_market.proofs.Sames.{laid_is_same}
+use Rattle.itch_market.proofs.SameMarkets.{laid_is_same}
 use Rattle.itch_snapshot.specs.Snapshot.{snap}
-use Rattle.itch_snapshot.specs.Loads.{closing_number, number_by, number_in, is_skipped}
+use Rattle.itch_snapshot.specs.TakenMessages.{closing_number, number_by, number_in, is_skipped}
 use Rattle.itch_snapshot.proofs.Cut.{snap_only}
 use Rattle.itch_snapshot.proofs.Loading.{snap_leads}
 use Rattle.itch_snapshot.proofs.Sizes.{short_snap}

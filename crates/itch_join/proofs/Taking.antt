@@ -13,11 +13,11 @@ use Rattle.itch_market.proofs.Rules.{reason_is_rule}
 use Rattle.itch_snapshot.proofs.FileLemmas.{unrefused_number}
 use Rattle.itch_snapshot.specs.declared.fault.SnapFault.{SnapFault}
 use Rattle.itch_snapshot.specs.declared.fault.SnapFault.TheVariants.{NoEnd, Frame, Codec, Rule, AfterEnd, TooManyMessages}
-use Rattle.itch_snapshot.specs.declared.stage.Stage.{Stage}
-use Rattle.itch_snapshot.specs.declared.stage.Stage.TheVariants as stage
+use Rattle.itch_snapshot.specs.declared.reader.Stage.{Stage}
+use Rattle.itch_snapshot.specs.declared.reader.Stage.TheVariants as stage
 use Rattle.itch_book.proofs.Lists.{by_test}
-use Rattle.itch_snapshot.specs.Loads.{Load, LoadsOnly, TakesAtOnly, TakesNextOnly, AppliesUnless, closing_number, number_by, number_in, is_full, is_skipped}
-use Rattle.itch_snapshot.specs.Loads as loads
+use Rattle.itch_snapshot.specs.TakenMessages.{Load, LoadsOnly, TakesAtOnly, TakesNextOnly, AppliesUnless, closing_number, number_by, number_in, is_full, is_skipped}
+use Rattle.itch_snapshot.specs.TakenMessages as loads
 use Rattle.itch_join.specs.declared.fault.Cause.{Cause}
 use Rattle.itch_join.specs.declared.fault.Cause.TheVariants as cause
 use Rattle.itch_join.specs.declared.fault.JoinFault.{JoinFault}

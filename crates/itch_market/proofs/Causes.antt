@@ -12,7 +12,7 @@ use Rattle.itch_market.specs.declared.stop.Stop.TheVariants.{End, Frame, Codec, 
 use Rattle.itch_market.specs.Content.{Content, laid}
 use Rattle.itch_market.specs.Reasons.{reason}
 use Rattle.itch_market.specs.Effects.{effect, takes_memory}
-use Rattle.itch_market.specs.Goods.{IsGood}
+use Rattle.itch_market.specs.GoodMarkets.{IsGood}
 use Rattle.itch_market.specs.Runs.{after, FollowsFrom}
 use Rattle.itch_market.specs.Stops.{cause_by, cause, cause_at}
 use Rattle.itch_market.specs.Replays.{NoCause, IsRefusal, Refuses, Halts}

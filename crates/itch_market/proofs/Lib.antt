@@ -3,7 +3,7 @@ pub mod Maps
 pub mod Slots
 pub mod Bytes
 pub mod Allowed
-pub mod Goods
+pub mod GoodMarkets
 pub mod Laid
 pub mod LawRules
 pub mod Causes
@@ -16,6 +16,6 @@ pub mod Decided
 pub mod Searches
 pub mod OneStop
 pub mod Runs
-pub mod Sames
+pub mod SameMarkets
 pub mod Standing
 pub mod Partials

@@ -4,7 +4,7 @@ use Rattle.itch_frame.specs.Blocks.{Day}
 use Rattle.itch_frame.proofs.Days.{day_one, day_some}
 use Rattle.itch_market.specs.declared.stop.Stop.{Stop}
 use Rattle.itch_market.specs.Content.{Content}
-use Rattle.itch_market.specs.Firsts.{IsFirst}
+use Rattle.itch_market.specs.FirstPlaces.{IsFirst}
 use Rattle.itch_market.specs.Stops.{stop_at, last_stop, Stops}
 use Rattle.itch_market.proofs.Searches.{first_place, first_value, first_is_there}
 use Rattle.itch_market.proofs.Stopping.{stop_after}

@@ -5,7 +5,7 @@ use Rattle.std.proofs.lemmas.Bool.Decides.{nat_tests}
 use Rattle.itch_market.specs.declared.stop.Stop.{Stop}
 use Rattle.itch_market.specs.declared.stop.Stop.TheVariants.{TooManyMessages}
 use Rattle.itch_market.specs.Content.{Content}
-use Rattle.itch_market.specs.Firsts.{IsFirst}
+use Rattle.itch_market.specs.FirstPlaces.{IsFirst}
 use Rattle.itch_market.specs.Stops.{cause_at, end_of, last_stop, stop_at}
 use Rattle.itch_market.proofs.Stopping.{chosen, passed_over, stop_after, stop_before}
 

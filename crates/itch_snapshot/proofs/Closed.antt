@@ -11,8 +11,8 @@ use Rattle.itch_frame.specs.Blocks.{blocks}
 use Rattle.itch_frame.proofs.BlockLemmas.{blocks-push}
 use Rattle.itch_book.proofs.Lists.{All-append_rec}
 use Rattle.itch_market.specs.Content.{Content}
-use Rattle.itch_market.specs.Goods.{IsGood}
-use Rattle.itch_market.specs.Sames.{Same}
+use Rattle.itch_market.specs.GoodMarkets.{IsGood}
+use Rattle.itch_market.specs.SameMarkets.{Same}
 use Rattle.itch_snapshot.specs.Bytes.{canon, closing}
 use Rattle.itch_snapshot.specs.Snapshot.{snap}
 use Rattle.itch_snapshot.proofs.OneSnapshot.{same_snap}

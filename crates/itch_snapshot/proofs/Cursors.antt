@@ -10,7 +10,7 @@ use Rattle.itch_book.specs.Orders as book
 use Rattle.itch_book.proofs.Lists.{All-filter_rec}
 use Rattle.itch_book.proofs.Walks.{first_left, next_left, first_live, after_live}
 use Rattle.itch_market.specs.Content.{Content, Listing}
-use Rattle.itch_snapshot.specs.declared.named.NamedOrder.{NamedOrder}
+use Rattle.itch_snapshot.specs.declared.named_order.NamedOrder.{NamedOrder}
 use Rattle.itch_snapshot.specs.Snapshot.{snap, header_at, event_part, states_part, order_part, locate_part}
 use Rattle.itch_snapshot.specs.Cursor.{in_set, listed, named, order_parts, part_at, found_part, left, IsCursor}
 use Rattle.itch_snapshot.proofs.Locates.{each_entry}

@@ -20,7 +20,7 @@ use Rattle.itch_market.proofs.Causes.{none_clean, none_follows}
 use Rattle.itch_market.proofs.Decided.{replays_stop}
 use Rattle.itch_snapshot.specs.declared.fault.SnapFault.{SnapFault}
 use Rattle.itch_snapshot.specs.declared.fault.SnapFault.TheVariants.{NoEnd, Frame, Codec, Rule, AfterEnd, TooManyMessages}
-use Rattle.itch_snapshot.specs.Loads.{number_by, closing_number}
+use Rattle.itch_snapshot.specs.TakenMessages.{number_by, closing_number}
 use Rattle.itch_snapshot.specs.Reads.{EndsHere, ReadsPayload, ReadsNext, ReadsEnd, ReadsSnapshot, IsDecidedFault}
 use Rattle.itch_snapshot.specs.Files.{AreSpelled, ClosesBefore, IsSnapshotFile, StopsAt, IsFaultOf, IsMarketOf}
 use Rattle.itch_snapshot.proofs.FileLemmas.{Spells-number, at_place, closes_once, file_no_fault}

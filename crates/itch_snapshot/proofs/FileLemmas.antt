@@ -26,7 +26,7 @@ use Rattle.itch_market.proofs.Stopping.{one_stops, full_stops}
 use Rattle.itch_market.proofs.OneStop.{stops_place, stops_reason}
 use Rattle.itch_snapshot.specs.declared.fault.SnapFault.{SnapFault}
 use Rattle.itch_snapshot.specs.declared.fault.SnapFault.TheVariants.{NoEnd, Frame, Codec, Rule, AfterEnd, TooManyMessages}
-use Rattle.itch_snapshot.specs.Loads.{number_in, number_by, closing_number}
+use Rattle.itch_snapshot.specs.TakenMessages.{number_in, number_by, closing_number}
 use Rattle.itch_snapshot.specs.Files.{AreSpelled, ClosesBefore, IsClosedBefore, StopsAt, IsFaultOf}
 
 -- the only message with a closing number

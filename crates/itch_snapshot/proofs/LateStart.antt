@@ -3,13 +3,13 @@ use Rattle.std.proofs.Common.{List, ◌++◌, sym, subst}
 use Rattle.itch_codec.specs.declared.message.Message.{Message}
 use Rattle.itch_book.proofs.Lists.{All-left_rec, All-right_rec}
 use Rattle.itch_market.specs.Content.{Content, empty}
-use Rattle.itch_market.specs.Goods.{IsGood}
+use Rattle.itch_market.specs.GoodMarkets.{IsGood}
 use Rattle.itch_codec.specs.Widths.{IsMessage}
 use Rattle.itch_market.specs.Runs.{AreMessages, run, after, Follows, FollowsFrom}
-use Rattle.itch_market.specs.Sames.{Same}
-use Rattle.itch_market.proofs.Goods.{run_good, laid_good}
+use Rattle.itch_market.specs.SameMarkets.{Same}
+use Rattle.itch_market.proofs.GoodMarkets.{run_good, laid_good}
 use Rattle.itch_market.proofs.Runs.{after-append, follows_first, follows_rest}
-use Rattle.itch_market.proofs.Sames.{same_back, follows_same, after_same}
+use Rattle.itch_market.proofs.SameMarkets.{same_back, follows_same, after_same}
 use Rattle.itch_snapshot.specs.Snapshot.{snap}
 use Rattle.itch_snapshot.proofs.OneSnapshot.{run-snap, replayed_same}
 

@@ -11,7 +11,7 @@ use Rattle.itch_book.specs.Orders as book
 use Rattle.itch_book.proofs.StableLemmas.{length-in_order}
 use Rattle.itch_market.specs.declared.security.Action.{Action}
 use Rattle.itch_market.specs.Content.{Content, Listing}
-use Rattle.itch_market.specs.Goods.{IsGood}
+use Rattle.itch_market.specs.GoodMarkets.{IsGood}
 use Rattle.itch_market.specs.Widths.{IsMaybe, IsSecurity}
 use Rattle.itch_snapshot.specs.Snapshot.{snap, event_part, action_part, sho_part, halt_part, position_part, states_part, order_part, locate_messages, locate_part}
 use Rattle.itch_snapshot.specs.Lengths.{count_of, security_len}

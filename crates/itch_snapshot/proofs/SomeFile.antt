@@ -24,7 +24,7 @@ use Rattle.itch_market.proofs.Places.{none_before, place}
 use Rattle.itch_market.proofs.Stopping.{ends_stop, open_stops}
 use Rattle.itch_snapshot.specs.declared.fault.SnapFault.{SnapFault}
 use Rattle.itch_snapshot.specs.declared.fault.SnapFault.TheVariants.{NoEnd, Frame, Codec, Rule, AfterEnd, TooManyMessages}
-use Rattle.itch_snapshot.specs.Loads.{closing_number}
+use Rattle.itch_snapshot.specs.TakenMessages.{closing_number}
 use Rattle.itch_snapshot.specs.Files.{ClosesBefore, IsSnapshotFile, StopsAt, IsFaultOf}
 use Rattle.itch_snapshot.proofs.FileLemmas.{Spells-number}
 use Rattle.itch_snapshot.proofs.Decided.{clean_spelled}

@@ -13,7 +13,7 @@ use Rattle.itch_market.specs.Runs.{after}
 use Rattle.itch_market.specs.Replays.{TakesOff, Takes, IsDecided}
 use Rattle.itch_snapshot.specs.declared.fault.SnapFault.{SnapFault}
 use Rattle.itch_snapshot.specs.declared.fault.SnapFault.TheVariants.{NoEnd, Frame, Codec, Rule, AfterEnd, TooManyMessages}
-use Rattle.itch_snapshot.specs.Loads.{closing_number, TakesNext}
+use Rattle.itch_snapshot.specs.TakenMessages.{closing_number, TakesNext}
 
 -- the input is at its end, or an empty block came off the front
 abbrev pub EndsHere : Option (List ℕ) → Option (List ℕ) → Type 0

@@ -14,16 +14,16 @@ use Rattle.itch_frame.proofs.BlockLemmas.{each-push}
 use Rattle.itch_book.proofs.Lists.{All-map_rec}
 use Rattle.itch_market.specs.Content.{Content, empty, laid}
 use Rattle.itch_market.specs.Effects.{effect}
-use Rattle.itch_market.specs.Goods.{IsGood}
+use Rattle.itch_market.specs.GoodMarkets.{IsGood}
 use Rattle.itch_market.specs.Runs.{after, run}
 use Rattle.itch_market.specs.Stops.{cause}
 use Rattle.itch_market.specs.Replays.{NoCause, Fits}
-use Rattle.itch_market.proofs.Goods.{effect_good}
+use Rattle.itch_market.proofs.GoodMarkets.{effect_good}
 use Rattle.itch_market.proofs.Laid.{effect-laid}
 use Rattle.itch_market.proofs.Causes.{cause-laid, no_reason, no_fault, none_more, none_follows, after_more}
-use Rattle.itch_snapshot.specs.declared.stage.Stage.TheVariants.{Taking, Closed}
+use Rattle.itch_snapshot.specs.declared.reader.Stage.TheVariants.{Taking, Closed}
 use Rattle.itch_snapshot.specs.Files.{AreSpelled}
-use Rattle.itch_snapshot.specs.Loads.{Load, begun, Loads, TakesAt, TakesNext, Finishes, closing_number}
+use Rattle.itch_snapshot.specs.TakenMessages.{Load, begun, Loads, TakesAt, TakesNext, Finishes, closing_number}
 use Rattle.itch_snapshot.proofs.FileLemmas.{Spells-number}
 use Rattle.itch_soup.specs.declared.connection.Stage.{Stage}
 use Rattle.itch_soup.specs.declared.connection.Stage.TheVariants as stage

@@ -18,17 +18,17 @@ use Rattle.itch_market.specs.declared.stop.Stop.{Stop}
 use Rattle.itch_market.specs.declared.stop.Stop.TheVariants as stop
 use Rattle.itch_market.specs.Content.{Content, empty, laid}
 use Rattle.itch_market.specs.Effects.{effect, takes_memory}
-use Rattle.itch_market.specs.Goods.{IsGood}
+use Rattle.itch_market.specs.GoodMarkets.{IsGood}
 use Rattle.itch_market.specs.Reasons.{reason}
 use Rattle.itch_market.specs.Runs.{run, FollowsFrom}
 use Rattle.itch_market.specs.Stops.{cause_by, cause}
 use Rattle.itch_market.specs.Replays.{NoCause, Fits, IsRefusal, Refuses, IsDecided}
-use Rattle.itch_market.proofs.Goods.{empty_good, effect_good}
+use Rattle.itch_market.proofs.GoodMarkets.{empty_good, effect_good}
 use Rattle.itch_market.proofs.Causes.{cause-laid, no_reason, after_more}
 use Rattle.itch_snapshot.specs.declared.fault.SnapFault.{SnapFault}
 use Rattle.itch_snapshot.specs.declared.fault.SnapFault.TheVariants as snap
 use Rattle.itch_snapshot.specs.Files.{AreSpelled}
-use Rattle.itch_snapshot.specs.Loads.{Load, Loads, number_by, number_in, closing_number, is_full}
+use Rattle.itch_snapshot.specs.TakenMessages.{Load, Loads, number_by, number_in, closing_number, is_full}
 use Rattle.itch_snapshot.specs.Reads.{IsDecidedFault}
 use Rattle.itch_snapshot.proofs.FileLemmas.{Spells-number, spelled_is}
 use Rattle.itch_soup.specs.declared.client.ClientAct.{ClientAct}

@@ -12,10 +12,10 @@ use Rattle.itch_frame.specs.Blocks.{IsPayload, block, blocks}
 use Rattle.itch_frame.proofs.BlockLemmas.{blocks-append}
 use Rattle.itch_book.proofs.Lists.{All-append_rec}
 use Rattle.itch_market.specs.Content.{Content, laid}
-use Rattle.itch_market.specs.Goods.{IsGood}
+use Rattle.itch_market.specs.GoodMarkets.{IsGood}
 use Rattle.itch_market.specs.Runs.{AreMessages}
-use Rattle.itch_market.specs.Sames.{Same}
-use Rattle.itch_market.proofs.Sames.{laid_is_same, laid_same}
+use Rattle.itch_market.specs.SameMarkets.{Same}
+use Rattle.itch_market.proofs.SameMarkets.{laid_is_same, laid_same}
 use Rattle.itch_snapshot.specs.Files.{AreSpelled}
 use Rattle.itch_snapshot.specs.Snapshot.{snap}
 use Rattle.itch_snapshot.proofs.OneSnapshot.{snap_follows, run-snap}
@@ -24,8 +24,8 @@ use Rattle.itch_soup.specs.declared.client.ClientAct.{ClientAct}
 use Rattle.itch_soup.specs.declared.client.ClientAct.TheVariants as act
 use Rattle.itch_soup.specs.declared.connection.Stage.{Stage}
 use Rattle.itch_soup.specs.declared.connection.Stage.TheVariants as stage
-use Rattle.itch_soup.specs.declared.config.Credentials.{Credentials}
-use Rattle.itch_soup.specs.declared.config.ServerConfig.{ServerConfig}
+use Rattle.itch_soup.specs.declared.login.Credentials.{Credentials}
+use Rattle.itch_soup.specs.declared.login.ServerConfig.{ServerConfig}
 use Rattle.itch_soup.specs.declared.origin.Origin.TheVariants.{Server}
 use Rattle.itch_soup.specs.declared.packet.Packet.{Packet}
 use Rattle.itch_soup.specs.declared.packet.Packet.TheVariants as is

@@ -22,11 +22,11 @@ use Rattle.itch_market.proofs.Rules.{Reasoned, reason_decided}
 use Rattle.itch_market.specs.Reasons.{reason}
 use Rattle.itch_market.specs.Replays.{IsRefusal}
 use Rattle.itch_market.specs.Stops.{cause_by, cause}
-use Rattle.itch_market.proofs.Goods.{empty_good}
+use Rattle.itch_market.proofs.GoodMarkets.{empty_good}
 use Rattle.itch_snapshot.specs.declared.fault.SnapFault.{SnapFault}
 use Rattle.itch_snapshot.specs.declared.fault.SnapFault.TheVariants as snap
-use Rattle.itch_snapshot.specs.declared.stage.Stage.TheVariants as at
-use Rattle.itch_snapshot.specs.Loads.{Load, Loads, TakesAt, begun, closing_number, is_full, stage_after, Finishes}
+use Rattle.itch_snapshot.specs.declared.reader.Stage.TheVariants as at
+use Rattle.itch_snapshot.specs.TakenMessages.{Load, Loads, TakesAt, begun, closing_number, is_full, stage_after, Finishes}
 use Rattle.itch_snapshot.specs.Reads.{IsDecidedFault}
 use Rattle.itch_soup.specs.declared.client.ClientAct.{ClientAct}
 use Rattle.itch_soup.specs.declared.client.ClientAct.TheVariants as act

@@ -16,11 +16,11 @@ use Rattle.itch_market.specs.Content.{Content, empty, laid}
 use Rattle.itch_market.specs.Runs.{after, run, Follows}
 use Rattle.itch_market.specs.Replays.{NoCause, Fits, IsDecided}
 use Rattle.itch_market.specs.declared.stop.Stop.TheVariants as stop
-use Rattle.itch_snapshot.specs.declared.stage.Stage.TheVariants.{Taking}
+use Rattle.itch_snapshot.specs.declared.reader.Stage.TheVariants.{Taking}
 use Rattle.itch_snapshot.specs.Files.{AreSpelled}
-use Rattle.itch_snapshot.specs.Loads.{Load, Loads}
+use Rattle.itch_snapshot.specs.TakenMessages.{Load, Loads}
 use Rattle.itch_snapshot.specs.Reads.{FailsHere, IsDecidedFault}
-use Rattle.itch_soup.specs.declared.config.Credentials.{Credentials}
+use Rattle.itch_soup.specs.declared.login.Credentials.{Credentials}
 use Rattle.itch_soup.specs.declared.client.ClientAct.{ClientAct}
 use Rattle.itch_soup.specs.declared.client.ClientAct.TheVariants as act
 use Rattle.itch_soup.specs.declared.fault.SoupFault.{SoupFault}

@@ -9,7 +9,7 @@ use Rattle.itch_frame.specs.Reading.{Reading, bytes_left}
 use Rattle.itch_frame.specs.declared.fault.FrameFault.TheVariants.{Read}
 use Rattle.itch_market.specs.Content.{Content}
 use Rattle.itch_snapshot.specs.Reads.{FailsHere}
-use Rattle.itch_soup.specs.declared.config.ServerConfig.{ServerConfig}
+use Rattle.itch_soup.specs.declared.login.ServerConfig.{ServerConfig}
 use Rattle.itch_soup.specs.declared.fault.SoupFault.{SoupFault}
 use Rattle.itch_soup.specs.declared.fault.SoupFault.TheVariants.{TooManyMessages, Frame}
 use Rattle.itch_soup.specs.declared.origin.Origin.TheVariants.{Client}

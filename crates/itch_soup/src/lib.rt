@@ -9,27 +9,26 @@
 #![tactic(auto)]
 
 mod client;
-mod config;
 mod connection;
 mod fault;
 mod fetch;
 mod fields;
 pub mod laws;
-mod names;
+mod login;
 mod origin;
 mod packet;
+mod packet_types;
 mod parsing;
 mod payload;
 mod sending;
 mod serve;
 mod server;
-mod types;
 
 pub use client::{ClientAct, ClientSession};
-pub use config::{Credentials, ServerConfig};
 pub use connection::Tick;
 pub use fault::SoupFault;
 pub use fetch::fetch_one;
+pub use login::{Credentials, ServerConfig};
 pub use origin::Origin;
 pub use packet::{LoginAccepted, LoginRequest, Packet};
 pub use parsing::parse_packet;

@@ -6,8 +6,8 @@ ghost use Rattle.itch_soup.specs.Packets.{PacketSpells, packet_fault, Reads};
 use crate::fault::SoupFault;
 use crate::origin::Origin;
 use crate::packet::{LoginAccepted, LoginRequest, Packet};
+use crate::packet_types::{sender_of_type, size_of_type};
 use crate::payload::Payload;
-use crate::types::{sender_of_type, size_of_type};
 
 /// Reads a packet that came from that side: the type byte and what stands after it, without the length in front.
 ///

@@ -1,5 +1,5 @@
 use Rattle.std.proofs.Common.{◌≡◌, ℕ, true, eqb, List, [], ◌∷◌, ◌++◌, find, Option, Some, None, IsSome, IsSomeAnd, refl, sym, ap, ◌∙◌, subst}
-use Rattle.itch_codec.specs.declared.side.Side.TheVariants.{Sell}
+use Rattle.itch_codec.specs.declared.orders.Side.TheVariants.{Sell}
 use Rattle.std.specs.List.{list_any}
 use Rattle.std.proofs.lemmas.Bool.{false≢true}
 use Rattle.itch_book.specs.declared.order.Order.{Order}
