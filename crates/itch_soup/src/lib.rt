@@ -6,6 +6,13 @@
 //! cuts the stream into blocks, hands each to [`parse_packet`] and its packet to [`ServerSession`] or [`ClientSession`],
 //! and does what the session answers; each packet that it sends has a function there, or is written by [`write_data`].
 //! Moments are milliseconds that the caller counts from wherever it likes.
+//!
+//! ```
+//! let mut client = ClientSession::new(credentials, 1, 0);
+//! assert_eq!(client.login(), *b"Luser  secret                                 1");
+//! let accepted = parse_packet(b"A  ITCHSNAP                   1", Origin::Server)?;
+//! assert!(matches!(client.on_packet(&accepted, 20), ClientAct::Accepted { .. }));
+//! ```
 #![tactic(auto)]
 
 mod client;
