@@ -4,7 +4,7 @@
 //! encoded again is the same bytes, but for the padding of End of Snapshot. Types that are not decoded are kept whole, as
 //! [`Undecoded`]. Nothing here takes memory, but for [`show`], a message as a line of text.
 //!
-//! A value that exists is valid: an [`Alpha`] is printable, a [`Seq`] is from 1 to 10^19 - 1, a [`Stamp`] fits its six bytes.
+//! A value that exists is valid: an [`Alpha`] is printable, a [`Seq`] is from 1 to 10^19, a [`Stamp`] fits its six bytes.
 //! `laws` has what holds of every payload and every message.
 //!
 //! ```
