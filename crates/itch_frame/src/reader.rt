@@ -105,7 +105,7 @@ impl<R: CountedRead, A: Allocator> BlockReader<R, A> {
     }
 }
 
-/// So many bytes, all zero.
+/// This many bytes, all zero.
 fn zeros<A: Allocator>(alloc: A, len: usize) -> Result<Vec<u8, A>, AllocError>
     ensures { IfOk result (λ bytes. vec_len bytes ≡ len) }
 {

@@ -5,7 +5,7 @@
 //! [`serve_one`] and [`fetch_one`] are whole sessions over a reader and a writer. For a session of another kind a caller
 //! cuts the stream into blocks, hands each to [`parse_packet`] and its packet to [`ServerSession`] or [`ClientSession`],
 //! and does what the session answers; each packet that it sends has a function there, or is written by [`write_data`].
-//! Moments are milliseconds that the caller counts from wherever it likes.
+//! Moments are milliseconds since a time of the caller's choice.
 //!
 //! ```
 //! let mut client = ClientSession::new(credentials, 1, 0);

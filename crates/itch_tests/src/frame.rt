@@ -15,7 +15,7 @@ use std::test::Fail;
 // Five blocks, one of them empty.
 const STREAM: &[u8] = b"\x00\x01S\x00\x02RR\x00\x00\x00\x05AAAAA\x00\x01D";
 
-// The splitter takes so many of these bytes, and then holds so many of its block, which is ready or not. This helper and those
+// The splitter takes `taken` of these bytes, and then holds `held` of its block, which is ready or not. This helper and those
 // below have no contract, so that a proof of a test need not carry what each call leaves.
 fn takes<A: Allocator>(
     rt: &impl Abort,
@@ -94,7 +94,7 @@ fn fails<R: CountedRead, A: Allocator>(rt: &impl Abort, reader: &mut BlockReader
     assert!(rt; matches!(reader.next_block(), Err(FrameFault::Read(_))));
 }
 
-// The input ends with so many bytes of a block, however often it is asked.
+// The input ends inside a block, of which this many bytes are held, however often it is asked.
 fn is_truncated<R: CountedRead, A: Allocator>(
     rt: &impl Abort,
     reader: &mut BlockReader<R, A>,
