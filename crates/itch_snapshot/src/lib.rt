@@ -12,7 +12,7 @@
 //! write_snapshot(&market, next, &mut out)?;
 //! let mut blocks = BlockReader::new(alloc, Counted::new(out.written()))?;
 //! let (read, number): (Market<IndexedBook>, Seq) = read_snapshot(alloc, &mut blocks)?;
-//! assert!(same_market(&read, &market));
+//! assert!(same_market(&market, &read));
 //! assert_eq!(number, next);
 //! ```
 #![tactic(auto)]

@@ -7,7 +7,7 @@ use itch_frame::testing::FuseWriter;
 use itch_frame::{BlockReader, write_block};
 use itch_join::{Joiner, Live, Snap};
 use itch_market::{Market, Refusal};
-use itch_snapshot::{read_snapshot, same_market, write_snapshot};
+use itch_snapshot::{read_snapshot, same_market, snapshot_len, write_snapshot};
 use itch_soup::{ClientAct, ClientSession, Credentials, Origin, parse_packet};
 use std::test::Fail;
 
@@ -76,11 +76,12 @@ fn a_snapshot_is_read_as_its_market(rt: HostRuntime) -> Result<(), Fail> {
     let mut market: Market<ListBook> = Market::new(alloc);
     market.apply(&decode(AAPL)?)?;
     let next = Seq::new(2).ok_or("a number")?;
+    assert!(rt; snapshot_len(&market) < 100);
     let mut out = FuseWriter::new(alloc, 64, None);
     write_snapshot(&market, next, &mut out)?;
     let mut blocks = BlockReader::new(alloc, Counted::new(out.written()))?;
     let (read, number): (Market<ListBook>, Seq) = read_snapshot(alloc, &mut blocks)?;
-    assert!(rt; same_market(&read, &market));
+    assert!(rt; same_market(&market, &read));
     assert_eq!(rt; number, next);
     Ok(())
 }
