@@ -11,7 +11,7 @@ use itch_frame::BlockReader;
 use itch_frame::testing::{FuseWriter, PieceReader};
 use itch_market::{Market, Refusal, replay};
 use itch_snapshot::{SnapFault, snapshot_len};
-use itch_soup::{ServerConfig, SoupFault};
+use itch_soup::SoupFault;
 use std::alloc::{Alloc, Global};
 use std::cell::Cell;
 use std::io::{self, Read, Write};
@@ -56,11 +56,6 @@ pub(super) const SNAPSHOT: &[u8] = b"\0\x0cS\0\0\0\0\0\0\0\0\0\0O\
 // An acceptance of all messages, of which none comes.
 const NOTHING_FROM_1: &[u8] = b"\0\x1fA  ITCHSNAP                   1\0\x01Z";
 
-// What the tests' servers let in.
-pub(super) fn config() -> Result<ServerConfig, Fail> {
-    Ok(Login::new("user", "secret")?.config())
-}
-
 // Serves the market of the day. It is kept over any book, so that what owns it is proved once.
 pub(super) fn serve_day<R: Clock + Alloc + Abort, B: OrderBook>(
     rt: &R,
@@ -69,7 +64,7 @@ pub(super) fn serve_day<R: Clock + Alloc + Abort, B: OrderBook>(
     count: u64,
     out: &mut FuseWriter,
 ) -> Result<Result<bool, ToolFault>, Fail> {
-    let config = config()?;
+    let config = Login::new("user", "secret")?.config();
     let next = Seq::new(5).ok_or("a number")?;
     let mut reader = BlockReader::new(alloc, PieceReader::new(DAY, 64, None))?;
     let mut market: Market<B> = Market::new(alloc);
