@@ -1,8 +1,8 @@
-pub mod StableLists
+pub mod Stable
 pub mod Orders
-pub mod BookLists
+pub mod Kept
 pub mod Priority
-pub mod TakenShares
+pub mod Taken
 pub mod Link
 pub mod Links
 pub mod Queued

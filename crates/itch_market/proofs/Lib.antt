@@ -3,7 +3,7 @@ pub mod Maps
 pub mod Slots
 pub mod Bytes
 pub mod Allowed
-pub mod GoodMarkets
+pub mod Goods
 pub mod Laid
 pub mod LawRules
 pub mod Causes
@@ -12,10 +12,10 @@ pub mod Taking
 pub mod Stopping
 pub mod Places
 pub mod Rules
-pub mod Decided
+pub mod Told
 pub mod Searches
 pub mod OneStop
 pub mod Runs
-pub mod SameMarkets
+pub mod Sames
 pub mod Standing
 pub mod Partials
