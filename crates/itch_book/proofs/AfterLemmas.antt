@@ -2,11 +2,11 @@
 use Rattle.std.proofs.Common.{◌≡◌, ℕ, ◌==◌, ◌&&◌, Bool, true, false, eqb, not, List, [], ◌∷◌, ◌++◌, filter, find, Option, Some, None, refl, sym, ap, ◌∙◌, subst}
 use Rattle.std.specs.List.{AllByRecursion}
 use Rattle.std.proofs.lemmas.Bool.{false≢true, and_parts}
-use Rattle.itch_codec.specs.declared.side.Side.{Side}
-use Rattle.itch_codec.specs.declared.side.Side.TheVariants.{Buy, Sell}
+use Rattle.itch_codec.specs.declared.orders.Side.{Side}
+use Rattle.itch_codec.specs.declared.orders.Side.TheVariants.{Buy, Sell}
 use Rattle.itch_book.specs.declared.order.Order.{Order}
-use Rattle.itch_book.specs.Stable.{IsInOrder}
-use Rattle.itch_book.specs.Orders.{is_level, is_of, is_in, is_worse, is_next, same_side, first, stands_before, has_reference, get, behind, next_in, after, IsBook}
+use Rattle.itch_book.specs.StableLists.{IsInOrder}
+use Rattle.itch_book.specs.Orders.{is_level, is_of, is_in, is_worse, is_next, same_side, first, stands_before, has_reference, get, following, next_in, after, IsBook}
 use Rattle.itch_book.specs.Queued.{Seen, found, shown}
 use Rattle.itch_book.specs.Indexed.{Place, orders_in, line_at, indexed, node_of, IsIndexed}
 use Rattle.itch_book.proofs.Lists.{by_test, All-weaker_rec, All-both_rec, All-found_rec, found_passes}
@@ -16,23 +16,23 @@ use Rattle.itch_book.proofs.OrderLemmas.{stands_order, stands_of, ties_level}
 use Rattle.itch_book.proofs.LinkLemmas.{In, NotIn, eqb_itself, eqb_is, not_in_head, not_in_tail}
 use Rattle.itch_book.proofs.QueueSteps.{same_some, inj}
 use Rattle.itch_book.proofs.IndexSteps.{level_is, level_own, get_some}
-use Rattle.itch_book.proofs.PutLemmas.{level_tells}
+use Rattle.itch_book.proofs.PutLemmas.{level_says}
 use Rattle.itch_book.proofs.FrontLemmas.{find_wider, find_alike, find_none, none_find, in_sides, sides_apart}
 
 -- the orders after one do not stand before it
-back_of : (r : ℕ) (xs : List Order) (x : Order) → IsInOrder stands_before xs → get xs r ≡ Some x → AllByRecursion (λ z. stands_before z x ≡ false) (behind r xs)
+back_of : (r : ℕ) (xs : List Order) (x : Order) → IsInOrder stands_before xs → get xs r ≡ Some x → AllByRecursion (λ z. stands_before z x ≡ false) (following r xs)
 back_of r [] x order h = tt
 back_of r (y ∷ ys) x order h =
     by_test (has_reference r y)
     (λ e. let it : Some y ≡ Some x = simp e at h in simp e (subst (λ (t : Order). AllByRecursion (λ z. stands_before z t ≡ false) ys) (inj it) order.0))
     (λ e. let it : get ys r ≡ Some x = simp e at h in simp e (back_of r ys x order.1 it))
 
-order_behind : (r : ℕ) (xs : List Order) → IsInOrder stands_before xs → IsInOrder stands_before (behind r xs)
-order_behind r [] order = tt
-order_behind r (y ∷ ys) order = by_test (has_reference r y) (λ e. simp e order.1) (λ e. simp e (order_behind r ys order.1))
+order_following : (r : ℕ) (xs : List Order) → IsInOrder stands_before xs → IsInOrder stands_before (following r xs)
+order_following r [] order = tt
+order_following r (y ∷ ys) order = by_test (has_reference r y) (λ e. simp e order.1) (λ e. simp e (order_following r ys order.1))
 
 -- what none passes that the order does not stand before is first passed after it
-skip_to : (f : Order → Bool) (r : ℕ) (xs : List Order) (x : Order) → ((z : Order) → stands_before x z ≡ false → f z ≡ false) → IsInOrder stands_before xs → get xs r ≡ Some x → find f xs ≡ find f (behind r xs)
+skip_to : (f : Order → Bool) (r : ℕ) (xs : List Order) (x : Order) → ((z : Order) → stands_before x z ≡ false → f z ≡ false) → IsInOrder stands_before xs → get xs r ≡ Some x → find f xs ≡ find f (following r xs)
 skip_to f r [] x none order h = refl
 skip_to f r (y ∷ ys) x none order h =
     by_test (has_reference r y)
@@ -43,14 +43,14 @@ skip_to f r (y ∷ ys) x none order h =
     let n : f y ≡ false = none y (All-found_rec (λ z. stands_before z y ≡ false) (has_reference r) ys x order.0 it) in
     simp (e, n) (skip_to f r ys x none order.1 it))
 
-behind_filter : (p : Order → Bool) (r : ℕ) (xs : List Order) (x : Order) → get xs r ≡ Some x → p x ≡ true → behind r (filter p xs) ≡ filter p (behind r xs)
-behind_filter p r [] x h k = refl
-behind_filter p r (y ∷ ys) x h k =
+following_filter : (p : Order → Bool) (r : ℕ) (xs : List Order) (x : Order) → get xs r ≡ Some x → p x ≡ true → following r (filter p xs) ≡ filter p (following r xs)
+following_filter p r [] x h k = refl
+following_filter p r (y ∷ ys) x h k =
     by_test (has_reference r y)
     (λ e. let it : Some y ≡ Some x = simp e at h in
     let f : p y ≡ true = subst (λ z. p z ≡ true) (sym (inj it)) k in simp (f, e) refl)
     (λ e. let it : get ys r ≡ Some x = simp e at h in
-    let rest = behind_filter p r ys x it k in
+    let rest = following_filter p r ys x it k in
     by_test (p y) (λ f. simp (f, e) rest) (λ f. simp (f, e) rest))
 
 -- keys in two parts, at the first place of one
@@ -73,7 +73,7 @@ strict x z a n = by_test (stands_before x z) (λ e. e)
 
 level_before : (x u z : Order) → is_level x.locate x.side x.price u ≡ true → stands_before x z ≡ true → stands_before u z ≡ true
 level_before x u z h k =
-    let t = level_tells x.locate x.side x.price u h in
+    let t = level_says x.locate x.side x.price u h in
     subst (λ s. at s u.locate u.price z ≡ true) t.0 (subst (λ l. at x.side l u.price z ≡ true) t.1 (subst (λ p. at x.side x.locate p z ≡ true) t.2 k))
   where
     at : Side → ℕ → ℕ → Order → Bool
@@ -81,27 +81,27 @@ level_before x u z h k =
 
 module _ (xs : List Order) (book : IsBook xs) (r : ℕ) (x : Order) (live : get xs r ≡ Some x) where
   abbrev tail : List Order
-  tail = behind r xs
+  tail = following r xs
 
   back : AllByRecursion (λ z. stands_before z x ≡ false) tail
   back = back_of r xs x book.in_place live
 
-  pub after_tail : after xs r ≡ find (is_in x.locate) (behind r xs)
+  pub after_tail : after xs r ≡ find (is_in x.locate) (following r xs)
   after_tail = ap (λ o. next_in o r xs) live
 
   own_side : is_of x.locate x.side x ≡ true
   own_side = (and_parts (is_of x.locate x.side x) (x.price == x.price) (level_own x)).0
 
   -- the next one at its price, if there is one
-  pub next_here : (y : Order) → find (is_level x.locate x.side x.price) (behind r xs) ≡ Some y → find (is_in x.locate) (behind r xs) ≡ Some y
-  next_here y h = find_wider (is_in x.locate) (is_level x.locate x.side x.price) tail (order_behind r xs book.in_place)
+  pub next_here : (y : Order) → find (is_level x.locate x.side x.price) (following r xs) ≡ Some y → find (is_in x.locate) (following r xs) ≡ Some y
+  next_here y h = find_wider (is_in x.locate) (is_level x.locate x.side x.price) tail (order_following r xs book.in_place)
       (λ z e. (and_parts (is_in x.locate z) (same_side z.side x.side) (and_parts (is_of x.locate x.side z) (z.price == x.price) e).0).0)
       (All-weaker_rec (λ z. stands_before z x ≡ false) (λ z. (u : Order) → is_level x.locate x.side x.price u ≡ true → is_in x.locate z ≡ true → is_level x.locate x.side x.price z ≡ false → stands_before u z ≡ true)
       (λ z a u e f n. level_before x u z e (strict x z a n)) tail back)
       y h
 
   -- what is next in price stands after it
-  skip_next : find (is_next x.locate x.side (Some x.price)) xs ≡ find (is_next x.locate x.side (Some x.price)) (behind r xs)
+  skip_next : find (is_next x.locate x.side (Some x.price)) xs ≡ find (is_next x.locate x.side (Some x.price)) (following r xs)
   skip_next = skip_to (is_next x.locate x.side (Some x.price)) r xs x
       (λ z n. by_test (is_next x.locate x.side (Some x.price) z)
       (λ e. let parts = and_parts (is_of x.locate x.side z) (is_worse x.side (Some x.price) z.price) e in
@@ -115,7 +115,7 @@ module _ (xs : List Order) (book : IsBook xs) (r : ℕ) (x : Order) (live : get 
       let no : true ≡ false = simp (e, worse) at m in absurd (false≢true (sym no)))
       (λ e. e)
 
-  not_level : find (is_level x.locate x.side x.price) (behind r xs) ≡ None → AllByRecursion (λ z. (stands_before z x ≡ false) × (is_level x.locate x.side x.price z ≡ false)) tail
+  not_level : find (is_level x.locate x.side x.price) (following r xs) ≡ None → AllByRecursion (λ z. (stands_before z x ≡ false) × (is_level x.locate x.side x.price z ≡ false)) tail
   not_level none = All-both_rec (λ z. stands_before z x ≡ false) (λ z. is_level x.locate x.side x.price z ≡ false) tail back (none_find (is_level x.locate x.side x.price) tail none)
 
   -- an order of the locate after one that is not of its side is an ask after a bid
@@ -126,8 +126,8 @@ module _ (xs : List Order) (book : IsBook xs) (r : ℕ) (x : Order) (live : get 
       (λ f. absurd (false≢true (sym (subst (λ t. is_of x.locate t z ≡ false) e n) ∙ in_sides x.locate z i f)))
 
   -- the first one at the next price
-  pub next_price_here : (y : Order) → find (is_level x.locate x.side x.price) (behind r xs) ≡ None → find (is_next x.locate x.side (Some x.price)) xs ≡ Some y → find (is_in x.locate) (behind r xs) ≡ Some y
-  next_price_here y none h = find_wider (is_in x.locate) (is_next x.locate x.side (Some x.price)) tail (order_behind r xs book.in_place)
+  pub next_price_here : (y : Order) → find (is_level x.locate x.side x.price) (following r xs) ≡ None → find (is_next x.locate x.side (Some x.price)) xs ≡ Some y → find (is_in x.locate) (following r xs) ≡ Some y
+  next_price_here y none h = find_wider (is_in x.locate) (is_next x.locate x.side (Some x.price)) tail (order_following r xs book.in_place)
       (λ z e. (and_parts (is_in x.locate z) (same_side z.side x.side) (and_parts (is_of x.locate x.side z) (is_worse x.side (Some x.price) z.price) e).0).0)
       (All-weaker_rec (λ z. (stands_before z x ≡ false) × (is_level x.locate x.side x.price z ≡ false)) (λ z. (u : Order) → is_next x.locate x.side (Some x.price) u ≡ true → is_in x.locate z ≡ true → is_next x.locate x.side (Some x.price) z ≡ false → stands_before u z ≡ true)
       (λ z a u e f n.
@@ -136,12 +136,12 @@ module _ (xs : List Order) (book : IsBook xs) (r : ℕ) (x : Order) (live : get 
       sides_apart x.locate u z (subst (λ t. is_of x.locate t u ≡ true) other.0 of_u) other.1) tail (not_level none))
       y (sym skip_next ∙ h)
 
-  none_next : find (is_level x.locate x.side x.price) (behind r xs) ≡ None → find (is_next x.locate x.side (Some x.price)) xs ≡ None
+  none_next : find (is_level x.locate x.side x.price) (following r xs) ≡ None → find (is_next x.locate x.side (Some x.price)) xs ≡ None
       → AllByRecursion (λ z. ((stands_before z x ≡ false) × (is_level x.locate x.side x.price z ≡ false)) × (is_next x.locate x.side (Some x.price) z ≡ false)) tail
   none_next none last = All-both_rec (λ z. (stands_before z x ≡ false) × (is_level x.locate x.side x.price z ≡ false)) (λ z. is_next x.locate x.side (Some x.price) z ≡ false) tail (not_level none) (none_find (is_next x.locate x.side (Some x.price)) tail (sym skip_next ∙ last))
 
   -- after the last ask stands none
-  pub last_ask : x.side ≡ Sell → find (is_level x.locate x.side x.price) (behind r xs) ≡ None → find (is_next x.locate x.side (Some x.price)) xs ≡ None → find (is_in x.locate) (behind r xs) ≡ None
+  pub last_ask : x.side ≡ Sell → find (is_level x.locate x.side x.price) (following r xs) ≡ None → find (is_next x.locate x.side (Some x.price)) xs ≡ None → find (is_in x.locate) (following r xs) ≡ None
   last_ask side none last = find_none (is_in x.locate) tail
       (All-weaker_rec (λ z. ((stands_before z x ≡ false) × (is_level x.locate x.side x.price z ≡ false)) × (is_next x.locate x.side (Some x.price) z ≡ false)) (λ z. is_in x.locate z ≡ false)
       (λ z a. by_test (is_in x.locate z)
@@ -150,7 +150,7 @@ module _ (xs : List Order) (book : IsBook xs) (r : ℕ) (x : Order) (live : get 
       (λ i. i)) tail (none_next none last))
 
   -- and after the last bid the first ask
-  pub last_bid : x.side ≡ Buy → find (is_level x.locate x.side x.price) (behind r xs) ≡ None → find (is_next x.locate x.side (Some x.price)) xs ≡ None → find (is_in x.locate) (behind r xs) ≡ find (is_of x.locate Sell) xs
+  pub last_bid : x.side ≡ Buy → find (is_level x.locate x.side x.price) (following r xs) ≡ None → find (is_next x.locate x.side (Some x.price)) xs ≡ None → find (is_in x.locate) (following r xs) ≡ find (is_of x.locate Sell) xs
   last_bid side none last =
       find_alike (is_in x.locate) (is_of x.locate Sell) tail
       (All-weaker_rec (λ z. ((stands_before z x ≡ false) × (is_level x.locate x.side x.price z ≡ false)) × (is_next x.locate x.side (Some x.price) z ≡ false)) (λ z. is_in x.locate z ≡ is_of x.locate Sell z)
@@ -173,22 +173,22 @@ module _ (references : List (ℕ × ℕ)) (bids asks : List (Place × ℕ)) (w :
   has : has_reference r x ≡ true
   has = found_passes (has_reference r) (indexed w bids asks) x live_is
 
-  behind_found : (before behind_it : List ℕ) → NotIn k before → behind r (found w.orders (before ++ k ∷ behind_it)) ≡ found w.orders behind_it
-  behind_found [] ks n = ap (λ o. behind r (shown o (found w.orders ks))) here ∙ simp has refl
-  behind_found (j ∷ js) ks n = by_order (w.orders j) refl (behind_found js ks (not_in_tail k j js n))
+  after_found : (before after_it : List ℕ) → NotIn k before → following r (found w.orders (before ++ k ∷ after_it)) ≡ found w.orders after_it
+  after_found [] ks n = ap (λ o. following r (shown o (found w.orders ks))) here ∙ simp has refl
+  after_found (j ∷ js) ks n = by_order (w.orders j) refl (after_found js ks (not_in_tail k j js n))
     where
-      by_order : (o : Option Order) → w.orders j ≡ o → behind r (found w.orders (js ++ k ∷ ks)) ≡ found w.orders ks → behind r (shown (w.orders j) (found w.orders (js ++ k ∷ ks))) ≡ found w.orders ks
-      by_order None h rest = ap (λ o. behind r (shown o (found w.orders (js ++ k ∷ ks)))) h ∙ rest
-      by_order (Some y) h rest = ap (λ o. behind r (shown o (found w.orders (js ++ k ∷ ks)))) h ∙ by_test (has_reference r y)
+      by_order : (o : Option Order) → w.orders j ≡ o → following r (found w.orders (js ++ k ∷ ks)) ≡ found w.orders ks → following r (shown (w.orders j) (found w.orders (js ++ k ∷ ks))) ≡ found w.orders ks
+      by_order None h rest = ap (λ o. following r (shown o (found w.orders (js ++ k ∷ ks)))) h ∙ rest
+      by_order (Some y) h rest = ap (λ o. following r (shown o (found w.orders (js ++ k ∷ ks)))) h ∙ by_test (has_reference r y)
           (λ e. let same : j ≡ k = same_some (is.named j y h) (ap (node_of references) (own_reference r y e) ∙ node) in
           absurd (false≢true (sym (not_in_head k j js n) ∙ subst (λ t. eqb k t ≡ true) (sym same) (eqb_itself k))))
           (λ e. simp e rest)
 
   -- what stands after the order in its queue is after it at its price
-  pub line_behind : (before behind_it : List ℕ) → NotIn k before → (is.listed k x here).keys ≡ before ++ k ∷ behind_it → find (is_level x.locate x.side x.price) (behind r (indexed w bids asks)) ≡ first (found w.orders behind_it)
-  line_behind before ks n parts =
+  pub line_after : (before after_it : List ℕ) → NotIn k before → (is.listed k x here).keys ≡ before ++ k ∷ after_it → find (is_level x.locate x.side x.price) (following r (indexed w bids asks)) ≡ first (found w.orders after_it)
+  line_after before ks n parts =
       let place = is.listed k x here in
-      find_first (is_level x.locate x.side x.price) (behind r (indexed w bids asks))
-      ∙ ap first (sym (behind_filter (is_level x.locate x.side x.price) r (indexed w bids asks) x live_is (level_own x))
-      ∙ ap (behind r) (level_is references bids asks w is x.locate x.side x.price ∙ ap (line_at w) place.at_price ∙ ap (orders_in w.orders) (place.keys_are ∙ ap Some parts))
-      ∙ behind_found before ks n)
+      find_first (is_level x.locate x.side x.price) (following r (indexed w bids asks))
+      ∙ ap first (sym (following_filter (is_level x.locate x.side x.price) r (indexed w bids asks) x live_is (level_own x))
+      ∙ ap (following r) (level_is references bids asks w is x.locate x.side x.price ∙ ap (line_at w) place.at_price ∙ ap (orders_in w.orders) (place.keys_are ∙ ap Some parts))
+      ∙ after_found before ks n)

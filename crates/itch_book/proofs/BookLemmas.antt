@@ -3,9 +3,9 @@ use Rattle.std.proofs.Common.{◌≡◌, ℕ, ◌<◌, ◌-◌, Bool, true, cond
 use Rattle.std.specs.List.{AllByRecursion}
 use Rattle.std.proofs.lemmas.Bool.{cond_both}
 use Rattle.std.proofs.lemmas.List.Elements.{filter-append}
-use Rattle.itch_codec.specs.declared.side.Side.{Side}
+use Rattle.itch_codec.specs.declared.orders.Side.{Side}
 use Rattle.itch_book.specs.declared.order.Order.{Order}
-use Rattle.itch_book.specs.Stable.{in_order, later_in}
+use Rattle.itch_book.specs.StableLists.{in_order, later_in}
 use Rattle.itch_book.specs.Orders.{is_of, is_in, queue, sides, lay, stands_before, fits, AllFit, IsLive, IsDistinct, IsBook, first, has_reference, get, without, less, has_shares, taken, added, replaced_by, replaced}
 use Rattle.itch_book.proofs.Lists.{by_test, filter_swap, filter-map}
 use Rattle.itch_book.proofs.StableLemmas.{IsInOrder-filter, IsInOrder-in_order, in_order-map, in_order-filter, in_order-sorted, in_order-push}

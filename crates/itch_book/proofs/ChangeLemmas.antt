@@ -3,7 +3,7 @@ use Rattle.std.proofs.Common.{◌≡◌, ℕ, ◌-◌, ◌^◌, ◌<◌, true, f
 use Rattle.std.specs.List.{AllByRecursion, position_or_len}
 use Rattle.std.proofs.lemmas.Bool.{false≢true, cond_both}
 use Rattle.std.proofs.lemmas.Bool.Decides.{nat_tests}
-use Rattle.itch_codec.specs.declared.side.Side.{Side}
+use Rattle.itch_codec.specs.declared.orders.Side.{Side}
 use Rattle.itch_book.specs.declared.order.Order.{Order}
 use Rattle.itch_book.specs.Orders.{is_level, level, lay, less, taken, has_shares, has_reference, IsLive, IsBook}
 use Rattle.itch_book.specs.Links.{at_key}

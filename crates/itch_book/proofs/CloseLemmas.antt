@@ -4,7 +4,7 @@ use Rattle.std.specs.List.{AllByRecursion, list_any}
 use Rattle.std.specs.Map.{keys_of}
 use Rattle.std.specs.List.Sorted.{IsStrictlySortedBy}
 use Rattle.std.proofs.lemmas.Bool.{false≢true}
-use Rattle.itch_codec.specs.declared.side.Side.{Side}
+use Rattle.itch_codec.specs.declared.orders.Side.{Side}
 use Rattle.itch_book.specs.Orders.{is_level, level, IsBook}
 use Rattle.itch_book.specs.Links.{at_key}
 use Rattle.itch_book.specs.Queued.{Seen}

@@ -2,7 +2,7 @@
 use Rattle.std.proofs.Common.{◌≡◌, ℕ, ◌+◌, true, false, eqb, not, List, [], ◌∷◌, ◌++◌, length, Option, Some, None, IsSome, option_map, refl, sym, ap, ◌∙◌, subst, arith}
 use Rattle.std.specs.List.{AllByRecursion, list_any}
 use Rattle.std.proofs.lemmas.Bool.{false≢true}
-use Rattle.itch_codec.specs.declared.side.Side.{Side}
+use Rattle.itch_codec.specs.declared.orders.Side.{Side}
 use Rattle.itch_book.specs.declared.order.Order.{Order}
 use Rattle.itch_book.specs.Orders.{is_level, level, lay, without, has_reference, get, IsDistinct, IsBook}
 use Rattle.itch_book.specs.Links.{at_key}
@@ -18,7 +18,7 @@ use Rattle.itch_book.proofs.QueueSteps.{none_some, same_some, inj}
 use Rattle.itch_book.proofs.SoundSteps.{at_apart, at_same, without_none}
 use Rattle.itch_book.proofs.IndexLemmas.{level_both}
 use Rattle.itch_book.proofs.IndexSteps.{level_is, get_some}
-use Rattle.itch_book.proofs.PutLemmas.{level_tells}
+use Rattle.itch_book.proofs.PutLemmas.{level_says}
 
 in_kept : (k j : ℕ) (ks : List ℕ) → eqb k j ≡ false → In j ks → In j (without_key k ks)
 in_kept k j [] n i = i
@@ -181,9 +181,9 @@ module _ (references references' : List (ℕ × ℕ)) (bids asks : List (Place �
       out : (js : List ℕ) → w.keys q0 ≡ Some js → NotIn k js
       out js e = by_test (list_any (eqb k) js)
           (λ i. let all = subst (AllByRecursion (λ y. is_level l s p y ≡ true)) (ap (orders_in w.orders) e) (is.levels s l p q0 h) in
-          let tells = level_tells l s p x (found_member (λ y. is_level l s p y ≡ true) w.orders k x js all i here) in
+          let says = level_says l s p x (found_member (λ y. is_level l s p y ≡ true) w.orders k x js all i here) in
           let own_queue : queue_of_side s bids asks l p ≡ Some q =
-          subst (λ t. queue_of_side t bids asks l p ≡ Some q) (sym tells.0) (subst (λ t. queue_of_side x.side bids asks t p ≡ Some q) (sym tells.1) (subst (λ t. queue_of_side x.side bids asks x.locate t ≡ Some q) (sym tells.2) at)) in
+          subst (λ t. queue_of_side t bids asks l p ≡ Some q) (sym says.0) (subst (λ t. queue_of_side x.side bids asks t p ≡ Some q) (sym says.1) (subst (λ t. queue_of_side x.side bids asks x.locate t ≡ Some q) (sym says.2) at)) in
           absurd (false≢true (sym n ∙ subst (λ t. eqb q t ≡ true) (same_some own_queue h) (eqb_itself q))))
           (λ m. m)
 

@@ -6,7 +6,7 @@ use Rattle.std.proofs.lemmas.Bool.{cond_both}
 use Rattle.std.proofs.lemmas.Bool.Decides.{nat_tests}
 use Rattle.std.proofs.lemmas.List.Elements.{filter-append}
 use Rattle.itch_book.specs.declared.order.Order.{Order}
-use Rattle.itch_book.specs.Stable.{in_order}
+use Rattle.itch_book.specs.StableLists.{in_order}
 use Rattle.itch_book.specs.Orders.{first, fits, AllFit, AllAt, has_reference, get, without, less, has_shares, taken, added, replaced_by, replaced, IsDistinct, IsLive}
 use Rattle.std.proofs.lemmas.List.{length-map}
 use Rattle.itch_book.proofs.Lists.{by_test, All-append_rec, All-filter_rec, All-map_rec, All-weaker_rec, All-both_rec, All-found_rec, passes_filter, filter_swap, filter-map, length_filter_le, absent_in_filter}

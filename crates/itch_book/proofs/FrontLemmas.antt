@@ -3,10 +3,10 @@ use Rattle.std.proofs.Common.{◌≡◌, ℕ, ◌^◌, ◌<◌, ◌==◌, ◌&&�
 use Rattle.std.specs.List.{AllByRecursion}
 use Rattle.std.proofs.lemmas.Bool.{false≢true, and_parts}
 use Rattle.std.proofs.lemmas.Bool.Decides.{nat_tests}
-use Rattle.itch_codec.specs.declared.side.Side.{Side}
-use Rattle.itch_codec.specs.declared.side.Side.TheVariants.{Buy, Sell}
+use Rattle.itch_codec.specs.declared.orders.Side.{Side}
+use Rattle.itch_codec.specs.declared.orders.Side.TheVariants.{Buy, Sell}
 use Rattle.itch_book.specs.declared.order.Order.{Order}
-use Rattle.itch_book.specs.Stable.{IsInOrder}
+use Rattle.itch_book.specs.StableLists.{IsInOrder}
 use Rattle.itch_book.specs.Orders.{is_level, is_of, is_in, is_better, is_worse, is_next, next_price, same_side, first, stands_before}
 use Rattle.itch_book.specs.Queued.{Seen, found, shown}
 use Rattle.itch_book.specs.Indexed.{Place, orders_in, line_at, joined, indexed, queue_of_side, has_keys, IsIndexed, IsNextLevel, IsNextOr}
@@ -19,14 +19,14 @@ use Rattle.itch_book.proofs.IndexSteps.{All-joined, level_is}
 -- what passes a test first is what passes a narrower one first, where that stands before all else
 pub find_wider : (f g : Order → Bool) (xs : List Order) → IsInOrder stands_before xs → ((y : Order) → g y ≡ true → f y ≡ true)
     → AllByRecursion (λ y. (x : Order) → g x ≡ true → f y ≡ true → g y ≡ false → stands_before x y ≡ true) xs → (x : Order) → find g xs ≡ Some x → find f xs ≡ Some x
-find_wider f g [] order wider behind x h = h
-find_wider f g (y ∷ ys) order wider behind x h =
+find_wider f g [] order wider following x h = h
+find_wider f g (y ∷ ys) order wider following x h =
     by_test (g y)
     (λ e. let it : Some y ≡ Some x = simp e at h in let passes = wider y e in simp passes it)
     (λ e. let it : find g ys ≡ Some x = simp e at h in
     by_test (f y)
-    (λ passes. absurd (false≢true (sym (All-found_rec (λ z. stands_before z y ≡ false) g ys x order.0 it) ∙ behind.0 x (found_passes g ys x it) passes e)))
-    (λ fails. simp fails (find_wider f g ys order.1 wider behind.1 x it)))
+    (λ passes. absurd (false≢true (sym (All-found_rec (λ z. stands_before z y ≡ false) g ys x order.0 it) ∙ following.0 x (found_passes g ys x it) passes e)))
+    (λ fails. simp fails (find_wider f g ys order.1 wider following.1 x it)))
 
 pub find_alike : (f g : Order → Bool) (xs : List Order) → AllByRecursion (λ y. f y ≡ g y) xs → find f xs ≡ find g xs
 find_alike f g [] h = refl
@@ -54,8 +54,8 @@ pub level_of_is : (l : ℕ) (s : Side) (p : ℕ) (x : Order) → is_level l s p 
 level_of_is l s p x h = ((and_parts (is_of l s x) (x.price == p) h).0, grind (arith, nat_tests))
 
 -- an order of the side whose price is neither better nor this one stands after those of this price
-behind_level : (l : ℕ) (s : Side) (p : ℕ) (x y : Order) → is_level l s p x ≡ true → is_of l s y ≡ true → is_level l s p y ≡ false → is_better s y.price p ≡ false → stands_before x y ≡ true
-behind_level l s p x y h k n best =
+after_level : (l : ℕ) (s : Side) (p : ℕ) (x y : Order) → is_level l s p x ≡ true → is_of l s y ≡ true → is_level l s p y ≡ false → is_better s y.price p ≡ false → stands_before x y ≡ true
+after_level l s p x y h k n best =
     let parts = level_of_is l s p x h in
     stands_of l s x y parts.0 k ∙ ap (λ q. is_better s q y.price) parts.1 ∙ other s (simp k at n) best
   where
@@ -104,7 +104,7 @@ module _ (references : List (ℕ × ℕ)) (bids asks : List (Place × ℕ)) (v :
           simp (of_it, worse) refl)
           (All-weaker_rec IsPlaced (λ y. (z : Order) → is_level l s e.0 z ≡ true → is_next l s last y ≡ true → is_level l s e.0 y ≡ false → stands_before z y ≡ true)
           (λ y at z h f n. let parts = and_parts (is_of l s y) (is_worse s last y.price) f in
-          behind_level l s e.0 z y h parts.0 n (next.best y.price at.1 parts.1 (of_place l s y parts.0 at.0))) (indexed v bids asks) placed)
+          after_level l s e.0 z y h parts.0 n (next.best y.price at.1 parts.1 (of_place l s y parts.0 at.0))) (indexed v bids asks) placed)
           x here in
           (wide ∙ sym head, ap (option_map (λ (z : Order). z.price)) wide ∙ ap Some (level_of_is l s e.0 x (found_passes (is_level l s e.0) (indexed v bids asks) x here)).1)
 

@@ -3,7 +3,7 @@ use Rattle.std.proofs.Common.{◌≡◌, Bool, true, false, not, ◌&&◌, List,
 use Rattle.std.specs.List.{AllByRecursion}
 use Rattle.std.specs.Cmp.{IsStrictWeakOrder}
 use Rattle.std.proofs.lemmas.Bool.{false≢true}
-use Rattle.itch_book.specs.Stable.{in_order, IsInOrder}
+use Rattle.itch_book.specs.StableLists.{in_order, IsInOrder}
 use Rattle.itch_book.proofs.Lists.{by_test, All-weaker_rec, filter_none, passes_filter}
 use Rattle.itch_book.proofs.StableLemmas.{not_itself, IsInOrder-in_order, in_order-filter, in_order-sorted}
 

@@ -18,7 +18,7 @@ module _ (references : List (ℕ × ℕ)) (bids asks : List (Place × ℕ)) (v :
 
   -- whose order it is
   pub live_order : (x : Order) → IsSome (get (indexed v bids asks) r) → IfSome (node_of references r) (λ k. v.orders k ≡ Some x) → get (indexed v bids asks) r ≡ Some x
-  live_order x some told = by_node (node_of references r) refl told
+  live_order x some decided = by_node (node_of references r) refl decided
     where
       by_node : (o : Option ℕ) → node_of references r ≡ o → IfSome o (λ k. v.orders k ≡ Some x) → get (indexed v bids asks) r ≡ Some x
       by_node None e h = absurd (false≢true (subst IsSome (get_none references bids asks v is r e) some))

@@ -4,10 +4,10 @@ use Rattle.std.specs.List.{AllByRecursion}
 use Rattle.std.specs.Cmp.{IsStrictWeakOrder}
 use Rattle.std.proofs.lemmas.Bool.{and_parts}
 use Rattle.std.proofs.lemmas.Bool.Decides.{nat_tests}
-use Rattle.itch_codec.specs.declared.side.Side.{Side}
-use Rattle.itch_codec.specs.declared.side.Side.TheVariants.{Buy, Sell}
+use Rattle.itch_codec.specs.declared.orders.Side.{Side}
+use Rattle.itch_codec.specs.declared.orders.Side.TheVariants.{Buy, Sell}
 use Rattle.itch_book.specs.declared.order.Order.{Order}
-use Rattle.itch_book.specs.Stable.{in_order}
+use Rattle.itch_book.specs.StableLists.{in_order}
 use Rattle.itch_book.specs.Orders.{is_better, same_side, is_of, is_in, is_level, level, queue, sides, queues_below, lay, place_before, stands_before, fits, AllFit, AllAt, IsDistinct, first, has_reference, get}
 use Rattle.itch_book.proofs.Lists.{All-filter_rec, passes_filter, filter_none, filter_all, filter_swap}
 use Rattle.itch_book.proofs.StableLemmas.{All-in_order, in_order-agree, in_order-short, in_order-filter, in_order-twice, in_order-parts}

@@ -9,8 +9,8 @@ use Rattle.std.proofs.lemmas.List.Folds.{find_at}
 use Rattle.std.proofs.lemmas.Grind.{common_steps}
 use Rattle.std.proofs.lemmas.Option.{slice_get_within, get_or_from_slice_get}
 use Rattle.itch_book.specs.declared.order.Order.{Order}
-use Rattle.itch_book.specs.Stable.{later_in, IsInOrder}
-use Rattle.itch_book.specs.Orders.{IsBook, fits, lay, added, stands_before, has_reference, has_shares, less, get, without, taken, replaced_by, replaced, IsDistinct, IsLive, is_in, behind, after, next_in}
+use Rattle.itch_book.specs.StableLists.{later_in, IsInOrder}
+use Rattle.itch_book.specs.Orders.{IsBook, fits, lay, added, stands_before, has_reference, has_shares, less, get, without, taken, replaced_by, replaced, IsDistinct, IsLive, is_in, following, after, next_in}
 use Rattle.itch_book.proofs.Lists.{by_test, absent_in_filter}
 use Rattle.itch_book.proofs.Distinct.{own_reference, head_distinct, tail_distinct}
 use Rattle.itch_book.proofs.OrderLemmas.{stands_order}
@@ -102,12 +102,12 @@ pub position_there : (r : ℕ) (xs : List Order) → IsSome (get xs r) → posit
 position_there r xs some = let within = get_within r xs some in let e : nat_lt (position_or_len (has_reference r) xs) (length xs) ≡ true = grind (arith, nat_tests) in simp e refl
 
 -- what stands after an order is the list after its place
-pub behind_there : (r : ℕ) (xs : List Order) → behind r xs ≡ drop (suc (position_or_len (has_reference r) xs)) xs
-behind_there r [] = refl
-behind_there r (y ∷ ys) =
+pub following_there : (r : ℕ) (xs : List Order) → following r xs ≡ drop (suc (position_or_len (has_reference r) xs)) xs
+following_there r [] = refl
+following_there r (y ∷ ys) =
     by_test (has_reference r y)
     (λ e. simp e refl)
-    (λ e. simp (e, one-add) (behind_there r ys))
+    (λ e. simp (e, one-add) (following_there r ys))
 
 -- no element is before one at an earlier place
 pub in_order_places : {A : Type 0} (before : A → A → Bool) (xs : List A) (i j : ℕ) (d : A) → IsInOrder before xs → i < j → j < length xs → before (get_or xs j d) (get_or xs i d) ≡ false
@@ -124,11 +124,11 @@ in_order_places before (x ∷ xs) (suc i) (suc j) d h lt within = in_order_place
 -- what an order does not stand before comes first in a list that is in order
 pub parted : (x : Order) (xs : List Order) → IsInOrder stands_before xs → IsPartitionedBy (λ y. not (stands_before x y)) xs
 parted x xs h i j d le within e =
-    let behind_x : stands_before x (get_or xs j d) ≡ false = not-true (stands_before x (get_or xs j d)) e in
+    let following_x : stands_before x (get_or xs j d) ≡ false = not-true (stands_before x (get_or xs j d)) e in
     elim (cases_eq i j) [
       | inl same ↦ rw same e
       | inr differ ↦ not_from_false (stands_before x (get_or xs i d))
-          (stands_order.chain x (get_or xs j d) (get_or xs i d) behind_x (in_order_places stands_before xs i j d h (omega arith) within))
+          (stands_order.chain x (get_or xs j d) (get_or xs i d) following_x (in_order_places stands_before xs i j d h (omega arith) within))
     ]
 
 -- where they end is the place of the order
@@ -149,8 +149,8 @@ after_there r xs i d some place = by_found (get xs r) refl some
     by_found (Some x) e some =
         let all : take (length xs - (i + 1)) (drop (i + 1) xs) ≡ drop (i + 1) xs = grind (arith, common_steps) in
         let here : get_or xs i d ≡ x = ap (λ k. get_or xs k d) place ∙ get_there r xs x d e in
-        let rest : drop (i + 1) xs ≡ behind r xs = rw add-one (ap (λ k. drop (suc k) xs) place ∙ sym (behind_there r xs)) in
-        ap (find (is_in (get_or xs i d).locate)) (all ∙ rest) ∙ ap (λ y. find (is_in y.locate) (behind r xs)) here ∙ ap (λ o. next_in o r xs) (sym e)
+        let rest : drop (i + 1) xs ≡ following r xs = rw add-one (ap (λ k. drop (suc k) xs) place ∙ sym (following_there r xs)) in
+        ap (find (is_in (get_or xs i d).locate)) (all ∙ rest) ∙ ap (λ y. find (is_in y.locate) (following r xs)) here ∙ ap (λ o. next_in o r xs) (sym e)
 
 -- an order put in at its place in a book's list
 pub put_there : (x : Order) (xs ys : List Order) (i : ℕ) → IsBook xs → fits x ≡ true → ys ≡ xs → i ≡ position_or_len (stands_before x) ys → insert xs i x ≡ lay (added x xs)

@@ -4,10 +4,10 @@ use Rattle.std.specs.List.{AllByRecursion}
 use Rattle.std.proofs.lemmas.Bool.{and_parts, false≢true}
 use Rattle.std.proofs.lemmas.Bool.Decides.{nat_tests}
 use Rattle.std.proofs.lemmas.List.Elements.{Contains-append_right}
-use Rattle.itch_codec.specs.declared.side.Side.{Side}
-use Rattle.itch_codec.specs.declared.side.Side.TheVariants.{Buy, Sell}
+use Rattle.itch_codec.specs.declared.orders.Side.{Side}
+use Rattle.itch_codec.specs.declared.orders.Side.TheVariants.{Buy, Sell}
 use Rattle.itch_book.specs.declared.order.Order.{Order}
-use Rattle.itch_book.specs.Stable.{IsInOrder}
+use Rattle.itch_book.specs.StableLists.{IsInOrder}
 use Rattle.itch_book.specs.Orders.{is_better, is_of, is_worse, is_next, next_price, stands_before, IsBook}
 use Rattle.itch_book.proofs.Lists.{by_test, All-weaker_rec}
 use Rattle.itch_book.proofs.OrderLemmas.{stands_of}
@@ -20,8 +20,8 @@ module _ (l : ℕ) (s : Side) (last : Option ℕ) where
   found_here : (y : Order) (ys : List Order) → is_next l s last y ≡ true → next_price (y ∷ ys) l s last ≡ Some y.price
   found_here y ys e = simp e refl
 
-  found_behind : (y : Order) (ys : List Order) → is_next l s last y ≡ false → next_price (y ∷ ys) l s last ≡ next_price ys l s last
-  found_behind y ys e = simp e refl
+  found_after : (y : Order) (ys : List Order) → is_next l s last y ≡ false → next_price (y ∷ ys) l s last ≡ next_price ys l s last
+  found_after y ys e = simp e refl
 
   abbrev IsBest : List Order → ℕ → Type 0
   IsBest orders price = AllByRecursion (λ x. is_next l s last x ≡ true → is_better s x.price price ≡ false) orders
@@ -42,7 +42,7 @@ module _ (l : ℕ) (s : Side) (last : Option ℕ) where
         All-weaker_rec (λ x. stands_before x y ≡ false) (λ x. is_next l s last x ≡ true → is_better s x.price y.price ≡ false)
             (λ x k f. sym (stands_of l s x y (and_parts (is_of l s x) (is_worse s last x.price) f).0 (and_parts (is_of l s y) (is_worse s last y.price) e).0) ∙ k) ys h.0,
       ))
-      (λ e. subst (λ o. IfSome o (IsBest (y ∷ ys))) (sym (found_behind y ys e)) (best_more y ys e (next_price ys l s last) (best_in ys h.1)))
+      (λ e. subst (λ o. IfSome o (IsBest (y ∷ ys))) (sym (found_after y ys e)) (best_more y ys e (next_price ys l s last) (best_in ys h.1)))
 
   stands_more : (y : Order) (ys : List Order) (o : Option ℕ) → IfSome o (Stands ys) → IfSome o (Stands (y ∷ ys))
   stands_more y ys None h = tt
@@ -54,7 +54,7 @@ module _ (l : ℕ) (s : Side) (last : Option ℕ) where
   next_stands (y ∷ ys) =
       by_test (is_next l s last y)
       (λ e. subst (λ o. IfSome o (Stands (y ∷ ys))) (sym (found_here y ys e)) (y, (0, omega arith, refl), e, refl))
-      (λ e. subst (λ o. IfSome o (Stands (y ∷ ys))) (sym (found_behind y ys e)) (stands_more y ys (next_price ys l s last) (next_stands ys)))
+      (λ e. subst (λ o. IfSome o (Stands (y ∷ ys))) (sym (found_after y ys e)) (stands_more y ys (next_price ys l s last) (next_stands ys)))
 
   none_more : (y : Order) (ys : List Order) → is_next l s last y ≡ false → (o : Option ℕ) → IfNone o (AllByRecursion (λ x. is_next l s last x ≡ false) ys) → IfNone o (AllByRecursion (λ x. is_next l s last x ≡ false) (y ∷ ys))
   none_more y ys e None h = (e, h)
@@ -66,7 +66,7 @@ module _ (l : ℕ) (s : Side) (last : Option ℕ) where
   next_none (y ∷ ys) =
       by_test (is_next l s last y)
       (λ e. subst (λ o. IfNone o (AllByRecursion (λ x. is_next l s last x ≡ false) (y ∷ ys))) (sym (found_here y ys e)) tt)
-      (λ e. subst (λ o. IfNone o (AllByRecursion (λ x. is_next l s last x ≡ false) (y ∷ ys))) (sym (found_behind y ys e)) (none_more y ys e (next_price ys l s last) (next_none ys)))
+      (λ e. subst (λ o. IfNone o (AllByRecursion (λ x. is_next l s last x ≡ false) (y ∷ ys))) (sym (found_after y ys e)) (none_more y ys e (next_price ys l s last) (next_none ys)))
 
 -- no order with such a price has a better one
 pub next_best : (orders : List Order) (l : ℕ) (s : Side) (last : Option ℕ) → IsBook orders

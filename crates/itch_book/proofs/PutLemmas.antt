@@ -4,7 +4,7 @@ use Rattle.std.specs.List.{AllByRecursion, list_any}
 use Rattle.std.proofs.lemmas.Bool.{false≢true}
 use Rattle.std.proofs.lemmas.Bool.Decides.{nat_tests}
 use Rattle.std.proofs.lemmas.List.Elements.{filter-append}
-use Rattle.itch_codec.specs.declared.side.Side.{Side}
+use Rattle.itch_codec.specs.declared.orders.Side.{Side}
 use Rattle.itch_book.specs.declared.order.Order.{Order}
 use Rattle.itch_book.specs.Orders.{is_level, same_side, lay, level, added, fits, AllFit, get, stands_before, IsLive, IsBook}
 use Rattle.itch_book.specs.Links.{at_key}
@@ -38,8 +38,8 @@ found_apart k slot orders (j ∷ js) n =
     ap (λ t. shown t (found (at_key k slot orders) js)) o ∙ ap (shown (orders j)) (found_apart k slot orders js (not_in_tail k j js n))
 
 -- an order of this level has its side and place
-pub level_tells : (l : ℕ) (s : Side) (p : ℕ) (x : Order) → is_level l s p x ≡ true → IsPlace s l p x.side x.locate x.price
-level_tells l s p x h =
+pub level_says : (l : ℕ) (s : Side) (p : ℕ) (x : Order) → is_level l s p x ≡ true → IsPlace s l p x.side x.locate x.price
+level_says l s p x h =
     let a : l ≡ x.locate = grind (arith, nat_tests) in
     let b : p ≡ x.price = grind (arith, nat_tests) in
     let side : same_side x.side s ≡ true = grind (arith, nat_tests) in
@@ -104,8 +104,8 @@ module _ (references references' : List (ℕ × ℕ)) (bids asks : List (Place �
 
       own_queue : is_level l s p x ≡ true → queue_of_side s bids asks l p ≡ Some q
       own_queue h =
-          let tells = level_tells l s p x h in
-          subst (λ t. queue_of_side t bids asks l p ≡ Some q) (sym tells.0) (subst (λ t. queue_of_side x.side bids asks t p ≡ Some q) (sym tells.1) (subst (λ t. queue_of_side x.side bids asks x.locate t ≡ Some q) (sym tells.2) at))
+          let says = level_says l s p x h in
+          subst (λ t. queue_of_side t bids asks l p ≡ Some q) (sym says.0) (subst (λ t. queue_of_side x.side bids asks t p ≡ Some q) (sym says.1) (subst (λ t. queue_of_side x.side bids asks x.locate t ≡ Some q) (sym says.2) at))
 
       by_queue : (o : Option ℕ) → queue_of_side s bids asks l p ≡ o → line_at put o ≡ line_at w o ++ filter (is_level l s p) (x ∷ [])
       by_queue None h = by_test (is_level l s p x) (λ e. none_some h (own_queue e)) (λ n. elsewhere [] n)

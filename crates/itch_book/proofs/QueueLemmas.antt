@@ -3,8 +3,8 @@ use Rattle.std.proofs.Common.{◌≡◌, ℕ, ◌<◌, ◌+◌, ◌==◌, true, 
 use Rattle.std.specs.List.{AllByRecursion}
 use Rattle.std.proofs.lemmas.Bool.{false≢true}
 use Rattle.std.proofs.lemmas.Bool.Decides.{nat_tests}
-use Rattle.itch_codec.specs.declared.side.Side.{Side}
-use Rattle.itch_codec.specs.declared.side.Side.TheVariants.{Buy, Sell}
+use Rattle.itch_codec.specs.declared.orders.Side.{Side}
+use Rattle.itch_codec.specs.declared.orders.Side.TheVariants.{Buy, Sell}
 use Rattle.itch_book.specs.declared.order.Order.{Order}
 use Rattle.itch_book.specs.Orders.{is_better, is_of, is_at_price, queue, has_reference, get, IsDistinct, IsQueue}
 use Rattle.itch_book.specs.Priority.{arrival, HasPriority, IsByPriority, IsLine}
@@ -64,13 +64,13 @@ arrival_rises (x ∷ xs) d =
     let own = has_own x in
     let others = other_reference x.reference x xs (head_distinct x xs d) own in
     let zero_is : arrival (x ∷ xs) x ≡ 0 = simp own refl in (
-      All-weaker_rec (λ y. has_reference y.reference x ≡ false) (λ y. arrival (x ∷ xs) x < arrival (x ∷ xs) y) (λ y h. let later = one_behind x xs y h in omega arith) xs others,
+      All-weaker_rec (λ y. has_reference y.reference x ≡ false) (λ y. arrival (x ∷ xs) x < arrival (x ∷ xs) y) (λ y h. let later = one_after x xs y h in omega arith) xs others,
       Rises-weaker (λ y. has_reference y.reference x ≡ false) (λ a b. arrival xs a < arrival xs b) (λ a b. arrival (x ∷ xs) a < arrival (x ∷ xs) b)
-          (λ a b h k lt. let a_later = one_behind x xs a h in let b_later = one_behind x xs b k in omega arith) xs others (arrival_rises xs (tail_distinct x xs d)),
+          (λ a b h k lt. let a_later = one_after x xs a h in let b_later = one_after x xs b k in omega arith) xs others (arrival_rises xs (tail_distinct x xs d)),
     )
   where
-    one_behind : (x : Order) (xs : List Order) (y : Order) → has_reference y.reference x ≡ false → arrival (x ∷ xs) y ≡ 1 + arrival xs y
-    one_behind x xs y h = simp h refl
+    one_after : (x : Order) (xs : List Order) (y : Order) → has_reference y.reference x ≡ false → arrival (x ∷ xs) y ≡ 1 + arrival xs y
+    one_after x xs y h = simp h refl
 
 -- priority goes one way
 pub priority_one_way : (orders : List Order) (s : Side) (x y : Order) → HasPriority orders s x y → HasPriority orders s y x → ⊥

@@ -11,8 +11,8 @@ use Rattle.std.specs.Map.Iter.{TakesFirst, TakesLast, deref_pair}
 use denote.Ref.{Bor}
 use Rattle.std.proofs.lemmas.Bool.{false≢true}
 use Rattle.std.proofs.lemmas.Bool.Decides.{nat_tests}
-use Rattle.itch_codec.specs.declared.side.Side.{Side}
-use Rattle.itch_codec.specs.declared.side.Side.TheVariants.{Buy, Sell}
+use Rattle.itch_codec.specs.declared.orders.Side.{Side}
+use Rattle.itch_codec.specs.declared.orders.Side.TheVariants.{Buy, Sell}
 use Rattle.itch_book.specs.Orders.{is_better, is_worse}
 use Rattle.itch_book.specs.Indexed.{Place, place_cmp, queue_at, IsNextLevel, IsNextOr, level_entry}
 use Rattle.itch_book.proofs.Lists.{by_test}

@@ -7,7 +7,7 @@ use Rattle.std.proofs.lemmas.Bool.Decides.{nat_tests}
 use Rattle.std.proofs.lemmas.List.Sorted.{IsPermutation-refl, IsPermutation-sym, IsPermutation-cons, IsPermutation-trans, IsPermutation-middle, sum_by-IsPermutation, All-permutation}
 use Rattle.std.proofs.lemmas.List.Sums.{length-filter}
 use Rattle.std.proofs.lemmas.List.Elements.{All-from_recursion, recursion_from_All}
-use Rattle.itch_book.specs.Stable.{earlier_in, in_order, IsInOrder}
+use Rattle.itch_book.specs.StableLists.{earlier_in, in_order, IsInOrder}
 use Rattle.itch_book.proofs.Lists.{by_test, All-weaker_rec, All-filter_rec, All-both_rec, passes_filter, filter_none}
 use Rattle.itch_book.proofs.StableLemmas.{All-earlier_in, All-in_order, IsInOrder-in_order}
 
@@ -84,10 +84,10 @@ Rises-same R key one_way (x ∷ xs) (y ∷ ys) h k same =
     (λ f.
     let f' : (key x == key y) ≡ false = grind (arith, nat_tests) in
     let e' : (key y == key y) ≡ true = grind (arith, nat_tests) in
-    let behind_y : x ∷ filter (λ z. key z == key x) xs ≡ filter (λ z. key z == key x) ys = simp (e, f) at (same (key x)) in
-    let behind_x : filter (λ z. key z == key y) xs ≡ y ∷ filter (λ z. key z == key y) ys = simp (e', f') at (same (key y)) in
-    let yx = subst (AllByRecursion (R y)) (sym behind_y) (All-filter_rec (R y) (λ z. key z == key x) ys k.0) in
-    let xy = subst (AllByRecursion (R x)) behind_x (All-filter_rec (R x) (λ z. key z == key y) xs h.0) in
+    let following_y : x ∷ filter (λ z. key z == key x) xs ≡ filter (λ z. key z == key x) ys = simp (e, f) at (same (key x)) in
+    let following_x : filter (λ z. key z == key y) xs ≡ y ∷ filter (λ z. key z == key y) ys = simp (e', f') at (same (key y)) in
+    let yx = subst (AllByRecursion (R y)) (sym following_y) (All-filter_rec (R y) (λ z. key z == key x) ys k.0) in
+    let xy = subst (AllByRecursion (R x)) following_x (All-filter_rec (R x) (λ z. key z == key y) xs h.0) in
     absurd (one_way x y xy.0 yx.0))
 
 -- a stable sort: what is after another is so by the comparison, or ties and came later

@@ -116,8 +116,8 @@ module _ (f : Nodes) (heads : ℕ → Option Head) (sound : IsSound f heads) whe
       node : right.0.node ≡ x
       node = same_some right.0.here here
 
-      behind : (p : ℕ) → x.before ≡ Some p → In p (xs ++ k ∷ ys)
-      behind p e = in_left p xs (k ∷ ys) (last_in p xs (sym right.0.before_is ∙ ap (λ (z : Node). z.before) node ∙ e))
+      following : (p : ℕ) → x.before ≡ Some p → In p (xs ++ k ∷ ys)
+      following p e = in_left p xs (k ∷ ys) (last_in p xs (sym right.0.before_is ∙ ap (λ (z : Node). z.before) node ∙ e))
 
       ahead : (p : ℕ) → x.after ≡ Some p → In p (xs ++ k ∷ ys)
       ahead p e = in_right p xs (k ∷ ys) (in_tail p k ys (first_in p ys (sym right.0.after_is ∙ ap (λ (z : Node). z.after) node ∙ e)))
@@ -125,7 +125,7 @@ module _ (f : Nodes) (heads : ℕ → Option Head) (sound : IsSound f heads) whe
       others : (j : ℕ) (y : Node) → f j ≡ Some y → eqb x.queue y.queue ≡ false → unlinked k x f j ≡ f j
       others j y it e =
           skip_before (with_after x.before x.after (at_key k None f)) x.after x.before j (λ p a. spare f x.queue (xs ++ k ∷ ys) p j y whole.linked (ahead p a) it e)
-          ∙ skip_after (at_key k None f) x.before x.after j (λ p b. spare f x.queue (xs ++ k ∷ ys) p j y whole.linked (behind p b) it e)
+          ∙ skip_after (at_key k None f) x.before x.after j (λ p b. spare f x.queue (xs ++ k ∷ ys) p j y whole.linked (following p b) it e)
           ∙ at_apart k None f j (not_key f k x j y here it e)
 
       was : (j : ℕ) (y : Node) → unlinked k x f j ≡ Some y → (y0 : Node) × (f j ≡ Some y0) × (y0.queue ≡ y.queue) × (y0.order ≡ y.order) × (eqb k j ≡ false)

@@ -3,7 +3,7 @@ use Rattle.std.proofs.Common.{◌≡◌, ◌≤◌, ◌+◌, Bool, true, false, 
 use Rattle.std.specs.List.{AllByRecursion}
 use Rattle.std.specs.Cmp.{IsStrictWeakOrder}
 use Rattle.std.proofs.lemmas.Bool.{cond_both, false≢true}
-use Rattle.itch_book.specs.Stable.{earlier_in, later_in, in_order, IsInOrder}
+use Rattle.itch_book.specs.StableLists.{earlier_in, later_in, in_order, IsInOrder}
 use Rattle.itch_book.proofs.Lists.{by_test, All-weaker_rec, All-filter_rec, passes_filter}
 
 -- the facts for which the comparison need not be an order
@@ -169,9 +169,9 @@ module _ {A : Type 0} (before : A → A → Bool) (o : IsStrictWeakOrder before)
       (λ e. by_test (q x)
       (λ f. absurd (false≢true (sym (not_itself x) ∙ apart x x e f)))
       (λ f. let g : r x ≡ true = either x ∙ simp (e, f) refl in
-      let behind = All-in_order before (λ y. before y x ≡ false) (filter q xs)
+      let following = All-in_order before (λ y. before y x ≡ false) (filter q xs)
       (All-weaker_rec (λ y. q y ≡ true) (λ y. before y x ≡ false) (λ y h. o.one_way x y (apart x y e h)) (filter q xs) (passes_filter q xs)) in
-      simp (e, f, g) (ap (earlier_in before x) rest ∙ earlier_in-left before x ps qs behind)))
+      simp (e, f, g) (ap (earlier_in before x) rest ∙ earlier_in-left before x ps qs following)))
       (λ e. by_test (q x)
       (λ f. let g : r x ≡ true = either x ∙ simp (e, f) refl in
       let ahead = All-in_order before (λ y. before y x ≡ true) (filter p xs)

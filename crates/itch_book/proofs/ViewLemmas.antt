@@ -203,12 +203,12 @@ has_head nodes heads q h = by_head (get heads q) (subst IsSome (keys_seen nodes 
     by_head None h = absurd (false≢true h)
     by_head (Some head) h = refl
 
--- the same, as the calls tell it
-pub push_told : (nodes nodes1 nodes2 : Slab Node) (heads heads' : Slab Head) (q k : ℕ) (o : Order) (x : Node) (head1 head head' : Head) → IsSound (get nodes) (get heads) → get nodes k ≡ None
+-- the same, as the calls certain it
+pub push_known : (nodes nodes1 nodes2 : Slab Node) (heads heads' : Slab Head) (q k : ℕ) (o : Order) (x : Node) (head1 head head' : Head) → IsSound (get nodes) (get heads) → get nodes k ≡ None
     → get heads q ≡ Some head1 → get heads q ≡ Some head → x.order ≡ o → x.queue ≡ q → x.before ≡ head1.last → x.after ≡ None → o.shares < 2 ^ 32 → Updates nodes nodes1 k (Some x)
     → ((j : ℕ) → get nodes2 j ≡ with_after head1.last (Some k) (get nodes1) j) → ((y : Node) → y.before ≡ head1.last → y.order.shares ≡ o.shares → head' ≡ pushed_head k y head)
     → ((p : ℕ) → get heads' p ≡ at_key q (Some head') (get heads) p) → IsPushed nodes nodes2 heads heads' q k o
-push_told nodes nodes1 nodes2 heads heads' q k o x head1 head head' sound vacant there1 there order queue before after small updates two is changed =
+push_known nodes nodes1 nodes2 heads heads' q k o x head1 head head' sound vacant there1 there order queue before after small updates two is changed =
     subst (λ (z : Order). IsPushed nodes nodes2 heads heads' q k z) order
     (subst (λ p. IsPushed nodes nodes2 heads heads' p k x.order) queue
     (push_done nodes nodes1 nodes2 heads heads' k x head head' sound vacant (ap (get heads) queue ∙ there)

@@ -3,7 +3,7 @@ use Rattle.std.proofs.Common.{◌≡◌, ℕ, ◌==◌, Bool, false, List, [], �
 use Rattle.std.proofs.lemmas.Bool.{cond_both}
 use Rattle.std.proofs.lemmas.Bool.Decides.{nat_tests}
 use Rattle.itch_book.specs.declared.order.Order.{Order}
-use Rattle.itch_book.specs.Orders.{is_in, sides, IsDistinct, IsBook, has_reference, get, behind, after, next_in, from_order}
+use Rattle.itch_book.specs.Orders.{is_in, sides, IsDistinct, IsBook, has_reference, get, following, after, next_in, from_order}
 use Rattle.itch_book.proofs.Lists.{by_test, found_passes}
 use Rattle.itch_book.proofs.Distinct.{has_own, tail_distinct, head_distinct}
 pub use Rattle.itch_book.proofs.Distinct.{walk_none}
@@ -40,53 +40,53 @@ found_get p (y ∷ ys) x d h =
     simp other (found_get p ys x (tail_distinct y ys d) there))
 
 -- the orders that pass a test are the first that does, and those after it
-pub walk_some : (p : Order → Bool) (xs : List Order) (x : Order) → IsDistinct xs → find p xs ≡ Some x → filter p xs ≡ x ∷ filter p (behind x.reference xs)
+pub walk_some : (p : Order → Bool) (xs : List Order) (x : Order) → IsDistinct xs → find p xs ≡ Some x → filter p xs ≡ x ∷ filter p (following x.reference xs)
 walk_some p [] x d h = absurd (let no_one : ⊥ = cc in no_one)
 walk_some p (y ∷ ys) x d h =
     by_test (p y)
     (λ e. let here : Some y ≡ Some x = simp e at h in
     let this : y ≡ x = cc in
     let own = has_own y in
-    subst (λ w. filter p (y ∷ ys) ≡ w ∷ filter p (behind w.reference (y ∷ ys))) this (simp (own, e) refl))
+    subst (λ w. filter p (y ∷ ys) ≡ w ∷ filter p (following w.reference (y ∷ ys))) this (simp (own, e) refl))
     (λ e. let there : find p ys ≡ Some x = simp e at h in
     let other = other_reference p y ys x (head_distinct y ys d) there in
     simp (other, e) (walk_some p ys x (tail_distinct y ys d) there))
 
-pub IsDistinct-behind : (r : ℕ) (xs : List Order) → IsDistinct xs → IsDistinct (behind r xs)
-IsDistinct-behind r [] d = d
-IsDistinct-behind r (x ∷ xs) d =
-    cond_both (has_reference r x) xs (behind r xs) IsDistinct (λ e. tail_distinct x xs d) (λ e. IsDistinct-behind r xs (tail_distinct x xs d))
+pub IsDistinct-following : (r : ℕ) (xs : List Order) → IsDistinct xs → IsDistinct (following r xs)
+IsDistinct-following r [] d = d
+IsDistinct-following r (x ∷ xs) d =
+    cond_both (has_reference r x) xs (following r xs) IsDistinct (λ e. tail_distinct x xs d) (λ e. IsDistinct-following r xs (tail_distinct x xs d))
 
 -- an order that stands after another is in the list, and what stands after it is the same there
-pub behind_get : (p : Order → Bool) (r : ℕ) (xs : List Order) (x : Order) → IsDistinct xs → find p (behind r xs) ≡ Some x → get xs x.reference ≡ Some x
-behind_get p r [] x d h = absurd (let no_one : ⊥ = cc in no_one)
-behind_get p r (y ∷ ys) x d h =
+pub following_get : (p : Order → Bool) (r : ℕ) (xs : List Order) (x : Order) → IsDistinct xs → find p (following r xs) ≡ Some x → get xs x.reference ≡ Some x
+following_get p r [] x d h = absurd (let no_one : ⊥ = cc in no_one)
+following_get p r (y ∷ ys) x d h =
     by_test (has_reference r y)
     (λ e. let there : find p ys ≡ Some x = simp e at h in
     let other = other_reference p y ys x (head_distinct y ys d) there in
     simp other (found_get p ys x (tail_distinct y ys d) there))
-    (λ e. let there : find p (behind r ys) ≡ Some x = simp e at h in
-    let rest = behind_get p r ys x (tail_distinct y ys d) there in
+    (λ e. let there : find p (following r ys) ≡ Some x = simp e at h in
+    let rest = following_get p r ys x (tail_distinct y ys d) there in
     let other = other_reference (has_reference x.reference) y ys x (head_distinct y ys d) rest in
     simp other rest)
 
-pub behind-behind : (p : Order → Bool) (r : ℕ) (xs : List Order) (x : Order) → IsDistinct xs → find p (behind r xs) ≡ Some x → behind x.reference (behind r xs) ≡ behind x.reference xs
-behind-behind p r [] x d h = refl
-behind-behind p r (y ∷ ys) x d h =
+pub following-following : (p : Order → Bool) (r : ℕ) (xs : List Order) (x : Order) → IsDistinct xs → find p (following r xs) ≡ Some x → following x.reference (following r xs) ≡ following x.reference xs
+following-following p r [] x d h = refl
+following-following p r (y ∷ ys) x d h =
     by_test (has_reference r y)
     (λ e. let there : find p ys ≡ Some x = simp e at h in
     let other = other_reference p y ys x (head_distinct y ys d) there in
     simp (e, other) refl)
-    (λ e. let there : find p (behind r ys) ≡ Some x = simp e at h in
-    let rest = behind_get p r ys x (tail_distinct y ys d) there in
+    (λ e. let there : find p (following r ys) ≡ Some x = simp e at h in
+    let rest = following_get p r ys x (tail_distinct y ys d) there in
     let other = other_reference (has_reference x.reference) y ys x (head_distinct y ys d) rest in
-    simp (e, other) (behind-behind p r ys x (tail_distinct y ys d) there))
+    simp (e, other) (following-following p r ys x (tail_distinct y ys d) there))
 
 -- the same from an order on
-pub walk_on : (p : Order → Bool) (r : ℕ) (xs : List Order) (x : Order) → IsDistinct xs → find p (behind r xs) ≡ Some x → filter p (behind r xs) ≡ x ∷ filter p (behind x.reference xs)
+pub walk_on : (p : Order → Bool) (r : ℕ) (xs : List Order) (x : Order) → IsDistinct xs → find p (following r xs) ≡ Some x → filter p (following r xs) ≡ x ∷ filter p (following x.reference xs)
 walk_on p r xs x d h =
-    walk_some p (behind r xs) x (IsDistinct-behind r xs d) h
-    ∙ ap (λ t. x ∷ filter p t) (behind-behind p r xs x d h)
+    walk_some p (following r xs) x (IsDistinct-following r xs d) h
+    ∙ ap (λ t. x ∷ filter p t) (following-following p r xs x d h)
 
 -- the orders of a locate are its first, and those after it
 pub first_left : (xs : List Order) (l : ℕ) → IsBook xs → sides xs l ≡ from_order xs (find (is_in l) xs)
@@ -95,22 +95,22 @@ first_left xs l b = sides-book xs l b ∙ by_first (find (is_in l) xs) refl
     by_first : (found : Option Order) → find (is_in l) xs ≡ found → filter (is_in l) xs ≡ from_order xs found
     by_first None e = walk_none (is_in l) xs e
     by_first (Some x) e =
-        subst (λ k. filter (is_in l) xs ≡ x ∷ filter (is_in k) (behind x.reference xs)) (sym (in_is l x (found_passes (is_in l) xs x e))) (walk_some (is_in l) xs x b.distinct e)
+        subst (λ k. filter (is_in l) xs ≡ x ∷ filter (is_in k) (following x.reference xs)) (sym (in_is l x (found_passes (is_in l) xs x e))) (walk_some (is_in l) xs x b.distinct e)
 
 -- the next of the same locate, for an order that is live
-pub after_is : (xs : List Order) (x : Order) → get xs x.reference ≡ Some x → after xs x.reference ≡ find (is_in x.locate) (behind x.reference xs)
+pub after_is : (xs : List Order) (x : Order) → get xs x.reference ≡ Some x → after xs x.reference ≡ find (is_in x.locate) (following x.reference xs)
 after_is xs x h = ap (λ o. next_in o x.reference xs) h
 
 -- from an order on: the order, and from the next one on
 pub next_left : (xs : List Order) (x : Order) → IsDistinct xs → get xs x.reference ≡ Some x → from_order xs (Some x) ≡ x ∷ from_order xs (after xs x.reference)
 next_left xs x d h =
-    ap (λ t. x ∷ t) (by_next (find (is_in x.locate) (behind x.reference xs)) refl ∙ ap (from_order xs) (sym (after_is xs x h)))
+    ap (λ t. x ∷ t) (by_next (find (is_in x.locate) (following x.reference xs)) refl ∙ ap (from_order xs) (sym (after_is xs x h)))
   where
-    by_next : (found : Option Order) → find (is_in x.locate) (behind x.reference xs) ≡ found → filter (is_in x.locate) (behind x.reference xs) ≡ from_order xs found
-    by_next None e = walk_none (is_in x.locate) (behind x.reference xs) e
+    by_next : (found : Option Order) → find (is_in x.locate) (following x.reference xs) ≡ found → filter (is_in x.locate) (following x.reference xs) ≡ from_order xs found
+    by_next None e = walk_none (is_in x.locate) (following x.reference xs) e
     by_next (Some y) e =
-        subst (λ k. filter (is_in x.locate) (behind x.reference xs) ≡ y ∷ filter (is_in k) (behind y.reference xs))
-        (sym (in_is x.locate y (found_passes (is_in x.locate) (behind x.reference xs) y e)))
+        subst (λ k. filter (is_in x.locate) (following x.reference xs) ≡ y ∷ filter (is_in k) (following y.reference xs))
+        (sym (in_is x.locate y (found_passes (is_in x.locate) (following x.reference xs) y e)))
         (walk_on (is_in x.locate) x.reference xs y d e)
 
 -- the first of a locate, and the next after a live order, are live
@@ -122,8 +122,8 @@ first_live xs l d = by_first (find (is_in l) xs) refl
     by_first (Some y) e = found_get (is_in l) xs y d e
 
 pub after_live : (xs : List Order) (x : Order) → IsDistinct xs → get xs x.reference ≡ Some x → IfSome (after xs x.reference) (λ y. get xs y.reference ≡ Some y)
-after_live xs x d h = subst (λ o. IfSome o (λ y. get xs y.reference ≡ Some y)) (sym (after_is xs x h)) (by_next (find (is_in x.locate) (behind x.reference xs)) refl)
+after_live xs x d h = subst (λ o. IfSome o (λ y. get xs y.reference ≡ Some y)) (sym (after_is xs x h)) (by_next (find (is_in x.locate) (following x.reference xs)) refl)
   where
-    by_next : (found : Option Order) → find (is_in x.locate) (behind x.reference xs) ≡ found → IfSome found (λ y. get xs y.reference ≡ Some y)
+    by_next : (found : Option Order) → find (is_in x.locate) (following x.reference xs) ≡ found → IfSome found (λ y. get xs y.reference ≡ Some y)
     by_next None e = tt
-    by_next (Some y) e = behind_get (is_in x.locate) x.reference xs y d e
+    by_next (Some y) e = following_get (is_in x.locate) x.reference xs y d e

@@ -1,8 +1,8 @@
-pub mod Stable
+pub mod StableLists
 pub mod Orders
-pub mod Kept
+pub mod BookLists
 pub mod Priority
-pub mod Taken
+pub mod TakenShares
 pub mod Link
 pub mod Links
 pub mod Queued

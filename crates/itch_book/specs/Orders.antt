@@ -3,9 +3,9 @@
 use Rattle.std.specs.Prelude.{◌≡◌, ℕ, ◌-◌, ◌≤◌, ◌<◌, ◌==◌, nat_lt, Bool, true, false, not, ◌&&◌, ◌||◌, if◌then◌else◌, List, [], ◌∷◌, ◌++◌, map, length, Option, Some, None, option_map, suc, zero}
 use Rattle.std.specs.List.{filter, find, sum_by, AllByRecursion}
 use Rattle.itch_book.specs.declared.order.Order.{Order}
-use Rattle.itch_codec.specs.declared.side.Side.{Side}
-use Rattle.itch_codec.specs.declared.side.Side.TheVariants.{Buy, Sell}
-use Rattle.itch_book.specs.Stable.{in_order, IsInOrder}
+use Rattle.itch_codec.specs.declared.orders.Side.{Side}
+use Rattle.itch_codec.specs.declared.orders.Side.TheVariants.{Buy, Sell}
+use Rattle.itch_book.specs.StableLists.{in_order, IsInOrder}
 
 -- a better price: a bid is better the higher it is, an ask the lower
 abbrev pub is_better : Side → ℕ → ℕ → Bool
@@ -121,14 +121,14 @@ abbrev pub is_in : ℕ → Order → Bool
 is_in locate x = x.locate == locate
 
 -- what stands after the order of a reference
-abbrev pub behind : ℕ → List Order → List Order
-behind reference [] = []
-behind reference (x ∷ xs) = if has_reference reference x then xs else behind reference xs
+abbrev pub following : ℕ → List Order → List Order
+following reference [] = []
+following reference (x ∷ xs) = if has_reference reference x then xs else following reference xs
 
 -- what follows an order among those of its locate, if there is that order
 abbrev pub next_in : Option Order → ℕ → List Order → Option Order
 next_in None reference orders = None
-next_in (Some x) reference orders = find (is_in x.locate) (behind reference orders)
+next_in (Some x) reference orders = find (is_in x.locate) (following reference orders)
 
 -- the next order of the same locate after that of a reference
 abbrev pub after : List Order → ℕ → Option Order
@@ -137,7 +137,7 @@ after orders reference = next_in (get orders reference) reference orders
 -- an order, and the orders of its locate after it
 abbrev pub from_order : List Order → Option Order → List Order
 from_order orders None = []
-from_order orders (Some x) = x ∷ filter (is_in x.locate) (behind x.reference orders)
+from_order orders (Some x) = x ∷ filter (is_in x.locate) (following x.reference orders)
 
 -- worse than a price, or any price where none is given
 abbrev pub is_worse : Side → Option ℕ → ℕ → Bool

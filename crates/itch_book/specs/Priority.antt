@@ -3,7 +3,7 @@ use Rattle.std.specs.Prelude.{◌≡◌, ℕ, ◌<◌, ◌↔◌, ◌⊎◌, tru
 use Rattle.std.specs.List.{filter, position_or_len}
 use Rattle.std.specs.List.Sorted.{IsPermutation}
 use Rattle.itch_book.specs.declared.order.Order.{Order}
-use Rattle.itch_codec.specs.declared.side.Side.{Side}
+use Rattle.itch_codec.specs.declared.orders.Side.{Side}
 use Rattle.itch_book.specs.Orders.{is_better, is_of, has_reference}
 
 -- the place at which an order stands among orders in order of arrival

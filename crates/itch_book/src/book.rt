@@ -3,7 +3,7 @@ ghost use Rattle.std.specs.Prelude.{◌≡◌, ◌-◌, ◌<◌, ◌≤◌, List
 ghost use Rattle.std.specs.Option.{option_copied};
 ghost use Rattle.itch_book.specs.declared.order.Order.{Order};
 ghost use Rattle.itch_book.specs.Orders.{IsBook, get, is_in, is_of, after, next_price, level_total, lay, added, taken, without, replaced};
-ghost use Rattle.itch_book.specs.Taken.{IsLeft};
+ghost use Rattle.itch_book.specs.TakenShares.{IsLeft};
 
 use crate::order::{Order, Taken};
 use itch_codec::Side;

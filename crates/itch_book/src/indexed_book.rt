@@ -1,7 +1,7 @@
 //! A book with an index: hashed references, and queues of orders under ordered prices.
 ghost use Rattle.std.specs.Prelude.{List};
 ghost use Rattle.itch_book.specs.Orders.{IsBook};
-ghost use Rattle.itch_book.specs.Kept.{IsBook-prop};
+ghost use Rattle.itch_book.specs.BookLists.{IsBook-prop};
 
 use crate::book::OrderBook;
 use crate::index::Index;

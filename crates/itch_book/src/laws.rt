@@ -3,7 +3,7 @@
 //! Each function of this module does nothing: its clauses are the laws.
 ghost use Rattle.std.specs.Prelude.{◌≡◌, ℕ, ◌<◌, ◌⊎◌, ◌↔◌, true, false, List, Some, Option, IsPermutation, IfSome, IfNone, Contains, slice_get, find};
 ghost use Rattle.std.specs.List.{filter, AllByRecursion};
-ghost use Rattle.itch_codec.specs.declared.side.Side.{Side};
+ghost use Rattle.itch_codec.specs.declared.orders.Side.{Side};
 ghost use Rattle.itch_book.specs.declared.order.Order.{Order};
 ghost use Rattle.itch_book.specs.Orders.{is_better, is_of, is_in, queue, sides, level, is_next, next_price, lay, get, first, added, taken, without, replaced, IsDistinct, AllFit, IsLive, IsBook};
 ghost use Rattle.itch_book.specs.Priority.{arrival, IsLine};

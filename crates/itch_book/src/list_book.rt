@@ -1,12 +1,12 @@
 //! A book that is one list.
 ghost use Rattle.std.specs.Prelude.{List};
 ghost use Rattle.itch_book.specs.Orders.{IsBook};
-ghost use Rattle.itch_book.specs.Kept.{IsBook-prop};
+ghost use Rattle.itch_book.specs.BookLists.{IsBook-prop};
 
 use crate::book::OrderBook;
-use crate::moves::{exchange, put_in, take_from, take_out};
+use crate::changes::{exchange, put_in, take_from, take_out};
 use crate::order::{Order, Taken};
-use crate::places::{first_in, first_of, next_of, price_after, total_at};
+use crate::priority::{first_in, first_of, next_of, price_after, total_at};
 use itch_codec::Side;
 use std::alloc::{AllocError, Allocator, Global};
 

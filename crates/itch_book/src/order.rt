@@ -22,7 +22,7 @@ pub struct Order {
 /// What is left of an order from which shares were taken.
 #[derive(Clone, Copy, Debug, PartialEq, Eq)]
 pub enum Taken {
-    /// So many shares remain.
+    /// This many shares remain.
     Left(u32),
     /// None remain, and the order is gone.
     Gone,

@@ -4,8 +4,8 @@ ghost use Rattle.std.specs.List.Sorted.{IsStrictlySortedBy};
 ghost use Rattle.std.specs.Map.{keys_of};
 ghost use Rattle.std.specs.BTreeMap.{is_at};
 ghost use Rattle.std.specs.Map.Iter.{deref_pair};
-ghost use Rattle.itch_codec.specs.declared.side.Side.{Side};
-ghost use Rattle.itch_codec.specs.declared.side.Side.TheVariants.{Buy, Sell};
+ghost use Rattle.itch_codec.specs.declared.orders.Side.{Side};
+ghost use Rattle.itch_codec.specs.declared.orders.Side.TheVariants.{Buy, Sell};
 ghost use Rattle.itch_book.specs.Queued.{Opens};
 ghost use Rattle.itch_book.specs.Indexed.{queue_at as on_side, queue_of_side, is_there, place_cmp, IsNextOr, level_entry};
 

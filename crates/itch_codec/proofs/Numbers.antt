@@ -12,7 +12,7 @@ use Rattle.std.proofs.lemmas.Bool.Decides.{nat_tests}
 use Rattle.std.proofs.lemmas.Int.Digits.{digits_value_more}
 use Rattle.std.proofs.lemmas.Str.Parse.{IsNumeralModel, numerals_by_value, tells_all_ascii_digits, digits_value_short, digits_value-take-le, digit_at}
 use Rattle.std.proofs.lemmas.Fmt.{length-decimal-le, decimal_nonempty, digits_decimal, digits_value-decimal}
-use Rattle.itch_codec.specs.Numbers.{dec20, SpellsNumber, IsNumber, read20, is_space, after_spaces, digits_in_front, behind_digits, number_of_digits, number_of_parts}
+use Rattle.itch_codec.specs.Numbers.{dec20, SpellsNumber, IsNumber, read20, is_space, after_spaces, digits_in_front, after_digits, number_of_digits, number_of_parts}
 
 pub numerals : IsNumeralModel (λ ds. all_ascii_digits ds ≡ true) (digits_value 10)
 numerals = numerals_by_value _ tells_all_ascii_digits
@@ -134,20 +134,20 @@ parts_number n (d ∷ ds) right h =
 
 -- what is read is spelled so
 pub read-spells : (field : List ℕ) (n : ℕ) → read20 field ≡ Some n → SpellsNumber field n
-unfolding read20 after_spaces digits_in_front behind_digits
+unfolding read20 after_spaces digits_in_front after_digits
 read-spells field n h =
     let text = after_spaces field in
-    let parts = number_parts n (digits_in_front text) (behind_digits text) h in (
+    let parts = number_parts n (digits_in_front text) (after_digits text) h in (
       take (prefix_len is_space field) field,
       digits_in_front text,
-      behind_digits text,
+      after_digits text,
       record {
         whole = sym (take-append-drop (prefix_len is_space field) field)
             ∙ ap (λ xs. take (prefix_len is_space field) field ++ xs) (sym (take-append-drop (prefix_len is_ascii_digit text) text));
         spaces_before = front_passes is_space field;
         all_digits = digits_pass text;
         some_digit = parts.some_digit;
-        spaces_behind = parts.blank;
+        spaces_after = parts.blank;
         value = parts.value;
         bounded = parts.bounded;
       },
@@ -162,23 +162,23 @@ text_of left digits right before all some =
 
 digits_len : (digits right : List ℕ) → all_ascii_digits digits ≡ true → list_all is_space right ≡ true
     → prefix_len is_ascii_digit (digits ++ right) ≡ length digits
-digits_len digits right all behind =
-    prefix_len-split is_ascii_digit digits right (sym (all_ascii-list_all digits) ∙ all) (no_digit_in_front right behind)
+digits_len digits right all following =
+    prefix_len-split is_ascii_digit digits right (sym (all_ascii-list_all digits) ∙ all) (no_digit_in_front right following)
 
 digits_of : (digits right : List ℕ) → all_ascii_digits digits ≡ true → list_all is_space right ≡ true → digits_in_front (digits ++ right) ≡ digits
 unfolding digits_in_front
-digits_of digits right all behind = rw (digits_len digits right all behind) (take_at digits right _ refl)
+digits_of digits right all following = rw (digits_len digits right all following) (take_at digits right _ refl)
 
-rest_of : (digits right : List ℕ) → all_ascii_digits digits ≡ true → list_all is_space right ≡ true → behind_digits (digits ++ right) ≡ right
-unfolding behind_digits
-rest_of digits right all behind = rw (digits_len digits right all behind) (drop_at digits right _ refl)
+rest_of : (digits right : List ℕ) → all_ascii_digits digits ≡ true → list_all is_space right ≡ true → after_digits (digits ++ right) ≡ right
+unfolding after_digits
+rest_of digits right all following = rw (digits_len digits right all following) (drop_at digits right _ refl)
 
 number-read : {field left digits right : List ℕ} {n : ℕ} → IsNumber field n left digits right → read20 field ≡ Some n
 unfolding read20
 number-read {field} {left} {digits} {right} {n} h =
     let text = ap after_spaces h.whole ∙ text_of left digits right h.spaces_before h.all_digits h.some_digit in
-    rw (text, digits_of digits right h.all_digits h.spaces_behind, rest_of digits right h.all_digits h.spaces_behind)
-    (parts_number n digits right (record { some_digit = h.some_digit; blank = h.spaces_behind; value = h.value; bounded = h.bounded }))
+    rw (text, digits_of digits right h.all_digits h.spaces_after, rest_of digits right h.all_digits h.spaces_after)
+    (parts_number n digits right (record { some_digit = h.some_digit; blank = h.spaces_after; value = h.value; bounded = h.bounded }))
 
 -- what is spelled is read so
 pub spells-read : (field : List ℕ) (n : ℕ) → SpellsNumber field n → read20 field ≡ Some n
@@ -201,7 +201,7 @@ dec20-spells n h =
         spaces_before = spaces_all (20 - length (decimal n));
         all_digits = digits_decimal numerals n small;
         some_digit = decimal_nonempty n small;
-        spaces_behind = refl;
+        spaces_after = refl;
         value = sym (digits_value-decimal numerals n small);
         bounded = h;
       },
@@ -214,7 +214,7 @@ pub ruleset fronts = (prefix_len-le-length, length-take, length-drop, digits_pas
 pub read-bounded : (field : List ℕ) (n : ℕ) → read20 field ≡ Some n → n ≤ 10 ^ 19
 unfolding read20
 read-bounded field n h =
-    (number_parts n (digits_in_front (after_spaces field)) (behind_digits (after_spaces field)) h).bounded
+    (number_parts n (digits_in_front (after_spaces field)) (after_digits (after_spaces field)) h).bounded
 
 pub ruleset reading = (read-spells, read-bounded)
 

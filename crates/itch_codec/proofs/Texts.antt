@@ -57,10 +57,10 @@ pub text-whole : (field : List ℕ) (len : ℕ) → len ≤ length field → ((k
 text-whole field len within spaces =
     let size : length (take len field) ≡ len = simp length-take (omega arith) in
     let left : length (drop len field) ≡ length field - len = length-drop len field in
-    let behind : drop len field ≡ replicate (length field - len) 32 =
+    let following : drop len field ≡ replicate (length field - len) 32 =
     ext_get_or 0 (drop len field) (replicate (length field - len) 32) (left ∙ sym (length-replicate (length field - len) 32)) (λ i h.
     get_or-drop len field i 0 ∙ spaces (len + i) (omega arith) (omega arith) ∙ sym (get_or-replicate (length field - len) i 32 0 (omega arith))) in
-    sym (take-append-drop len field) ∙ ap (λ xs. take len field ++ xs) (behind ∙ ap (λ k. replicate (length field - k) 32) (sym size))
+    sym (take-append-drop len field) ∙ ap (λ xs. take len field ++ xs) (following ∙ ap (λ k. replicate (length field - k) 32) (sym size))
 
 -- printable bytes are text
 printable_at : (bytes : List ℕ) → IsPrintable bytes → (i : ℕ) → get_or bytes i 0 < 128

@@ -36,7 +36,7 @@ pub record IsNumber (field : List ℕ) (number : ℕ) (left digits right : List 
   pub spaces_before : IsTrue (list_all is_space left)
   pub all_digits : IsTrue (all_ascii_digits digits)
   pub some_digit : 0 < length digits
-  pub spaces_behind : IsTrue (list_all is_space right)
+  pub spaces_after : IsTrue (list_all is_space right)
   pub value : number ≡ digits_value 10 digits
   pub bounded : number ≤ 10 ^ 19
 
@@ -54,8 +54,8 @@ unfoldable pub digits_in_front : List ℕ → List ℕ
 digits_in_front text = take (prefix_len is_ascii_digit text) text
 
 -- what stands after the digits that a text begins with
-unfoldable pub behind_digits : List ℕ → List ℕ
-behind_digits text = drop (prefix_len is_ascii_digit text) text
+unfoldable pub after_digits : List ℕ → List ℕ
+after_digits text = drop (prefix_len is_ascii_digit text) text
 
 -- the digits' value, if it is at most 10^19
 abbrev pub number_of_digits : List ℕ → Option ℕ
@@ -68,4 +68,4 @@ number_of_parts (digit ∷ digits) right = if list_all is_space right then numbe
 
 -- the number that a field of digits with spaces on both sides spells, if it spells one
 unfoldable pub read20 : List ℕ → Option ℕ
-read20 field = number_of_parts (digits_in_front (after_spaces field)) (behind_digits (after_spaces field))
+read20 field = number_of_parts (digits_in_front (after_spaces field)) (after_digits (after_spaces field))

@@ -1,8 +1,8 @@
 -- The values of each message's fields, in the order of its layout.
 use Rattle.std.specs.Prelude.{ℕ, List, [], ◌∷◌, get_or}
 use Rattle.itch_codec.specs.declared.header.Header.{Header}
-use Rattle.itch_codec.specs.declared.side.Side.{Side}
-use Rattle.itch_codec.specs.declared.side.Side.TheVariants.{Buy}
+use Rattle.itch_codec.specs.declared.orders.Side.{Side}
+use Rattle.itch_codec.specs.declared.orders.Side.TheVariants.{Buy}
 use Rattle.itch_codec.specs.declared.stocks.SystemEvent.{SystemEvent}
 use Rattle.itch_codec.specs.declared.stocks.Directory.{Directory}
 use Rattle.itch_codec.specs.declared.stocks.StockDirectory.{StockDirectory}

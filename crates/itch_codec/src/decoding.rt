@@ -12,11 +12,11 @@ use crate::orders::{
     AddOrder, AttributedAddOrder, OrderCancel, OrderDelete, OrderExecuted, OrderExecutedWithPrice,
     OrderReplace,
 };
+use crate::sizes::size_of_type;
 use crate::stocks::{
     OperationalHalt, ParticipantPosition, RegSho, StockDirectory, SystemEvent, TradingAction,
 };
 use crate::trades::{BrokenTrade, CrossTrade, Trade};
-use crate::types::size_of_type;
 use crate::undecoded::Undecoded;
 
 /// The message that a payload spells.

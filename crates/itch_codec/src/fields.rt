@@ -6,7 +6,7 @@ ghost use Rattle.itch_codec.specs.Layouts.{column, Text, OneSide};
 ghost use Rattle.itch_codec.specs.Fields.{Bytes, TheSide, Has, field_fault, Reads, AreBytes, IsBytes, IsAlpha, side_byte};
 
 use crate::fault::CodecFault;
-use crate::side::Side;
+use crate::orders::Side;
 use crate::text::Alpha;
 use arrayvec::ArrayVec;
 use byteorder::{BigEndian, ByteOrder};

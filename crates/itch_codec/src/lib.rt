@@ -1,4 +1,19 @@
-//! Messages of TotalView-ITCH 5.0 and the End of Snapshot of GLIMPSE 5.0: what each field may hold, and the one spelling of each message.
+//! Messages of TotalView-ITCH 5.0, and the End of Snapshot of GLIMPSE 5.0.
+//!
+//! [`decode`] makes a [`Message`] of a payload, or returns its first fault; [`encode`] spells a message. What is decoded and
+//! encoded again is the same bytes, but for the padding of End of Snapshot. Types that are not decoded are kept whole, as
+//! [`Undecoded`]. Nothing here takes memory, but for [`show`], a message as a line of text.
+//!
+//! A value that exists is valid: an [`Alpha`] is printable, a [`Seq`] is from 1 to 10^19, a [`Stamp`] fits its six bytes.
+//! `laws` has what holds of every payload and every message.
+//!
+//! ```
+//! let message = decode(b"A\0\x01\0\0\0\0\0\0\0\0\0\0\0\0\0\0\0\x01B\0\0\0dAAPL    \0\x16\xe3\x60")?;
+//! if let Message::AddOrder(order) = &message {
+//!     assert_eq!((order.side, order.shares), (Side::Buy, 100));
+//!     assert_eq!((order.stock.text(), order.price), ("AAPL", 1_500_000));
+//! }
+//! ```
 #![tactic(auto)]
 
 mod decoding;
@@ -12,11 +27,10 @@ mod message;
 mod number;
 mod orders;
 mod showing;
-mod side;
+mod sizes;
 mod stocks;
 mod text;
 mod trades;
-mod types;
 mod undecoded;
 mod words;
 
@@ -29,10 +43,9 @@ pub use message::Message;
 pub use number::{Seq, number20, read_number20};
 pub use orders::{
     AddOrder, AttributedAddOrder, OrderCancel, OrderDelete, OrderExecuted, OrderExecutedWithPrice,
-    OrderReplace,
+    OrderReplace, Side,
 };
 pub use showing::{LineText, line, show};
-pub use side::Side;
 pub use stocks::{
     Directory, OperationalHalt, ParticipantPosition, RegSho, StockDirectory, SystemEvent,
     TradingAction,

@@ -3,7 +3,7 @@ ghost use Rattle.std.specs.Prelude.{◌≡◌, ℕ, ◌≤◌, ◌<◌, ◌^◌,
 ghost use Rattle.std.specs.Char.{is_ascii_digit};
 ghost use Rattle.std.specs.List.{prefix_len, list_all};
 ghost use Rattle.std.specs.Str.{all_ascii_digits};
-ghost use Rattle.itch_codec.specs.Numbers.{dec20, SpellsNumber, read20, is_space, after_spaces, digits_in_front, behind_digits, number_of_digits, number_of_parts};
+ghost use Rattle.itch_codec.specs.Numbers.{dec20, SpellsNumber, read20, is_space, after_spaces, digits_in_front, after_digits, number_of_digits, number_of_parts};
 
 use crate::fault::CodecFault;
 use crate::fields::{Buffer, codes_at, put_codes};
@@ -140,10 +140,10 @@ fn count_spaces(field: &[u8]) -> usize
 }
 
 // The digits that the text begins with, and what stands after them.
-#[tactic(auto, using(crate::proofs::Numbers::fronts), unfolding(crate::specs::Numbers::digits_in_front, crate::specs::Numbers::behind_digits))]
+#[tactic(auto, using(crate::proofs::Numbers::fronts), unfolding(crate::specs::Numbers::digits_in_front, crate::specs::Numbers::after_digits))]
 fn split_digits(text: &[u8]) -> (&[u8], &[u8])
     ensures digits { result.0.now ≡ digits_in_front text.entry.now }
-    ensures right { result.1.now ≡ behind_digits text.entry.now }
+    ensures right { result.1.now ≡ after_digits text.entry.now }
     ensures all_digits { IsTrue (all_ascii_digits result.0.now) }
     ensures within { length result.0.now ≤ length text.entry.now }
 {

@@ -13,9 +13,17 @@ use crate::fields::{
     Buffer, put_code, put_side, put_text, put_u32, put_u64, side_at, text_at, u32_at, u64_at,
 };
 use crate::header::Header;
-use crate::side::Side;
 use crate::text::Alpha;
 use crate::words::{Words, show_code, show_number, show_price, show_side, show_text};
+
+/// The side of an order.
+#[derive(Clone, Copy, Debug, PartialEq, Eq)]
+pub enum Side {
+    /// A bid, spelled `B`.
+    Buy,
+    /// An offer, spelled `S`.
+    Sell,
+}
 
 /// Add Order without attribution, `A` (TotalView-ITCH 5.0, "Add Order Message").
 #[derive(Clone, Copy, Debug, PartialEq, Eq)]

@@ -1,4 +1,4 @@
-//! The messages that tell of trades, and change no order.
+//! The messages about trades, which change no order.
 ghost use Rattle.std.specs.Prelude.{◌≡◌, ◌≤◌, [], ◌∷◌, ◌++◌, length};
 ghost use Rattle.arrayvec.specs.ArrayString.{array_string_len};
 ghost use Rattle.arrayvec.specs.ArrayVec.{array_vec_len};
@@ -13,7 +13,7 @@ use crate::fields::{
     Buffer, put_code, put_side, put_text, put_u32, put_u64, side_at, text_at, u32_at, u64_at,
 };
 use crate::header::Header;
-use crate::side::Side;
+use crate::orders::Side;
 use crate::text::Alpha;
 use crate::words::{Words, show_code, show_number, show_price, show_side, show_text};
 

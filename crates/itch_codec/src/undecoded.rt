@@ -6,7 +6,7 @@ ghost use Rattle.std.proofs.Common.{rules};
 ghost use Rattle.itch_codec.specs.Numbers.{byte_at};
 ghost use Rattle.itch_codec.specs.Layouts.{IsUndecoded};
 
-use crate::types::size_of_type;
+use crate::sizes::size_of_type;
 use std::marker::Model;
 
 /// A message of a type that is not decoded: a payload that is not empty, and whose first byte is no type of the table.

@@ -5,7 +5,7 @@ ghost use Rattle.itch_codec.specs.Fields.{Number, Bytes, TheSide};
 ghost use Rattle.itch_codec.specs.Lines.{word, hex_digit};
 ghost use Rattle.itch_codec.specs.Layouts.{Integer, Price, Text, OneSide, Code, Codes};
 
-use crate::side::Side;
+use crate::orders::Side;
 use crate::text::Alpha;
 use arrayvec::ArrayString;
 use itoa::Buffer;

@@ -11,7 +11,7 @@ use Rattle.itch_codec.proofs.Spelling.{spelling_short}
 use Rattle.itch_frame.specs.Blocks.{IsPayload, block, blocks}
 use Rattle.itch_frame.proofs.BlockLemmas.{blocks-append, blocks-push}
 use Rattle.itch_market.specs.Content.{Content}
-use Rattle.itch_market.specs.Goods.{IsGood}
+use Rattle.itch_market.specs.GoodMarkets.{IsGood}
 use Rattle.itch_snapshot.specs.Bytes.{canon, closing}
 use Rattle.itch_snapshot.specs.Snapshot.{snap}
 use Rattle.std.specs.List.{AllByRecursion}

@@ -5,12 +5,12 @@ use Rattle.itch_book.proofs.Lists.{All-map_rec}
 use Rattle.itch_codec.specs.Messages.{message_of}
 use Rattle.itch_codec.specs.Widths.{IsMessage}
 use Rattle.itch_market.specs.Content.{Content, empty, laid}
-use Rattle.itch_market.specs.Goods.{IsGood}
+use Rattle.itch_market.specs.GoodMarkets.{IsGood}
 use Rattle.itch_market.specs.Replays.{Fits}
 use Rattle.itch_market.specs.Runs.{run}
-use Rattle.itch_market.specs.Sames.{Same}
+use Rattle.itch_market.specs.SameMarkets.{Same}
 use Rattle.itch_market.proofs.Causes.{none_follows}
-use Rattle.itch_market.proofs.Goods.{run_good, laid_good}
+use Rattle.itch_market.proofs.GoodMarkets.{run_good, laid_good}
 use Rattle.itch_snapshot.specs.Parting.{IsParting}
 use Rattle.itch_snapshot.specs.Snapshot.{snap}
 use Rattle.itch_snapshot.proofs.OneSnapshot.{snap_same, same_snap, snap-laid}

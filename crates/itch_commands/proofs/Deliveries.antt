@@ -17,7 +17,7 @@ use Rattle.itch_market.specs.Effects.{effect, takes_memory}
 use Rattle.itch_market.specs.Reasons.{reason}
 use Rattle.itch_market.specs.Replays.{IsRefusal, TakesOne}
 use Rattle.itch_market.specs.Stops.{cause_by}
-use Rattle.itch_snapshot.specs.Loads.{TakesNext, closing_number, is_full, is_skipped}
+use Rattle.itch_snapshot.specs.TakenMessages.{TakesNext, closing_number, is_full, is_skipped}
 use Rattle.itch_join.specs.declared.fault.Cause.{Cause}
 use Rattle.itch_join.specs.declared.fault.Cause.TheVariants as cause
 use Rattle.itch_join.specs.declared.fault.JoinFault.{JoinFault}

@@ -7,7 +7,7 @@ use Rattle.std.proofs.lemmas.Bool.Decides.{nat_tests}
 use Rattle.std.proofs.lemmas.List.{drop-append-le, length-drop, length-map, map-append}
 use Rattle.itch_codec.specs.Messages.{message_of}
 use Rattle.itch_frame.specs.Blocks.{block, blocks, Ends, Open, IsFull, Day}
-use Rattle.itch_frame.proofs.Days.{day_on, day_behind, day_some}
+use Rattle.itch_frame.proofs.Days.{day_on, day_later, day_some}
 use Rattle.itch_frame.specs.declared.fault.FrameFault.TheVariants.{Read, Truncated, Write, TooLong}
 use Rattle.itch_market.specs.declared.refusal.Refusal.{Refusal}
 use Rattle.itch_market.specs.declared.stop.Stop.{Stop}
@@ -16,18 +16,18 @@ use Rattle.itch_market.specs.Content.{Content}
 use Rattle.itch_market.specs.Effects.{takes_memory}
 use Rattle.itch_market.specs.Reasons.{reason}
 use Rattle.itch_market.specs.Stops.{cause_by, cause, cause_at, end_of, last_stop}
-use Rattle.itch_market.specs.Firsts.{IsFirst}
-use Rattle.itch_market.specs.Replays.{NoCause, IsRefusal, Refuses, TakesOff, IsTold}
-use Rattle.itch_market.proofs.Causes.{cause_behind, cause_before}
+use Rattle.itch_market.specs.FirstPlaces.{IsFirst}
+use Rattle.itch_market.specs.Replays.{NoCause, IsRefusal, Refuses, TakesOff, IsDecided}
+use Rattle.itch_market.proofs.Causes.{cause_after, cause_before}
 use Rattle.itch_market.proofs.Stopping.{chosen, passed_over, ends_stop, open_stops}
 use Rattle.itch_commands.specs.AsRead.{HaltsAs}
 use Rattle.itch_commands.specs.Joining.{Start, from_number, joined_market, TakesFeed, IsOfMessage, EndsFeed, feed_cause_at, feed_stop_at, StopsFeed}
 
 -- a message that is refused, and not for want of memory, is refused for its reason
-refused : (m : Content) (p : List ℕ) (why : Refusal) → IsTold (Rule why) → Refuses m p why → cause m p ≡ Some (Rule why)
-refused m p why told (clean, refusal) = ap (λ o. cause_by o m p) clean ∙ ap (option_map Rule) (by_reason (reason m (message_of p)) refusal) where
+refused : (m : Content) (p : List ℕ) (why : Refusal) → IsDecided (Rule why) → Refuses m p why → cause m p ≡ Some (Rule why)
+refused m p why decided (clean, refusal) = ap (λ o. cause_by o m p) clean ∙ ap (option_map Rule) (by_reason (reason m (message_of p)) refusal) where
   by_reason : (r : Option Refusal) → IsRefusal r (takes_memory m (message_of p)) why → r ≡ Some why
-  by_reason None (wanting, takes) = absurd (subst (λ w. IsTold (Rule w)) wanting told)
+  by_reason None (wanting, takes) = absurd (subst (λ w. IsDecided (Rule w)) wanting decided)
   by_reason (Some r) same = ap Some (sym same)
 
 module _ (start : Start) where
@@ -63,7 +63,7 @@ module _ (start : Start) where
       passed_over (nat_lt (length done + 1) start.1) None (cause_at start.0 (from_number start.1 (done ++ p ∷ more)) (length done - (start.1 - 1))) above
       ∙ ap (λ qs. cause_at start.0 qs (length done - (start.1 - 1))) (drop-append-le (start.1 - 1) done (p ∷ more) room)
       ∙ ap (cause_at start.0 (from_number start.1 done ++ p ∷ more)) size
-      ∙ cause_behind start.0 (from_number start.1 done) p more
+      ∙ cause_after start.0 (from_number start.1 done) p more
 
   -- all payloads are taken
   first_end : (ps : List (List ℕ)) (rest : List ℕ) → length ps ≤ most → NoCause start.0 (from_number start.1 ps) → IsFirst (feed_stop_at start ps rest) (length ps) (end_of rest)
@@ -102,7 +102,7 @@ pub day_after : (bytes unread : List ℕ) (done : List (List ℕ)) (p : List ℕ
 day_after bytes unread done p whole full_done full = found (day_some unread) where
   found : (ps : List (List ℕ)) × (rest : List ℕ) × Day unread ps rest → (more : List (List ℕ)) × (rest : List ℕ) × Day bytes (done ++ p ∷ more) rest
   found (more, rest, later) =
-      let all : Day (blocks done ++ (block p ++ unread)) (done ++ p ∷ more) rest = day_behind done (block p ++ unread) (p ∷ more) rest full_done (day_on p unread more rest full later) in
+      let all : Day (blocks done ++ (block p ++ unread)) (done ++ p ∷ more) rest = day_later done (block p ++ unread) (p ∷ more) rest full_done (day_on p unread more rest full later) in
       (more, rest, record { whole = whole ∙ all.whole; each = all.each; last = all.last })
 
 not_full : (count : ℕ) → count ≤ 10 ^ 19 - 1 → (count == 10 ^ 19 - 1) ≡ false → count < 10 ^ 19 - 1
@@ -171,27 +171,27 @@ module _ (read : List ℕ → List ℕ) (start : Start) where
     cut : Open c → StopsFeed read start b (length ps) (Frame (Truncated (length c)))
     cut part = subst (StopsFeed read start b (length ps)) (open_stops c part) (none_ends b ps c (record { whole = takes.bytes; each = takes.full; last = inr part }) takes.few takes.taken)
 
-    told_by : (new : Option (List ℕ)) (why : Stop) → (IsOfMessage why → start.1 ≤ length ps + 1) → HaltsAs read (length ps == 10 ^ 19 - 1) (joined_market start (map read ps)) (Some c) new why → IsTold why
+    decided_by : (new : Option (List ℕ)) (why : Stop) → (IsOfMessage why → start.1 ≤ length ps + 1) → HaltsAs read (length ps == 10 ^ 19 - 1) (joined_market start (map read ps)) (Some c) new why → IsDecided why
         → StopsFeed read start b (length ps) why
-    told_by new End low (inl at_end) told = ended (inl at_end)
-    told_by None End low (inr empty) told = absurd empty
-    told_by (Some d) End low (inr empty) told = ended (inr (d, empty))
-    told_by new (Frame (Truncated held)) low (part, count) told = subst (λ h. StopsFeed read start b (length ps) (Frame (Truncated h))) (sym count) (cut part)
-    told_by new (Frame (Read error)) low halts told = absurd told
-    told_by new (Frame (Write sent error)) low halts told = absurd halts
-    told_by new (Frame TooLong) low halts told = absurd halts
-    told_by new (Codec f) low (p, off, room, is) told =
+    decided_by new End low (inl at_end) decided = ended (inl at_end)
+    decided_by None End low (inr empty) decided = absurd empty
+    decided_by (Some d) End low (inr empty) decided = ended (inr (d, empty))
+    decided_by new (Frame (Truncated held)) low (part, count) decided = subst (λ h. StopsFeed read start b (length ps) (Frame (Truncated h))) (sym count) (cut part)
+    decided_by new (Frame (Read error)) low halts decided = absurd decided
+    decided_by new (Frame (Write sent error)) low halts decided = absurd halts
+    decided_by new (Frame TooLong) low halts decided = absurd halts
+    decided_by new (Codec f) low (p, off, room, is) decided =
         let more = one_more new p off in
         one_stops b more.0 ps p (Codec f) more.1 takes.full off.0 (not_full (length ps) takes.few room) takes.taken (low tt) (ap (λ o. cause_by o (joined_market start (map read ps)) (read p)) is)
-    told_by new (Rule why) low (p, off, room, refuses) told =
+    decided_by new (Rule why) low (p, off, room, refuses) decided =
         let more = one_more new p off in
-        one_stops b more.0 ps p (Rule why) more.1 takes.full off.0 (not_full (length ps) takes.few room) takes.taken (low tt) (refused (joined_market start (map read ps)) (read p) why told refuses)
-    told_by new TooManyMessages low (p, off, full) told =
+        one_stops b more.0 ps p (Rule why) more.1 takes.full off.0 (not_full (length ps) takes.few room) takes.taken (low tt) (refused (joined_market start (map read ps)) (read p) why decided refuses)
+    decided_by new TooManyMessages low (p, off, full) decided =
         let more = one_more new p off in
         full_stops b more.0 ps p more.1 takes.full off.0 (eqb-true (length ps) (10 ^ 19 - 1) full) takes.taken
 
   -- the stop is the one that the feed has
-  pub feed_told : (old new : Option (List ℕ)) (ps : List (List ℕ)) (why : Stop) → EndsFeed read start old new ps why → IfSome old (λ b. IsTold why → StopsFeed read start b (length ps) why)
-  feed_told None new ps why ends = tt
-  feed_told (Some b) new ps why (None, takes, low, halts) = absurd takes.bytes
-  feed_told (Some b) new ps why (Some c, takes, low, halts) = λ told. told_by b c ps takes new why low halts told
+  pub feed_decided : (old new : Option (List ℕ)) (ps : List (List ℕ)) (why : Stop) → EndsFeed read start old new ps why → IfSome old (λ b. IsDecided why → StopsFeed read start b (length ps) why)
+  feed_decided None new ps why ends = tt
+  feed_decided (Some b) new ps why (None, takes, low, halts) = absurd takes.bytes
+  feed_decided (Some b) new ps why (Some c, takes, low, halts) = λ decided. decided_by b c ps takes new why low halts decided

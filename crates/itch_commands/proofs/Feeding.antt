@@ -9,7 +9,7 @@ use Rattle.itch_frame.specs.Blocks.{block, blocks, IsFull}
 use Rattle.itch_frame.proofs.BlockLemmas.{each-push}
 use Rattle.itch_market.specs.Content.{Content, laid}
 use Rattle.itch_market.specs.Effects.{effect}
-use Rattle.itch_market.specs.Goods.{IsGood}
+use Rattle.itch_market.specs.GoodMarkets.{IsGood}
 use Rattle.itch_market.specs.Runs.{after}
 use Rattle.itch_market.specs.Replays.{Fits, NoCause, Halts}
 use Rattle.itch_market.specs.Stops.{cause}
@@ -17,7 +17,7 @@ use Rattle.itch_market.specs.Wanted.{Wanted, has}
 use Rattle.itch_market.specs.declared.stop.Stop.{Stop}
 use Rattle.itch_market.specs.declared.stop.Stop.TheVariants as stop
 use Rattle.itch_market.proofs.Causes.{cause-laid, halts-laid, refuses-laid, no_reason, none_more, after_more}
-use Rattle.itch_market.proofs.Goods.{effect_good}
+use Rattle.itch_market.proofs.GoodMarkets.{effect_good}
 use Rattle.itch_market.proofs.Laid.{effect-laid}
 use Rattle.itch_join.specs.Positions.{Position}
 use Rattle.itch_join.specs.States.{State}

@@ -10,18 +10,18 @@ use Rattle.itch_frame.specs.Blocks.{block}
 use Rattle.itch_frame.specs.Reading.{Reading, bytes_left}
 use Rattle.itch_frame.specs.declared.tally.Failures.{Failures}
 use Rattle.itch_market.specs.Content.{Content, empty, laid}
-use Rattle.itch_market.specs.Goods.{IsGood}
+use Rattle.itch_market.specs.GoodMarkets.{IsGood}
 use Rattle.itch_market.specs.Runs.{AreMessages, run}
 use Rattle.itch_market.specs.Replays.{Takes}
 use Rattle.itch_market.proofs.Causes.{none_follows}
-use Rattle.itch_market.proofs.Goods.{run_good, laid_good}
+use Rattle.itch_market.proofs.GoodMarkets.{run_good, laid_good}
 use Rattle.itch_market.proofs.Taking.{Going, going_first}
-use Rattle.itch_snapshot.specs.Loads.{Load, begun}
+use Rattle.itch_snapshot.specs.TakenMessages.{Load, begun}
 use Rattle.itch_snapshot.specs.Reads.{ReadsNext, ReadsAll, ReadsEnd, CountsFault}
 use Rattle.itch_snapshot.specs.Snapshot.{snap}
-use Rattle.itch_snapshot.specs.declared.stage.Stage.TheVariants.{Taking}
+use Rattle.itch_snapshot.specs.declared.reader.Stage.TheVariants.{Taking}
 use Rattle.itch_snapshot.proofs.Reading.{message_read, fault_read, first_fault, later_fault, no_fault}
-use Rattle.itch_snapshot.proofs.Told.{closes_here, reads_market, reads_fault}
+use Rattle.itch_snapshot.proofs.Decided.{closes_here, reads_market, reads_fault}
 use Rattle.itch_snapshot.proofs.WrittenFiles.{written_alone}
 use Rattle.itch_commands.specs.Canons.{CountsRefusal, KeepsNext, KeepsAll, EndsFile, ChecksSnap}
 use Rattle.itch_commands.specs.Outputs.{closed_bytes}
@@ -90,10 +90,10 @@ module _ (old mid new : Option (List ℕ)) (load : Load) (count : ℕ) (kept : L
   kept_refused tool.Socket n more h = absurd h
 
 -- what is kept is the file, where its input is at its end
-told_alone : (a b : Option (List ℕ)) (kept closed : List ℕ) (canonical : Bool) → Consumes a b kept → IsAtEnd b → ((canonical ≡ true) ↔ (kept ≡ closed)) → IfSome a (λ bytes. (canonical ≡ true) ↔ (bytes ≡ closed))
-told_alone None b kept closed canonical off end same = tt
-told_alone (Some x) None kept closed canonical off end same = absurd off
-told_alone (Some x) (Some y) kept closed canonical off end same =
+known_alone : (a b : Option (List ℕ)) (kept closed : List ℕ) (canonical : Bool) → Consumes a b kept → IsAtEnd b → ((canonical ≡ true) ↔ (kept ≡ closed)) → IfSome a (λ bytes. (canonical ≡ true) ↔ (bytes ≡ closed))
+known_alone None b kept closed canonical off end same = tt
+known_alone (Some x) None kept closed canonical off end same = absurd off
+known_alone (Some x) (Some y) kept closed canonical off end same =
     subst (λ bytes. (canonical ≡ true) ↔ (bytes ≡ closed)) (sym (off ∙ ap (λ l. kept ++ l) end ∙ append-nil kept)) same
 
 -- what was taken leaves a good market
@@ -112,12 +112,12 @@ never_closed x y z n next (ps, Some w, takes, few, closes) empty_block same =
     let clash : block [] ++ z ≡ [] = sym empty_block ∙ none in
     let no_one : ⊥ = cc in no_one
 
-told_ended : (a b c : Option (List ℕ)) (n : Content) (next : ℕ) → ReadsAll empty a b (Ok next) n → Consumes b c (block []) → IfSome a (λ bytes. (false ≡ true) ↔ (bytes ≡ closed_bytes (n, next)))
-told_ended None b c n next reads off = tt
-told_ended (Some x) None c n next (ps, None, takes, few, closes) empty_block = absurd takes.bytes
-told_ended (Some x) None c n next (ps, Some w, takes, few, (payload, off, closes)) empty_block = absurd off.1
-told_ended (Some x) (Some y) None n next reads off = absurd off
-told_ended (Some x) (Some y) (Some z) n next reads off =
+decided_ended : (a b c : Option (List ℕ)) (n : Content) (next : ℕ) → ReadsAll empty a b (Ok next) n → Consumes b c (block []) → IfSome a (λ bytes. (false ≡ true) ↔ (bytes ≡ closed_bytes (n, next)))
+decided_ended None b c n next reads off = tt
+decided_ended (Some x) None c n next (ps, None, takes, few, closes) empty_block = absurd takes.bytes
+decided_ended (Some x) None c n next (ps, Some w, takes, few, (payload, off, closes)) empty_block = absurd off.1
+decided_ended (Some x) (Some y) None n next reads off = absurd off
+decided_ended (Some x) (Some y) (Some z) n next reads off =
     (λ wrong. absurd (true≢false (sym wrong)), λ same. absurd (never_closed x y z n next reads off same))
 
 module _ {R : Type 0} (remaining : R → Option (List ℕ)) (failures : R → Failures) (old : Reading R) where
@@ -170,7 +170,7 @@ module _ {R : Type 0} (remaining : R → Option (List ℕ)) (failures : R → Fa
     pub checked_alone : (canonical : Bool) → IsAtEnd (bytes_left remaining mid) → failures new.reader ≡ failures mid.reader → ((canonical ≡ true) ↔ (kept ≡ closed_bytes (n, next)))
         → ChecksSnap remaining failures old new (Ok canonical)
     checked_alone canonical end counts same =
-        ((n, next), file_read (inl end) counts, told_alone (bytes_left remaining old) (bytes_left remaining mid) kept (closed_bytes (n, next)) canonical reads.1 end same)
+        ((n, next), file_read (inl end) counts, known_alone (bytes_left remaining old) (bytes_left remaining mid) kept (closed_bytes (n, next)) canonical reads.1 end same)
 
     pub checked_ended : Consumes (bytes_left remaining mid) (bytes_left remaining new) (block []) → failures new.reader ≡ failures mid.reader → ChecksSnap remaining failures old new (Ok false)
-    checked_ended off counts = ((n, next), file_read (inr off) counts, told_ended (bytes_left remaining old) (bytes_left remaining mid) (bytes_left remaining new) n next reads.0 off)
+    checked_ended off counts = ((n, next), file_read (inr off) counts, decided_ended (bytes_left remaining old) (bytes_left remaining mid) (bytes_left remaining new) n next reads.0 off)

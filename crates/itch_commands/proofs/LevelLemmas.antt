@@ -2,10 +2,10 @@
 use Rattle.std.proofs.Common.{◌≡◌, ℕ, ◌<◌, ◌==◌, Bool, true, false, not, ◌&&◌, List, [], ◌∷◌, ◌++◌, length, Option, Some, None, option_map, refl, sym, ap, ◌∙◌, subst, append_assoc, append-nil, arith}
 use Rattle.std.specs.List.{filter, find, AllByRecursion}
 use Rattle.std.proofs.lemmas.Bool.Decides.{nat_tests}
-use Rattle.itch_codec.specs.declared.side.Side.{Side}
-use Rattle.itch_codec.specs.declared.side.Side.TheVariants.{Buy, Sell}
+use Rattle.itch_codec.specs.declared.orders.Side.{Side}
+use Rattle.itch_codec.specs.declared.orders.Side.TheVariants.{Buy, Sell}
 use Rattle.itch_book.specs.declared.order.Order.{Order}
-use Rattle.itch_book.specs.Stable.{IsInOrder}
+use Rattle.itch_book.specs.StableLists.{IsInOrder}
 use Rattle.itch_book.specs.Orders.{is_better, is_of, is_worse, is_at_price, next_price, level, queue, IsBook, IsQueue}
 use Rattle.itch_book.proofs.Lists.{by_test, All-weaker_rec, All-filter_rec, All-both_rec, All-right_rec, passes_filter, filter_all, filter_within}
 use Rattle.itch_book.proofs.BookLemmas.{queue-book}
@@ -103,12 +103,12 @@ prices_worsen s (x ∷ xs) h = (
 )
 
 -- after a price stand those that are worse
-worse_behind : (s : Side) (before rest : List ℕ) (p : ℕ) → Worsen s (before ++ p ∷ rest) → filter (is_worse s (Some p)) (before ++ p ∷ rest) ≡ rest
-worse_behind s [] rest p h = let own = not_itself s p in simp own (filter_all (is_worse s (Some p)) rest h.0)
-worse_behind s (q ∷ before) rest p h =
+worse_after : (s : Side) (before rest : List ℕ) (p : ℕ) → Worsen s (before ++ p ∷ rest) → filter (is_worse s (Some p)) (before ++ p ∷ rest) ≡ rest
+worse_after s [] rest p h = let own = not_itself s p in simp own (filter_all (is_worse s (Some p)) rest h.0)
+worse_after s (q ∷ before) rest p h =
     let after_q : AllByRecursion (λ r. is_better s q r ≡ true) (p ∷ rest) = All-right_rec (λ r. is_better s q r ≡ true) before (p ∷ rest) h.0 in
     let skipped : is_better s p q ≡ false = not_both s q p after_q.0 in
-    simp skipped (worse_behind s before rest p h.1)
+    simp skipped (worse_after s before rest p h.1)
 
 -- the prices of a queue, of which these are done, the last of them last; the others are worse than it
 pub record DonePrices (orders : List Order) (l : ℕ) (s : Side) (last : Option ℕ) (done : List ℕ) : Type 0 where
@@ -125,7 +125,7 @@ none_done orders l s = record { whole = sym (every_worse s (prices (queue orders
 pub record NextPrice (orders : List Order) (l : ℕ) (s : Side) (last : Option ℕ) (price : ℕ) : Type 0 where
   pub rest : List ℕ
   pub here : filter (is_worse s last) (prices (queue orders l s)) ≡ price ∷ rest
-  pub behind : filter (is_worse s (Some price)) (prices (queue orders l s)) ≡ rest
+  pub following : filter (is_worse s (Some price)) (prices (queue orders l s)) ≡ rest
 
 module _ (orders : List Order) (l : ℕ) (s : Side) (last : Option ℕ) (done : List ℕ) (price : ℕ) (book : IsBook orders) (so_far : DonePrices orders l s last done) where
   here_first : (ps : List ℕ) → filter (is_worse s last) (prices (queue orders l s)) ≡ ps → first_price ps ≡ Some price → NextPrice orders l s last price
@@ -138,7 +138,7 @@ module _ (orders : List Order) (l : ℕ) (s : Side) (last : Option ℕ) (done : 
       record {
         rest = ps;
         here = there;
-        behind = ap (filter (is_worse s (Some price))) whole ∙ worse_behind s done ps price (subst (Worsen s) whole worsen);
+        following = ap (filter (is_worse s (Some price))) whole ∙ worse_after s done ps price (subst (Worsen s) whole worsen);
       }
 
   pub next_parts : next_price orders l s last ≡ Some price → NextPrice orders l s last price
@@ -148,14 +148,14 @@ module _ (orders : List Order) (l : ℕ) (s : Side) (last : Option ℕ) (done : 
   one_done is =
       let next = next_parts is in
       record {
-        whole = so_far.whole ∙ ap (λ qs. done ++ qs) (next.here ∙ ap (λ qs. price ∷ qs) (sym next.behind))
+        whole = so_far.whole ∙ ap (λ qs. done ++ qs) (next.here ∙ ap (λ qs. price ∷ qs) (sym next.following))
             ∙ sym (append_assoc done (price ∷ []) (filter (is_worse s (Some price)) (prices (queue orders l s))));
       }
 
   -- one price fewer is still to come
   pub one_fewer : next_price orders l s last ≡ Some price
       → length (filter (is_worse s (Some price)) (prices (queue orders l s))) < length (filter (is_worse s last) (prices (queue orders l s)))
-  one_fewer is = let next = next_parts is in omega (arith, ap length next.here, ap length next.behind)
+  one_fewer is = let next = next_parts is in omega (arith, ap length next.here, ap length next.following)
 
 pub all_done : (orders : List Order) (l : ℕ) (s : Side) (last : Option ℕ) (done : List ℕ) → IsBook orders → DonePrices orders l s last done → next_price orders l s last ≡ None
     → prices (queue orders l s) ≡ done

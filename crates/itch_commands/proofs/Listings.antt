@@ -8,10 +8,10 @@ use Rattle.itch_book.proofs.Distinct.{live_fit}
 use Rattle.itch_book.proofs.OrderLemmas.{queue-lay}
 use Rattle.itch_codec.specs.Messages.{message_of}
 use Rattle.itch_codec.specs.Text.{IsTextOf}
-use Rattle.itch_codec.specs.declared.side.Side.TheVariants.{Buy, Sell}
+use Rattle.itch_codec.specs.declared.orders.Side.TheVariants.{Buy, Sell}
 use Rattle.itch_frame.specs.declared.tally.Failures.{Failures}
 use Rattle.itch_market.specs.Content.{Content, laid, Listing}
-use Rattle.itch_market.specs.Goods.{IsGood}
+use Rattle.itch_market.specs.GoodMarkets.{IsGood}
 use Rattle.itch_market.specs.Replays.{Fits}
 use Rattle.itch_market.specs.Runs.{run}
 use Rattle.itch_commands.specs.declared.fault.ToolFault.{ToolFault}

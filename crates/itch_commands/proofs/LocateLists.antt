@@ -21,13 +21,13 @@ numerals = numerals_by_value (AllDigits 10) tells_digits
 
 -- a text with a byte that is no digit is no locate
 pub not_digits : (text : List ℕ) (all : Bool) → all ≡ list_all is_ascii_digit text → all ≡ false → (locate : ℕ) → ¬ (IsLocate text locate)
-not_digits text all told other locate is = true≢false (sym (tested.from text is.0.1) ∙ sym told ∙ other)
+not_digits text all decided other locate is = true≢false (sym (tested.from text is.0.1) ∙ sym decided ∙ other)
 
 -- a text of digits is a locate exactly if it is read as a number of 16 bits
 pub digits_parsed : {E : Type 0} (text : List ℕ) (all : Bool) (r : Result ℕ E) → all ≡ list_all is_ascii_digit text → all ≡ true → ParsesUnsigned 16 10 text r
     → MatchResult r (IsLocate text) (λ _. (locate : ℕ) → ¬ (IsLocate text locate))
-digits_parsed text all r told each parsed =
-    let digits = tested.to text (sym told ∙ each) in
+digits_parsed text all r decided each parsed =
+    let digits = tested.to text (sym decided ∙ each) in
     by_result r digits (parse_digits numerals 16 text r parsed digits) where
       by_result : {E : Type 0} (r : Result ℕ E) → AllDigits 10 text → OkIff r ((0 < length text) × (digits_value 10 text < 2 ^ 16)) (digits_value 10 text)
           → MatchResult r (IsLocate text) (λ _. (locate : ℕ) → ¬ (IsLocate text locate))

@@ -10,8 +10,8 @@ use Rattle.itch_market.specs.Runs.{run}
 use Rattle.itch_market.specs.declared.stop.Stop.{Stop}
 use Rattle.itch_market.specs.declared.stop.Stop.TheVariants.{End}
 use Rattle.itch_market.specs.Stops.{Stops}
-use Rattle.itch_market.specs.Replays.{Fits, Halts, Takes, IsTold}
-use Rattle.itch_market.proofs.Told.{replays_stop}
+use Rattle.itch_market.specs.Replays.{Fits, Halts, Takes, IsDecided}
+use Rattle.itch_market.proofs.Decided.{replays_stop}
 use Rattle.itch_commands.specs.declared.fault.ToolFault.{ToolFault}
 use Rattle.itch_commands.specs.declared.fault.ToolFault.TheVariants as tool
 use Rattle.itch_commands.specs.declared.fault.Source.{Source}
@@ -71,14 +71,14 @@ read_done file after bytes new start count n first reads = by_part after (subst 
   }
 
 -- where it stopped before
-halts_told : (after : Option ℕ) (bytes new : Option (List ℕ)) (count : ℕ) (stop : Stop) (n : Content) → HaltsPart after empty bytes new count stop n
-    → IfSome bytes (λ b. IsTold stop → Stops empty b count stop)
-halts_told None bytes new count stop n halts = replays_stop empty n bytes new count stop halts
-halts_told (Some most) bytes new count stop n (early, halts) = replays_stop empty n bytes new count stop halts
+halts_decided : (after : Option ℕ) (bytes new : Option (List ℕ)) (count : ℕ) (stop : Stop) (n : Content) → HaltsPart after empty bytes new count stop n
+    → IfSome bytes (λ b. IsDecided stop → Stops empty b count stop)
+halts_decided None bytes new count stop n halts = replays_stop empty n bytes new count stop halts
+halts_decided (Some most) bytes new count stop n (early, halts) = replays_stop empty n bytes new count stop halts
 
-ends_told : (bytes : Option (List ℕ)) (count : ℕ) → IfSome bytes (λ b. IsTold End → Stops empty b count End) → IfSome bytes (λ b. Stops empty b count End)
-ends_told None count told = tt
-ends_told (Some b) count told = told tt
+ends_decided : (bytes : Option (List ℕ)) (count : ℕ) → IfSome bytes (λ b. IsDecided End → Stops empty b count End) → IfSome bytes (λ b. Stops empty b count End)
+ends_decided None count decided = tt
+ends_decided (Some b) count decided = decided tt
 
 halts_early : (after : Option ℕ) (bytes new : Option (List ℕ)) (count : ℕ) (stop : Stop) (n : Content) → IsSome after → HaltsPart after empty bytes new count stop n → IsShort after count
 halts_early None bytes new count stop n some halts = cc
@@ -104,11 +104,11 @@ module _ {R : Type 0} (remaining : R → Option (List ℕ)) (failures : R → Fa
         by_fault : (f : ToolFault) → ReadsMarket file after empty (bytes_left remaining old) (bytes_left remaining new) (Err f) n
             → CountsRead {X = ℕ} (Err f) (failures old.reader) (failures new.reader) → LeavesDay (Err f) after old new → ReadsDay remaining failures file after old new (Err f)
         by_fault (tool.Stopped at end) (same, stop, halts) counted leaves =
-            (same, stop, (n, halts), halts_told after (bytes_left remaining old) (bytes_left remaining new) end.count end.stop n halts, counted, leaves)
+            (same, stop, (n, halts), halts_decided after (bytes_left remaining old) (bytes_left remaining new) end.count end.stop n halts, counted, leaves)
         by_fault (tool.Short count) (some, halts) counted leaves = (
           halts_early after (bytes_left remaining old) (bytes_left remaining new) count End n some halts,
           (n, halts),
-          ends_told (bytes_left remaining old) count (halts_told after (bytes_left remaining old) (bytes_left remaining new) count End n halts),
+          ends_decided (bytes_left remaining old) count (halts_decided after (bytes_left remaining old) (bytes_left remaining new) count End n halts),
           counted,
           leaves,
         )

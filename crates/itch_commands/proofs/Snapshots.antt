@@ -9,14 +9,14 @@ use Rattle.itch_codec.specs.declared.message.Message.{Message}
 use Rattle.itch_frame.specs.Blocks.{blocks}
 use Rattle.itch_codec.specs.Widths.{IsMessage}
 use Rattle.itch_market.specs.Content.{Content, empty, laid}
-use Rattle.itch_market.specs.Goods.{IsGood}
+use Rattle.itch_market.specs.GoodMarkets.{IsGood}
 use Rattle.itch_market.specs.Partial.{skips, kept, only}
 use Rattle.itch_market.specs.Runs.{AreMessages, run, Follows}
 use Rattle.itch_market.specs.Wanted.{Wanted, has}
 use Rattle.itch_market.specs.Replays.{Fits, NoCause}
 use Rattle.itch_market.proofs.Causes.{none_follows}
-use Rattle.itch_market.proofs.Goods.{run_good}
-use Rattle.itch_market.proofs.Sames.{laid_is_same}
+use Rattle.itch_market.proofs.GoodMarkets.{run_good}
+use Rattle.itch_market.proofs.SameMarkets.{laid_is_same}
 use Rattle.itch_snapshot.specs.Bytes.{canon, closing}
 use Rattle.itch_snapshot.specs.Snapshot.{snap}
 use Rattle.itch_snapshot.specs.Reads.{ReadsSnapshot}

@@ -15,13 +15,13 @@ use Rattle.itch_frame.specs.Blocks.{IsFull}
 use Rattle.itch_frame.proofs.BlockLemmas.{each-push}
 use Rattle.itch_market.specs.Content.{Content, empty, laid}
 use Rattle.itch_market.specs.Effects.{effect}
-use Rattle.itch_market.specs.Goods.{IsGood}
+use Rattle.itch_market.specs.GoodMarkets.{IsGood}
 use Rattle.itch_market.specs.Runs.{run}
 use Rattle.itch_market.specs.Replays.{Fits, NoCause}
 use Rattle.itch_market.specs.Stops.{cause}
 use Rattle.itch_market.specs.Wanted.{Wanted, has}
 use Rattle.itch_market.proofs.Causes.{cause-laid, refuses-laid, no_reason, none_more, none_follows, after_more}
-use Rattle.itch_market.proofs.Goods.{effect_good, empty_good, laid_good, run_good}
+use Rattle.itch_market.proofs.GoodMarkets.{effect_good, empty_good, laid_good, run_good}
 use Rattle.itch_market.proofs.Laid.{effect-laid, laid_twice}
 use Rattle.itch_snapshot.specs.declared.fault.SnapFault.{SnapFault}
 use Rattle.itch_snapshot.specs.declared.fault.SnapFault.TheVariants as snapshot

@@ -15,7 +15,7 @@ use Rattle.itch_market.specs.declared.stop.Stop.TheVariants.{End, Frame, Codec, 
 use Rattle.itch_snapshot.specs.declared.fault.SnapFault.{SnapFault}
 use Rattle.itch_snapshot.specs.declared.fault.SnapFault.TheVariants as snapshot
 use Rattle.itch_snapshot.specs.Files.{IsFaultOf}
-use Rattle.itch_snapshot.specs.Loads.{closing_number, is_skipped, TakesNext}
+use Rattle.itch_snapshot.specs.TakenMessages.{closing_number, is_skipped, TakesNext}
 use Rattle.itch_snapshot.specs.Reads.{EndsHere, FailsHere, ReadsPayload}
 
 -- a message that no order rule is about, and that changes nothing

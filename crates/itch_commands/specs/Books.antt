@@ -6,8 +6,8 @@ use Rattle.itch_codec.specs.Fields.{side_byte}
 use Rattle.itch_codec.specs.Lines.{price_text}
 use Rattle.itch_codec.specs.Messages.{message_of}
 use Rattle.itch_codec.specs.Text.{IsTextOf}
-use Rattle.itch_codec.specs.declared.side.Side.{Side}
-use Rattle.itch_codec.specs.declared.side.Side.TheVariants.{Buy, Sell}
+use Rattle.itch_codec.specs.declared.orders.Side.{Side}
+use Rattle.itch_codec.specs.declared.orders.Side.TheVariants.{Buy, Sell}
 use Rattle.itch_book.specs.declared.order.Order.{Order}
 use Rattle.itch_book.specs.Orders.{queue, is_at_price}
 use Rattle.itch_market.specs.Content.{Content, Listing}

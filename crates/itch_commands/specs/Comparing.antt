@@ -3,7 +3,7 @@ use Rattle.std.specs.Prelude.{ℕ, ◌-◌, ◌<◌, ◌⊎◌, ◌↔◌, List,
 use Rattle.itch_codec.specs.Messages.{message_of}
 use Rattle.itch_market.specs.Content.{Content}
 use Rattle.itch_market.specs.Runs.{run}
-use Rattle.itch_market.specs.Sames.{Same}
+use Rattle.itch_market.specs.SameMarkets.{Same}
 use Rattle.itch_snapshot.specs.Parting.{IsParting}
 use Rattle.itch_snapshot.specs.Snapshot.{snap}
 use Rattle.itch_commands.specs.declared.fault.ToolFault.{ToolFault}

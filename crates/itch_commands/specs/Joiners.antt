@@ -4,7 +4,7 @@ use Rattle.std.specs.FinMap as finite
 use Rattle.itch_codec.specs.Widths.{IsSequence}
 use Rattle.itch_frame.specs.declared.tally.Failures.{Failures}
 use Rattle.itch_market.specs.Content.{Content, empty, laid}
-use Rattle.itch_market.specs.Goods.{IsGood}
+use Rattle.itch_market.specs.GoodMarkets.{IsGood}
 use Rattle.itch_market.specs.Replays.{TakesOne, TakesOff}
 use Rattle.itch_market.specs.declared.refusal.Refusal.TheVariants as why
 use Rattle.itch_market.specs.declared.stop.ReplayEnd.{ReplayEnd}

@@ -7,13 +7,13 @@ use Rattle.itch_frame.specs.Blocks.{blocks, IsFull, Day}
 use Rattle.itch_frame.specs.Reading.{Reading, bytes_left}
 use Rattle.itch_frame.specs.declared.tally.Failures.{Failures}
 use Rattle.itch_market.specs.Content.{Content}
-use Rattle.itch_market.specs.Firsts.{IsFirst}
+use Rattle.itch_market.specs.FirstPlaces.{IsFirst}
 use Rattle.itch_market.specs.Runs.{after}
 use Rattle.itch_market.specs.Stops.{cause_at, last_stop}
-use Rattle.itch_market.specs.Replays.{NoCause, Counts, IsTold}
+use Rattle.itch_market.specs.Replays.{NoCause, Counts, IsDecided}
 use Rattle.itch_market.specs.declared.stop.Stop.{Stop}
 use Rattle.itch_market.specs.declared.stop.Stop.TheVariants as stop
-use Rattle.itch_snapshot.specs.Reads.{CountsFault, IsToldFault}
+use Rattle.itch_snapshot.specs.Reads.{CountsFault, IsDecidedFault}
 use Rattle.itch_snapshot.specs.Snapshot.{snap}
 use Rattle.itch_commands.specs.declared.fault.ToolFault.{ToolFault}
 use Rattle.itch_commands.specs.declared.fault.ToolFault.TheVariants as tool
@@ -85,7 +85,7 @@ module _ (read : List ℕ → List ℕ) {R : Type 0} (remaining : R → Option (
   -- where the file alone decides, it is the file's one fault
   ReadsStart old new (Err (tool.Snap at fault)) =
       (at ≡ Snapshot) × ((n : Content) × ReadsAs read (bytes_left remaining old) (bytes_left remaining new) (Err fault) n)
-      × IfSome (bytes_left remaining old) (λ b. IsToldFault fault → IsFaultAs read b fault) × CountsFault fault (failures old.reader) (failures new.reader)
+      × IfSome (bytes_left remaining old) (λ b. IsDecidedFault fault → IsFaultAs read b fault) × CountsFault fault (failures old.reader) (failures new.reader)
   ReadsStart old new (Err fault) = ⊥
 
   -- What reading a feed after a snapshot returns, and leaves of its reader: all of its payloads, as they are read
@@ -98,7 +98,7 @@ module _ (read : List ℕ → List ℕ) {R : Type 0} (remaining : R → Option (
   ReadsFeed old new start (Err (tool.Stopped at end)) =
       (at ≡ Only) × (end.stop ≢ stop.End)
       × ((payloads : List (List ℕ)) × (length payloads ≡ end.count) × EndsFeed read start (bytes_left remaining old) (bytes_left remaining new) payloads end.stop)
-      × IfSome (bytes_left remaining old) (λ b. IsTold end.stop → StopsFeed read start b end.count end.stop)
+      × IfSome (bytes_left remaining old) (λ b. IsDecided end.stop → StopsFeed read start b end.count end.stop)
       × Counts end.stop (failures old.reader) (failures new.reader) × LeavesDay (Err (tool.Stopped at end)) None old new
   ReadsFeed old new start (Err fault) = ⊥
 

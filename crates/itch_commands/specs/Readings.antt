@@ -5,16 +5,16 @@ use Rattle.std.specs.Io.KnownBytes.{Consumes, IsAtEnd}
 use Rattle.itch_codec.specs.Messages.{message_of}
 use Rattle.itch_frame.specs.Blocks.{block, blocks, Ends, IsFull, Day}
 use Rattle.itch_frame.specs.Reading.{Reading, bytes_left}
-use Rattle.itch_frame.specs.declared.stage.Stage.TheVariants.{Going}
+use Rattle.itch_frame.specs.declared.reader.Stage.TheVariants.{Going}
 use Rattle.itch_frame.specs.declared.tally.Failures.{Failures}
 use Rattle.itch_market.specs.Content.{Content, empty, laid}
 use Rattle.itch_market.specs.Runs.{run}
 use Rattle.itch_market.specs.declared.stop.Stop.{Stop}
 use Rattle.itch_market.specs.declared.stop.Stop.TheVariants.{End}
-use Rattle.itch_market.specs.Replays.{Fits, NoCause, Replays, ReplaysFirst, Counts, LeavesReaderFirst, IsTold}
+use Rattle.itch_market.specs.Replays.{Fits, NoCause, Replays, ReplaysFirst, Counts, LeavesReaderFirst, IsDecided}
 use Rattle.itch_market.specs.Stops.{Stops}
 use Rattle.itch_snapshot.specs.Files.{IsFaultOf, IsMarketOf}
-use Rattle.itch_snapshot.specs.Reads.{ReadsSnapshot, CountsFault, IsToldFault}
+use Rattle.itch_snapshot.specs.Reads.{ReadsSnapshot, CountsFault, IsDecidedFault}
 use Rattle.itch_commands.specs.declared.fault.ToolFault.{ToolFault}
 use Rattle.itch_commands.specs.declared.fault.ToolFault.TheVariants as tool
 use Rattle.itch_commands.specs.declared.fault.Source.{Source}
@@ -91,7 +91,7 @@ module _ {R : Type 0} (remaining : R → Option (List ℕ)) (failures : R → Fa
   -- this many messages were taken, and then this stopped it; where the file alone decides, it is the first bad place of the file
   ReadsDay file after old new (Err (tool.Stopped at end)) =
       (at ≡ file) × (end.stop ≢ End) × ((n : Content) × HaltsPart after empty (bytes_left remaining old) (bytes_left remaining new) end.count end.stop n)
-      × IfSome (bytes_left remaining old) (λ b. IsTold end.stop → Stops empty b end.count end.stop)
+      × IfSome (bytes_left remaining old) (λ b. IsDecided end.stop → Stops empty b end.count end.stop)
       × Counts end.stop (failures old.reader) (failures new.reader) × LeavesDay (Err (tool.Stopped at end)) after old new
   -- fewer messages than are wanted were taken, and then the file ended
   ReadsDay file after old new (Err (tool.Short count)) =
@@ -109,7 +109,7 @@ module _ {R : Type 0} (remaining : R → Option (List ℕ)) (failures : R → Fa
   -- where the file alone decides, it is the file's one fault
   ReadsSnap file old new (Err (tool.Snap at fault)) =
       (at ≡ file) × ReadsSnapshot (bytes_left remaining old) (bytes_left remaining new) (Err fault)
-      × IfSome (bytes_left remaining old) (λ b. IsToldFault fault → IsFaultOf b fault) × CountsFault fault (failures old.reader) (failures new.reader)
+      × IfSome (bytes_left remaining old) (λ b. IsDecidedFault fault → IsFaultOf b fault) × CountsFault fault (failures old.reader) (failures new.reader)
   ReadsSnap file old new (Err fault) = ⊥
 
 -- the market that the messages of a file leave

@@ -2,8 +2,8 @@
 ghost use Rattle.std.specs.Prelude.{◌≡◌, ◌++◌, [], OnOk, IfOk, Ok};
 ghost use Rattle.itch_frame.specs.Blocks.{IsPayload, block};
 ghost use Rattle.itch_frame.specs.Reading.{bytes_left};
-ghost use Rattle.itch_snapshot.specs.Loads.{begun, taken_behind, stage_behind};
-ghost use Rattle.itch_snapshot.specs.declared.stage.Stage.TheVariants.{Taking};
+ghost use Rattle.itch_snapshot.specs.TakenMessages.{begun, taken_after, stage_after};
+ghost use Rattle.itch_snapshot.specs.declared.reader.Stage.TheVariants.{Taking};
 ghost use Rattle.itch_commands.specs.Canons.{KeepsNext, KeepsAll, EndsFile, CountsSnap};
 ghost use Rattle.itch_commands.specs.declared.fault.Source.TheVariants.{Only};
 ghost use Rattle.itch_commands.specs.declared.fault.ToolFault.TheVariants.{Snap};
@@ -47,7 +47,7 @@ fn keep_next<R: CountedRead, C: Allocator, B: OrderBook, A: Allocator>(
 ) -> Result<Option<Seq>, ToolFault>
     requires { loader.old.stage ≡ Taking }
     ensures step { KeepsNext loader.old.taken loader.old.market (bytes_left R.remaining reader.old) (bytes_left R.remaining reader.new) kept.old.items result loader.new.market kept.new.items }
-    ensures loader { IfOk result (λ found. (loader.new.taken ≡ taken_behind loader.old.taken (Ok found)) × (loader.new.stage ≡ stage_behind (Ok found))) }
+    ensures loader { IfOk result (λ found. (loader.new.taken ≡ taken_after loader.old.taken (Ok found)) × (loader.new.stage ≡ stage_after (Ok found))) }
     ensures failures { CountsSnap result (R.failures reader.old.reader) (R.failures reader.new.reader) }
 {
     match reader.next_block() {

@@ -2,7 +2,7 @@
 ghost use Rattle.std.specs.Prelude.{◌≡◌, ◌≤◌, ◌-◌, ◌+◌, ◌^◌, MatchResult};
 ghost use Rattle.itch_frame.specs.Reading.{bytes_left};
 ghost use Rattle.itch_market.specs.Wanted.{has};
-ghost use Rattle.itch_snapshot.specs.Loads.{TakesNext};
+ghost use Rattle.itch_snapshot.specs.TakenMessages.{TakesNext};
 ghost use Rattle.itch_snapshot.specs.Reads.{CountsFault};
 ghost use Rattle.itch_join.specs.States.{State, new as fresh};
 ghost use Rattle.itch_commands.specs.AsRead.{as_read, ReadsNextAs};

@@ -1,4 +1,4 @@
-//! Blocks of messages, in hexadecimal digits. Fields that a name does not tell are 0, or as in the other blocks.
+//! Blocks of messages, in hexadecimal digits. Fields that a name does not give are 0, or as in the other blocks.
 
 /// System Event O.
 pub const START: &str = "000c53000000000000000000004f";

@@ -48,7 +48,7 @@ fn refuses(rt: &impl Abort, alloc: Global, blocks: &[&str], reason: &str) -> Res
 }
 
 #[test]
-fn a_canonical_snapshot_is_told(rt: HostRuntime) -> Result<(), Fail> {
+fn a_canonical_snapshot_is_known(rt: HostRuntime) -> Result<(), Fail> {
     let alloc = rt.alloc();
     is_canonical(&rt, alloc, &[END_1])?;
     is_canonical(&rt, alloc, &[END_4])?;
@@ -64,7 +64,7 @@ fn a_canonical_snapshot_is_told(rt: HostRuntime) -> Result<(), Fail> {
 }
 
 #[test]
-fn any_other_snapshot_is_told(rt: HostRuntime) -> Result<(), Fail> {
+fn any_other_snapshot_is_not_canonical(rt: HostRuntime) -> Result<(), Fail> {
     let alloc = rt.alloc();
     is_not(&rt, alloc, &[AAPL, SELL_2_OF_10, BUY_1, END_4_ZEROS])?;
     is_not(&rt, alloc, &[AAPL, BUY_1, SELL_2_OF_10, END_4_ZEROS])?;

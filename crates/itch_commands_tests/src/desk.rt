@@ -93,7 +93,7 @@ fn compare_says_whether_markets_are_the_same(rt: HostRuntime) -> Result<(), Fail
 }
 
 #[test]
-fn compare_tells_the_refused_file(rt: HostRuntime) -> Result<(), Fail> {
+fn compare_names_the_refused_file(rt: HostRuntime) -> Result<(), Fail> {
     let alloc = rt.alloc();
     let cases: [(&[&str], &[&str], &str); 4] = [
         (

@@ -133,7 +133,7 @@ fn messages_below_the_number_are_not_decoded(rt: HostRuntime) -> Result<(), Fail
 }
 
 #[test]
-fn a_refused_feed_is_told_with_its_place(rt: HostRuntime) -> Result<(), Fail> {
+fn a_refused_feed_has_its_place(rt: HostRuntime) -> Result<(), Fail> {
     let alloc = rt.alloc();
     let start = file(alloc, &[AAPL, END_2])?;
     let feed = file(alloc, &[AAPL, BUY_1, BUY_1])?;
@@ -151,7 +151,7 @@ fn a_refused_feed_is_told_with_its_place(rt: HostRuntime) -> Result<(), Fail> {
 }
 
 #[test]
-fn a_refused_snapshot_is_told_as_one(rt: HostRuntime) -> Result<(), Fail> {
+fn a_refused_snapshot_has_its_fault(rt: HostRuntime) -> Result<(), Fail> {
     let alloc = rt.alloc();
     let start = file(alloc, &[AAPL])?;
     let line = "itchsnap: snapshot: no end of snapshot";

@@ -140,7 +140,7 @@ fn every_fault_has_its_line_and_status(rt: HostRuntime) -> Result<(), Fail> {
 }
 
 #[test]
-fn want_of_memory_is_told_apart(rt: HostRuntime) {
+fn want_of_memory_has_its_own_fault(rt: HostRuntime) {
     let refused = io::Error::from(io::ErrorKind::OutOfMemory);
     let missing = io::Error::from(io::ErrorKind::NotFound);
     assert!(rt;

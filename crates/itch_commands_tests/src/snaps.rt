@@ -93,8 +93,12 @@ fn snap_reads_through_any_buffer(rt: HostRuntime) -> Result<(), Fail> {
         let reader = BufReader::with_capacity(alloc, capacity, input.as_slice())?;
         let mut out = FuseWriter::new(alloc, 4096, None);
         let answer = snap(alloc, Counted::new(reader), None, None, &mut out);
-        assert!(rt; matches!(answer, Ok(true)), "behind {capacity} bytes");
-        assert_eq!(rt; out.written(), wanted.as_slice(), "behind {capacity} bytes");
+        assert!(rt; matches!(answer, Ok(true)), "through {capacity} bytes");
+        assert_eq!(rt;
+            out.written(),
+            wanted.as_slice(),
+            "through {capacity} bytes"
+        );
     }
     Ok(())
 }

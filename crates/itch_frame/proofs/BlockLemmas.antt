@@ -1,4 +1,4 @@
--- What the bytes of blocks tell of their payloads.
+-- What the bytes of blocks certain of their payloads.
 use Rattle.std.proofs.Common.{◌≡◌, ℕ, ◌%◌, ◌/◌, List, [], ◌∷◌, ◌++◌, length, take, drop, refl, sym, ap, ◌∙◌, append_assoc, arith}
 use Rattle.std.specs.List.{AllByRecursion}
 use Rattle.std.proofs.lemmas.List.{take_at, drop_at, append-nil}
@@ -10,10 +10,10 @@ pub same_block : (p q r s : List ℕ) → IsPayload p → IsPayload q → block 
 same_block p q r s p_fits q_fits same =
     let high : length p / 256 % 256 ≡ length q / 256 % 256 = cc in
     let low : length p % 256 ≡ length q % 256 = cc in
-    let behind : p ++ r ≡ q ++ s = cc in
+    let following : p ++ r ≡ q ++ s = cc in
     let lengths : length p ≡ length q = omega arith in (
-      sym (take_at p r (length p) refl) ∙ ap (take (length p)) behind ∙ take_at q s (length p) (sym lengths),
-      sym (drop_at p r (length p) refl) ∙ ap (drop (length p)) behind ∙ drop_at q s (length p) (sym lengths),
+      sym (take_at p r (length p) refl) ∙ ap (take (length p)) following ∙ take_at q s (length p) (sym lengths),
+      sym (drop_at p r (length p) refl) ∙ ap (drop (length p)) following ∙ drop_at q s (length p) (sym lengths),
     )
 
 -- a payload has one block

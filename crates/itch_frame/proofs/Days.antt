@@ -9,8 +9,8 @@ use Rattle.itch_frame.proofs.Fronts.{by_blocks}
 -- what may end a day begins with no block that is not empty
 no_full : (rest : List ℕ) → Ends rest ⊎ Open rest → HasNone IsFull rest
 no_full rest (inl (inl none)) payload more full same = cc
-no_full rest (inl (inr (behind, empty))) payload more full same =
-    let first : ([] ≡ payload) × (behind ≡ more) = same_block [] payload behind more (omega arith) full.1 (sym empty ∙ same) in
+no_full rest (inl (inr (following, empty))) payload more full same =
+    let first : ([] ≡ payload) × (following ≡ more) = same_block [] payload following more (omega arith) full.1 (sym empty ∙ same) in
     absurd (let length_is : 0 ≡ length payload = ap length first.0 in omega arith)
 no_full rest (inr part) payload more full same = part.1 payload more full.1 same
 
@@ -26,15 +26,15 @@ day_last rest last = record { whole = refl; each = tt; last = last }
 -- one block more in front of a day
 pub day_on : (p bytes : List ℕ) (ps : List (List ℕ)) (rest : List ℕ) → IsFull p → Day bytes ps rest → Day (block p ++ bytes) (p ∷ ps) rest
 day_on p bytes ps rest full day = record {
-  whole = ap (λ behind. block p ++ behind) day.whole ∙ sym (append_assoc (block p) (blocks ps) rest);
+  whole = ap (λ following. block p ++ following) day.whole ∙ sym (append_assoc (block p) (blocks ps) rest);
   each = (full, day.each);
   last = day.last;
 }
 
 -- several blocks more in front of a day
-pub day_behind : (done : List (List ℕ)) (bytes : List ℕ) (ps : List (List ℕ)) (rest : List ℕ) → AllByRecursion IsFull done → Day bytes ps rest → Day (blocks done ++ bytes) (done ++ ps) rest
-day_behind done bytes ps rest full day = record {
-  whole = ap (λ behind. blocks done ++ behind) day.whole ∙ sym (append_assoc (blocks done) (blocks ps) rest) ∙ ap (λ front. front ++ rest) (sym (blocks-append done ps));
+pub day_later : (done : List (List ℕ)) (bytes : List ℕ) (ps : List (List ℕ)) (rest : List ℕ) → AllByRecursion IsFull done → Day bytes ps rest → Day (blocks done ++ bytes) (done ++ ps) rest
+day_later done bytes ps rest full day = record {
+  whole = ap (λ following. blocks done ++ following) day.whole ∙ sym (append_assoc (blocks done) (blocks ps) rest) ∙ ap (λ front. front ++ rest) (sym (blocks-append done ps));
   each = each-append IsFull done ps full day.each;
   last = day.last;
 }
@@ -65,7 +65,7 @@ pub front_of_day : (done ps : List (List ℕ)) (bytes left rest : List ℕ) → 
 front_of_day done ps bytes left rest full front day = found (day_some left) where
   found : SomeDay left → (more : List (List ℕ)) × (ps ≡ done ++ more) × Day left more rest
   found (more, end, later) =
-      let longer : Day (blocks done ++ left) (done ++ more) end = day_behind done left more end full later in
+      let longer : Day (blocks done ++ left) (done ++ more) end = day_later done left more end full later in
       let same : (ps ≡ done ++ more) × (rest ≡ end) =
       day_one (blocks done ++ left) ps (done ++ more) rest end (record { whole = sym front ∙ day.whole; each = day.each; last = day.last }) longer in
       (more, same.0, record { whole = later.whole ∙ ap (λ r. blocks more ++ r) (sym same.1); each = later.each; last = day.last })

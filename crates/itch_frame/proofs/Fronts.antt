@@ -5,13 +5,13 @@ use Rattle.std.proofs.lemmas.Bool.{cases_lt}
 use Rattle.itch_frame.specs.Blocks.{IsPayload, block, blocks, HasNoBlock, Blocks}
 use Rattle.itch_frame.proofs.BlockLemmas.{nothing_left}
 
--- no block begins where fewer bytes follow than the length bytes tell
+-- no block begins where fewer bytes follow than the length bytes certain
 too_short : (x y : ℕ) (rest : List ℕ) → length rest < x * 256 + y → HasNoBlock (x ∷ y ∷ rest)
 too_short x y rest short payload more fits same =
     let high : x ≡ length payload / 256 % 256 = cc in
     let low : y ≡ length payload % 256 = cc in
-    let behind : rest ≡ payload ++ more = cc in
-    absurd (omega (arith, ap length behind, length-append payload more))
+    let following : rest ≡ payload ++ more = cc in
+    absurd (omega (arith, ap length following, length-append payload more))
 
 -- no block begins with a number that is no byte
 no_byte : (x y : ℕ) (rest : List ℕ) → (256 ≤ x) ⊎ (256 ≤ y) → HasNoBlock (x ∷ y ∷ rest)
@@ -28,8 +28,8 @@ front_block x y rest x_fits y_fits enough =
     let n : length (take (x * 256 + y) rest) ≡ x * 256 + y = length-take-le (x * 256 + y) rest enough in
     let high : x ≡ length (take (x * 256 + y) rest) / 256 % 256 = omega arith in
     let low : y ≡ length (take (x * 256 + y) rest) % 256 = omega arith in
-    let behind : rest ≡ take (x * 256 + y) rest ++ drop (x * 256 + y) rest = sym (take-append-drop (x * 256 + y) rest) in
-    λ i. high i ∷ low i ∷ behind i
+    let following : rest ≡ take (x * 256 + y) rest ++ drop (x * 256 + y) rest = sym (take-append-drop (x * 256 + y) rest) in
+    λ i. high i ∷ low i ∷ following i
 
 -- no block stands in front, or one does
 abbrev Front : List ℕ → Type 0
@@ -72,7 +72,7 @@ longer_blocks payload more bytes fits front (ps, rest, later) = (
   payload ∷ ps,
   rest,
   record {
-    whole = front ∙ ap (λ behind. block payload ++ behind) later.whole ∙ sym (append_assoc (block payload) (blocks ps) rest);
+    whole = front ∙ ap (λ following. block payload ++ following) later.whole ∙ sym (append_assoc (block payload) (blocks ps) rest);
     each = (fits, later.each);
     no_more = later.no_more;
   },

@@ -9,13 +9,13 @@ use Rattle.itch_frame.specs.Cuts.CutStep.{Takes, Clears}
 use Rattle.itch_frame.specs.Needs.{need}
 use Rattle.itch_frame.proofs.BlockLemmas.{nothing_left}
 
--- a block is as long as its length bytes tell
+-- a block is as long as its length bytes certain
 block_need : (bytes : List ℕ) → IsBlock bytes → (2 ≤ length bytes) × (need bytes ≡ length bytes)
 block_need bytes (payload, of) =
     let long : (2 ≤ length (block payload)) × (need (block payload) ≡ length (block payload)) = (omega arith, omega arith) in
     subst (λ (b : List ℕ). (2 ≤ length b) × (need b ≡ length b)) (sym of.1) long
 
--- bytes as long as their length bytes tell are a block
+-- bytes as long as their length bytes certain are a block
 pub whole_block : (held : List ℕ) → 2 ≤ length held → need held ≡ length held → length held ≤ 65537 → get_or held 0 0 < 256 → get_or held 1 0 < 256
     → IsBlockOf (take (length held - 2) (drop 2 held)) held
 whole_block [] long is bound x_fits y_fits = absurd (omega arith)
@@ -180,7 +180,7 @@ same_stream bytes other ps rest same reading = record { whole = same ∙ reading
 -- one block more in front of a stream
 block_on : (p bytes : List ℕ) (ps : List (List ℕ)) (rest : List ℕ) → IsPayload p → Blocks bytes ps rest → Blocks (block p ++ bytes) (p ∷ ps) rest
 block_on p bytes ps rest fits reading = record {
-  whole = ap (λ behind. block p ++ behind) reading.whole ∙ sym (append_assoc (block p) (blocks ps) rest);
+  whole = ap (λ following. block p ++ following) reading.whole ∙ sym (append_assoc (block p) (blocks ps) rest);
   each = (fits, reading.each);
   no_more = reading.no_more;
 }

@@ -23,13 +23,13 @@ pub Appends-same : (old new : Option (List ℕ)) (xs ys : List ℕ) → xs ≡ y
 Appends-same old new xs ys same wrote = subst (Appends old new) same wrote
 
 -- the first bytes of a list, and then the first of those after them
-pub Appends-on : (old mid new : Option (List ℕ)) (bytes behind : List ℕ) (sent count : ℕ) → behind ≡ take (length bytes - sent) (drop sent bytes) → count ≤ length bytes - sent
-    → Appends old mid (take sent bytes) → Appends mid new (take count behind) → Appends old new (take (sent + count) bytes)
-Appends-on old mid new bytes behind sent count is within first second =
-    let parts : take count behind ≡ take count (drop sent bytes) = ap (take count) is ∙ take-take count (length bytes - sent) (drop sent bytes) within in
-    Appends-same old new (take sent bytes ++ take count behind) (take (sent + count) bytes)
+pub Appends-on : (old mid new : Option (List ℕ)) (bytes following : List ℕ) (sent count : ℕ) → following ≡ take (length bytes - sent) (drop sent bytes) → count ≤ length bytes - sent
+    → Appends old mid (take sent bytes) → Appends mid new (take count following) → Appends old new (take (sent + count) bytes)
+Appends-on old mid new bytes following sent count is within first second =
+    let parts : take count following ≡ take count (drop sent bytes) = ap (take count) is ∙ take-take count (length bytes - sent) (drop sent bytes) within in
+    Appends-same old new (take sent bytes ++ take count following) (take (sent + count) bytes)
     (ap (λ t. take sent bytes ++ t) parts ∙ sym (take-add sent count bytes))
-    (Appends-more old mid new (take sent bytes) (take count behind) first second)
+    (Appends-more old mid new (take sent bytes) (take count following) first second)
 
 -- the blocks of some payloads, and then that of one more
 pub Appends-block : (old mid new : Option (List ℕ)) (done : List (List ℕ)) (payload : List ℕ)

@@ -9,6 +9,15 @@
 //!
 //! Readers and writers count their failures (`counted`), so that no call can blame the outside for a fault of its own.
 //! `laws` has what holds of every stream, and `testing` a reader and a writer that fail where a test asks for it.
+//!
+//! ```
+//! write_block(&mut out, b"hi")?;
+//! assert_eq!(out.written(), b"\0\x02hi");
+//!
+//! let mut blocks = BlockReader::new(alloc, Counted::new(out.written()))?;
+//! assert_eq!(blocks.next_block()?, Some(b"hi".as_slice()));
+//! assert_eq!(blocks.next_block()?, None);
+//! ```
 #![tactic(auto)]
 
 pub mod counted;
@@ -16,13 +25,11 @@ mod fault;
 pub mod laws;
 mod reader;
 mod splitter;
-mod stage;
 pub mod tally;
 pub mod testing;
 mod writer;
 
 pub use fault::FrameFault;
-pub use reader::BlockReader;
+pub use reader::{BlockReader, Stage};
 pub use splitter::Splitter;
-pub use stage::Stage;
 pub use writer::{write_block, write_part};

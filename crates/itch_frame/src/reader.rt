@@ -8,10 +8,22 @@ ghost use Rattle.itch_frame.specs.Needs.{need};
 use crate::counted::CountedRead;
 use crate::fault::FrameFault;
 use crate::splitter::{LONGEST, lacking};
-use crate::stage::Stage;
 use std::alloc::{AllocError, Allocator, Global};
 use std::io;
 use std::marker::Model;
+
+/// How far a reader of blocks is.
+#[derive(Clone, Copy, Debug, PartialEq, Eq)]
+pub enum Stage {
+    /// A block is wanted, or some of it is held.
+    Going,
+    /// A block was given, and is dropped by the next call.
+    Given,
+    /// The input ended where a block would begin.
+    Ended,
+    /// The input ended in a block.
+    Cut,
+}
 
 /// Gives the blocks of a reader one by one, and never asks for more than the block at hand lacks.
 #[derive(Drop)]
@@ -28,7 +40,7 @@ impl<R: CountedRead, A: Allocator> Model for BlockReader<R, A> {
     ghost use Rattle.std.specs.Io.KnownBytes.{IsAtEnd};
     ghost use Rattle.itch_frame.specs.Needs.{need};
     ghost use Rattle.itch_frame.specs.Reading.{Reading, held_of};
-    ghost use Rattle.itch_frame.specs.declared.stage.Stage.TheVariants.{Ended, Cut};
+    ghost use Rattle.itch_frame.specs.declared.reader.Stage.TheVariants.{Ended, Cut};
 
     ghost Value = { Reading R };
 
@@ -93,7 +105,7 @@ impl<R: CountedRead, A: Allocator> BlockReader<R, A> {
     }
 }
 
-/// So many bytes, all zero.
+/// This many bytes, all zero.
 fn zeros<A: Allocator>(alloc: A, len: usize) -> Result<Vec<u8, A>, AllocError>
     ensures { IfOk result (λ bytes. vec_len bytes ≡ len) }
 {

@@ -77,7 +77,7 @@ fn room<A: Allocator>(alloc: A) -> Result<Vec<u8, A>, AllocError>
     Vec::with_capacity(alloc, LONGEST)
 }
 
-/// How many bytes the block at hand lacks, as far as its bytes tell: both length bytes come first.
+/// How many bytes the block at hand lacks, as far as its bytes say: both length bytes come first.
 pub(crate) fn lacking(held: &[u8]) -> usize
     ensures count { result ≡ need held.now - length held.now }
     ensures bound { need held.now ≤ 65537 }

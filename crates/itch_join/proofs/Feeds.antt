@@ -3,8 +3,8 @@ use Rattle.std.proofs.Common.{◌≡◌, ℕ, zero, suc, ◌+◌, ◌-◌, ◌<�
 use Rattle.std.specs.List.{AllByRecursion}
 use Rattle.itch_codec.specs.Fields.{AreBytes}
 use Rattle.itch_market.specs.Content.{Content, empty}
-use Rattle.itch_market.specs.Goods.{IsGood}
-use Rattle.itch_market.proofs.Goods.{empty_good}
+use Rattle.itch_market.specs.GoodMarkets.{IsGood}
+use Rattle.itch_market.proofs.GoodMarkets.{empty_good}
 use Rattle.itch_join.specs.declared.fault.Cause.{Cause}
 use Rattle.itch_join.specs.Rules.{Rules, AreLawful, after, run, first_bad, bad}
 

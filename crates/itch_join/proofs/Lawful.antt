@@ -9,13 +9,13 @@ use Rattle.itch_codec.proofs.Spelling.{IsMessage-Spells, Spells-message_of}
 use Rattle.itch_market.specs.declared.refusal.Refusal.{Refusal}
 use Rattle.itch_market.specs.Content.{Content}
 use Rattle.itch_market.specs.Reasons.{reason}
-use Rattle.itch_market.proofs.Goods.{effect_good}
-use Rattle.itch_market.proofs.Sames.{reason_same, effect_same}
+use Rattle.itch_market.proofs.GoodMarkets.{effect_good}
+use Rattle.itch_market.proofs.SameMarkets.{reason_same, effect_same}
 use Rattle.itch_join.specs.declared.fault.Cause.TheVariants as cause
 use Rattle.itch_book.proofs.Lists.{by_test}
-use Rattle.itch_market.specs.Goods.{IsGood}
-use Rattle.itch_market.specs.Sames.{Same}
-use Rattle.itch_snapshot.specs.Loads.{is_skipped}
+use Rattle.itch_market.specs.GoodMarkets.{IsGood}
+use Rattle.itch_market.specs.SameMarkets.{Same}
+use Rattle.itch_snapshot.specs.TakenMessages.{is_skipped}
 use Rattle.itch_join.specs.Rules.{Rules, refused_by, market_rules, rules_of, AreLawful}
 use Rattle.itch_join.proofs.Skipping.{refused_here, effect_here, refused_skipped, effect_skipped}
 

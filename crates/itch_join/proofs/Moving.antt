@@ -6,10 +6,10 @@ use Rattle.std.proofs.lemmas.Bool.Decides.{nat_tests}
 use Rattle.std.proofs.lemmas.Bool.{cases_lt}
 use Rattle.itch_codec.specs.Fields.{AreBytes}
 use Rattle.itch_market.specs.Content.{laid}
-use Rattle.itch_market.specs.Goods.{IsGood}
-use Rattle.itch_market.specs.Sames.{Same}
-use Rattle.itch_market.proofs.Goods.{laid_good}
-use Rattle.itch_market.proofs.Sames.{laid_is_same, same_chain}
+use Rattle.itch_market.specs.GoodMarkets.{IsGood}
+use Rattle.itch_market.specs.SameMarkets.{Same}
+use Rattle.itch_market.proofs.GoodMarkets.{laid_good}
+use Rattle.itch_market.proofs.SameMarkets.{laid_is_same, same_chain}
 use Rattle.itch_join.specs.declared.state.Stopped.{Stopped}
 use Rattle.itch_join.specs.Rules.{Rules, AreLawful, bad}
 use Rattle.itch_join.specs.States.{Wait}

@@ -14,19 +14,19 @@ use Rattle.itch_book.specs.Orders as book
 use Rattle.itch_book.proofs.Lists.{by_test, passes_filter, All-weaker_rec, length_filter_le}
 use Rattle.itch_book.proofs.OrderLemmas.{lay_fit}
 use Rattle.itch_market.specs.Content.{Content, empty, laid}
-use Rattle.itch_market.specs.Goods.{IsGood}
+use Rattle.itch_market.specs.GoodMarkets.{IsGood}
 use Rattle.itch_market.specs.Reasons.{reason}
 use Rattle.itch_market.specs.Effects.{effect}
 use Rattle.itch_market.specs.Runs as runs
 use Rattle.itch_market.specs.Runs.{AreMessages, FollowsFrom}
-use Rattle.itch_market.specs.Sames.{Same}
+use Rattle.itch_market.specs.SameMarkets.{Same}
 use Rattle.itch_market.specs.Partial.{skips, kept, only}
 use Rattle.itch_market.proofs.Partials.{kept_message, kept_leaves}
-use Rattle.itch_market.proofs.Goods.{effect_good, empty_good}
+use Rattle.itch_market.proofs.GoodMarkets.{effect_good, empty_good}
 use Rattle.itch_market.proofs.Laid.{reason-laid, effect-laid, laid_twice}
-use Rattle.itch_market.proofs.Sames.{laid_is_same}
+use Rattle.itch_market.proofs.SameMarkets.{laid_is_same}
 use Rattle.itch_snapshot.specs.Snapshot.{snap}
-use Rattle.itch_snapshot.specs.Loads.{closing_number, number_by, number_in, is_skipped}
+use Rattle.itch_snapshot.specs.TakenMessages.{closing_number, number_by, number_in, is_skipped}
 use Rattle.itch_snapshot.proofs.Cut.{snap_only}
 use Rattle.itch_snapshot.proofs.Loading.{snap_leads}
 use Rattle.itch_snapshot.proofs.Sizes.{short_snap}
@@ -123,11 +123,11 @@ module _ (wanted : ℕ → Bool) where
       let clean : fault p ≡ None = fault-spelling x fits in
       let same : message_of p ≡ x = message_of-spelling x fits in
       let stays = faultless_skips wanted p clean ∙ ap (skips wanted) same ∙ in_set in
-      let tells : closing_number p ≡ None = ap (λ f. number_by f p) clean ∙ ap number_in same ∙ unrefused_number m x none in
+      let says : closing_number p ≡ None = ap (λ f. number_by f p) clean ∙ ap number_in same ∙ unrefused_number m x none in
       let refuses : R.refused (laid m) p ≡ None =
       refused_here wanted (laid m) p stays ∙ ap (λ f. refused_by f (laid m) p) clean ∙ ap (option_map cause.Rule) (ap (reason (laid m)) same ∙ reason-laid m x fine ∙ none) in
       let free : (taken == 10 ^ 19 - 1) ≡ false = grind (arith, nat_tests) in
-      ap (λ n. payload_case taken (laid m) n (R.refused (laid m) p)) tells
+      ap (λ n. payload_case taken (laid m) n (R.refused (laid m) p)) says
       ∙ ap (payload_case taken (laid m) None) refuses
       ∙ ap (λ b. cond b (payload_case (10 ^ 19 - 1) (laid m) None None) (SnapTakes taken (laid m))) free
 
@@ -167,9 +167,9 @@ module _ (wanted : ℕ → Bool) where
       ∙ ap (λ m. Reading (0 + length (snap M)) (laid m)) leads.leaves ∙ ap (Reading (0 + length (snap M))) (laid_twice M) in
       let number : IsMessage (is.End (k + 1)) = record { low = omega arith; high = omega arith } in
       let p = spelling (is.End (k + 1)) in
-      let tells : closing_number p ≡ Some (k + 1) = ap (λ f. number_by f p) (fault-spelling (is.End (k + 1)) number) ∙ ap number_in (message_of-spelling (is.End (k + 1)) number) in
+      let says : closing_number p ≡ Some (k + 1) = ap (λ f. number_by f p) (fault-spelling (is.End (k + 1)) number) ∙ ap number_in (message_of-spelling (is.End (k + 1)) number) in
       record {
-        kind = ap (λ h. half_case R h p) reading ∙ ap (λ n. payload_case (0 + length (snap M)) (laid M) n (R.refused (laid M) p)) tells;
+        kind = ap (λ h. half_case R h p) reading ∙ ap (λ n. payload_case (0 + length (snap M)) (laid M) n (R.refused (laid M) p)) says;
         fits = (omega arith, omega arith, let e : (k + 1) - 1 ≡ k = omega arith in subst (λ n. Same (laid M) (run R (take n feed))) (sym e) (laid_is_same M fine));
       }
 

@@ -6,7 +6,7 @@ use Rattle.std.specs.Ordering.{nat_cmp}
 use Rattle.std.proofs.lemmas.Bool.Decides.{nat_tests}
 use Rattle.itch_codec.specs.Fields.{AreBytes}
 use Rattle.itch_market.specs.Content.{laid}
-use Rattle.itch_market.proofs.Goods.{laid_good, empty_good}
+use Rattle.itch_market.proofs.GoodMarkets.{laid_good, empty_good}
 use Rattle.itch_join.specs.declared.outcome.Live.{Live}
 use Rattle.itch_join.specs.declared.outcome.Live.TheVariants.{Kept, Old}
 use Rattle.itch_join.specs.declared.outcome.Snap.{Snap}

@@ -13,11 +13,11 @@ use Rattle.itch_market.proofs.Rules.{reason_is_rule}
 use Rattle.itch_snapshot.proofs.FileLemmas.{unrefused_number}
 use Rattle.itch_snapshot.specs.declared.fault.SnapFault.{SnapFault}
 use Rattle.itch_snapshot.specs.declared.fault.SnapFault.TheVariants.{NoEnd, Frame, Codec, Rule, AfterEnd, TooManyMessages}
-use Rattle.itch_snapshot.specs.declared.stage.Stage.{Stage}
-use Rattle.itch_snapshot.specs.declared.stage.Stage.TheVariants as stage
+use Rattle.itch_snapshot.specs.declared.reader.Stage.{Stage}
+use Rattle.itch_snapshot.specs.declared.reader.Stage.TheVariants as stage
 use Rattle.itch_book.proofs.Lists.{by_test}
-use Rattle.itch_snapshot.specs.Loads.{Load, LoadsOnly, TakesAtOnly, TakesNextOnly, AppliesUnless, closing_number, number_by, number_in, is_full, is_skipped}
-use Rattle.itch_snapshot.specs.Loads as loads
+use Rattle.itch_snapshot.specs.TakenMessages.{Load, LoadsOnly, TakesAtOnly, TakesNextOnly, AppliesUnless, closing_number, number_by, number_in, is_full, is_skipped}
+use Rattle.itch_snapshot.specs.TakenMessages as loads
 use Rattle.itch_join.specs.declared.fault.Cause.{Cause}
 use Rattle.itch_join.specs.declared.fault.Cause.TheVariants as cause
 use Rattle.itch_join.specs.declared.fault.JoinFault.{JoinFault}
@@ -72,11 +72,11 @@ module _ (wanted : ℕ → Bool) where
 
   pub case_here : (s : State) (taken : ℕ) (m : Content) (p : List ℕ) (number : Option ℕ) (refused : Option Cause) → s.halt ≡ None → is_some s.joined ≡ false → s.half ≡ Reading taken m
       → closing_number p ≡ number → R.refused m p ≡ refused → snapshot_case R s p ≡ payload_case taken m number refused
-  case_here s taken m p number refused none apart half tells refuses =
+  case_here s taken m p number refused none apart half says refuses =
       ap (λ o. unhalted_case o (unjoined_case s.joined (half_case R s.half p))) none
       ∙ by_joined s.joined apart
       ∙ ap (λ h. half_case R h p) half
-      ∙ ap (λ n. payload_case taken m n (R.refused m p)) tells
+      ∙ ap (λ n. payload_case taken m n (R.refused m p)) says
       ∙ ap (payload_case taken m number) refuses
     where
       by_joined : (o : Option Position) → is_some o ≡ false → unjoined_case o (half_case R s.half p) ≡ half_case R s.half p
@@ -117,9 +117,9 @@ module _ (wanted : ℕ → Bool) where
 
       taken_so : closing_number p ≡ None → R.refused old.market p ≡ None → new.market ≡ laid (R.effect old.market p)
           → SnapshotBy R s p (snapshot_case R s p) (Ok snap.More) (record s { half = half_of new })
-      taken_so tells refuses left =
+      taken_so says refuses left =
           at_case s p (SnapTakes old.taken old.market) (Ok snap.More) _
-          (case_here s old.taken old.market p None None none apart half tells refuses ∙ room old.taken _ _ free)
+          (case_here s old.taken old.market p None None none apart half says refuses ∙ room old.taken _ _ free)
           (refl, half_there s (half_of new) (Reading (old.taken + 1) (laid (R.effect old.market p))) (at_stage old new stage.Taking goes ∙ reading _ _ _ _ counted left))
   took_at (stage.Broken fault) s old new p none apart half in_order (answer, same) = absurd (let e = answer in cc)
   took_at (stage.Closed next) s old new p none apart half in_order (answer, same) = absurd (let e = answer in cc)
@@ -143,7 +143,7 @@ module _ (wanted : ℕ → Bool) where
       fails_case s p place (cause.Codec f) (old.taken + 1) _ (half_of new)
       (case_here s old.taken old.market p None (Some (cause.Codec f)) none apart half (ap (λ o. number_by o p) is) (refused_here wanted old.market p (faulty_stays wanted p f is) ∙ ap (λ o. refused_by o old.market p) is) ∙ room old.taken _ _ free)
       here refl (at_stage old new (stage.Broken (Codec place f)) goes)
-  failed_taking (Rule place why) s old new p none apart half (stays, (free, here, tells, (same, (clean, refusal)))) counted goes =
+  failed_taking (Rule place why) s old new p none apart half (stays, (free, here, says, (same, (clean, refusal)))) counted goes =
       by_reason (reason m (message_of p)) refl refusal
     where
       m : Content
@@ -153,7 +153,7 @@ module _ (wanted : ℕ → Bool) where
           → SnapshotBy R s p (snapshot_case R s p) (Err (join_fault_of (Rule place why))) (record s { half = half_of new })
       by_reason None is (memory, takes) =
           at_case s p (SnapTakes old.taken old.market) _ _
-          (case_here s old.taken old.market p None None none apart half tells (refused_here wanted old.market p stays ∙ ap (λ o. refused_by o old.market p) clean ∙ ap (option_map cause.Rule) is) ∙ room old.taken _ _ free) (
+          (case_here s old.taken old.market p None None none apart half says (refused_here wanted old.market p stays ∙ ap (λ o. refused_by o old.market p) clean ∙ ap (option_map cause.Rule) is) ∙ room old.taken _ _ free) (
             ap (λ w. join_fault_of (Rule place w)) memory,
             memory_here wanted old.market p stays ∙ takes,
             half_there s (half_of new) s.half
@@ -163,12 +163,12 @@ module _ (wanted : ℕ → Bool) where
           let other : why ≢ OutOfMemory = λ e. reason_is_rule old.market (message_of p) (is ∙ ap Some (sym reason_is ∙ e)) in
           let t = reported place why other in
           fails_case s p place (cause.Rule why) (old.taken + 1) _ (half_of new)
-          (case_here s old.taken old.market p None (Some (cause.Rule why)) none apart half tells
+          (case_here s old.taken old.market p None (Some (cause.Rule why)) none apart half says
           (refused_here wanted old.market p stays ∙ ap (λ o. refused_by o old.market p) clean ∙ ap (option_map cause.Rule) (is ∙ ap Some (sym reason_is))) ∙ room old.taken _ _ free)
           here t.answer (at_stage old new (stage.Broken (Rule place why)) (goes ∙ t.stage))
-  failed_taking TooManyMessages s old new p none apart half (many, tells, same) counted goes =
+  failed_taking TooManyMessages s old new p none apart half (many, says, same) counted goes =
       fails_case s p (10 ^ 19) cause.TooMany (10 ^ 19) _ (half_of new)
-      (case_here s old.taken old.market p None _ none apart half tells refl ∙ full old.taken _ _ many)
+      (case_here s old.taken old.market p None _ none apart half says refl ∙ full old.taken _ _ many)
       refl refl (at_stage old new (stage.Broken TooManyMessages) goes)
   failed_taking NoEnd s old new p none apart half h counted goes = absurd h
   failed_taking (Frame f) s old new p none apart half h counted goes = absurd h

@@ -2,7 +2,7 @@
 use Rattle.std.proofs.Common.{◌≡◌, ℕ, ◌+◌, ◌-◌, ◌<◌, ◌≤◌, true, false, List, length, take, Option, Some, None, refl, sym, ◌∙◌, subst, arith, ◌⊎◌, inl, inr}
 use Rattle.std.proofs.lemmas.List.{take_all}
 use Rattle.std.proofs.lemmas.Option.{slice_get_within}
-use Rattle.itch_market.specs.Sames.{Same}
+use Rattle.itch_market.specs.SameMarkets.{Same}
 use Rattle.itch_join.specs.declared.state.Halt.{Halt}
 use Rattle.itch_join.specs.Positions.{Position}
 use Rattle.itch_join.specs.Rules.{Rules, run, bad, IsLawfulFeed}

@@ -1,7 +1,7 @@
 -- Lists of calls whose deliveries are of one feed.
 use Rattle.std.specs.Prelude.{◌≡◌, ℕ, ◌-◌, ◌==◌, ◌<◌, ◌≤◌, ◌&&◌, ◌||◌, Bool, true, false, List, [], ◌∷◌, take, Option, Some, None, Result, Ok, Err, slice_get, if◌then◌else◌}
 use Rattle.itch_codec.specs.Fields.{AreBytes}
-use Rattle.itch_market.specs.Sames.{Same}
+use Rattle.itch_market.specs.SameMarkets.{Same}
 use Rattle.itch_join.specs.declared.outcome.Live.{Live}
 use Rattle.itch_join.specs.declared.outcome.Live.TheVariants.{Kept, Applied, Old}
 use Rattle.itch_join.specs.declared.outcome.Snap.TheVariants as snap

@@ -3,9 +3,9 @@ use Rattle.std.specs.Prelude.{◌≢◌, ◌^◌, false}
 use Rattle.itch_market.specs.declared.refusal.Refusal.TheVariants as why
 use Rattle.itch_snapshot.specs.declared.fault.SnapFault.{SnapFault}
 use Rattle.itch_snapshot.specs.declared.fault.SnapFault.TheVariants.{NoEnd, Frame, Codec, Rule, AfterEnd, TooManyMessages}
-use Rattle.itch_snapshot.specs.declared.stage.Stage.{Stage}
-use Rattle.itch_snapshot.specs.declared.stage.Stage.TheVariants as stage
-use Rattle.itch_snapshot.specs.Loads.{Load}
+use Rattle.itch_snapshot.specs.declared.reader.Stage.{Stage}
+use Rattle.itch_snapshot.specs.declared.reader.Stage.TheVariants as stage
+use Rattle.itch_snapshot.specs.TakenMessages.{Load}
 use Rattle.itch_join.specs.declared.fault.Cause.TheVariants as cause
 use Rattle.itch_join.specs.declared.fault.JoinFault.{JoinFault}
 use Rattle.itch_join.specs.declared.fault.JoinFault.TheVariants as fault

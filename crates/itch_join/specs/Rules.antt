@@ -6,9 +6,9 @@ use Rattle.itch_codec.specs.Fields.{AreBytes}
 use Rattle.itch_market.specs.Content.{Content, empty}
 use Rattle.itch_market.specs.Reasons.{reason}
 use Rattle.itch_market.specs.Effects as market
-use Rattle.itch_market.specs.Goods.{IsGood}
-use Rattle.itch_market.specs.Sames.{Same}
-use Rattle.itch_snapshot.specs.Loads.{closing_number, is_skipped}
+use Rattle.itch_market.specs.GoodMarkets.{IsGood}
+use Rattle.itch_market.specs.SameMarkets.{Same}
+use Rattle.itch_snapshot.specs.TakenMessages.{closing_number, is_skipped}
 use Rattle.itch_join.specs.declared.fault.Cause.{Cause}
 use Rattle.itch_join.specs.declared.fault.Cause.TheVariants as cause
 

@@ -1,7 +1,7 @@
 -- Where a joiner stands after any calls whose deliveries are of one feed.
 use Rattle.std.specs.Prelude.{◌≡◌, ℕ, ◌+◌, ◌-◌, ◌<◌, ◌≤◌, ◌&&◌, nat_le, Bool, true, false, List, [], ◌∷◌, length, take, Option, Some, None, is_some, Err, slice_get}
 use Rattle.std.specs.FinMap as map
-use Rattle.itch_market.specs.Sames.{Same}
+use Rattle.itch_market.specs.SameMarkets.{Same}
 use Rattle.itch_join.specs.declared.fault.Cause.{Cause}
 use Rattle.itch_join.specs.declared.fault.JoinFault.TheVariants.{Full, Halted}
 use Rattle.itch_join.specs.declared.state.Halt.{Halt}

@@ -3,6 +3,13 @@
 //! Who comes late to an ITCH feed asks for a snapshot, as over GLIMPSE, and meanwhile receives the live feed. A [`Joiner`]
 //! takes both: messages of the feed wait by their numbers until the snapshot ends, those that it contains are dropped, and
 //! the rest is applied in the order of the numbers, whatever is lost, repeated or out of order on the way.
+//!
+//! ```
+//! let mut joiner: Joiner<IndexedBook> = Joiner::new(alloc, 16);
+//! assert_eq!(joiner.live(2, BUY)?, Live::Kept);
+//! assert_eq!(joiner.snapshot(AAPL)?, Snap::More);
+//! assert_eq!(joiner.snapshot(b"G                   2")?, Snap::Joined { next: 3 });
+//! ```
 #![tactic(auto)]
 
 mod applying;

@@ -50,14 +50,14 @@ pub record IsAllowedReplace (m : Content) (x : OrderReplace) : Type 0 where
   pub some_shares : 0 < x.shares
   pub new_reference : book.get m.orders x.reference ≡ None
 
-allowed_behind : (m : Content) (x : OrderReplace) (o : Option Order)
+allowed_after : (m : Content) (x : OrderReplace) (o : Option Order)
     → IsSomeAnd o (λ _. refuse (x.shares == 0) ZeroShares (refuse (is_live m x.reference) DuplicateRef None) ≡ None) → IsAllowedReplace m x
-allowed_behind m x None behind = absurd behind
-allowed_behind m x (Some o) behind =
-    let shares = passed (x.shares == 0) _ _ behind in
+allowed_after m x None following = absurd following
+allowed_after m x (Some o) following =
+    let shares = passed (x.shares == 0) _ _ following in
     let fresh = passed _ _ _ shares.1 in
     record { some_shares = some_shares x.shares shares.0; new_reference = is_none (book.get m.orders x.reference) fresh.0 }
 
 pub allowed_replace : (m : Content) (x : OrderReplace) → reason m (is.OrderReplace x) ≡ None → IsAllowedReplace m x
 allowed_replace m x none =
-    allowed_behind m x (book.get m.orders x.original) (live_passed (book.get m.orders x.original) x.header.locate _ none)
+    allowed_after m x (book.get m.orders x.original) (live_passed (book.get m.orders x.original) x.header.locate _ none)

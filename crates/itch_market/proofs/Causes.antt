@@ -12,7 +12,7 @@ use Rattle.itch_market.specs.declared.stop.Stop.TheVariants.{End, Frame, Codec, 
 use Rattle.itch_market.specs.Content.{Content, laid}
 use Rattle.itch_market.specs.Reasons.{reason}
 use Rattle.itch_market.specs.Effects.{effect, takes_memory}
-use Rattle.itch_market.specs.Goods.{IsGood}
+use Rattle.itch_market.specs.GoodMarkets.{IsGood}
 use Rattle.itch_market.specs.Runs.{after, FollowsFrom}
 use Rattle.itch_market.specs.Stops.{cause_by, cause, cause_at}
 use Rattle.itch_market.specs.Replays.{NoCause, IsRefusal, Refuses, Halts}
@@ -56,9 +56,9 @@ no_reason m p none = by_reason (reason m (message_of p)) (subst (λ f. cause_by 
   by_reason None none = refl
 
 -- the payload after others is asked in the market that those leave
-pub cause_behind : (m : Content) (ps : List (List ℕ)) (p : List ℕ) (qs : List (List ℕ)) → cause_at m (ps ++ p ∷ qs) (length ps) ≡ cause (after m (map message_of ps)) p
-cause_behind m [] p qs = refl
-cause_behind m (q ∷ ps) p qs = cause_behind (effect m (message_of q)) ps p qs
+pub cause_after : (m : Content) (ps : List (List ℕ)) (p : List ℕ) (qs : List (List ℕ)) → cause_at m (ps ++ p ∷ qs) (length ps) ≡ cause (after m (map message_of ps)) p
+cause_after m [] p qs = refl
+cause_after m (q ∷ ps) p qs = cause_after (effect m (message_of q)) ps p qs
 
 -- payloads after it change nothing
 pub cause_before : (m : Content) (ps qs : List (List ℕ)) (k : ℕ) → k < length ps → cause_at m (ps ++ qs) k ≡ cause_at m ps k
@@ -71,7 +71,7 @@ pub none_more : (m : Content) (ps : List (List ℕ)) (p : List ℕ) → NoCause 
 none_more m ps p none clean k within =
     elim (cases_lt k (length ps)) [
       | inl before ↦ cause_before m ps (p ∷ []) k before ∙ none k before
-      | inr behind ↦ let last : k ≡ length ps = omega (arith, length-append ps (p ∷ [])) in ap (cause_at m (ps ++ p ∷ [])) last ∙ cause_behind m ps p [] ∙ clean
+      | inr following ↦ let last : k ≡ length ps = omega (arith, length-append ps (p ∷ [])) in ap (cause_at m (ps ++ p ∷ [])) last ∙ cause_after m ps p [] ∙ clean
     ]
 
 -- the market after one message more

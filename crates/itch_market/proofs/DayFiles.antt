@@ -19,7 +19,7 @@ use Rattle.itch_market.specs.Content.{Content}
 use Rattle.itch_market.specs.Reasons.{reason}
 use Rattle.itch_market.specs.Effects.{effect}
 use Rattle.itch_market.specs.Runs.{AreMessages, after, FollowsFrom}
-use Rattle.itch_market.specs.Firsts.{IsFirst}
+use Rattle.itch_market.specs.FirstPlaces.{IsFirst}
 use Rattle.itch_market.specs.Stops.{cause_by, cause, cause_at, end_of, stop_at, Stops}
 use Rattle.itch_market.specs.Replays.{NoCause}
 use Rattle.itch_market.proofs.Causes.{no_fault, none_clean, none_follows, follows_none, cause_before}

@@ -10,7 +10,7 @@ use Rattle.itch_book.proofs.BookLemmas.{lay-book, lay-added_laid, lay-without_la
 use Rattle.itch_market.specs.Content.{Content, laid}
 use Rattle.itch_market.specs.Reasons.{reason}
 use Rattle.itch_market.specs.Effects.{effect, takes_memory, order_of}
-use Rattle.itch_market.specs.Goods.{IsGood}
+use Rattle.itch_market.specs.GoodMarkets.{IsGood}
 
 pub get-laid : (m : Content) (reference : ℕ) → IsGood m → book.get (book.lay m.orders) reference ≡ book.get m.orders reference
 get-laid m reference good = get-lay m.orders reference good.distinct (live_fit m.orders good.live)

@@ -3,7 +3,7 @@ pub mod Maps
 pub mod Slots
 pub mod Bytes
 pub mod Allowed
-pub mod Goods
+pub mod GoodMarkets
 pub mod Laid
 pub mod LawRules
 pub mod Causes
@@ -12,10 +12,10 @@ pub mod Taking
 pub mod Stopping
 pub mod Places
 pub mod Rules
-pub mod Told
+pub mod Decided
 pub mod Searches
 pub mod OneStop
 pub mod Runs
-pub mod Sames
+pub mod SameMarkets
 pub mod Standing
 pub mod Partials

@@ -4,10 +4,10 @@ use Rattle.itch_frame.specs.Blocks.{Day}
 use Rattle.itch_frame.proofs.Days.{day_one, day_some}
 use Rattle.itch_market.specs.declared.stop.Stop.{Stop}
 use Rattle.itch_market.specs.Content.{Content}
-use Rattle.itch_market.specs.Firsts.{IsFirst}
+use Rattle.itch_market.specs.FirstPlaces.{IsFirst}
 use Rattle.itch_market.specs.Stops.{stop_at, last_stop, Stops}
 use Rattle.itch_market.proofs.Searches.{first_place, first_value, first_is_there}
-use Rattle.itch_market.proofs.Stopping.{stop_behind}
+use Rattle.itch_market.proofs.Stopping.{stop_after}
 
 -- two readings of one file search the same places
 same_search : (m : Content) (bytes : List ℕ) (k j : ℕ) (s t : Stop) (p : Stops m bytes k s) → (q : Stops m bytes j t) → IsFirst (stop_at (10 ^ 19 - 1) m p.payloads p.rest) j t
@@ -27,7 +27,7 @@ stops_somewhere m bytes = on_day (day_some bytes) where
   on_day : (ps : List (List ℕ)) × (rest : List ℕ) × Day bytes ps rest → (k : ℕ) × (s : Stop) × Stops m bytes k s
   on_day (ps, rest, day) =
       let found = first_is_there (stop_at (10 ^ 19 - 1) m ps rest) (min (10 ^ 19 - 1) (length ps)) (last_stop (10 ^ 19 - 1) ps rest)
-      (stop_behind (10 ^ 19 - 1) m ps rest (min (10 ^ 19 - 1) (length ps)) refl) in
+      (stop_after (10 ^ 19 - 1) m ps rest (min (10 ^ 19 - 1) (length ps)) refl) in
       (found.0, found.1, record { payloads = ps; rest = rest; day = day; first = found.2 })
 
 pub ruleset stop_laws = (stops_somewhere)

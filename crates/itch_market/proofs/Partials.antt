@@ -19,12 +19,12 @@ use Rattle.itch_market.specs.declared.refusal.Refusal.TheVariants.{UnknownLocate
 use Rattle.itch_market.specs.Content.{Content, Listing, Securities, empty}
 use Rattle.itch_market.specs.Reasons.{reason, refuse, is_live, order_reason, security_reason, directory_reason, add_reason}
 use Rattle.itch_market.specs.Effects.{effect, entered, changed, changed_at, with_action, with_sho, with_halt, with_position, action_of, position_of, order_of}
-use Rattle.itch_market.specs.Goods.{IsGood, IsListed}
+use Rattle.itch_market.specs.GoodMarkets.{IsGood, IsListed}
 use Rattle.itch_market.specs.Runs.{AreMessages, after, run, FollowsFrom, Follows}
 use Rattle.itch_market.specs.Widths.{IsMaybe, IsSecurity, IsOrder}
 use Rattle.itch_market.specs.Partial.{locate_of, is_out, skips, kept, only}
 use Rattle.itch_market.proofs.Allowed.{passed, allowed_add, allowed_replace}
-use Rattle.itch_market.proofs.Goods.{effect_good, empty_good}
+use Rattle.itch_market.proofs.GoodMarkets.{effect_good, empty_good}
 use Rattle.itch_market.proofs.Maps.{get-insert, same_map}
 
 -- ---- lists of orders

@@ -5,15 +5,15 @@ use Rattle.std.proofs.lemmas.Bool.Decides.{nat_tests}
 use Rattle.itch_market.specs.declared.stop.Stop.{Stop}
 use Rattle.itch_market.specs.declared.stop.Stop.TheVariants.{TooManyMessages}
 use Rattle.itch_market.specs.Content.{Content}
-use Rattle.itch_market.specs.Firsts.{IsFirst}
+use Rattle.itch_market.specs.FirstPlaces.{IsFirst}
 use Rattle.itch_market.specs.Stops.{cause_at, end_of, last_stop, stop_at}
-use Rattle.itch_market.proofs.Stopping.{chosen, passed_over, stop_behind, stop_before}
+use Rattle.itch_market.proofs.Stopping.{chosen, passed_over, stop_after, stop_before}
 
 module _ (m : Content) (ps : List (List ℕ)) (rest : List ℕ) (k : ℕ) (why : Stop) (first : IsFirst (stop_at (10 ^ 19 - 1) m ps rest) k why) where
   not_later : min (10 ^ 19 - 1) (length ps) < k → ⊥
   not_later later =
       let clash : None ≡ Some (last_stop (10 ^ 19 - 1) ps rest) =
-      sym (first.before (min (10 ^ 19 - 1) (length ps)) later) ∙ stop_behind (10 ^ 19 - 1) m ps rest (min (10 ^ 19 - 1) (length ps)) refl in
+      sym (first.before (min (10 ^ 19 - 1) (length ps)) later) ∙ stop_after (10 ^ 19 - 1) m ps rest (min (10 ^ 19 - 1) (length ps)) refl in
       let no : ⊥ = cc in no
 
   -- it is no later than the last one
@@ -38,7 +38,7 @@ module _ (m : Content) (ps : List (List ℕ)) (rest : List ℕ) (k : ℕ) (why :
 
   at_last : k ≡ min (10 ^ 19 - 1) (length ps) → (10 ^ 19 - 1 < length ps) ⊎ (length ps ≤ 10 ^ 19 - 1) → AtPayload ⊎ (AtMost ⊎ AtEnd)
   at_last here many =
-      let there : Some (last_stop (10 ^ 19 - 1) ps rest) ≡ Some why = sym (stop_behind (10 ^ 19 - 1) m ps rest k here) ∙ first.here in
+      let there : Some (last_stop (10 ^ 19 - 1) ps rest) ≡ Some why = sym (stop_after (10 ^ 19 - 1) m ps rest k here) ∙ first.here in
       let is : last_stop (10 ^ 19 - 1) ps rest ≡ why = cc in
       elim many [
         | inl more ↦ inr (inl (omega arith, omega arith, sym is ∙ chosen (nat_lt (10 ^ 19 - 1) (length ps)) TooManyMessages (end_of rest) (grind (arith, nat_tests))))

@@ -11,55 +11,55 @@ use Rattle.itch_market.specs.declared.refusal.Refusal.TheVariants.{StockMismatch
 use Rattle.itch_market.specs.declared.stop.Stop.TheVariants as stop
 use Rattle.itch_market.specs.Content.{Content, Listing}
 use Rattle.itch_market.specs.Reasons.{reason, refuse, is_other_stock, is_live, security_reason, order_reason, directory_reason, add_reason, take_reason}
-use Rattle.itch_market.specs.Replays.{IsTold}
+use Rattle.itch_market.specs.Replays.{IsDecided}
 
 -- a reason that the file alone decides, if there is one
 abbrev pub Reasoned : Option Refusal → Type 0
 Reasoned None = Unit {0}
-Reasoned (Some why) = IsTold (stop.Rule why)
+Reasoned (Some why) = IsDecided (stop.Rule why)
 
-refuse_told : (b : Bool) (why : Refusal) (later : Option Refusal) → IsTold (stop.Rule why) → Reasoned later → Reasoned (refuse b why later)
-refuse_told true why later h k = h
-refuse_told false why later h k = k
+refuse_decided : (b : Bool) (why : Refusal) (later : Option Refusal) → IsDecided (stop.Rule why) → Reasoned later → Reasoned (refuse b why later)
+refuse_decided true why later h k = h
+refuse_decided false why later h k = k
 
-directory_told : (s : Option Listing) (stock : List ℕ) → Reasoned (directory_reason s stock)
-directory_told None stock = tt
-directory_told (Some s) stock = refuse_told (is_other_stock s stock) StockMismatch None tt tt
+directory_decided : (s : Option Listing) (stock : List ℕ) → Reasoned (directory_reason s stock)
+directory_decided None stock = tt
+directory_decided (Some s) stock = refuse_decided (is_other_stock s stock) StockMismatch None tt tt
 
-security_told : (s : Option Listing) (stock : List ℕ) (later : Option Refusal) → Reasoned later → Reasoned (security_reason s stock later)
-security_told None stock later h = tt
-security_told (Some s) stock later h = refuse_told (is_other_stock s stock) StockMismatch later tt h
+security_decided : (s : Option Listing) (stock : List ℕ) (later : Option Refusal) → Reasoned later → Reasoned (security_reason s stock later)
+security_decided None stock later h = tt
+security_decided (Some s) stock later h = refuse_decided (is_other_stock s stock) StockMismatch later tt h
 
-order_told : (o : Option Order) (locate : ℕ) (later : Order → Option Refusal) → ((x : Order) → Reasoned (later x)) → Reasoned (order_reason o locate later)
-order_told None locate later h = tt
-order_told (Some x) locate later h = refuse_told _ LocateMismatch (later x) tt (h x)
+order_decided : (o : Option Order) (locate : ℕ) (later : Order → Option Refusal) → ((x : Order) → Reasoned (later x)) → Reasoned (order_reason o locate later)
+order_decided None locate later h = tt
+order_decided (Some x) locate later h = refuse_decided _ LocateMismatch (later x) tt (h x)
 
-add_told : (m : Content) (x : AddOrder) → Reasoned (add_reason m x)
-add_told m x = security_told (map.get m.securities x.header.locate) x.stock _ (refuse_told (x.shares == 0) ZeroShares _ tt (refuse_told (is_live m x.reference) DuplicateRef None tt tt))
+add_decided : (m : Content) (x : AddOrder) → Reasoned (add_reason m x)
+add_decided m x = security_decided (map.get m.securities x.header.locate) x.stock _ (refuse_decided (x.shares == 0) ZeroShares _ tt (refuse_decided (is_live m x.reference) DuplicateRef None tt tt))
 
-take_told : (m : Content) (locate reference shares : ℕ) → Reasoned (take_reason m locate reference shares)
-take_told m locate reference shares = order_told (book.get m.orders reference) locate _ (λ x. refuse_told _ (TooManyShares x.shares) None tt tt)
+take_decided : (m : Content) (locate reference shares : ℕ) → Reasoned (take_reason m locate reference shares)
+take_decided m locate reference shares = order_decided (book.get m.orders reference) locate _ (λ x. refuse_decided _ (TooManyShares x.shares) None tt tt)
 
-pub reason_told : (m : Content) (x : Message) → Reasoned (reason m x)
-reason_told m (is.SystemEvent x) = tt
-reason_told m (is.StockDirectory x) = directory_told (map.get m.securities x.header.locate) x.entry.stock
-reason_told m (is.TradingAction x) = security_told (map.get m.securities x.header.locate) x.stock None tt
-reason_told m (is.RegSho x) = security_told (map.get m.securities x.header.locate) x.stock None tt
-reason_told m (is.Halt x) = security_told (map.get m.securities x.header.locate) x.stock None tt
-reason_told m (is.Position x) = security_told (map.get m.securities x.header.locate) x.stock None tt
-reason_told m (is.AddOrder x) = add_told m x
-reason_told m (is.AttributedAddOrder x) = add_told m x.order
-reason_told m (is.OrderExecuted x) = take_told m x.header.locate x.reference x.shares
-reason_told m (is.OrderExecutedWithPrice x) = take_told m x.execution.header.locate x.execution.reference x.execution.shares
-reason_told m (is.OrderCancel x) = take_told m x.header.locate x.reference x.shares
-reason_told m (is.OrderDelete x) = order_told (book.get m.orders x.reference) x.header.locate _ (λ o. tt)
-reason_told m (is.OrderReplace x) =
-    order_told (book.get m.orders x.original) x.header.locate _ (λ o. refuse_told (x.shares == 0) ZeroShares _ tt (refuse_told (is_live m x.reference) DuplicateRef None tt tt))
-reason_told m (is.Trade x) = tt
-reason_told m (is.CrossTrade x) = tt
-reason_told m (is.BrokenTrade x) = tt
-reason_told m (is.End next) = tt
-reason_told m (is.Other payload) = tt
+pub reason_decided : (m : Content) (x : Message) → Reasoned (reason m x)
+reason_decided m (is.SystemEvent x) = tt
+reason_decided m (is.StockDirectory x) = directory_decided (map.get m.securities x.header.locate) x.entry.stock
+reason_decided m (is.TradingAction x) = security_decided (map.get m.securities x.header.locate) x.stock None tt
+reason_decided m (is.RegSho x) = security_decided (map.get m.securities x.header.locate) x.stock None tt
+reason_decided m (is.Halt x) = security_decided (map.get m.securities x.header.locate) x.stock None tt
+reason_decided m (is.Position x) = security_decided (map.get m.securities x.header.locate) x.stock None tt
+reason_decided m (is.AddOrder x) = add_decided m x
+reason_decided m (is.AttributedAddOrder x) = add_decided m x.order
+reason_decided m (is.OrderExecuted x) = take_decided m x.header.locate x.reference x.shares
+reason_decided m (is.OrderExecutedWithPrice x) = take_decided m x.execution.header.locate x.execution.reference x.execution.shares
+reason_decided m (is.OrderCancel x) = take_decided m x.header.locate x.reference x.shares
+reason_decided m (is.OrderDelete x) = order_decided (book.get m.orders x.reference) x.header.locate _ (λ o. tt)
+reason_decided m (is.OrderReplace x) =
+    order_decided (book.get m.orders x.original) x.header.locate _ (λ o. refuse_decided (x.shares == 0) ZeroShares _ tt (refuse_decided (is_live m x.reference) DuplicateRef None tt tt))
+reason_decided m (is.Trade x) = tt
+reason_decided m (is.CrossTrade x) = tt
+reason_decided m (is.BrokenTrade x) = tt
+reason_decided m (is.End next) = tt
+reason_decided m (is.Other payload) = tt
 
 pub reason_is_rule : (m : Content) (x : Message) → reason m x ≢ Some OutOfMemory
-reason_is_rule m x wanting = subst Reasoned wanting (reason_told m x)
+reason_is_rule m x wanting = subst Reasoned wanting (reason_decided m x)

@@ -1,7 +1,7 @@
 -- The first place at which something is known is one, and there is one where something is known at all.
 use Rattle.std.proofs.Common.{◌≡◌, ℕ, ◌<◌, ◌⊎◌, zero, suc, Option, None, Some, refl, sym, ◌∙◌, subst, inl, inr, arith}
 use Rattle.std.proofs.lemmas.Bool.{cases_lt}
-use Rattle.itch_market.specs.Firsts.{IsFirst}
+use Rattle.itch_market.specs.FirstPlaces.{IsFirst}
 
 module _ {A : Type 0} (f : ℕ → Option A) where
   not_before : (n k : ℕ) (x y : A) → IsFirst f n x → IsFirst f k y → n < k → ⊥
@@ -38,7 +38,7 @@ module _ {A : Type 0} (f : ℕ → Option A) where
   searched (suc n) = searched_on n (f n) refl (searched n)
 
   pub first_is_there : (n : ℕ) (x : A) → f n ≡ Some x → (k : ℕ) × (y : A) × IsFirst f k y
-  first_is_there n x told = elim (searched n) [
-    | inl none ↦ (n, x, record { here = told; before = none })
+  first_is_there n x decided = elim (searched n) [
+    | inl none ↦ (n, x, record { here = decided; before = none })
     | inr found ↦ found
   ]

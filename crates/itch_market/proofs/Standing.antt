@@ -1,8 +1,8 @@
 -- How a replay leaves its reader of blocks.
 use Rattle.std.proofs.Common.{◌≡◌, ◌≢◌, ℕ, ◌+◌, ◌<◌, [], length, None, Some, zero, suc, refl, ap, ◌∙◌, arith}
 use Rattle.itch_frame.specs.Reading.{Reading}
-use Rattle.itch_frame.specs.declared.stage.Stage.{Stage}
-use Rattle.itch_frame.specs.declared.stage.Stage.TheVariants.{Given, Ended, Cut}
+use Rattle.itch_frame.specs.declared.reader.Stage.{Stage}
+use Rattle.itch_frame.specs.declared.reader.Stage.TheVariants.{Given, Ended, Cut}
 use Rattle.itch_frame.specs.declared.fault.FrameFault.TheVariants.{Truncated}
 use Rattle.itch_market.specs.declared.stop.Stop.{Stop}
 use Rattle.itch_market.specs.declared.stop.Stop.TheVariants.{End, Frame}

@@ -9,11 +9,11 @@ use Rattle.itch_frame.proofs.BlockLemmas.{blocks-append, each-push}
 use Rattle.itch_market.specs.declared.stop.Stop.{Stop}
 use Rattle.itch_market.specs.Content.{Content, laid}
 use Rattle.itch_market.specs.Effects.{effect}
-use Rattle.itch_market.specs.Goods.{IsGood}
+use Rattle.itch_market.specs.GoodMarkets.{IsGood}
 use Rattle.itch_market.specs.Runs.{after}
 use Rattle.itch_market.specs.Stops.{cause}
 use Rattle.itch_market.specs.Replays.{Fits, Halts, Step, Takes, Replays, ReplaysFirst}
-use Rattle.itch_market.proofs.Goods.{effect_good}
+use Rattle.itch_market.proofs.GoodMarkets.{effect_good}
 use Rattle.itch_market.proofs.Laid.{effect-laid}
 use Rattle.itch_market.proofs.Causes.{cause-laid, halts-laid, no_reason, none_more, after_more}
 

@@ -1,4 +1,4 @@
--- Finite maps with keys in any total order that tells keys apart: what a `BTreeMap` holds of one, and what its entries make.
+-- Finite maps with keys in any total order that says keys apart: what a `BTreeMap` holds of one, and what its entries make.
 use Rattle.std.proofs.Common.{T, ◌&&◌, is_lt, is_eq, Ordering, Less, Equal, Greater, ◌≡◌, Bool, true, false, cond, List, [], ◌∷◌, Option, Some, None, refl, sym, ap, ◌∙◌, subst, arith, length, filter}
 use Rattle.std.specs.Ordering.{eq_by_cmp}
 use Rattle.std.specs.Cmp.{IsTotalOrder, eq_by_cmp_equiv, tied_itself}
@@ -118,19 +118,19 @@ module _ {K X : Type 0} {R : K → K → Ordering} (total : IsTotalOrder R) (exa
       ∙ either_none (map.find R q (map.entries m))
       ∙ sym (map.get-entries m q))
 
-  there_behind : (e : K × X) (es fs : List (K × X)) → T (below_all R e.0 fs) → AllByRecursion (λ f. map.find R f.0 es ≡ Some f.1) fs
+  there_after : (e : K × X) (es fs : List (K × X)) → T (below_all R e.0 fs) → AllByRecursion (λ f. map.find R f.0 es ≡ Some f.1) fs
       → AllByRecursion (λ f. map.find R f.0 (e ∷ es) ≡ Some f.1) fs
-  there_behind e es [] below there = tt
-  there_behind e es (f ∷ fs) below there =
+  there_after e es [] below there = tt
+  there_after e es (f ∷ fs) below there =
       let parts = both (is_lt (R e.0 f.0)) (below_all R e.0 fs) below in
       let off : eq_by_cmp R f.0 e.0 ≡ false = (eq_by_cmp_equiv total).symm f.0 e.0 ∙ ap is_eq (less (R e.0 f.0) parts.0) in
-      (ap (λ b. cond b (Some e.1) (map.find R f.0 es)) off ∙ there.0, there_behind e es fs parts.1 there.1)
+      (ap (λ b. cond b (Some e.1) (map.find R f.0 es)) off ∙ there.0, there_after e es fs parts.1 there.1)
 
   there_sorted : (es : List (K × X)) → T (is_sorted R es) → AllByRecursion (λ e. map.find R e.0 es ≡ Some e.1) es
   there_sorted [] sorted = tt
   there_sorted (e ∷ es) sorted =
       let parts = both (below_all R e.0 es) (is_sorted R es) sorted in
-      (ap (λ o. cond (is_eq o) (Some e.1) (map.find R e.0 es)) (tied_itself total e.0), there_behind e es es parts.0 (there_sorted es parts.1))
+      (ap (λ o. cond (is_eq o) (Some e.1) (map.find R e.0 es)) (tied_itself total e.0), there_after e es es parts.0 (there_sorted es parts.1))
 
   -- what is true of each value at its key is true of each entry
   pub each_entry : (P : K → X → Type 0) (m : FinMap R X) → ((q : K) → IsMaybe (P q) (map.get m q)) → AllByRecursion (λ e. P e.0 e.1) (map.entries m)

@@ -3,10 +3,10 @@ pub mod Slots
 pub mod Reasons
 pub mod Effects
 pub mod Widths
-pub mod Goods
+pub mod GoodMarkets
 pub mod Runs
-pub mod Sames
-pub mod Firsts
+pub mod SameMarkets
+pub mod FirstPlaces
 pub mod Stops
 pub mod Replays
 pub mod Partial

@@ -7,7 +7,7 @@ use Rattle.itch_codec.specs.Widths.{IsMessage}
 use Rattle.itch_frame.specs.Blocks.{block, blocks, Open, IsFull}
 use Rattle.itch_frame.specs.Counting.{failed}
 use Rattle.itch_frame.specs.Reading.{Reading}
-use Rattle.itch_frame.specs.declared.stage.Stage.TheVariants.{Going, Given, Ended, Cut}
+use Rattle.itch_frame.specs.declared.reader.Stage.TheVariants.{Going, Given, Ended, Cut}
 use Rattle.itch_frame.specs.declared.tally.Failures.{Failures}
 use Rattle.itch_frame.specs.declared.fault.FrameFault.TheVariants.{Read, Truncated, Write, TooLong}
 use Rattle.itch_market.specs.declared.refusal.Refusal.{Refusal}
@@ -124,20 +124,20 @@ ReplaysFirst most m old new count None n =
     (count ≡ most) × (count ≤ 10 ^ 19 - 1) × (payloads : List (List ℕ)) × Takes m old new payloads n × (length payloads ≡ count)
 
 -- a stop that the file alone decides: no read failed, and memory was not refused
-abbrev pub IsTold : Stop → Type 0
-IsTold End = ⊤
-IsTold (Frame (Truncated held)) = ⊤
-IsTold (Frame (Read error)) = ⊥
-IsTold (Frame (Write sent error)) = ⊥
-IsTold (Frame TooLong) = ⊥
-IsTold (Codec f) = ⊤
-IsTold (Rule UnknownLocate) = ⊤
-IsTold (Rule StockMismatch) = ⊤
-IsTold (Rule ZeroShares) = ⊤
-IsTold (Rule DuplicateRef) = ⊤
-IsTold (Rule UnknownRef) = ⊤
-IsTold (Rule LocateMismatch) = ⊤
-IsTold (Rule (TooManyShares remain)) = ⊤
-IsTold (Rule UnexpectedEnd) = ⊤
-IsTold (Rule OutOfMemory) = ⊥
-IsTold TooManyMessages = ⊤
+abbrev pub IsDecided : Stop → Type 0
+IsDecided End = ⊤
+IsDecided (Frame (Truncated held)) = ⊤
+IsDecided (Frame (Read error)) = ⊥
+IsDecided (Frame (Write sent error)) = ⊥
+IsDecided (Frame TooLong) = ⊥
+IsDecided (Codec f) = ⊤
+IsDecided (Rule UnknownLocate) = ⊤
+IsDecided (Rule StockMismatch) = ⊤
+IsDecided (Rule ZeroShares) = ⊤
+IsDecided (Rule DuplicateRef) = ⊤
+IsDecided (Rule UnknownRef) = ⊤
+IsDecided (Rule LocateMismatch) = ⊤
+IsDecided (Rule (TooManyShares remain)) = ⊤
+IsDecided (Rule UnexpectedEnd) = ⊤
+IsDecided (Rule OutOfMemory) = ⊥
+IsDecided TooManyMessages = ⊤

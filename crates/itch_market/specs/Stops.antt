@@ -9,7 +9,7 @@ use Rattle.itch_market.specs.declared.stop.Stop.TheVariants.{End, Frame, Codec, 
 use Rattle.itch_market.specs.Content.{Content}
 use Rattle.itch_market.specs.Reasons.{reason}
 use Rattle.itch_market.specs.Runs.{after}
-use Rattle.itch_market.specs.Firsts.{IsFirst}
+use Rattle.itch_market.specs.FirstPlaces.{IsFirst}
 
 -- why a payload is not taken: it has this fault, or an order rule refuses its message
 abbrev pub cause_by : Option CodecFault → Content → List ℕ → Option Stop

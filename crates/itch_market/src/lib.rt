@@ -1,4 +1,16 @@
-//! The market of a feed: the securities' directory, their trading states and live orders, and the order rules that each message has to follow.
+//! The market of a feed: the directory of its securities, their trading states and live orders, and the order rules.
+//!
+//! [`Market::apply`] takes a message that follows the order rules, or refuses it for its reason and stays as it was.
+//! [`replay`] does so with the messages of a day file, up to its end or to the first message that is refused. A [`LocateSet`]
+//! names the locates that are wanted, where not all are. `laws` has what holds of every market.
+//!
+//! ```
+//! let mut market: Market<IndexedBook> = Market::new(alloc);
+//! market.apply(&decode(AAPL)?)?;
+//! market.apply(&decode(BUY)?)?;
+//! assert_eq!(market.best(1, Side::Buy).map(|order| order.shares), Some(100));
+//! assert_eq!(market.apply(&decode(BUY)?), Err(Refusal::DuplicateRef));
+//! ```
 #![tactic(auto)]
 
 mod halts;

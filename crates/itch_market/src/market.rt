@@ -6,7 +6,7 @@ ghost use Rattle.itch_book.specs.Orders as book;
 ghost use Rattle.itch_market.specs.Content.{empty, laid};
 ghost use Rattle.itch_market.specs.Reasons.{reason};
 ghost use Rattle.itch_market.specs.Effects.{effect, takes_memory};
-ghost use Rattle.itch_market.specs.Goods.{IsGood};
+ghost use Rattle.itch_market.specs.GoodMarkets.{IsGood};
 
 mod actions;
 mod rules;
@@ -31,7 +31,7 @@ pub struct Market<B: OrderBook> {
 impl<B: OrderBook> Model for Market<B> {
     ghost use Rattle.std.specs.FinMap as map;
     ghost use Rattle.itch_market.specs.Content.{Content};
-    ghost use Rattle.itch_market.specs.Goods.{IsGood};
+    ghost use Rattle.itch_market.specs.GoodMarkets.{IsGood};
     ghost use Rattle.std.specs.Coded.{codes};
 
     ghost Value = { Content };

@@ -6,7 +6,7 @@ ghost use Rattle.itch_frame.specs.Reading.{bytes_left};
 ghost use Rattle.itch_market.specs.Content.{laid};
 ghost use Rattle.itch_market.specs.Runs.{after};
 ghost use Rattle.itch_market.specs.Stops.{Stops};
-ghost use Rattle.itch_market.specs.Replays.{Counts, CountsFirst, LeavesReader, LeavesReaderFirst, StopsAgain, Step, TakesOne, Replays, ReplaysFirst, IsTold};
+ghost use Rattle.itch_market.specs.Replays.{Counts, CountsFirst, LeavesReader, LeavesReaderFirst, StopsAgain, Step, TakesOne, Replays, ReplaysFirst, IsDecided};
 
 use crate::market::Market;
 use crate::stop::{ReplayEnd, Stop};
@@ -29,7 +29,7 @@ pub fn replay<R: CountedRead, A: Allocator, B: OrderBook>(
     market: &mut Market<B>,
 ) -> ReplayEnd
     // The file alone decides where it stops, unless a read failed or memory was refused.
-    ensures stops { IfSome (bytes_left R.remaining reader.old) (λ bytes. IsTold result.stop → Stops market.old bytes result.count result.stop) }
+    ensures stops { IfSome (bytes_left R.remaining reader.old) (λ bytes. IsDecided result.stop → Stops market.old bytes result.count result.stop) }
     // The market left is that of the file's first messages.
     ensures content { IfSome (bytes_left R.remaining reader.old) (λ bytes. (payloads : List (List ℕ)) → (rest : List ℕ) → Day bytes payloads rest
         → market.new ≡ laid (after market.old (map message_of (take result.count payloads)))) }

@@ -9,7 +9,7 @@ use Rattle.itch_market.specs.Runs.{run}
 use Rattle.itch_market.specs.Stops.{Stops}
 use Rattle.itch_market.specs.declared.stop.Stop.{Stop}
 use Rattle.itch_market.proofs.DayFiles.{stopped_within, stopped_few, stopped_messages, stopped_follows}
-use Rattle.itch_market.proofs.Goods.{run_good}
+use Rattle.itch_market.proofs.GoodMarkets.{run_good}
 use Rattle.itch_snapshot.specs.Snapshot.{snap}
 use Rattle.itch_snapshot.specs.Files.{IsMarketOf}
 use Rattle.itch_snapshot.proofs.OneSnapshot.{snap-laid}

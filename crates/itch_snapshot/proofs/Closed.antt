@@ -1,4 +1,4 @@
--- The bytes of a whole snapshot, with End of Snapshot, tell the market and the number.
+-- The bytes of a whole snapshot, with End of Snapshot, have one market and one number.
 use Rattle.std.proofs.Common.{◌≡◌, ℕ, List, [], ◌∷◌, ◌++◌, map, sym, ap, ◌∙◌}
 use Rattle.std.specs.List.{AllByRecursion}
 use Rattle.std.proofs.lemmas.List.{map-append, same_from_push}
@@ -11,8 +11,8 @@ use Rattle.itch_frame.specs.Blocks.{blocks}
 use Rattle.itch_frame.proofs.BlockLemmas.{blocks-push}
 use Rattle.itch_book.proofs.Lists.{All-append_rec}
 use Rattle.itch_market.specs.Content.{Content}
-use Rattle.itch_market.specs.Goods.{IsGood}
-use Rattle.itch_market.specs.Sames.{Same}
+use Rattle.itch_market.specs.GoodMarkets.{IsGood}
+use Rattle.itch_market.specs.SameMarkets.{Same}
 use Rattle.itch_snapshot.specs.Bytes.{canon, closing}
 use Rattle.itch_snapshot.specs.Snapshot.{snap}
 use Rattle.itch_snapshot.proofs.OneSnapshot.{same_snap}

@@ -5,16 +5,16 @@ use Rattle.std.specs.List.{AllByRecursion, list_any}
 use Rattle.std.specs.FinMap as finite
 use Rattle.std.proofs.lemmas.Bool.Decides.{nat_tests}
 use Rattle.itch_codec.specs.Messages.{spelling}
-use Rattle.itch_codec.specs.declared.side.Side.{Side}
+use Rattle.itch_codec.specs.declared.orders.Side.{Side}
 use Rattle.itch_book.specs.declared.order.Order.{Order}
 use Rattle.itch_book.specs.Orders as book
-use Rattle.itch_book.specs.Stable.{in_order}
+use Rattle.itch_book.specs.StableLists.{in_order}
 use Rattle.itch_book.proofs.Lists.{by_test, filter_none}
 use Rattle.itch_frame.specs.Blocks.{blocks}
 use Rattle.itch_market.specs.Content.{Content, Listing}
-use Rattle.itch_market.specs.Goods.{IsGood}
+use Rattle.itch_market.specs.GoodMarkets.{IsGood}
 use Rattle.itch_market.specs.Partial.{kept, only}
-use Rattle.itch_market.specs.Sames.{Same}
+use Rattle.itch_market.specs.SameMarkets.{Same}
 use Rattle.itch_market.specs.Widths.{IsMaybe, IsSecurity}
 use Rattle.itch_market.proofs.Maps.{same_map}
 use Rattle.itch_market.proofs.Partials.{get_here, only_good}

@@ -10,7 +10,7 @@ use Rattle.itch_book.specs.Orders as book
 use Rattle.itch_book.proofs.Lists.{All-filter_rec}
 use Rattle.itch_book.proofs.Walks.{first_left, next_left, first_live, after_live}
 use Rattle.itch_market.specs.Content.{Content, Listing}
-use Rattle.itch_snapshot.specs.declared.named.NamedOrder.{NamedOrder}
+use Rattle.itch_snapshot.specs.declared.named_order.NamedOrder.{NamedOrder}
 use Rattle.itch_snapshot.specs.Snapshot.{snap, header_at, event_part, states_part, order_part, locate_part}
 use Rattle.itch_snapshot.specs.Cursor.{in_set, listed, named, order_parts, part_at, found_part, left, IsCursor}
 use Rattle.itch_snapshot.proofs.Locates.{each_entry}
@@ -56,8 +56,8 @@ module _ (m : Content) (orders : List Order) (kept : book.IsBook orders) (same :
   abbrev pub IsNext : Option NamedOrder → Type 0
   IsNext next = IfSome next (λ y. book.get m.orders y.order.reference ≡ Some y.order)
 
-  behind_it : (next : Option NamedOrder) (x : NamedOrder) → next ≡ named x.stock (book.after orders x.order.reference) → next ≡ named x.stock (book.after m.orders x.order.reference)
-  behind_it next x behind = behind ∙ ap (λ os. named x.stock (book.after os x.order.reference)) same
+  after_it : (next : Option NamedOrder) (x : NamedOrder) → next ≡ named x.stock (book.after orders x.order.reference) → next ≡ named x.stock (book.after m.orders x.order.reference)
+  after_it next x following = following ∙ ap (λ os. named x.stock (book.after os x.order.reference)) same
 
   first_there : (next : Option NamedOrder) (stock : List ℕ) (locate : ℕ) → next ≡ named stock (find (book.is_in locate) orders) → next ≡ named stock (find (book.is_in locate) m.orders)
   first_there next stock locate first = first ∙ ap (λ os. named stock (find (book.is_in locate) os)) same
@@ -66,18 +66,18 @@ module _ (m : Content) (orders : List Order) (kept : book.IsBook orders) (same :
   pub order_given : (event : Option ℕ) (states spent : Option (List Message)) (order next : Option NamedOrder) (locates : List ℕ) (x : NamedOrder)
       → IsCursor m order locates → event ≡ None → listed states ≡ [] → listed spent ≡ [] → order ≡ Some x → next ≡ named x.stock (book.after orders x.order.reference)
       → left m event states order locates ≡ order_part x.stock x.order ∷ left m None spent next locates
-  order_given event states spent order next locates x cursor no_event no_states none_left this behind =
+  order_given event states spent order next locates x cursor no_event no_states none_left this following =
       let live : book.get m.orders x.order.reference ≡ Some x.order = subst IsNext this cursor.live in
-      rw (no_event, no_states, none_left, this, behind_it next x behind)
+      rw (no_event, no_states, none_left, this, after_it next x following)
       (ap (λ os. map (order_part x.stock) os ++ flat_map (part_at m) locates) (next_left m.orders x.order listed_book.distinct live)
       ∙ ap (λ parts. order_part x.stock x.order ∷ (parts ++ flat_map (part_at m) locates)) (sym (parts_named m.orders x.stock (book.after m.orders x.order.reference))))
 
   pub order_leaves : (order next : Option NamedOrder) (locates : List ℕ) (x : NamedOrder)
       → IsCursor m order locates → order ≡ Some x → next ≡ named x.stock (book.after orders x.order.reference) → IsCursor m next locates
-  order_leaves order next locates x cursor this behind =
+  order_leaves order next locates x cursor this following =
       let live : book.get m.orders x.order.reference ≡ Some x.order = subst IsNext this cursor.live in
       record {
-        live = subst IsNext (sym (behind_it next x behind)) (live_named m.orders x.stock (book.after m.orders x.order.reference) (after_live m.orders x.order listed_book.distinct live));
+        live = subst IsNext (sym (after_it next x following)) (live_named m.orders x.stock (book.after m.orders x.order.reference) (after_live m.orders x.order listed_book.distinct live));
         listed = cursor.listed;
       }
 
@@ -87,13 +87,13 @@ module _ (m : Content) (orders : List Order) (kept : book.IsBook orders) (same :
       → event ≡ None → listed states ≡ [] → order ≡ None → locates ≡ locate ∷ others → finite.get m.securities locate ≡ Some s
       → listed next_states ≡ states_part locate s → next ≡ named s.entry.stock (find (book.is_in locate) orders)
       → left m event states order locates ≡ is.StockDirectory (record { header = header_at locate; entry = s.entry }) ∷ left m None next_states next others
-  locate_given event states next_states order next locates others locate s no_event no_states no_order here there tells first =
+  locate_given event states next_states order next locates others locate s no_event no_states no_order here there says first =
       let entry = s.entry in
       let rest = flat_map (part_at m) others in
       let there_first : order_parts m.orders next ≡ map (order_part entry.stock) (book.sides m.orders locate) =
       ap (order_parts m.orders) (first_there next entry.stock locate first) ∙ parts_named m.orders entry.stock (find (book.is_in locate) m.orders)
       ∙ ap (map (order_part entry.stock)) (sym (first_left m.orders locate listed_book)) in
-      rw (no_event, no_states, no_order, here, tells, there_first)
+      rw (no_event, no_states, no_order, here, says, there_first)
       (ap (λ found. found_part m.orders locate found ++ rest) there
       ∙ ap (λ tail. is.StockDirectory (record { header = header_at locate; entry = entry }) ∷ tail)
       (append_assoc (states_part locate s) (map (order_part entry.stock) (book.sides m.orders locate)) rest))

@@ -10,11 +10,11 @@ use Rattle.std.specs.FinMap.Entries.{below_all}
 use Rattle.std.proofs.lemmas.List.Elements.{filter-append}
 use Rattle.itch_codec.specs.declared.message.Message.{Message}
 use Rattle.itch_codec.specs.declared.message.Message.TheVariants as is
-use Rattle.itch_codec.specs.declared.side.Side.{Side}
-use Rattle.itch_codec.specs.declared.side.Side.TheVariants.{Buy, Sell}
+use Rattle.itch_codec.specs.declared.orders.Side.{Side}
+use Rattle.itch_codec.specs.declared.orders.Side.TheVariants.{Buy, Sell}
 use Rattle.itch_book.specs.declared.order.Order.{Order}
 use Rattle.itch_book.specs.Orders as book
-use Rattle.itch_book.specs.Stable.{in_order}
+use Rattle.itch_book.specs.StableLists.{in_order}
 use Rattle.itch_book.proofs.Lists.{by_test, filter_within, filter_all, filter_none, All-filter_rec, All-weaker_rec, All-append_rec, All-map_rec, passes_filter}
 use Rattle.itch_book.proofs.StableLemmas.{All-in_order}
 use Rattle.itch_book.proofs.OrderLemmas.{both_queues, locate_is, in_is}

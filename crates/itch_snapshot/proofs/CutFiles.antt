@@ -7,7 +7,7 @@ use Rattle.itch_book.proofs.Lists.{All-right_rec}
 use Rattle.itch_frame.specs.Blocks.{Day}
 use Rattle.itch_market.specs.Content.{empty}
 use Rattle.itch_market.specs.Runs.{AreMessages, run, after, Follows, FollowsFrom}
-use Rattle.itch_market.specs.Sames.{Same}
+use Rattle.itch_market.specs.SameMarkets.{Same}
 use Rattle.itch_market.specs.Stops.{Stops}
 use Rattle.itch_market.specs.declared.stop.Stop.TheVariants.{End}
 use Rattle.itch_market.proofs.DayFiles.{day_few, day_ends, day_clean, day_follows, day_messages, clean_stops}

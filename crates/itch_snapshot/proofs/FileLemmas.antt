@@ -26,7 +26,7 @@ use Rattle.itch_market.proofs.Stopping.{one_stops, full_stops}
 use Rattle.itch_market.proofs.OneStop.{stops_place, stops_reason}
 use Rattle.itch_snapshot.specs.declared.fault.SnapFault.{SnapFault}
 use Rattle.itch_snapshot.specs.declared.fault.SnapFault.TheVariants.{NoEnd, Frame, Codec, Rule, AfterEnd, TooManyMessages}
-use Rattle.itch_snapshot.specs.Loads.{number_in, number_by, closing_number}
+use Rattle.itch_snapshot.specs.TakenMessages.{number_in, number_by, closing_number}
 use Rattle.itch_snapshot.specs.Files.{AreSpelled, ClosesBefore, IsClosedBefore, StopsAt, IsFaultOf}
 
 -- the only message with a closing number
@@ -110,7 +110,7 @@ no_end_spelled m (x ∷ xs) (p ∷ ps) spelled follows =
 record SameEnd (ps qs : List (List ℕ)) (p q r s : List ℕ) : Type 0 where
   before : ps ≡ qs
   there : p ≡ q
-  behind : r ≡ s
+  following : r ≡ s
 
 no_end_first : (p q : List ℕ) (next : ℕ) → closing_number p ≡ Some next → closing_number q ≡ None → p ≡ q → ⊥
 no_end_first p q next closes none same = let clash : Some next ≡ None = sym closes ∙ ap closing_number same ∙ none in let no_one : ⊥ = cc in no_one
@@ -120,7 +120,7 @@ one_end : (ps qs : List (List ℕ)) (p q r s : List ℕ) (n k : ℕ) → blocks 
     → AllByRecursion (λ p. closing_number p ≡ None) ps → AllByRecursion (λ p. closing_number p ≡ None) qs → closing_number p ≡ Some n → closing_number q ≡ Some k
     → SameEnd ps qs p q r s
 one_end [] [] p q r s n k same fit fine small short none no_one closes ends =
-    let first = same_block p q r s small short same in record { before = refl; there = first.0; behind = first.1 }
+    let first = same_block p q r s small short same in record { before = refl; there = first.0; following = first.1 }
 one_end [] (y ∷ qs) p q r s n k same fit fine small short none no_one closes ends =
     let first = same_block p y r (blocks qs ++ (block q ++ s)) small fine.0 (same ∙ append_assoc (block y) (blocks qs) (block q ++ s)) in
     absurd (no_end_first p y n closes no_one.0 first.0)
@@ -131,7 +131,7 @@ one_end (x ∷ ps) (y ∷ qs) p q r s n k same fit fine small short none no_one 
     let first = same_block x y (blocks ps ++ (block p ++ r)) (blocks qs ++ (block q ++ s)) fit.0 fine.0
     (sym (append_assoc (block x) (blocks ps) (block p ++ r)) ∙ same ∙ append_assoc (block y) (blocks qs) (block q ++ s)) in
     let rest = one_end ps qs p q r s n k first.1 fit.1 fine.1 small short none.1 no_one.1 closes ends in
-    record { before = λ i. first.0 i ∷ rest.before i; there = rest.there; behind = rest.behind }
+    record { before = λ i. first.0 i ∷ rest.before i; there = rest.there; following = rest.following }
 
 -- a file closes in one way
 pub record SameFile (r s : List ℕ) (ms ns : List Message) (n k : ℕ) : Type 0 where
@@ -150,7 +150,7 @@ closes_once bytes r s ms ns n k one other =
     record {
       messages = spelled_is ms one.payloads one.spelled ∙ ap (map message_of) same.before ∙ sym (spelled_is ns other.payloads other.spelled);
       number = cc;
-      rest = same.behind;
+      rest = same.following;
     }
 
 -- the payload after k blocks is the one at that place of the day
@@ -165,7 +165,7 @@ at_place bytes unread ps p qs rest whole full_before full day = found
     (whole ∙ sym (append_assoc (blocks ps) (block p) unread) ∙ ap (λ front. front ++ unread) (sym (blocks-push ps p))) day)
   where
     found : (more : List (List ℕ)) × (qs ≡ (ps ++ p ∷ []) ++ more) × Day unread more rest → slice_get qs (length ps) ≡ Some p
-    found (more, is, behind) = ap (λ ds. slice_get ds (length ps)) is ∙ slice_there ps p more
+    found (more, is, following) = ap (λ ds. slice_get ds (length ps)) is ∙ slice_there ps p more
 
 -- a replay of such a file stops at the End of Snapshot, for its reason or as one message too many
 abbrev StopsThere : List ℕ → ℕ → Type 0
@@ -224,8 +224,8 @@ module _ (bytes rest : List ℕ) (ms : List Message) (next : ℕ) (file : Closes
   ]
 
   -- what follows the End of Snapshot is the rest
-  not_behind : (P : List ℕ → Type 0) → (P rest → ⊥) → IsClosedBefore bytes P → ⊥
-  not_behind P never (ns, k, s, other, behind) = never (subst P (sym (closes_once bytes rest s ms ns next k file other).rest) behind)
+  not_following : (P : List ℕ → Type 0) → (P rest → ⊥) → IsClosedBefore bytes P → ⊥
+  not_following P never (ns, k, s, other, following) = never (subst P (sym (closes_once bytes rest s ms ns next k file other).rest) following)
 
   block_ends : (payload more : List ℕ) → Ends rest → IsFull payload → rest ≡ block payload ++ more → ⊥
   block_ends payload more ends full same = found (day_some more) where
@@ -238,12 +238,12 @@ module _ (bytes rest : List ℕ) (ms : List Message) (next : ℕ) (file : Closes
   pub file_no_fault : (fault : SnapFault) → Ends rest → IsFaultOf bytes fault → ⊥
   file_no_fault NoEnd ends (k, stops) = not_ended k stops
   file_no_fault (Frame (Truncated held)) ends (inl (k, stops)) = not_cut k held stops
-  file_no_fault (Frame (Truncated held)) ends (inr closed) = not_behind (λ r. Open r × (held ≡ length r)) (λ (part, count). end_once rest ends part) closed
+  file_no_fault (Frame (Truncated held)) ends (inr closed) = not_following (λ r. Open r × (held ≡ length r)) (λ (part, count). end_once rest ends part) closed
   file_no_fault (Frame (Read error)) ends h = h
   file_no_fault (Frame (Write sent error)) ends h = h
   file_no_fault (Frame TooLong) ends h = h
   file_no_fault (Codec place f) ends at = not_refused place (stop.Codec f) at
   file_no_fault (Rule place why) ends at = not_refused place (stop.Rule why) at
   file_no_fault AfterEnd ends closed =
-      not_behind (λ r. (payload : List ℕ) × (more : List ℕ) × IsFull payload × (r ≡ block payload ++ more)) (λ (payload, more, full, same). block_ends payload more ends full same) closed
+      not_following (λ r. (payload : List ℕ) × (more : List ℕ) × IsFull payload × (r ≡ block payload ++ more)) (λ (payload, more, full, same). block_ends payload more ends full same) closed
   file_no_fault TooManyMessages ends at = not_refused (10 ^ 19) stop.TooManyMessages at

@@ -1,5 +1,5 @@
 -- The lemmas that the laws are, in the laws' own words.
-use Rattle.itch_market.proofs.Sames.{laid_same, same_laid}
+use Rattle.itch_market.proofs.SameMarkets.{laid_same, same_laid}
 use Rattle.itch_snapshot.proofs.OneSnapshot.{snap_follows, run-snap, replayed_same, snap_same, snap-laid, same_snap}
 use Rattle.itch_snapshot.proofs.LateStart.{late_follows, late_same}
 use Rattle.itch_snapshot.proofs.Sizes.{snap_step, short_snap}

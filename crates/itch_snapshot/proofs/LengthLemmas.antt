@@ -1,4 +1,4 @@
--- The length of a snapshot list: the messages that tell of the securities, and one for each order.
+-- The length of a snapshot list: the messages of the securities, and one for each order.
 use Rattle.std.proofs.Common.{◌≡◌, ℕ, ◌+◌, ◌*◌, ◌<◌, ◌≤◌, ◌^◌, List, [], ◌∷◌, ◌++◌, map, length, flat_map, Option, Some, None, refl, sym, ap, ◌∙◌, subst, arith, length-append, append_assoc, append-nil}
 use Rattle.std.specs.List.{sum_by, AllByRecursion}
 use Rattle.std.specs.Map.{keys_of}
@@ -11,7 +11,7 @@ use Rattle.itch_book.specs.Orders as book
 use Rattle.itch_book.proofs.StableLemmas.{length-in_order}
 use Rattle.itch_market.specs.declared.security.Action.{Action}
 use Rattle.itch_market.specs.Content.{Content, Listing}
-use Rattle.itch_market.specs.Goods.{IsGood}
+use Rattle.itch_market.specs.GoodMarkets.{IsGood}
 use Rattle.itch_market.specs.Widths.{IsMaybe, IsSecurity}
 use Rattle.itch_snapshot.specs.Snapshot.{snap, event_part, action_part, sho_part, halt_part, position_part, states_part, order_part, locate_messages, locate_part}
 use Rattle.itch_snapshot.specs.Lengths.{count_of, security_len}
@@ -64,7 +64,7 @@ length-locates orders (e ∷ es) =
       sum_by-cons (λ (f : ℕ × Listing). security_len f.1) e es,
     )
 
--- how many messages tell of the security at a locate
+-- how many messages certain of the security at a locate
 abbrev pub found_len : Option Listing → ℕ
 found_len None = 0
 found_len (Some s) = security_len s

@@ -21,5 +21,5 @@ pub mod Sent
 pub mod Reading
 pub mod FileLemmas
 pub mod OneFile
-pub mod Told
+pub mod Decided
 pub mod SomeFile

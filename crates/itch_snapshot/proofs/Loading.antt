@@ -22,11 +22,11 @@ use Rattle.itch_market.specs.declared.refusal.Refusal.{Refusal}
 use Rattle.itch_market.specs.declared.security.Action.{Action}
 use Rattle.itch_market.specs.Content.{Content, Securities, HaltActions, ParticipantPositions, empty, laid, Listing}
 use Rattle.itch_market.specs.Effects.{effect, entered, changed, changed_at, with_action, with_sho, with_halt, with_position}
-use Rattle.itch_market.specs.Goods.{IsGood}
+use Rattle.itch_market.specs.GoodMarkets.{IsGood}
 use Rattle.itch_market.specs.Reasons.{reason, refuse, is_other_stock, security_reason, directory_reason, add_reason}
 use Rattle.itch_market.specs.Runs.{after, FollowsFrom}
 use Rattle.itch_market.specs.Widths.{IsPosition, IsSecurity}
-use Rattle.itch_market.proofs.Goods.{IsEntry}
+use Rattle.itch_market.proofs.GoodMarkets.{IsEntry}
 use Rattle.itch_market.proofs.Maps.{get_there, insert_twice}
 use Rattle.itch_market.proofs.Trees.{insert_all, insert_all-entries, each_entry}
 use Rattle.itch_market.proofs.Runs.{after-append, follows-append}

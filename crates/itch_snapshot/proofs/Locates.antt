@@ -8,7 +8,7 @@ use Rattle.std.specs.FinMap.Entries.{below_all}
 use Rattle.std.proofs.lemmas.Bool.Decides.{nat_tests}
 use Rattle.itch_book.specs.declared.order.Order.{Order}
 use Rattle.itch_book.specs.Orders.{sides, stands_before, is_in}
-use Rattle.itch_book.specs.Stable.{in_order}
+use Rattle.itch_book.specs.StableLists.{in_order}
 use Rattle.itch_book.proofs.Lists.{by_test, All-weaker_rec, All-both_rec, filter_all}
 use Rattle.itch_book.proofs.StableLemmas.{in_order-parts}
 use Rattle.itch_book.proofs.OrderLemmas.{both_queues, stands_order, lower_stands, in_is}

@@ -60,8 +60,8 @@ record IsBefore (bytes : List ℕ) (fault : SnapFault) : Type 0 where
   never_closed : (rest : List ℕ) (ms : List Message) (next : ℕ) → ClosesBefore rest bytes ms next → ⊥
 
 -- what follows the End of Snapshot where it is no end
-abbrev IsBehind : List ℕ → SnapFault → Type 0
-IsBehind rest fault =
+abbrev IsRestFault : List ℕ → SnapFault → Type 0
+IsRestFault rest fault =
     (Open rest × (fault ≡ Frame (Truncated (length rest))))
     ⊎ ((payload : List ℕ) × (more : List ℕ) × IsFull payload × (rest ≡ block payload ++ more) × (fault ≡ AfterEnd))
 
@@ -71,7 +71,7 @@ record IsAfter (bytes : List ℕ) (fault : SnapFault) : Type 0 where
   next : ℕ
   rest : List ℕ
   closes : ClosesBefore rest bytes messages next
-  behind : IsBehind rest fault
+  following : IsRestFault rest fault
 
 -- a fault is one or the other
 refused_before : (bytes : List ℕ) (place : ℕ) (why : Stop) (fault : SnapFault) → ((before : ℕ) → place ≡ before + 1 → fault ≡ fault_at before why)
@@ -90,22 +90,22 @@ fault_is bytes NoEnd (k, stops) =
 fault_is bytes (Frame (Truncated held)) (inl (k, stops)) =
     inl (record { count = k; why = stop.Frame (Truncated held); stops = stops; is = refl; never_closed = λ rest ms next file. not_cut bytes rest ms next file k held stops })
 fault_is bytes (Frame (Truncated held)) (inr (ms, next, rest, closes, (part, count))) =
-    inr (record { messages = ms; next = next; rest = rest; closes = closes; behind = inl (part, ap (λ n. Frame (Truncated n)) count) })
+    inr (record { messages = ms; next = next; rest = rest; closes = closes; following = inl (part, ap (λ n. Frame (Truncated n)) count) })
 fault_is bytes (Frame (Read error)) h = absurd h
 fault_is bytes (Frame (Write sent error)) h = absurd h
 fault_is bytes (Frame TooLong) h = absurd h
 fault_is bytes (Codec place f) at = inl (refused_before bytes place (stop.Codec f) (Codec place f) (λ before here. ap (λ p. Codec p f) here) at)
 fault_is bytes (Rule place why) at = inl (refused_before bytes place (stop.Rule why) (Rule place why) (λ before here. ap (λ p. Rule p why) here) at)
 fault_is bytes AfterEnd (ms, next, rest, closes, (payload, more, full, same)) =
-    inr (record { messages = ms; next = next; rest = rest; closes = closes; behind = inr (payload, more, full, same, refl) })
+    inr (record { messages = ms; next = next; rest = rest; closes = closes; following = inr (payload, more, full, same, refl) })
 fault_is bytes TooManyMessages at = inl (refused_before bytes (10 ^ 19) stop.TooManyMessages TooManyMessages (λ before here. refl) at)
 
 -- what follows the End of Snapshot is of one kind
-behind_once : (rest : List ℕ) (f g : SnapFault) → IsBehind rest f → IsBehind rest g → f ≡ g
-behind_once rest f g (inl (part, is)) (inl (other, is_too)) = is ∙ sym is_too
-behind_once rest f g (inl (part, is)) (inr (payload, more, full, same, is_too)) = absurd (part.1 payload more full.1 same)
-behind_once rest f g (inr (payload, more, full, same, is)) (inl (part, is_too)) = absurd (part.1 payload more full.1 same)
-behind_once rest f g (inr (payload, more, full, same, is)) (inr (q, others, full_too, same_too, is_too)) = is ∙ sym is_too
+rest_once : (rest : List ℕ) (f g : SnapFault) → IsRestFault rest f → IsRestFault rest g → f ≡ g
+rest_once rest f g (inl (part, is)) (inl (other, is_too)) = is ∙ sym is_too
+rest_once rest f g (inl (part, is)) (inr (payload, more, full, same, is_too)) = absurd (part.1 payload more full.1 same)
+rest_once rest f g (inr (payload, more, full, same, is)) (inl (part, is_too)) = absurd (part.1 payload more full.1 same)
+rest_once rest f g (inr (payload, more, full, same, is)) (inr (q, others, full_too, same_too, is_too)) = is ∙ sym is_too
 
 fault_once : (bytes : List ℕ) (f g : SnapFault) → IsBefore bytes f ⊎ IsAfter bytes f → IsBefore bytes g ⊎ IsAfter bytes g → f ≡ g
 fault_once bytes f g (inl p) (inl q) =
@@ -114,7 +114,7 @@ fault_once bytes f g (inl p) (inl q) =
 fault_once bytes f g (inl p) (inr q) = absurd (p.never_closed q.rest q.messages q.next q.closes)
 fault_once bytes f g (inr p) (inl q) = absurd (q.never_closed p.rest p.messages p.next p.closes)
 fault_once bytes f g (inr p) (inr q) =
-    behind_once q.rest f g (subst (λ r. IsBehind r f) (closes_once bytes p.rest q.rest p.messages q.messages p.next q.next p.closes q.closes).rest p.behind) q.behind
+    rest_once q.rest f g (subst (λ r. IsRestFault r f) (closes_once bytes p.rest q.rest p.messages q.messages p.next q.next p.closes q.closes).rest p.following) q.following
 
 pub one_fault : (bytes : List ℕ) → (f g : SnapFault) → IsFaultOf bytes f → IsFaultOf bytes g → f ≡ g
 one_fault bytes f g p q = fault_once bytes f g (fault_is bytes f p) (fault_is bytes g q)

@@ -2,8 +2,8 @@
 use Rattle.std.proofs.Common.{◌≡◌, ◌≢◌, ◌↔◌, IfSome, IfNone, IsNone, ℕ, ◌+◌, ◌-◌, ◌<◌, zero, suc, List, [], ◌∷◌, ◌++◌, length, Option, Some, None, slice_get, refl, sym, ap, ◌∙◌, arith, append_assoc, length-append}
 use Rattle.itch_codec.specs.declared.message.Message.{Message}
 use Rattle.itch_market.specs.Content.{Content}
-use Rattle.itch_market.specs.Goods.{IsGood}
-use Rattle.itch_market.specs.Sames.{Same}
+use Rattle.itch_market.specs.GoodMarkets.{IsGood}
+use Rattle.itch_market.specs.SameMarkets.{Same}
 use Rattle.itch_snapshot.specs.Snapshot.{snap}
 use Rattle.itch_snapshot.specs.Parting.{IsParting}
 use Rattle.itch_snapshot.proofs.OneSnapshot.{snap_same, same_snap}
@@ -30,16 +30,16 @@ module _ {A : Type 0} where
     before zero early = refl
     before (suc i) early = rest.before i (omega arith)
 
-  parting_behind : (seen xs ys : List A) → slice_get xs 0 ≢ slice_get ys 0 → IsParting (seen ++ xs) (seen ++ ys) (length seen)
-  parting_behind [] xs ys differ = record { before = λ i early. absurd (omega arith); there = differ }
-  parting_behind (x ∷ seen) xs ys differ = one_further x (seen ++ xs) (seen ++ ys) (length seen) (parting_behind seen xs ys differ)
+  parting_after : (seen xs ys : List A) → slice_get xs 0 ≢ slice_get ys 0 → IsParting (seen ++ xs) (seen ++ ys) (length seen)
+  parting_after [] xs ys differ = record { before = λ i early. absurd (omega arith); there = differ }
+  parting_after (x ∷ seen) xs ys differ = one_further x (seen ++ xs) (seen ++ ys) (length seen) (parting_after seen xs ys differ)
 
   -- after what agrees the lists part
   they_part : (xs ys seen left right : List A) (place : ℕ) → AgreeSoFar xs ys seen left right place → slice_get left 0 ≢ slice_get right 0
       → (0 < place) × IsParting xs ys (place - 1)
   they_part xs ys seen left right place agree differ =
       let at : place - 1 ≡ length seen = omega (arith, agree.next) in
-      (omega (arith, agree.next), rw (at, agree.one, agree.other) (parting_behind seen left right differ))
+      (omega (arith, agree.next), rw (at, agree.one, agree.other) (parting_after seen left right differ))
 
   -- one list is at its end and the other is not, or two elements differ
   pub shorter_one : (ys seen left right right' : List A) (xs : List A) (place : ℕ) (y : A) → AgreeSoFar xs ys seen left right place → left ≡ [] → right ≡ y ∷ right'

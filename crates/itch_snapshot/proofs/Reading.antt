@@ -2,7 +2,7 @@
 use Rattle.std.proofs.Common.{◌≡◌, ℕ, ◌+◌, ◌-◌, ◌≤◌, ◌^◌, List, map, Option, None, Ok, Err, refl, sym, subst, inl, inr}
 use Rattle.itch_codec.specs.Messages.{message_of}
 use Rattle.itch_market.specs.Content.{Content, empty, laid}
-use Rattle.itch_market.specs.Goods.{IsGood}
+use Rattle.itch_market.specs.GoodMarkets.{IsGood}
 use Rattle.itch_market.specs.Runs.{after}
 use Rattle.itch_market.specs.Replays.{Takes}
 use Rattle.itch_market.proofs.Causes.{refuses-laid}
@@ -50,8 +50,8 @@ pub first_fault : (m : Content) (old new : Option (List ℕ)) (n : Content) (fau
 first_fault m old new n fault begun reads = inl (n, subst (λ k. ReadsAll k old new (Err fault) n) begun reads)
 
 pub later_fault : (m : Content) (old mid new : Option (List ℕ)) (n : Content) (next : ℕ) (fault : SnapFault) → m ≡ empty → ReadsAll m old mid (Ok next) n → ReadsEnd mid new (Err fault) → ReadsSnapshot old new (Err fault)
-later_fault m old mid new n next fault begun reads behind = inr (mid, next, n, subst (λ k. ReadsAll k old mid (Ok next) n) begun reads, behind)
+later_fault m old mid new n next fault begun reads following = inr (mid, next, n, subst (λ k. ReadsAll k old mid (Ok next) n) begun reads, following)
 
 -- or there is none
 pub no_fault : (m : Content) (old mid new : Option (List ℕ)) (n : Content) (next : ℕ) → m ≡ empty → ReadsAll m old mid (Ok next) n → ReadsEnd mid new (Ok tt) → ReadsSnapshot old new (Ok (n, next))
-no_fault m old mid new n next begun reads behind = (mid, subst (λ k. ReadsAll k old mid (Ok next) n) begun reads, behind)
+no_fault m old mid new n next begun reads following = (mid, subst (λ k. ReadsAll k old mid (Ok next) n) begun reads, following)

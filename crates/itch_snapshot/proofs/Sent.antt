@@ -15,7 +15,7 @@ use Rattle.itch_frame.proofs.Writes.{part_written, Appends-block, Appends-more}
 use Rattle.itch_frame.specs.declared.tally.Failures.{Failures}
 use Rattle.itch_book.proofs.Lists.{All-right_rec, All-weaker_rec}
 use Rattle.itch_market.specs.Content.{Content}
-use Rattle.itch_market.specs.Goods.{IsGood}
+use Rattle.itch_market.specs.GoodMarkets.{IsGood}
 use Rattle.itch_snapshot.specs.declared.fault.SnapFault.TheVariants.{Frame}
 use Rattle.itch_snapshot.specs.Snapshot.{snap}
 use Rattle.itch_snapshot.specs.Bytes.{closing}

@@ -18,9 +18,9 @@ use Rattle.itch_book.proofs.StableLemmas.{length-in_order}
 use Rattle.itch_market.specs.declared.security.Action.{Action}
 use Rattle.itch_market.specs.Content.{Content, Securities, empty, Listing}
 use Rattle.itch_market.specs.Effects.{effect, entered, changed, changed_at, with_action, with_sho, with_halt, with_position, action_of, position_of, order_of}
-use Rattle.itch_market.specs.Goods.{IsGood}
+use Rattle.itch_market.specs.GoodMarkets.{IsGood}
 use Rattle.itch_market.specs.Runs.{AreMessages, after, run, Follows}
-use Rattle.itch_market.proofs.Goods.{run_good}
+use Rattle.itch_market.proofs.GoodMarkets.{run_good}
 use Rattle.itch_snapshot.specs.Snapshot.{snap, event_part, action_part, sho_part, halt_part, position_part, states_part, order_part, locate_part}
 use Rattle.itch_snapshot.proofs.Locates.{Rise, rise, has_key, joined, joined_is, joined_all, below_absent}
 

@@ -18,16 +18,16 @@ use Rattle.itch_market.specs.declared.stop.Stop.{Stop}
 use Rattle.itch_market.specs.declared.stop.Stop.TheVariants as stop
 use Rattle.itch_market.specs.Stops.{cause_by, cause, cause_at, end_of, Stops}
 use Rattle.itch_market.specs.Replays.{NoCause}
-use Rattle.itch_market.proofs.Causes.{cause_behind, cause_before, none_clean, none_follows}
+use Rattle.itch_market.proofs.Causes.{cause_after, cause_before, none_clean, none_follows}
 use Rattle.itch_market.proofs.OneStop.{stops_somewhere}
 use Rattle.itch_market.proofs.Places.{none_before, place}
 use Rattle.itch_market.proofs.Stopping.{ends_stop, open_stops}
 use Rattle.itch_snapshot.specs.declared.fault.SnapFault.{SnapFault}
 use Rattle.itch_snapshot.specs.declared.fault.SnapFault.TheVariants.{NoEnd, Frame, Codec, Rule, AfterEnd, TooManyMessages}
-use Rattle.itch_snapshot.specs.Loads.{closing_number}
+use Rattle.itch_snapshot.specs.TakenMessages.{closing_number}
 use Rattle.itch_snapshot.specs.Files.{ClosesBefore, IsSnapshotFile, StopsAt, IsFaultOf}
 use Rattle.itch_snapshot.proofs.FileLemmas.{Spells-number}
-use Rattle.itch_snapshot.proofs.Told.{clean_spelled}
+use Rattle.itch_snapshot.proofs.Decided.{clean_spelled}
 
 abbrev IsRead : List ℕ → Type 0
 IsRead bytes = ((ms : List Message) × (next : ℕ) × IsSnapshotFile bytes ms next) ⊎ ((fault : SnapFault) × IsFaultOf bytes fault)
@@ -36,16 +36,16 @@ IsRead bytes = ((ms : List Message) × (next : ℕ) × IsSnapshotFile bytes ms n
 record IsSplit (ps : List (List ℕ)) (k : ℕ) : Type 0 where
   before : List (List ℕ)
   payload : List ℕ
-  behind : List (List ℕ)
-  whole : ps ≡ before ++ payload ∷ behind
+  following : List (List ℕ)
+  whole : ps ≡ before ++ payload ∷ following
   place_is : length before ≡ k
 
 split_at : (ps : List (List ℕ)) (k : ℕ) → k < length ps → IsSplit ps k
 split_at [] k within = absurd (omega arith)
-split_at (p ∷ ps) zero within = record { before = []; payload = p; behind = ps; whole = refl; place_is = refl }
+split_at (p ∷ ps) zero within = record { before = []; payload = p; following = ps; whole = refl; place_is = refl }
 split_at (p ∷ ps) (suc k) within =
     let later = split_at ps k (omega arith) in
-    record { before = p ∷ later.before; payload = later.payload; behind = later.behind; whole = ap (λ qs. p ∷ qs) later.whole; place_is = omega (arith, later.place_is) }
+    record { before = p ∷ later.before; payload = later.payload; following = later.following; whole = ap (λ qs. p ∷ qs) later.whole; place_is = omega (arith, later.place_is) }
 
 slice_here : (ps : List (List ℕ)) (p : List ℕ) (qs : List (List ℕ)) → slice_get (ps ++ p ∷ qs) (length ps) ≡ Some p
 slice_here [] p qs = refl
@@ -60,7 +60,7 @@ module _ (bytes : List ℕ) (ps : List (List ℕ)) (p : List ℕ) (qs : List (Li
     last = p;
     whole =
         day.whole ∙ ap (λ front. front ++ rest) (blocks-append ps (p ∷ qs)) ∙ append_assoc (blocks ps) (block p ++ blocks qs) rest
-        ∙ ap (λ behind. blocks ps ++ behind) (append_assoc (block p) (blocks qs) rest);
+        ∙ ap (λ following. blocks ps ++ following) (append_assoc (block p) (blocks qs) rest);
     each = All-weaker_rec IsFull IsPayload (λ q full. full.1) ps (All-left_rec IsFull ps (p ∷ qs) day.each);
     spelled = clean_spelled ps (none_clean empty ps none);
     follows = none_follows empty ps none;
@@ -88,23 +88,23 @@ refused_read bytes m p before why is at = by_fault (fault p) is where
 
 -- a replay that stops at a payload, or after as many as may be
 module _ (bytes : List ℕ) (k : ℕ) (why : Stop) (stops : Stops empty bytes k why) (split : IsSplit stops.payloads k) (few : k ≤ 10 ^ 19 - 1) where
-  day : Day bytes (split.before ++ split.payload ∷ split.behind) stops.rest
+  day : Day bytes (split.before ++ split.payload ∷ split.following) stops.rest
   day = subst (λ ps. Day bytes ps stops.rest) split.whole stops.day
 
   none_so_far : NoCause empty split.before
   none_so_far i early =
-      sym (cause_before empty split.before (split.payload ∷ split.behind) i early) ∙ ap (λ ps. cause_at empty ps i) (sym split.whole)
+      sym (cause_before empty split.before (split.payload ∷ split.following) i early) ∙ ap (λ ps. cause_at empty ps i) (sym split.whole)
       ∙ none_before empty stops.payloads stops.rest k why stops.first i (omega (arith, early, split.place_is))
 
   cause_here : cause_at empty stops.payloads k ≡ Some why → cause (after empty (map message_of split.before)) split.payload ≡ Some why
   cause_here is =
-      sym (cause_behind empty split.before split.payload split.behind) ∙ ap (λ ps. cause_at empty ps (length split.before)) (sym split.whole)
+      sym (cause_after empty split.before split.payload split.following) ∙ ap (λ ps. cause_at empty ps (length split.before)) (sym split.whole)
       ∙ ap (cause_at empty stops.payloads) split.place_is ∙ is
 
   no_end_here : closing_number split.payload ≡ None → IfSome (slice_get stops.payloads k) (λ payload. closing_number payload ≡ None)
   no_end_here none =
       subst (λ o. IfSome o (λ payload. closing_number payload ≡ None))
-      (sym (ap (slice_get stops.payloads) (sym split.place_is) ∙ ap (λ ps. slice_get ps (length split.before)) split.whole ∙ slice_here split.before split.payload split.behind))
+      (sym (ap (slice_get stops.payloads) (sym split.place_is) ∙ ap (λ ps. slice_get ps (length split.before)) split.whole ∙ slice_here split.before split.payload split.following))
       none
 
   stops_at : (n : ℕ) → n ≡ k + 1 → closing_number split.payload ≡ None → StopsAt bytes n why
@@ -114,9 +114,9 @@ module _ (bytes : List ℕ) (k : ℕ) (why : Stop) (stops : Stops empty bytes k 
   by_number : (number : Option ℕ) → closing_number split.payload ≡ number → (closing_number split.payload ≡ None → IsRead bytes) → IsRead bytes
   by_number None none otherwise = otherwise none
   by_number (Some next) some otherwise =
-      closed_read bytes stops.rest (map message_of split.before) next split.behind
-      (All-right_rec IsFull split.before (split.payload ∷ split.behind) day.each).1 stops.day.last
-      (closes_here bytes split.before split.payload split.behind stops.rest day none_so_far (omega (arith, few, split.place_is)) next some)
+      closed_read bytes stops.rest (map message_of split.before) next split.following
+      (All-right_rec IsFull split.before (split.payload ∷ split.following) day.each).1 stops.day.last
+      (closes_here bytes split.before split.payload split.following stops.rest day none_so_far (omega (arith, few, split.place_is)) next some)
 
   payload_read : cause_at empty stops.payloads k ≡ Some why → IsRead bytes
   payload_read is = by_number (closing_number split.payload) refl

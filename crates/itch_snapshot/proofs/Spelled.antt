@@ -23,9 +23,9 @@ use Rattle.itch_book.proofs.OrderLemmas.{both_queues}
 use Rattle.itch_market.specs.Runs.{AreMessages}
 use Rattle.itch_market.specs.declared.security.Action.{Action}
 use Rattle.itch_market.specs.Content.{Content, Listing}
-use Rattle.itch_market.specs.Goods.{IsGood}
+use Rattle.itch_market.specs.GoodMarkets.{IsGood}
 use Rattle.itch_market.specs.Widths.{IsMaybe, IsAction, IsHalt, IsPosition, IsSecurity, IsOrder}
-use Rattle.itch_market.proofs.Goods.{IsEntry}
+use Rattle.itch_market.proofs.GoodMarkets.{IsEntry}
 use Rattle.itch_market.proofs.Trees.{each_entry as each_of}
 use Rattle.itch_snapshot.specs.Snapshot.{snap, header_at, event_part, action_part, sho_part, halt_part, position_part, states_part, add_of, attributed, order_part, locate_messages, locate_part}
 use Rattle.itch_snapshot.proofs.Locates.{each_entry}

@@ -5,7 +5,7 @@ use Rattle.itch_codec.specs.Messages.{message_of}
 use Rattle.itch_frame.specs.Blocks.{Day}
 use Rattle.itch_market.specs.Content.{empty}
 use Rattle.itch_market.specs.Runs.{run}
-use Rattle.itch_market.specs.Sames.{Same}
+use Rattle.itch_market.specs.SameMarkets.{Same}
 use Rattle.itch_market.specs.Stops.{Stops}
 use Rattle.itch_market.specs.declared.stop.Stop.TheVariants.{End}
 use Rattle.itch_market.proofs.DayFiles.{day_follows, day_messages}

@@ -8,11 +8,11 @@ use Rattle.itch_frame.specs.Blocks.{IsPayload, blocks}
 use Rattle.itch_frame.proofs.BlockLemmas.{blocks_one}
 use Rattle.itch_book.proofs.Lists.{All-map_rec, All-weaker_rec}
 use Rattle.itch_market.specs.Content.{Content, laid}
-use Rattle.itch_market.specs.Goods.{IsGood}
+use Rattle.itch_market.specs.GoodMarkets.{IsGood}
 use Rattle.itch_market.specs.Runs.{AreMessages, run, Follows}
-use Rattle.itch_market.specs.Sames.{Same}
-use Rattle.itch_market.proofs.Goods.{run_good}
-use Rattle.itch_market.proofs.Sames.{laid_is_same}
+use Rattle.itch_market.specs.SameMarkets.{Same}
+use Rattle.itch_market.proofs.GoodMarkets.{run_good}
+use Rattle.itch_market.proofs.SameMarkets.{laid_is_same}
 use Rattle.itch_snapshot.specs.Bytes.{canon}
 use Rattle.itch_snapshot.specs.Snapshot.{snap}
 use Rattle.itch_snapshot.proofs.OneSnapshot.{snap_same, same_snap, replayed_same}
@@ -57,4 +57,4 @@ pub canon-laid : (m : Content) → IsGood m → canon (laid m) ≡ canon m
 canon-laid m good = canon_same (laid m) m (laid_is_same m good)
 
 pub runs_same : (ms ns : List Message) → AreMessages ms → AreMessages ns → Follows ms → Follows ns → canon (run ms) ≡ canon (run ns) → Same (run ms) (run ns)
-runs_same ms ns fit fine follows behind e = same_canon (run ms) (run ns) (run_good ms fit follows) (run_good ns fine behind) e
+runs_same ms ns fit fine follows following e = same_canon (run ms) (run ns) (run_good ms fit follows) (run_good ns fine following) e

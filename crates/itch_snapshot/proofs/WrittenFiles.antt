@@ -11,9 +11,9 @@ use Rattle.itch_codec.specs.Widths.{IsSequence}
 use Rattle.itch_codec.proofs.Spelling.{Spells-spelling}
 use Rattle.itch_frame.specs.Blocks.{IsPayload}
 use Rattle.itch_market.specs.Content.{Content, laid}
-use Rattle.itch_market.specs.Goods.{IsGood}
+use Rattle.itch_market.specs.GoodMarkets.{IsGood}
 use Rattle.itch_market.specs.Runs.{run}
-use Rattle.itch_market.proofs.Goods.{run_good, laid_good}
+use Rattle.itch_market.proofs.GoodMarkets.{run_good, laid_good}
 use Rattle.itch_market.proofs.Laid.{laid_twice}
 use Rattle.itch_snapshot.specs.Snapshot.{snap}
 use Rattle.itch_snapshot.specs.Bytes.{canon, closing}

@@ -9,7 +9,7 @@ use Rattle.itch_book.specs.Orders as book
 use Rattle.itch_market.specs.Content.{Content, Listing}
 use Rattle.itch_market.specs.Wanted.{Wanted, has}
 use denote.Ref.{Bor}
-use Rattle.itch_snapshot.specs.declared.named.NamedOrder.{NamedOrder}
+use Rattle.itch_snapshot.specs.declared.named_order.NamedOrder.{NamedOrder}
 use Rattle.itch_snapshot.specs.Snapshot.{event_part, order_part, locate_part}
 
 -- the messages that are left of some, if there are any

@@ -14,7 +14,7 @@ use Rattle.itch_market.specs.declared.stop.Stop.TheVariants as stop
 use Rattle.itch_market.specs.Stops.{Stops}
 use Rattle.itch_snapshot.specs.declared.fault.SnapFault.{SnapFault}
 use Rattle.itch_snapshot.specs.declared.fault.SnapFault.TheVariants.{NoEnd, Frame, Codec, Rule, AfterEnd, TooManyMessages}
-use Rattle.itch_snapshot.specs.Loads.{closing_number}
+use Rattle.itch_snapshot.specs.TakenMessages.{closing_number}
 
 -- each payload spells the message at its place
 abbrev pub AreSpelled : List Message → List (List ℕ) → Type 0

@@ -6,6 +6,6 @@ pub mod Lengths
 pub mod Parting
 pub mod Writes
 pub mod Stages
-pub mod Loads
+pub mod TakenMessages
 pub mod Reads
 pub mod Files

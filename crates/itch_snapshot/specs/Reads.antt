@@ -10,10 +10,10 @@ use Rattle.itch_frame.specs.declared.fault.FrameFault.TheVariants.{Read, Truncat
 use Rattle.itch_market.specs.declared.stop.Stop.TheVariants as stop
 use Rattle.itch_market.specs.Content.{Content, empty}
 use Rattle.itch_market.specs.Runs.{after}
-use Rattle.itch_market.specs.Replays.{TakesOff, Takes, IsTold}
+use Rattle.itch_market.specs.Replays.{TakesOff, Takes, IsDecided}
 use Rattle.itch_snapshot.specs.declared.fault.SnapFault.{SnapFault}
 use Rattle.itch_snapshot.specs.declared.fault.SnapFault.TheVariants.{NoEnd, Frame, Codec, Rule, AfterEnd, TooManyMessages}
-use Rattle.itch_snapshot.specs.Loads.{closing_number, TakesNext}
+use Rattle.itch_snapshot.specs.TakenMessages.{closing_number, TakesNext}
 
 -- the input is at its end, or an empty block came off the front
 abbrev pub EndsHere : Option (List ℕ) → Option (List ℕ) → Type 0
@@ -73,7 +73,7 @@ CountsFault (Frame (Read error)) old new = new ≡ failed error old
 CountsFault fault old new = new ≡ old
 
 -- a fault that the file alone decides: no read failed, and memory was not refused
-abbrev pub IsToldFault : SnapFault → Type 0
-IsToldFault (Frame f) = IsTold (stop.Frame f)
-IsToldFault (Rule place why) = IsTold (stop.Rule why)
-IsToldFault fault = ⊤
+abbrev pub IsDecidedFault : SnapFault → Type 0
+IsDecidedFault (Frame f) = IsDecided (stop.Frame f)
+IsDecidedFault (Rule place why) = IsDecided (stop.Rule why)
+IsDecidedFault fault = ⊤

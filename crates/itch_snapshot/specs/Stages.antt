@@ -2,8 +2,8 @@
 use Rattle.std.specs.Prelude.{Result, Ok, Err}
 use Rattle.itch_snapshot.specs.declared.fault.SnapFault.{SnapFault}
 use Rattle.itch_snapshot.specs.declared.fault.SnapFault.TheVariants.{AfterEnd}
-use Rattle.itch_snapshot.specs.declared.stage.Stage.{Stage}
-use Rattle.itch_snapshot.specs.declared.stage.Stage.TheVariants.{Taking, Broken, Closed}
+use Rattle.itch_snapshot.specs.declared.reader.Stage.{Stage}
+use Rattle.itch_snapshot.specs.declared.reader.Stage.TheVariants.{Taking, Broken, Closed}
 
 -- the fault of every further message, once one was not taken or after the End of Snapshot
 abbrev pub opened : Stage → Result (Unit {0}) SnapFault

@@ -1,6 +1,6 @@
 //! Markets compared.
 ghost use Rattle.std.specs.Prelude.{◌≡◌, ◌<◌, ◌-◌, ◌^◌, ◌↔◌, length, IfSome, IfNone, IsNone, IsTrue};
-ghost use Rattle.itch_market.specs.Sames.{Same};
+ghost use Rattle.itch_market.specs.SameMarkets.{Same};
 ghost use Rattle.itch_snapshot.specs.Snapshot.{snap};
 ghost use Rattle.itch_snapshot.specs.Parting.{IsParting};
 

@@ -8,8 +8,8 @@ ghost use Rattle.itch_market.specs.Wanted.{has};
 ghost use Rattle.itch_snapshot.specs.Snapshot.{snap};
 ghost use Rattle.itch_snapshot.specs.Cursor.{left, in_set, IsCursor};
 
-use crate::named::NamedOrder;
-use crate::parts::{header_at, named, order_message};
+use crate::messages::{header_at, named, order_message};
+use crate::named_order::NamedOrder;
 use crate::states::{States, next_state, states_again};
 use itch_book::OrderBook;
 use itch_codec::{Message, StockDirectory, SystemEvent};

@@ -1,4 +1,20 @@
-//! Snapshots of a market: its canonical list of messages, written and read.
+//! Snapshots of a market: the one canonical list of messages that leads to it, written and read.
+//!
+//! Two markets are the same exactly if their snapshots have the same bytes; a snapshot that is replayed has itself as its
+//! snapshot; and from a snapshot the rest of a feed leaves the market of the whole. `laws` says so.
+//!
+//! - [`SnapshotIter`] gives the messages, of the whole market or of some locates; [`write_snapshot`] and [`write_partial`] write
+//!   them, closed by End of Snapshot (GLIMPSE 5.0).
+//! - [`read_snapshot`] reads a snapshot file in any order, and [`SnapshotReader`] message by message.
+//! - [`same_market`] and [`part_place`] compare markets.
+//!
+//! ```
+//! write_snapshot(&market, next, &mut out)?;
+//! let mut blocks = BlockReader::new(alloc, Counted::new(out.written()))?;
+//! let (read, number): (Market<IndexedBook>, Seq) = read_snapshot(alloc, &mut blocks)?;
+//! assert!(same_market(&market, &read));
+//! assert_eq!(number, next);
+//! ```
 #![tactic(auto)]
 
 mod compare;
@@ -6,11 +22,10 @@ mod fault;
 mod iter;
 pub mod laws;
 mod length;
-mod named;
-mod parts;
+mod messages;
+mod named_order;
 mod read;
 mod reader;
-mod stage;
 mod states;
 mod write;
 
@@ -19,6 +34,5 @@ pub use fault::SnapFault;
 pub use iter::SnapshotIter;
 pub use length::snapshot_len;
 pub use read::read_snapshot;
-pub use reader::SnapshotReader;
-pub use stage::Stage;
+pub use reader::{SnapshotReader, Stage};
 pub use write::{write_partial, write_snapshot};

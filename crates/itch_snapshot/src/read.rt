@@ -5,7 +5,7 @@ ghost use Rattle.itch_frame.specs.Reading.{bytes_left};
 ghost use Rattle.itch_market.specs.Content.{laid};
 ghost use Rattle.itch_market.specs.Runs.{run};
 ghost use Rattle.itch_snapshot.specs.Files.{IsSnapshotFile, IsMarketOf, IsFaultOf};
-ghost use Rattle.itch_snapshot.specs.Reads.{ReadsNext, ReadsEnd, ReadsAll, ReadsSnapshot, CountsFault, IsToldFault};
+ghost use Rattle.itch_snapshot.specs.Reads.{ReadsNext, ReadsEnd, ReadsAll, ReadsSnapshot, CountsFault, IsDecidedFault};
 
 use crate::fault::SnapFault;
 use crate::reader::take;
@@ -28,9 +28,9 @@ pub fn read_snapshot<R: CountedRead, A: Allocator, B: OrderBook>(
 ) -> Result<(Market<B>, Seq), SnapFault>
     // The file alone decides what is returned, unless a read failed or memory was refused.
     ensures file { IfSome (bytes_left R.remaining reader.old) (λ bytes. (ms : List Message) → (next : ℕ) → IsSnapshotFile bytes ms next
-        → MatchResult result (λ done. done ≡ (laid (run ms), next)) (λ fault. ¬ IsToldFault fault)) }
+        → MatchResult result (λ done. done ≡ (laid (run ms), next)) (λ fault. ¬ IsDecidedFault fault)) }
     ensures market { IfOk result (λ done. IfSome (bytes_left R.remaining reader.old) (λ bytes. IsMarketOf bytes done)) }
-    ensures fault { IfErr result (λ fault. IfSome (bytes_left R.remaining reader.old) (λ bytes. IsToldFault fault → IsFaultOf bytes fault)) }
+    ensures fault { IfErr result (λ fault. IfSome (bytes_left R.remaining reader.old) (λ bytes. IsDecidedFault fault → IsFaultOf bytes fault)) }
     // What was read, what was not, and what each fault means.
     ensures steps { ReadsSnapshot (bytes_left R.remaining reader.old) (bytes_left R.remaining reader.new) result }
     ensures failures { MatchResult result (λ _. R.failures reader.new.reader ≡ R.failures reader.old.reader)

@@ -1,10 +1,10 @@
 //! Snapshots message by message.
 ghost use Rattle.std.specs.Prelude.{◌≡◌, ◌<◌, ◌≤◌, ◌-◌, ◌^◌, IfOk, IfNone, true};
 ghost use Rattle.itch_market.specs.Wanted.{has};
-ghost use Rattle.itch_snapshot.specs.Loads.{IsNext, AppliesAt, TakesNext, TakesNextOnly};
+ghost use Rattle.itch_snapshot.specs.TakenMessages.{IsNext, AppliesAt, TakesNext, TakesNextOnly};
+ghost use Rattle.itch_snapshot.specs.Stages.{opened};
 
 use crate::fault::SnapFault;
-use crate::stage::Stage;
 use itch_book::OrderBook;
 use itch_codec::{Message, Seq, decode};
 use itch_market::{LocateSet, Market, Refusal};
@@ -12,6 +12,30 @@ use std::marker::Model;
 
 /// As many messages as a snapshot may have before its End of Snapshot: 10^19 - 1.
 const MOST: u64 = 9_999_999_999_999_999_999;
+
+/// How far the reading of a snapshot is.
+#[derive(Clone, Copy, Debug)]
+pub enum Stage {
+    /// Messages are taken.
+    Taking,
+    /// A message was not taken; every further one has the same fault.
+    Broken(SnapFault),
+    /// The End of Snapshot came, with the number of the first message that the snapshot does not contain.
+    Closed(Seq),
+}
+
+impl Stage {
+    // Nothing where messages are taken, else the fault of every further one.
+    pub(crate) fn open(&self) -> Result<(), SnapFault>
+        ensures { result ≡ opened self.now }
+    {
+        match self {
+            Stage::Taking => Ok(()),
+            Stage::Broken(fault) => Err(*fault),
+            Stage::Closed(_) => Err(SnapFault::AfterEnd),
+        }
+    }
+}
 
 /// Takes the messages of a snapshot one by one, and hands out their market after the End of Snapshot.
 #[derive(Drop)]
@@ -25,7 +49,7 @@ impl<B: OrderBook> Model for SnapshotReader<B> {
     ghost use Rattle.std.specs.Prelude.{◌≤◌, ◌-◌, ◌^◌};
     ghost use Rattle.std.specs.FinMap as map;
     ghost use Rattle.std.specs.Coded.{codes};
-    ghost use Rattle.itch_snapshot.specs.Loads.{Load};
+    ghost use Rattle.itch_snapshot.specs.TakenMessages.{Load};
 
     ghost Value = { Load };
 
@@ -38,8 +62,8 @@ impl<B: OrderBook> Model for SnapshotReader<B> {
 
 impl<B: OrderBook> SnapshotReader<B> {
     ghost use Rattle.itch_market.specs.Wanted.{has};
-    ghost use Rattle.itch_snapshot.specs.declared.stage.Stage.TheVariants.{Taking};
-    ghost use Rattle.itch_snapshot.specs.Loads.{begun, taken_behind, stage_behind, Loads, LoadsOnly, Finishes};
+    ghost use Rattle.itch_snapshot.specs.declared.reader.Stage.TheVariants.{Taking};
+    ghost use Rattle.itch_snapshot.specs.TakenMessages.{begun, taken_after, stage_after, Loads, LoadsOnly, Finishes};
 
     /// Nothing is taken yet, neither messages nor memory.
     pub fn new(alloc: B::Alloc) -> Self
@@ -85,7 +109,7 @@ impl<B: OrderBook> SnapshotReader<B> {
     fn settle(&mut self, taken: Result<Option<Seq>, SnapFault>) -> Result<Option<Seq>, SnapFault>
         requires room { IfOk taken (λ next. IfNone next (self.old.taken < 10 ^ 19 - 1)) }
         requires taking { self.old.stage ≡ Taking }
-        ensures left { self.new ≡ record self.old { taken = taken_behind self.old.taken taken; stage = stage_behind taken } }
+        ensures left { self.new ≡ record self.old { taken = taken_after self.old.taken taken; stage = stage_after taken } }
         ensures same { result ≡ taken }
     {
         match taken {

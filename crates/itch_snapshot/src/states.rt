@@ -4,7 +4,7 @@ ghost use Rattle.itch_codec.specs.declared.message.Message.{Message as MessageVa
 ghost use Rattle.itch_snapshot.specs.Snapshot.{states_part};
 ghost use Rattle.itch_snapshot.specs.Cursor.{listed};
 
-use crate::parts::header_at;
+use crate::messages::header_at;
 use itch_codec::{
     Alpha, Header, Message, OperationalHalt, ParticipantPosition, RegSho, TradingAction,
 };

@@ -14,16 +14,16 @@ use Rattle.itch_frame.proofs.BlockLemmas.{each-push}
 use Rattle.itch_book.proofs.Lists.{All-map_rec}
 use Rattle.itch_market.specs.Content.{Content, empty, laid}
 use Rattle.itch_market.specs.Effects.{effect}
-use Rattle.itch_market.specs.Goods.{IsGood}
+use Rattle.itch_market.specs.GoodMarkets.{IsGood}
 use Rattle.itch_market.specs.Runs.{after, run}
 use Rattle.itch_market.specs.Stops.{cause}
 use Rattle.itch_market.specs.Replays.{NoCause, Fits}
-use Rattle.itch_market.proofs.Goods.{effect_good}
+use Rattle.itch_market.proofs.GoodMarkets.{effect_good}
 use Rattle.itch_market.proofs.Laid.{effect-laid}
 use Rattle.itch_market.proofs.Causes.{cause-laid, no_reason, no_fault, none_more, none_follows, after_more}
-use Rattle.itch_snapshot.specs.declared.stage.Stage.TheVariants.{Taking, Closed}
+use Rattle.itch_snapshot.specs.declared.reader.Stage.TheVariants.{Taking, Closed}
 use Rattle.itch_snapshot.specs.Files.{AreSpelled}
-use Rattle.itch_snapshot.specs.Loads.{Load, begun, Loads, TakesAt, TakesNext, Finishes, closing_number}
+use Rattle.itch_snapshot.specs.TakenMessages.{Load, begun, Loads, TakesAt, TakesNext, Finishes, closing_number}
 use Rattle.itch_snapshot.proofs.FileLemmas.{Spells-number}
 use Rattle.itch_soup.specs.declared.connection.Stage.{Stage}
 use Rattle.itch_soup.specs.declared.connection.Stage.TheVariants as stage
@@ -36,7 +36,7 @@ use Rattle.itch_soup.specs.declared.packet.Packet.TheVariants as is
 use Rattle.itch_soup.specs.Packets.{PacketSpells}
 use Rattle.itch_soup.specs.Clients.{Client, client_turn, client_answer, client_after_packet}
 use Rattle.itch_soup.specs.Serving.{is_enough}
-use Rattle.itch_soup.specs.Fetching.{ArePackets, telling, news, after_packets, numbered, Hears, SpellsSnapshot, Fetched, HearsNext, TakesAnswer, EndsFetch, Receives, load_of}
+use Rattle.itch_soup.specs.Fetching.{ArePackets, noted, news, after_packets, numbered, Hears, SpellsSnapshot, Fetched, HearsNext, TakesAnswer, EndsFetch, Receives, load_of}
 use Rattle.itch_soup.proofs.Waiting.{consumed_more, one_more}
 
 -- what a turn of a session says of its stage and number
@@ -80,19 +80,19 @@ turn_shows stage.Accepted next is.ClientHeartbeat = tt
 turn_shows stage.Accepted next is.LogoutRequest = tt
 
 -- one packet more
-telling-append : (answer : ClientAct) (xs ys : List ClientAct) → telling answer (xs ++ ys) ≡ telling answer xs ++ ys
-telling-append act.Nothing xs ys = refl
-telling-append (act.Accepted next) xs ys = refl
-telling-append (act.Rejected code) xs ys = refl
-telling-append (act.Data n payload) xs ys = refl
-telling-append act.Ended xs ys = refl
-telling-append (act.Fault f) xs ys = refl
+noted-append : (answer : ClientAct) (xs ys : List ClientAct) → noted answer (xs ++ ys) ≡ noted answer xs ++ ys
+noted-append act.Nothing xs ys = refl
+noted-append (act.Accepted next) xs ys = refl
+noted-append (act.Rejected code) xs ys = refl
+noted-append (act.Data n payload) xs ys = refl
+noted-append act.Ended xs ys = refl
+noted-append (act.Fault f) xs ys = refl
 
-news-push : (c : Client) (packets : List Packet) (packet : Packet) → news c (packets ++ packet ∷ []) ≡ news c packets ++ telling (client_answer (after_packets c packets) packet) []
+news-push : (c : Client) (packets : List Packet) (packet : Packet) → news c (packets ++ packet ∷ []) ≡ news c packets ++ noted (client_answer (after_packets c packets) packet) []
 news-push c [] packet = refl
 news-push c (first ∷ packets) packet =
-    ap (telling (client_answer c first)) (news-push (client_after_packet c first 0) packets packet)
-    ∙ telling-append (client_answer c first) (news (client_after_packet c first 0) packets) _
+    ap (noted (client_answer c first)) (news-push (client_after_packet c first 0) packets packet)
+    ∙ noted-append (client_answer c first) (news (client_after_packet c first 0) packets) _
 
 after-push : (c : Client) (packets : List Packet) (packet : Packet) → after_packets c (packets ++ packet ∷ []) ≡ client_after_packet (after_packets c packets) packet 0
 after-push c [] packet = refl
@@ -113,14 +113,14 @@ packets-push (p ∷ ps) (q ∷ qs) packet payload spelled fits last = (spelled.0
 
 -- how far a session is, by what it has received
 abbrev Phase : Stage → ℕ → List ClientAct → List (List ℕ) → Type 0
-Phase stage.Before next told payloads = (told ≡ []) × (payloads ≡ [])
-Phase stage.Accepted next told payloads = (told ≡ act.Accepted 1 ∷ numbered 1 payloads) × (next ≡ 1 + length payloads)
-Phase stage.Closed next told payloads = ⊥
+Phase stage.Before next acts payloads = (acts ≡ []) × (payloads ≡ [])
+Phase stage.Accepted next acts payloads = (acts ≡ act.Accepted 1 ∷ numbered 1 payloads) × (next ≡ 1 + length payloads)
+Phase stage.Closed next acts payloads = ⊥
 
-hears : (at : Stage) (next : ℕ) (told : List ClientAct) (payloads : List (List ℕ)) → Phase at next told payloads → Hears told payloads
-hears stage.Before next told payloads (nothing, none) = subst (λ answers. Hears answers payloads) (sym nothing) none
-hears stage.Accepted next told payloads (all, number) = subst (λ answers. Hears answers payloads) (sym all) refl
-hears stage.Closed next told payloads h = absurd h
+hears : (at : Stage) (next : ℕ) (acts : List ClientAct) (payloads : List (List ℕ)) → Phase at next acts payloads → Hears acts payloads
+hears stage.Before next acts payloads (nothing, none) = subst (λ answers. Hears answers payloads) (sym nothing) none
+hears stage.Accepted next acts payloads (all, number) = subst (λ answers. Hears answers payloads) (sym all) refl
+hears stage.Closed next acts payloads h = absurd h
 
 -- the messages of these payloads were applied to the empty market
 pub record Applied (payloads : List (List ℕ)) (taken : ℕ) (n : Content) : Type 0 where
@@ -207,24 +207,24 @@ hearing_first start bytes load before is good in_order = record {
   taking = ap (λ l. l.stage) is;
 }
 
-phase_same : (at later : Stage) (next number : ℕ) (told all : List ClientAct) (payloads : List (List ℕ)) → later ≡ at → number ≡ next → all ≡ told
-    → Phase at next told payloads → Phase later number all payloads
-phase_same at later next number told all payloads e f g phase =
+phase_same : (at later : Stage) (next number : ℕ) (acts all : List ClientAct) (payloads : List (List ℕ)) → later ≡ at → number ≡ next → all ≡ acts
+    → Phase at next acts payloads → Phase later number all payloads
+phase_same at later next number acts all payloads e f g phase =
     subst (λ s. Phase s number all payloads) (sym e) (subst (λ n. Phase at n all payloads) (sym f) (subst (λ t. Phase at next t payloads) (sym g) phase))
 
-phase_accepted : (at later : Stage) (next number first : ℕ) (told all : List ClientAct) (payloads : List (List ℕ)) → at ≡ stage.Before → later ≡ stage.Accepted → number ≡ first → first ≡ 1
-    → all ≡ told ++ act.Accepted first ∷ [] → Phase at next told payloads → Phase later number all payloads
-phase_accepted at later next number first told all payloads e f g one more phase =
-    let (nothing, none) : (told ≡ []) × (payloads ≡ []) = subst (λ s. Phase s next told payloads) e phase in
+phase_accepted : (at later : Stage) (next number first : ℕ) (acts all : List ClientAct) (payloads : List (List ℕ)) → at ≡ stage.Before → later ≡ stage.Accepted → number ≡ first → first ≡ 1
+    → all ≡ acts ++ act.Accepted first ∷ [] → Phase at next acts payloads → Phase later number all payloads
+phase_accepted at later next number first acts all payloads e f g one more phase =
+    let (nothing, none) : (acts ≡ []) × (payloads ≡ []) = subst (λ s. Phase s next acts payloads) e phase in
     subst (λ s. Phase s number all payloads) (sym f) (
       more ∙ ap (λ t. t ++ act.Accepted first ∷ []) nothing ∙ ap (λ n. act.Accepted n ∷ []) one ∙ ap (λ ps. act.Accepted 1 ∷ numbered 1 ps) (sym none),
       let len : length payloads ≡ 0 = ap length none in omega arith,
     )
 
-phase_data : (at later : Stage) (next number n : ℕ) (payload : List ℕ) (told all : List ClientAct) (payloads : List (List ℕ)) → at ≡ stage.Accepted → later ≡ stage.Accepted → n ≡ next → number ≡ next + 1
-    → all ≡ told ++ act.Data n payload ∷ [] → Phase at next told payloads → Phase later number all (payloads ++ payload ∷ [])
-phase_data at later next number n payload told all payloads e f same up more phase =
-    let before : (told ≡ act.Accepted 1 ∷ numbered 1 payloads) × (next ≡ 1 + length payloads) = subst (λ s. Phase s next told payloads) e phase in
+phase_data : (at later : Stage) (next number n : ℕ) (payload : List ℕ) (acts all : List ClientAct) (payloads : List (List ℕ)) → at ≡ stage.Accepted → later ≡ stage.Accepted → n ≡ next → number ≡ next + 1
+    → all ≡ acts ++ act.Data n payload ∷ [] → Phase at next acts payloads → Phase later number all (payloads ++ payload ∷ [])
+phase_data at later next number n payload acts all payloads e f same up more phase =
+    let before : (acts ≡ act.Accepted 1 ∷ numbered 1 payloads) × (next ≡ 1 + length payloads) = subst (λ s. Phase s next acts payloads) e phase in
     subst (λ s. Phase s number all (payloads ++ payload ∷ [])) (sym f) (
       more ∙ ap (λ t. t ++ act.Data n payload ∷ []) before.0 ∙ ap (λ k. act.Accepted 1 ∷ (numbered 1 payloads ++ act.Data k payload ∷ [])) (same ∙ before.1)
           ∙ ap (λ rest. act.Accepted 1 ∷ rest) (sym (numbered-push 1 payloads payload)),
@@ -240,8 +240,8 @@ module _ (start : Client) (old mid new : Option (List ℕ)) (count : ℕ) (c : C
   abbrev later : Client
   later = client_after_packet c packet 0
 
-  more_news : news start (so_far.packets ++ packet ∷ []) ≡ news start so_far.packets ++ telling (client_answer c packet) []
-  more_news = news-push start so_far.packets packet ∙ ap (λ s. news start so_far.packets ++ telling (client_answer s packet) []) (sym so_far.session)
+  more_news : news start (so_far.packets ++ packet ∷ []) ≡ news start so_far.packets ++ noted (client_answer c packet) []
+  more_news = news-push start so_far.packets packet ∙ ap (λ s. news start so_far.packets ++ noted (client_answer s packet) []) (sym so_far.session)
 
   shows : (answer : ClientAct) → client_answer c packet ≡ answer → Shows packet c.connection.stage c.next answer later.connection.stage later.next
   shows answer is = subst (λ a. Shows packet c.connection.stage c.next a later.connection.stage later.next) is (turn_shows c.connection.stage c.next packet)
@@ -276,19 +276,19 @@ module _ (start : Client) (old mid new : Option (List ℕ)) (count : ℕ) (c : C
   heard_answer act.Nothing is (unclosed, same) =
       let (stays, counts) = shows act.Nothing is in
       heard_more so_far.payloads so_far.fit
-      (phase_same _ _ _ _ _ _ so_far.payloads stays counts (more_news ∙ ap (λ a. news start so_far.packets ++ telling a []) is ∙ append-nil (news start so_far.packets)) so_far.phase)
+      (phase_same _ _ _ _ _ _ so_far.payloads stays counts (more_news ∙ ap (λ a. news start so_far.packets ++ noted a []) is ∙ append-nil (news start so_far.packets)) so_far.phase)
       (same_load so_far.payloads same so_far.applied) (ap (λ l. l.stage) same ∙ so_far.taking)
   heard_answer (act.Accepted next) is (one, unclosed, same) =
       let seen = shows (act.Accepted next) is in
       heard_more so_far.payloads so_far.fit
-      (phase_accepted _ _ _ _ next _ _ so_far.payloads seen.0 seen.1 seen.2 one (more_news ∙ ap (λ a. news start so_far.packets ++ telling a []) is) so_far.phase)
+      (phase_accepted _ _ _ _ next _ _ so_far.payloads seen.0 seen.1 seen.2 one (more_news ∙ ap (λ a. news start so_far.packets ++ noted a []) is) so_far.phase)
       (same_load so_far.payloads same so_far.applied) (ap (λ l. l.stage) same ∙ so_far.taking)
   heard_answer (act.Data number payload) is (taken, loads, unclosed) =
       let seen = shows (act.Data number payload) is in
       let took = took_data payload taken loads unclosed in
       heard_more (so_far.payloads ++ payload ∷ [])
       (each-push IsPayload so_far.payloads payload so_far.fit (data_fits payload block_read fits (subst (λ p. PacketSpells p block_read Server) seen.4 spelled)))
-      (phase_data _ _ _ _ number payload _ _ so_far.payloads seen.0 seen.1 seen.2 seen.3 (more_news ∙ ap (λ a. news start so_far.packets ++ telling a []) is) so_far.phase)
+      (phase_data _ _ _ _ number payload _ _ so_far.payloads seen.0 seen.1 seen.2 seen.3 (more_news ∙ ap (λ a. news start so_far.packets ++ noted a []) is) so_far.phase)
       took.0 took.1
   heard_answer (act.Rejected code) is takes = absurd takes
   heard_answer act.Ended is takes = absurd takes
@@ -309,7 +309,7 @@ module _ (start : Client) (old mid new : Option (List ℕ)) (count : ℕ) (c : C
   heard_end (act.Data number payload) is (taken, loads, closed) done finishes =
       let seen = shows (act.Data number payload) is in
       let (next, number_is, market, at_end) = closed_by payload taken loads closed in
-      let phase = phase_data _ _ _ _ number payload _ _ so_far.payloads seen.0 seen.1 seen.2 seen.3 (more_news ∙ ap (λ a. news start so_far.packets ++ telling a []) is) so_far.phase in
+      let phase = phase_data _ _ _ _ number payload _ _ so_far.payloads seen.0 seen.1 seen.2 seen.3 (more_news ∙ ap (λ a. news start so_far.packets ++ noted a []) is) so_far.phase in
       let same : Closed next ≡ Closed done.1 = sym at_end ∙ finishes.1 in
       let numbers : next ≡ done.1 = cc in (
         so_far.payloads ++ payload ∷ [],
@@ -319,7 +319,7 @@ module _ (start : Client) (old mid new : Option (List ℕ)) (count : ℕ) (c : C
           bytes = consumed_more old mid new so_far.read block_read so_far.bytes consumed;
           spelled = packets-push so_far.packets so_far.read packet block_read so_far.spelled fits spelled;
           few = omega (arith, one_more count so_far.few room, so_far.counted, length-append so_far.packets (packet ∷ []));
-          told = hears _ _ _ _ phase;
+          heard = hears _ _ _ _ phase;
         },
         (
           map message_of so_far.payloads,
@@ -374,7 +374,7 @@ hearing_ends start old mid new count c c_after load after fault_met so_far ends 
     bytes = so_far.bytes;
     spelled = so_far.spelled;
     few = subst (λ n. n ≤ 10 ^ 19) (sym so_far.counted) so_far.few;
-    told = hears _ _ _ _ so_far.phase;
+    heard = hears _ _ _ _ so_far.phase;
   },
   so_far.applied.none,
   so_far.applied.fits,

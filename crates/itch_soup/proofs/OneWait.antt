@@ -14,7 +14,7 @@ use Rattle.itch_soup.specs.declared.origin.Origin.TheVariants.{Client}
 use Rattle.itch_soup.specs.declared.packet.Packet.{Packet}
 use Rattle.itch_soup.specs.declared.packet.Packet.TheVariants as is
 use Rattle.itch_soup.specs.Packets.{PacketSpells, packet_fault}
-use Rattle.itch_soup.specs.Serving.{is_enough, ReadsBlock, IsPassedOver, IsIdle, EndsWait, Wait, WaitsForLogin, IsToldWait}
+use Rattle.itch_soup.specs.Serving.{is_enough, ReadsBlock, IsPassedOver, IsIdle, EndsWait, Wait, WaitsForLogin, IsDecidedWait}
 use Rattle.itch_soup.proofs.Unique.{packet_at, packet_at-spelled, spelled-none}
 
 -- how a client's packet ends the wait; one that is passed over does not
@@ -61,58 +61,58 @@ faulty enough q rest new f fits (room, read) =
     sym (ap (λ b. wait_of b q) room ∙ faulty_wait f q (the_block q rest new (λ payload. packet_fault payload Client ≡ Some f) fits read))
 
 -- where a block stands at the front, it decides
-block_wait : (enough : Bool) (q rest : List ℕ) (new : Option (List ℕ)) (wait : Wait) → IsPayload q → EndsWait enough (Some (block q ++ rest)) new wait → IsToldWait wait → wait ≡ wait_of enough q
-block_wait enough q rest new (Ok (Login login)) fits (room, read) told =
+block_wait : (enough : Bool) (q rest : List ℕ) (new : Option (List ℕ)) (wait : Wait) → IsPayload q → EndsWait enough (Some (block q ++ rest)) new wait → IsDecidedWait wait → wait ≡ wait_of enough q
+block_wait enough q rest new (Ok (Login login)) fits (room, read) decided =
     sym (ap (λ b. wait_of b q) room ∙ spelled_wait (is.LoginRequest login) q (the_block q rest new (λ payload. PacketSpells (is.LoginRequest login) payload Client) fits read))
-block_wait enough q rest new (Ok Leave) fits (inl at_end) told = absurd (no_bytes q rest at_end)
-block_wait enough q rest new (Ok Leave) fits (inr (room, read)) told =
+block_wait enough q rest new (Ok Leave) fits (inl at_end) decided = absurd (no_bytes q rest at_end)
+block_wait enough q rest new (Ok Leave) fits (inr (room, read)) decided =
     sym (ap (λ b. wait_of b q) room ∙ spelled_wait is.LogoutRequest q (the_block q rest new (λ payload. PacketSpells is.LogoutRequest payload Client) fits read))
-block_wait enough q rest new (Err (broke.Frame (Truncated held))) fits (part, count) told = absurd (part.1 q rest fits refl)
-block_wait enough q rest new (Err (broke.Frame (Read error))) fits h told = absurd told
-block_wait enough q rest new (Err (broke.Frame (Write sent error))) fits h told = absurd h
-block_wait enough q rest new (Err (broke.Frame TooLong)) fits h told = absurd h
-block_wait enough q rest new (Err broke.TooManyMessages) fits (full, read) told = sym (ap (λ b. wait_of b q) full)
-block_wait enough q rest new (Err broke.EmptyPacket) fits h told = faulty enough q rest new broke.EmptyPacket fits h
-block_wait enough q rest new (Err (broke.UnknownType kind)) fits h told = faulty enough q rest new (broke.UnknownType kind) fits h
-block_wait enough q rest new (Err (broke.WrongSide kind)) fits h told = faulty enough q rest new (broke.WrongSide kind) fits h
-block_wait enough q rest new (Err (broke.WrongLength kind want got)) fits h told = faulty enough q rest new (broke.WrongLength kind want got) fits h
-block_wait enough q rest new (Err (broke.BadText offset)) fits h told = faulty enough q rest new (broke.BadText offset) fits h
-block_wait enough q rest new (Err (broke.BadNumber offset)) fits h told = faulty enough q rest new (broke.BadNumber offset) fits h
-block_wait enough q rest new (Err broke.SecondLogin) fits h told = faulty enough q rest new broke.SecondLogin fits h
-block_wait enough q rest new (Err (broke.Early kind)) fits h told = faulty enough q rest new (broke.Early kind) fits h
-block_wait enough q rest new (Err broke.Closed) fits h told = faulty enough q rest new broke.Closed fits h
-block_wait enough q rest new (Err (broke.Rejected code)) fits h told = faulty enough q rest new (broke.Rejected code) fits h
-block_wait enough q rest new (Err (broke.WrongStart next)) fits h told = faulty enough q rest new (broke.WrongStart next) fits h
-block_wait enough q rest new (Err broke.EndedEarly) fits h told = faulty enough q rest new broke.EndedEarly fits h
-block_wait enough q rest new (Err (broke.Snapshot f)) fits h told = faulty enough q rest new (broke.Snapshot f) fits h
+block_wait enough q rest new (Err (broke.Frame (Truncated held))) fits (part, count) decided = absurd (part.1 q rest fits refl)
+block_wait enough q rest new (Err (broke.Frame (Read error))) fits h decided = absurd decided
+block_wait enough q rest new (Err (broke.Frame (Write sent error))) fits h decided = absurd h
+block_wait enough q rest new (Err (broke.Frame TooLong)) fits h decided = absurd h
+block_wait enough q rest new (Err broke.TooManyMessages) fits (full, read) decided = sym (ap (λ b. wait_of b q) full)
+block_wait enough q rest new (Err broke.EmptyPacket) fits h decided = faulty enough q rest new broke.EmptyPacket fits h
+block_wait enough q rest new (Err (broke.UnknownType kind)) fits h decided = faulty enough q rest new (broke.UnknownType kind) fits h
+block_wait enough q rest new (Err (broke.WrongSide kind)) fits h decided = faulty enough q rest new (broke.WrongSide kind) fits h
+block_wait enough q rest new (Err (broke.WrongLength kind want got)) fits h decided = faulty enough q rest new (broke.WrongLength kind want got) fits h
+block_wait enough q rest new (Err (broke.BadText offset)) fits h decided = faulty enough q rest new (broke.BadText offset) fits h
+block_wait enough q rest new (Err (broke.BadNumber offset)) fits h decided = faulty enough q rest new (broke.BadNumber offset) fits h
+block_wait enough q rest new (Err broke.SecondLogin) fits h decided = faulty enough q rest new broke.SecondLogin fits h
+block_wait enough q rest new (Err (broke.Early kind)) fits h decided = faulty enough q rest new (broke.Early kind) fits h
+block_wait enough q rest new (Err broke.Closed) fits h decided = faulty enough q rest new broke.Closed fits h
+block_wait enough q rest new (Err (broke.Rejected code)) fits h decided = faulty enough q rest new (broke.Rejected code) fits h
+block_wait enough q rest new (Err (broke.WrongStart next)) fits h decided = faulty enough q rest new (broke.WrongStart next) fits h
+block_wait enough q rest new (Err broke.EndedEarly) fits h decided = faulty enough q rest new broke.EndedEarly fits h
+block_wait enough q rest new (Err (broke.Snapshot f)) fits h decided = faulty enough q rest new (broke.Snapshot f) fits h
 
 cut_wait : (b : List ℕ) (held : ℕ) → 0 < length b → held ≡ length b → Err (broke.Frame (Truncated held)) ≡ wait_at_end b
 cut_wait [] held some count = absurd (omega arith)
 cut_wait (x ∷ xs) held some count = ap (λ n. Err (broke.Frame (Truncated n))) count
 
 -- where none does, the end of input decides, or the unfinished block
-end_wait : (enough : Bool) (b : List ℕ) (new : Option (List ℕ)) (wait : Wait) → HasNoBlock b → EndsWait enough (Some b) new wait → IsToldWait wait → wait ≡ wait_at_end b
-end_wait enough b new (Ok (Login login)) none (room, read) told = absurd (some_block b new _ none read)
-end_wait enough b new (Ok Leave) none (inl at_end) told = sym (ap wait_at_end at_end)
-end_wait enough b new (Ok Leave) none (inr (room, read)) told = absurd (some_block b new _ none read)
-end_wait enough b new (Err (broke.Frame (Truncated held))) none (part, count) told = cut_wait b held part.0 count
-end_wait enough b new (Err (broke.Frame (Read error))) none h told = absurd told
-end_wait enough b new (Err (broke.Frame (Write sent error))) none h told = absurd h
-end_wait enough b new (Err (broke.Frame TooLong)) none h told = absurd h
-end_wait enough b new (Err broke.TooManyMessages) none (full, read) told = absurd (some_block b new _ none read)
-end_wait enough b new (Err broke.EmptyPacket) none (room, read) told = absurd (some_block b new _ none read)
-end_wait enough b new (Err (broke.UnknownType kind)) none (room, read) told = absurd (some_block b new _ none read)
-end_wait enough b new (Err (broke.WrongSide kind)) none (room, read) told = absurd (some_block b new _ none read)
-end_wait enough b new (Err (broke.WrongLength kind want got)) none (room, read) told = absurd (some_block b new _ none read)
-end_wait enough b new (Err (broke.BadText offset)) none (room, read) told = absurd (some_block b new _ none read)
-end_wait enough b new (Err (broke.BadNumber offset)) none (room, read) told = absurd (some_block b new _ none read)
-end_wait enough b new (Err broke.SecondLogin) none (room, read) told = absurd (some_block b new _ none read)
-end_wait enough b new (Err (broke.Early kind)) none (room, read) told = absurd (some_block b new _ none read)
-end_wait enough b new (Err broke.Closed) none (room, read) told = absurd (some_block b new _ none read)
-end_wait enough b new (Err (broke.Rejected code)) none (room, read) told = absurd (some_block b new _ none read)
-end_wait enough b new (Err (broke.WrongStart next)) none (room, read) told = absurd (some_block b new _ none read)
-end_wait enough b new (Err broke.EndedEarly) none (room, read) told = absurd (some_block b new _ none read)
-end_wait enough b new (Err (broke.Snapshot f)) none (room, read) told = absurd (some_block b new _ none read)
+end_wait : (enough : Bool) (b : List ℕ) (new : Option (List ℕ)) (wait : Wait) → HasNoBlock b → EndsWait enough (Some b) new wait → IsDecidedWait wait → wait ≡ wait_at_end b
+end_wait enough b new (Ok (Login login)) none (room, read) decided = absurd (some_block b new _ none read)
+end_wait enough b new (Ok Leave) none (inl at_end) decided = sym (ap wait_at_end at_end)
+end_wait enough b new (Ok Leave) none (inr (room, read)) decided = absurd (some_block b new _ none read)
+end_wait enough b new (Err (broke.Frame (Truncated held))) none (part, count) decided = cut_wait b held part.0 count
+end_wait enough b new (Err (broke.Frame (Read error))) none h decided = absurd decided
+end_wait enough b new (Err (broke.Frame (Write sent error))) none h decided = absurd h
+end_wait enough b new (Err (broke.Frame TooLong)) none h decided = absurd h
+end_wait enough b new (Err broke.TooManyMessages) none (full, read) decided = absurd (some_block b new _ none read)
+end_wait enough b new (Err broke.EmptyPacket) none (room, read) decided = absurd (some_block b new _ none read)
+end_wait enough b new (Err (broke.UnknownType kind)) none (room, read) decided = absurd (some_block b new _ none read)
+end_wait enough b new (Err (broke.WrongSide kind)) none (room, read) decided = absurd (some_block b new _ none read)
+end_wait enough b new (Err (broke.WrongLength kind want got)) none (room, read) decided = absurd (some_block b new _ none read)
+end_wait enough b new (Err (broke.BadText offset)) none (room, read) decided = absurd (some_block b new _ none read)
+end_wait enough b new (Err (broke.BadNumber offset)) none (room, read) decided = absurd (some_block b new _ none read)
+end_wait enough b new (Err broke.SecondLogin) none (room, read) decided = absurd (some_block b new _ none read)
+end_wait enough b new (Err (broke.Early kind)) none (room, read) decided = absurd (some_block b new _ none read)
+end_wait enough b new (Err broke.Closed) none (room, read) decided = absurd (some_block b new _ none read)
+end_wait enough b new (Err (broke.Rejected code)) none (room, read) decided = absurd (some_block b new _ none read)
+end_wait enough b new (Err (broke.WrongStart next)) none (room, read) decided = absurd (some_block b new _ none read)
+end_wait enough b new (Err broke.EndedEarly) none (room, read) decided = absurd (some_block b new _ none read)
+end_wait enough b new (Err (broke.Snapshot f)) none (room, read) decided = absurd (some_block b new _ none read)
 
 -- a block stands at the front, or none
 abbrev pub Front : List ℕ → Type 0
@@ -128,13 +128,13 @@ front b = by_day (day_some b) where
     by_last (inl (inr (more, empty))) = inl ([], more, omega arith, day.whole ∙ empty)
     by_last (inr part) = inr (λ payload more fits same. part.1 payload more fits (sym day.whole ∙ same))
 
-same_end : (enough : Bool) (b : List ℕ) (new other : Option (List ℕ)) (w v : Wait) → EndsWait enough (Some b) new w → EndsWait enough (Some b) other v → IsToldWait w → IsToldWait v → w ≡ v
-same_end enough b new other w v h k told tell = by_front (front b) where
+same_end : (enough : Bool) (b : List ℕ) (new other : Option (List ℕ)) (w v : Wait) → EndsWait enough (Some b) new w → EndsWait enough (Some b) other v → IsDecidedWait w → IsDecidedWait v → w ≡ v
+same_end enough b new other w v h k decided certain = by_front (front b) where
   by_front : Front b → w ≡ v
   by_front (inl (q, rest, fits, is)) =
-      block_wait enough q rest new w fits (subst (λ c. EndsWait enough (Some c) new w) is h) told
-      ∙ sym (block_wait enough q rest other v fits (subst (λ c. EndsWait enough (Some c) other v) is k) tell)
-  by_front (inr none) = end_wait enough b new w none h told ∙ sym (end_wait enough b other v none k tell)
+      block_wait enough q rest new w fits (subst (λ c. EndsWait enough (Some c) new w) is h) decided
+      ∙ sym (block_wait enough q rest other v fits (subst (λ c. EndsWait enough (Some c) other v) is k) certain)
+  by_front (inr none) = end_wait enough b new w none h decided ∙ sym (end_wait enough b other v none k certain)
 
 idle_wait : (packet : Packet) → IsIdle packet → wait_by packet ≡ Err broke.Closed
 idle_wait (is.Debug payload) idle = refl
@@ -149,9 +149,9 @@ idle_wait (is.LoginRequest login) idle = absurd idle
 idle_wait is.LogoutRequest idle = absurd idle
 
 -- a packet that is passed over ends no wait
-passed_no_end : (enough : Bool) (q rest : List ℕ) (new : Option (List ℕ)) (wait : Wait) → enough ≡ false → IsPassedOver q → EndsWait enough (Some (block q ++ rest)) new wait → IsToldWait wait → ⊥
-passed_no_end enough q rest new wait room (fits, (packet, spelled, idle)) ends told =
-    let is : wait ≡ Err broke.Closed = block_wait enough q rest new wait fits ends told ∙ ap (λ b. wait_of b q) room ∙ spelled_wait packet q spelled ∙ idle_wait packet idle in
+passed_no_end : (enough : Bool) (q rest : List ℕ) (new : Option (List ℕ)) (wait : Wait) → enough ≡ false → IsPassedOver q → EndsWait enough (Some (block q ++ rest)) new wait → IsDecidedWait wait → ⊥
+passed_no_end enough q rest new wait room (fits, (packet, spelled, idle)) ends decided =
+    let is : wait ≡ Err broke.Closed = block_wait enough q rest new wait fits ends decided ∙ ap (λ b. wait_of b q) room ∙ spelled_wait packet q spelled ∙ idle_wait packet idle in
     let closed = subst (λ w. EndsWait enough (Some (block q ++ rest)) new w) is ends in
     let found = the_block q rest new (λ payload. packet_fault payload Client ≡ Some broke.Closed) fits closed.1 in
     let clash : None ≡ Some broke.Closed = sym (spelled-none packet q Client spelled) ∙ found in
@@ -161,27 +161,27 @@ not_enough : (k n : ℕ) → k + suc n ≤ 10 ^ 19 → is_enough (k + 0) ≡ fal
 not_enough k n few = grind (arith, nat_tests)
 
 one_on : (k : ℕ) (ps qs : List (List ℕ)) (c d : List ℕ) (new other : Option (List ℕ)) (w v : Wait) → AllByRecursion IsPassedOver ps → AllByRecursion IsPassedOver qs → blocks ps ++ c ≡ blocks qs ++ d
-    → k + length ps ≤ 10 ^ 19 → k + length qs ≤ 10 ^ 19 → EndsWait (is_enough (k + length ps)) (Some c) new w → EndsWait (is_enough (k + length qs)) (Some d) other v → IsToldWait w → IsToldWait v → w ≡ v
-one_on k [] [] c d new other w v each all same few low h e told tell = same_end (is_enough (k + 0)) d new other w v (subst (λ b. EndsWait (is_enough (k + 0)) (Some b) new w) same h) e told tell
-one_on k [] (q ∷ qs) c d new other w v each all same few low h e told tell =
+    → k + length ps ≤ 10 ^ 19 → k + length qs ≤ 10 ^ 19 → EndsWait (is_enough (k + length ps)) (Some c) new w → EndsWait (is_enough (k + length qs)) (Some d) other v → IsDecidedWait w → IsDecidedWait v → w ≡ v
+one_on k [] [] c d new other w v each all same few low h e decided certain = same_end (is_enough (k + 0)) d new other w v (subst (λ b. EndsWait (is_enough (k + 0)) (Some b) new w) same h) e decided certain
+one_on k [] (q ∷ qs) c d new other w v each all same few low h e decided certain =
     absurd (passed_no_end (is_enough (k + 0)) q (blocks qs ++ d) new w (not_enough k (length qs) (omega (arith, low))) all.0
-    (subst (λ b. EndsWait (is_enough (k + 0)) (Some b) new w) (same ∙ append_assoc (block q) (blocks qs) d) h) told)
-one_on k (p ∷ ps) [] c d new other w v each all same few low h e told tell =
+    (subst (λ b. EndsWait (is_enough (k + 0)) (Some b) new w) (same ∙ append_assoc (block q) (blocks qs) d) h) decided)
+one_on k (p ∷ ps) [] c d new other w v each all same few low h e decided certain =
     absurd (passed_no_end (is_enough (k + 0)) p (blocks ps ++ c) other v (not_enough k (length ps) (omega (arith, few))) each.0
-    (subst (λ b. EndsWait (is_enough (k + 0)) (Some b) other v) (sym same ∙ append_assoc (block p) (blocks ps) c) e) tell)
-one_on k (p ∷ ps) (q ∷ qs) c d new other w v each all same few low h e told tell =
+    (subst (λ b. EndsWait (is_enough (k + 0)) (Some b) other v) (sym same ∙ append_assoc (block p) (blocks ps) c) e) certain)
+one_on k (p ∷ ps) (q ∷ qs) c d new other w v each all same few low h e decided certain =
     let first = same_block p q (blocks ps ++ c) (blocks qs ++ d) each.0.0 all.0.0 (sym (append_assoc (block p) (blocks ps) c) ∙ same ∙ append_assoc (block q) (blocks qs) d) in
     let left : k + length (p ∷ ps) ≡ k + 1 + length ps = omega arith in
     let right : k + length (q ∷ qs) ≡ k + 1 + length qs = omega arith in
     one_on (k + 1) ps qs c d new other w v each.1 all.1 first.1 (omega (arith, few)) (omega (arith, low))
-    (subst (λ n. EndsWait (is_enough n) (Some c) new w) left h) (subst (λ n. EndsWait (is_enough n) (Some d) other v) right e) told tell
+    (subst (λ n. EndsWait (is_enough n) (Some c) new w) left h) (subst (λ n. EndsWait (is_enough n) (Some d) other v) right e) decided certain
 
 -- the bytes end the wait in one way
-pub one_wait : (bytes : List ℕ) (new other : Option (List ℕ)) (w v : Wait) → WaitsForLogin (Some bytes) new w → WaitsForLogin (Some bytes) other v → IsToldWait w → IsToldWait v → w ≡ v
-one_wait bytes new other w v (ps, None, each, consumed, few, h) k told tell = absurd consumed
-one_wait bytes new other w v (ps, Some c, each, consumed, few, h) (qs, None, all, eaten, low, e) told tell = absurd eaten
-one_wait bytes new other w v (ps, Some c, each, consumed, few, h) (qs, Some d, all, eaten, low, e) told tell =
+pub one_wait : (bytes : List ℕ) (new other : Option (List ℕ)) (w v : Wait) → WaitsForLogin (Some bytes) new w → WaitsForLogin (Some bytes) other v → IsDecidedWait w → IsDecidedWait v → w ≡ v
+one_wait bytes new other w v (ps, None, each, consumed, few, h) k decided certain = absurd consumed
+one_wait bytes new other w v (ps, Some c, each, consumed, few, h) (qs, None, all, eaten, low, e) decided certain = absurd eaten
+one_wait bytes new other w v (ps, Some c, each, consumed, few, h) (qs, Some d, all, eaten, low, e) decided certain =
     let left : length ps ≡ 0 + length ps = omega arith in
     let right : length qs ≡ 0 + length qs = omega arith in
     one_on 0 ps qs c d new other w v each all (sym consumed ∙ eaten) (omega (arith, few)) (omega (arith, low))
-    (subst (λ n. EndsWait (is_enough n) (Some c) new w) left h) (subst (λ n. EndsWait (is_enough n) (Some d) other v) right e) told tell
+    (subst (λ n. EndsWait (is_enough n) (Some c) new w) left h) (subst (λ n. EndsWait (is_enough n) (Some d) other v) right e) decided certain

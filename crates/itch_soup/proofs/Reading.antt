@@ -29,13 +29,13 @@ first_lt bytes place false e h = absurd (let k = rw e at h in cc)
 pub first_unprintable-lt : (bytes : List ℕ) (place : ℕ) → first_unprintable bytes ≡ Some place → place < length bytes
 first_unprintable-lt bytes place h = first_lt bytes place _ refl h
 
-told_lt : (bytes : List ℕ) (place : ℕ) (found : Option ℕ) → first_unprintable bytes ≡ found → option_map NotPrintable found ≡ Some (NotPrintable place)
+found_lt : (bytes : List ℕ) (place : ℕ) (found : Option ℕ) → first_unprintable bytes ≡ found → option_map NotPrintable found ≡ Some (NotPrintable place)
     → place < length bytes
-told_lt bytes place None e h = absurd (cc)
-told_lt bytes place (Some other) e h = let same : other ≡ place = cc in first_unprintable-lt bytes place (cc)
+found_lt bytes place None e h = absurd (cc)
+found_lt bytes place (Some other) e h = let same : other ≡ place = cc in first_unprintable-lt bytes place (cc)
 
 -- so is the one that a refused text names
 pub not_printable-lt : (bytes : List ℕ) (place : ℕ) → option_map NotPrintable (first_unprintable bytes) ≡ Some (NotPrintable place) → place < length bytes
-not_printable-lt bytes place h = told_lt bytes place (first_unprintable bytes) refl h
+not_printable-lt bytes place h = found_lt bytes place (first_unprintable bytes) refl h
 
 pub ruleset printing = (printable-none, not_printable-lt)

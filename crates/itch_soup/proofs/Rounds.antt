@@ -12,10 +12,10 @@ use Rattle.itch_frame.specs.Blocks.{IsPayload, block, blocks}
 use Rattle.itch_frame.proofs.BlockLemmas.{blocks-append}
 use Rattle.itch_book.proofs.Lists.{All-append_rec}
 use Rattle.itch_market.specs.Content.{Content, laid}
-use Rattle.itch_market.specs.Goods.{IsGood}
+use Rattle.itch_market.specs.GoodMarkets.{IsGood}
 use Rattle.itch_market.specs.Runs.{AreMessages}
-use Rattle.itch_market.specs.Sames.{Same}
-use Rattle.itch_market.proofs.Sames.{laid_is_same, laid_same}
+use Rattle.itch_market.specs.SameMarkets.{Same}
+use Rattle.itch_market.proofs.SameMarkets.{laid_is_same, laid_same}
 use Rattle.itch_snapshot.specs.Files.{AreSpelled}
 use Rattle.itch_snapshot.specs.Snapshot.{snap}
 use Rattle.itch_snapshot.proofs.OneSnapshot.{snap_follows, run-snap}
@@ -24,8 +24,8 @@ use Rattle.itch_soup.specs.declared.client.ClientAct.{ClientAct}
 use Rattle.itch_soup.specs.declared.client.ClientAct.TheVariants as act
 use Rattle.itch_soup.specs.declared.connection.Stage.{Stage}
 use Rattle.itch_soup.specs.declared.connection.Stage.TheVariants as stage
-use Rattle.itch_soup.specs.declared.config.Credentials.{Credentials}
-use Rattle.itch_soup.specs.declared.config.ServerConfig.{ServerConfig}
+use Rattle.itch_soup.specs.declared.login.Credentials.{Credentials}
+use Rattle.itch_soup.specs.declared.login.ServerConfig.{ServerConfig}
 use Rattle.itch_soup.specs.declared.origin.Origin.TheVariants.{Server}
 use Rattle.itch_soup.specs.declared.packet.Packet.{Packet}
 use Rattle.itch_soup.specs.declared.packet.Packet.TheVariants as is
@@ -34,7 +34,7 @@ use Rattle.itch_soup.specs.Packets.{PacketSpells, packet_spelling}
 use Rattle.itch_soup.specs.Clients.{Client, client_turn, client_after_packet, login_of}
 use Rattle.itch_soup.specs.Servers.{acceptance}
 use Rattle.itch_soup.specs.Sending.{messages, data_packet, session_packets, packets_for, verdict, served, FitPackets}
-use Rattle.itch_soup.specs.Fetching.{asking, ArePackets, news, numbered, SpellsSnapshot, Fetched, telling}
+use Rattle.itch_soup.specs.Fetching.{asking, ArePackets, news, numbered, SpellsSnapshot, Fetched, noted}
 use Rattle.itch_soup.proofs.Logins.{acceptance-spelled}
 use Rattle.itch_soup.proofs.Sessions.{snap_fits, packet_fits}
 use Rattle.itch_soup.proofs.Trimming.{server_session-fits}
@@ -63,7 +63,7 @@ data_news c n (x ∷ xs) at next few =
     let room : nat_lt c.next (10 ^ 19) ≡ true = grind (arith, nat_tests) in
     let turn = data_turn c.connection.stage c.next (spelling x) at room in
     let later = client_after_packet c (data_packet x) 0 in
-    ap (λ (t : ClientAct × Stage × ℕ). telling t.0 (news later (map data_packet xs))) turn
+    ap (λ (t : ClientAct × Stage × ℕ). noted t.0 (news later (map data_packet xs))) turn
     ∙ ap (λ k. act.Data k (spelling x) ∷ news later (map data_packet xs)) next
     ∙ ap (λ rest. act.Data n (spelling x) ∷ rest) (data_news later (n + 1) xs (ap (λ (t : ClientAct × Stage × ℕ). t.1) turn) (ap (λ (t : ClientAct × Stage × ℕ). t.2) turn ∙ ap (λ k. k + 1) next) (omega arith))
 
@@ -118,7 +118,7 @@ module _ (m : Content) (next : ℕ) (config : ServerConfig) (good : IsGood m) (n
           ∙ whole_answer more;
       spelled = ((omega (arith, (accepted-spelled config 1 alpha (omega arith) (omega arith)).size), accepted-spelled config 1 alpha (omega arith) (omega arith)), data_packets (messages m next) all_fit);
       few = omega (arith, count, length-map (messages m next) data_packet);
-      told = ap (λ rest. act.Accepted 1 ∷ rest) (data_news (client_after_packet (asking credentials) first 0) 1 (messages m next) refl refl (omega (arith, count)));
+      heard = ap (λ rest. act.Accepted 1 ∷ rest) (data_news (client_after_packet (asking credentials) first 0) 1 (messages m next) refl refl (omega (arith, count)));
     },
     (
       snap m,

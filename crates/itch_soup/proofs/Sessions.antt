@@ -16,11 +16,11 @@ use Rattle.itch_book.specs.Orders as book
 use Rattle.itch_book.proofs.Lists.{All-append_rec, All-right_rec}
 use Rattle.itch_market.specs.declared.security.Action.{Action}
 use Rattle.itch_market.specs.Content.{Content, Listing}
-use Rattle.itch_market.specs.Goods.{IsGood}
+use Rattle.itch_market.specs.GoodMarkets.{IsGood}
 use Rattle.itch_market.specs.Runs.{AreMessages}
 use Rattle.itch_snapshot.specs.Snapshot.{snap, event_part, action_part, sho_part, halt_part, position_part, states_part, add_of, attributed, order_part, locate_messages, locate_part}
 use Rattle.itch_snapshot.proofs.Spelled.{snap_messages}
-use Rattle.itch_soup.specs.declared.config.ServerConfig.{ServerConfig}
+use Rattle.itch_soup.specs.declared.login.ServerConfig.{ServerConfig}
 use Rattle.itch_soup.specs.declared.connection.Stage.{Stage}
 use Rattle.itch_soup.specs.declared.packet.LoginRequest.{LoginRequest}
 use Rattle.itch_soup.specs.declared.server.ServerAct.{ServerAct}
@@ -113,7 +113,7 @@ pub from_parts : (m : Content) (next n : ℕ) (with_end : Bool) → (with_end �
     → messages_from n m next ≡ drop (n - 1) (snap m) ++ end_part with_end next
 from_parts m next n true early late = drop-append-le (n - 1) (snap m) (message.End next ∷ []) (early refl)
 from_parts m next n false early late =
-    let behind = late refl in
+    let following = late refl in
     drop_all (n - 1) (messages m next) (omega (arith, length-append (snap m) (message.End next ∷ [])))
     ∙ sym (append-nil (drop (n - 1) (snap m)) ∙ drop_all (n - 1) (snap m) (omega arith))
 
@@ -155,12 +155,12 @@ module _ {W : Type 0} (contents : W → Option (List ℕ)) (failures : W → Fai
       → left ≡ x ∷ rest → WriteBlock contents failures mid (packet_spelling (data_packet x)) (Err fault) new → SendsPackets contents failures {T = T} old (map data_packet all) (Err fault) new
   data_failed T all old mid new seen left rest count x fault fit so_far next wrote =
       let messages_are : all ≡ seen ++ x ∷ rest = so_far.whole ∙ ap (λ ms. seen ++ ms) next in
-      let behind : FitPackets (x ∷ rest) = All-right_rec (λ m. IsPayload (packet_spelling (data_packet m))) seen (x ∷ rest) (subst FitPackets messages_are fit) in
+      let following : FitPackets (x ∷ rest) = All-right_rec (λ m. IsPayload (packet_spelling (data_packet m))) seen (x ∷ rest) (subst FitPackets messages_are fit) in
       one_failed contents failures T old mid new (map packet_spelling (map data_packet seen)) (packet_spelling (data_packet x)) (map packet_spelling (map data_packet rest))
       (map packet_spelling (map data_packet all)) fault
       (ap (λ ms. map packet_spelling (map data_packet ms)) messages_are ∙ ap (map packet_spelling) (map-append data_packet seen (x ∷ rest))
       ∙ map-append packet_spelling (map data_packet seen) (map data_packet (x ∷ rest)))
-      behind.0 so_far.sent wrote
+      following.0 so_far.sent wrote
 
   -- or all were
   pub all_data : (all : List Message) (old new : W) (seen left : List Message) (count : ℕ) → DataSent all old seen left count new → left ≡ []
@@ -214,8 +214,8 @@ pub rejected : {W : Type 0} (contents : W → Option (List ℕ)) (failures : W �
     → WriteBlock contents failures old (74 ∷ code ∷ []) (Err fault) new → WriteBlocks contents failures old (map packet_spelling (served_packets m next config login)) (Err fault) new
 rejected contents failures m next config login total code answer fault old new all judged_is is wrote =
     let size : total + 1 ≡ length (messages m next) = omega (arith, all, length-append (snap m) (message.End next ∷ [])) in
-    let told : verdict m next config login ≡ act.Reject code = ap (λ n. (judged config n login).0) (sym size) ∙ ap (λ (a : ServerAct × Stage). a.0) (sym judged_is) ∙ is in
-    subst (λ a. WriteBlocks contents failures old (map packet_spelling (packets_for m next config a)) (Err fault) new) (sym told)
+    let decided : verdict m next config login ≡ act.Reject code = ap (λ n. (judged config n login).0) (sym size) ∙ ap (λ (a : ServerAct × Stage). a.0) (sym judged_is) ∙ is in
+    subst (λ a. WriteBlocks contents failures old (map packet_spelling (packets_for m next config a)) (Err fault) new) (sym decided)
     (one_failed contents failures (Unit {0}) old old new [] (74 ∷ code ∷ []) [] ((74 ∷ code ∷ []) ∷ []) fault refl (omega arith) (none_sent contents failures old) wrote)
 
 -- the first message of what is left was passed over

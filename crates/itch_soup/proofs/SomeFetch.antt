@@ -18,16 +18,16 @@ use Rattle.itch_market.specs.declared.refusal.Refusal.{Refusal}
 use Rattle.itch_market.specs.declared.stop.Stop.TheVariants as stop
 use Rattle.itch_market.specs.Content.{Content, laid}
 use Rattle.itch_market.specs.Effects.{effect, takes_memory}
-use Rattle.itch_market.proofs.Rules.{Reasoned, reason_told}
+use Rattle.itch_market.proofs.Rules.{Reasoned, reason_decided}
 use Rattle.itch_market.specs.Reasons.{reason}
 use Rattle.itch_market.specs.Replays.{IsRefusal}
 use Rattle.itch_market.specs.Stops.{cause_by, cause}
-use Rattle.itch_market.proofs.Goods.{empty_good}
+use Rattle.itch_market.proofs.GoodMarkets.{empty_good}
 use Rattle.itch_snapshot.specs.declared.fault.SnapFault.{SnapFault}
 use Rattle.itch_snapshot.specs.declared.fault.SnapFault.TheVariants as snap
-use Rattle.itch_snapshot.specs.declared.stage.Stage.TheVariants as at
-use Rattle.itch_snapshot.specs.Loads.{Load, Loads, TakesAt, begun, closing_number, is_full, stage_behind, Finishes}
-use Rattle.itch_snapshot.specs.Reads.{IsToldFault}
+use Rattle.itch_snapshot.specs.declared.reader.Stage.TheVariants as at
+use Rattle.itch_snapshot.specs.TakenMessages.{Load, Loads, TakesAt, begun, closing_number, is_full, stage_after, Finishes}
+use Rattle.itch_snapshot.specs.Reads.{IsDecidedFault}
 use Rattle.itch_soup.specs.declared.client.ClientAct.{ClientAct}
 use Rattle.itch_soup.specs.declared.client.ClientAct.TheVariants as act
 use Rattle.itch_soup.specs.declared.connection.Stage.{Stage}
@@ -42,7 +42,7 @@ use Rattle.itch_soup.specs.PacketTable.{Part, Field, Request, Rest, PacketType, 
 use Rattle.itch_soup.specs.Packets.{PacketSpells, packet_fault, first_of, number_fault, requested, class_fault, part_fault, parts_fault, size_fault, fault_by_type}
 use Rattle.itch_soup.specs.Clients.{Client, client_turn, client_answer, client_after_packet}
 use Rattle.itch_soup.specs.Serving.{is_enough}
-use Rattle.itch_soup.specs.Fetching.{HearsNext, TakesAnswer, IsRefused, Receives, IsToldFetch}
+use Rattle.itch_soup.specs.Fetching.{HearsNext, TakesAnswer, IsRefused, Receives, IsDecidedFetch}
 use Rattle.itch_soup.proofs.Faultless.{faultless-spelled}
 use Rattle.itch_soup.proofs.Hearing.{Hearing, hearing_first, hearing_on, hearing_closed, hearing_ends, turn_shows, Shows}
 use Rattle.itch_soup.proofs.OneWait.{Front, front}
@@ -115,44 +115,44 @@ of_block [] from = tt
 of_block (kind ∷ rest) from = of_type (type_of kind) kind (kind ∷ rest) from
 
 -- a session's own faults are decided by what is received
-abbrev ToldTurn : ClientAct → Type 0
-ToldTurn (act.Fault f) = IsToldFetch (Err f)
-ToldTurn answer = Unit {0}
+abbrev DecidedTurn : ClientAct → Type 0
+DecidedTurn (act.Fault f) = IsDecidedFetch (Err f)
+DecidedTurn answer = Unit {0}
 
-data_told : (b : Bool) (next : ℕ) (payload : List ℕ)
-    → ToldTurn ((λ (turn : ClientAct × Stage × ℕ). turn.0) (if b then (act.Data next payload, stage.Accepted, next + 1) else (act.Fault broke.TooManyMessages, stage.Closed, next)))
-data_told true next payload = tt
-data_told false next payload = tt
+data_decided : (b : Bool) (next : ℕ) (payload : List ℕ)
+    → DecidedTurn ((λ (turn : ClientAct × Stage × ℕ). turn.0) (if b then (act.Data next payload, stage.Accepted, next + 1) else (act.Fault broke.TooManyMessages, stage.Closed, next)))
+data_decided true next payload = tt
+data_decided false next payload = tt
 
-turn_told : (at : Stage) (next : ℕ) (packet : Packet) → ToldTurn (client_turn next at packet).0
-turn_told stage.Closed next packet = tt
-turn_told stage.Before next (is.Debug text) = tt
-turn_told stage.Before next (is.LoginAccepted login) = tt
-turn_told stage.Before next (is.LoginRejected code) = tt
-turn_told stage.Before next (is.SequencedData payload) = tt
-turn_told stage.Before next is.ServerHeartbeat = tt
-turn_told stage.Before next is.EndOfSession = tt
-turn_told stage.Before next (is.LoginRequest login) = tt
-turn_told stage.Before next (is.UnsequencedData payload) = tt
-turn_told stage.Before next is.ClientHeartbeat = tt
-turn_told stage.Before next is.LogoutRequest = tt
-turn_told stage.Accepted next (is.Debug text) = tt
-turn_told stage.Accepted next (is.LoginAccepted login) = tt
-turn_told stage.Accepted next (is.LoginRejected code) = tt
-turn_told stage.Accepted next (is.SequencedData payload) = data_told _ next payload
-turn_told stage.Accepted next is.ServerHeartbeat = tt
-turn_told stage.Accepted next is.EndOfSession = tt
-turn_told stage.Accepted next (is.LoginRequest login) = tt
-turn_told stage.Accepted next (is.UnsequencedData payload) = tt
-turn_told stage.Accepted next is.ClientHeartbeat = tt
-turn_told stage.Accepted next is.LogoutRequest = tt
+turn_decided : (at : Stage) (next : ℕ) (packet : Packet) → DecidedTurn (client_turn next at packet).0
+turn_decided stage.Closed next packet = tt
+turn_decided stage.Before next (is.Debug text) = tt
+turn_decided stage.Before next (is.LoginAccepted login) = tt
+turn_decided stage.Before next (is.LoginRejected code) = tt
+turn_decided stage.Before next (is.SequencedData payload) = tt
+turn_decided stage.Before next is.ServerHeartbeat = tt
+turn_decided stage.Before next is.EndOfSession = tt
+turn_decided stage.Before next (is.LoginRequest login) = tt
+turn_decided stage.Before next (is.UnsequencedData payload) = tt
+turn_decided stage.Before next is.ClientHeartbeat = tt
+turn_decided stage.Before next is.LogoutRequest = tt
+turn_decided stage.Accepted next (is.Debug text) = tt
+turn_decided stage.Accepted next (is.LoginAccepted login) = tt
+turn_decided stage.Accepted next (is.LoginRejected code) = tt
+turn_decided stage.Accepted next (is.SequencedData payload) = data_decided _ next payload
+turn_decided stage.Accepted next is.ServerHeartbeat = tt
+turn_decided stage.Accepted next is.EndOfSession = tt
+turn_decided stage.Accepted next (is.LoginRequest login) = tt
+turn_decided stage.Accepted next (is.UnsequencedData payload) = tt
+turn_decided stage.Accepted next is.ClientHeartbeat = tt
+turn_decided stage.Accepted next is.LogoutRequest = tt
 
 -- the next packet is taken, and fewer bytes are left; or the snapshot is closed; or the fetch ends
 abbrev Outcome : Bool → Client → Load → List ℕ → Type 0
 Outcome enough c load rest =
     ((more : List ℕ) × (later : Client) × (after : Load) × HearsNext enough c load (Some rest) (Some more) (Ok false) later after × (length more < length rest) × AreBytes more)
     ⊎ (((new : Option (List ℕ)) × (later : Client) × (after : Load) × (done : Content × ℕ) × HearsNext enough c load (Some rest) new (Ok true) later after × Finishes after (Ok done))
-    ⊎ ((new : Option (List ℕ)) × (later : Client) × (after : Load) × (f : SoupFault) × HearsNext enough c load (Some rest) new (Err f) later after × IsToldFetch (Err f)))
+    ⊎ ((new : Option (List ℕ)) × (later : Client) × (after : Load) × (f : SoupFault) × HearsNext enough c load (Some rest) new (Err f) later after × IsDecidedFetch (Err f)))
 
 at_end : (enough : Bool) (c : Client) (load : Load) (rest : List ℕ) → HasNoBlock rest → Outcome enough c load rest
 at_end enough c load [] none = inr (inr (Some [], c, load, broke.EndedEarly, inr (inl refl), tt))
@@ -169,8 +169,8 @@ module _ (c : Client) (load : Load) (taking : load.stage ≡ at.Taking) (q more 
   inside : AreBytes q
   inside = All-left_rec (λ byte. byte < 256) q more bytes.1.1
 
-  behind : AreBytes more
-  behind = All-right_rec (λ byte. byte < 256) q more bytes.1.1
+  following : AreBytes more
+  following = All-right_rec (λ byte. byte < 256) q more bytes.1.1
 
   less : length more < length (block q ++ more)
   less = omega (arith, length-append q more)
@@ -198,24 +198,24 @@ module _ (c : Client) (load : Load) (taking : load.stage ≡ at.Taking) (q more 
 
     goes : (after : Load) (answer : ClientAct) → client_answer c packet ≡ answer → TakesAnswer answer load false after → Here
     goes after answer is takes =
-        inl (more, later, after, (refl, (q, fits, refl, (packet, spelled, refl, subst (λ a. TakesAnswer a load false after) (sym is) takes))), less, behind)
+        inl (more, later, after, (refl, (q, fits, refl, (packet, spelled, refl, subst (λ a. TakesAnswer a load false after) (sym is) takes))), less, following)
 
     loads : (p : List ℕ) (answer : Result (Option ℕ) SnapFault) (after : Load) → TakesAt at.Taking load p answer after → Loads load p answer after
     loads p answer after takes = subst (λ s. TakesAt s load p answer after) (sym taking) takes
 
-    refused : (n : ℕ) (p : List ℕ) → client_answer c packet ≡ act.Data n p → (f : SnapFault) (after : Load) → TakesAt at.Taking load p (Err f) after → IsToldFault f → Here
-    refused n p is f after takes told =
+    refused : (n : ℕ) (p : List ℕ) → client_answer c packet ≡ act.Data n p → (f : SnapFault) (after : Load) → TakesAt at.Taking load p (Err f) after → IsDecidedFault f → Here
+    refused n p is f after takes decided =
         inr (inr (
           Some more,
           later,
           after,
           broke.Snapshot f,
           inr (refl, (q, fits, refl, (packet, spelled, subst (λ a. IsRefused load a after (Err (broke.Snapshot f))) (sym is) (loads p (Err f) after takes)))),
-          told,
+          decided,
         ))
 
     stopped : SnapFault → Load
-    stopped f = record { taken = load.taken; market = load.market; stage = stage_behind (Err f) }
+    stopped f = record { taken = load.taken; market = load.market; stage = stage_after (Err f) }
 
     by_reason : (n : ℕ) (p : List ℕ) → client_answer c packet ≡ act.Data n p → AreBytes p → closing_number p ≡ None → is_full load.taken ≡ false → fault p ≡ None
         → (o : Option Refusal) → reason load.market (message_of p) ≡ o → Here
@@ -223,7 +223,7 @@ module _ (c : Client) (load : Load) (taking : load.stage ≡ at.Taking) (q more 
     by_reason n p is held none room clean (Some why) e =
         refused n p is (snap.Rule (load.taken + 1) why) (stopped (snap.Rule (load.taken + 1) why))
         ((room, refl, none, (refl, (clean, subst (λ o. IsRefusal o (takes_memory load.market (message_of p)) why) (sym e) refl))), refl, refl)
-        (subst Reasoned e (reason_told load.market (message_of p)))
+        (subst Reasoned e (reason_decided load.market (message_of p)))
     by_reason n p is held none room clean None e =
         let after : Load = record { taken = load.taken + 1; market = laid (effect load.market (message_of p)); stage = at.Taking } in
         let took : cause load.market p ≡ None = ap (λ o. cause_by o load.market p) clean ∙ ap (option_map stop.Rule) e in
@@ -271,7 +271,7 @@ module _ (c : Client) (load : Load) (taking : load.stage ≡ at.Taking) (q more 
     by_answer (act.Rejected code) is = inr (inr (Some more, later, load, broke.Rejected code, inr (refl, (q, fits, refl, (packet, spelled, is))), tt))
     by_answer act.Ended is = inr (inr (Some more, later, load, broke.EndedEarly, inr (inr (refl, (q, fits, refl, (packet, spelled, is)))), tt))
     by_answer (act.Fault f) is =
-        inr (inr (Some more, later, load, f, inl (refl, (q, fits, refl, (packet, spelled, is))), subst ToldTurn is (turn_told c.connection.stage c.next packet)))
+        inr (inr (Some more, later, load, f, inl (refl, (q, fits, refl, (packet, spelled, is))), subst DecidedTurn is (turn_decided c.connection.stage c.next packet)))
 
   by_packet : (o : Option SoupFault) → packet_fault q Server ≡ o → Here
   by_packet (Some f) e = faulty f e (subst OfBlock e (of_block q Server))
@@ -288,19 +288,19 @@ outcome enough c load rest taking bytes = by_front (front rest) where
   by_front (inr none) = at_end enough c load rest none
 
 abbrev Answered : Client → List ℕ → Type 0
-Answered start bytes = (left : Option (List ℕ)) × (r : Result (Content × ℕ) SoupFault) × Receives start (Some bytes) left r × IsToldFetch r
+Answered start bytes = (left : Option (List ℕ)) × (r : Result (Content × ℕ) SoupFault) × Receives start (Some bytes) left r × IsDecidedFetch r
 
 answered : (fuel : ℕ) (start : Client) (bytes rest : List ℕ) (count : ℕ) (c : Client) (load : Load) → AreBytes rest → length rest < fuel → Hearing start (Some bytes) (Some rest) count c load → Answered start bytes
 answered zero start bytes rest count c load held short so_far = absurd (omega arith)
 answered (suc fuel) start bytes rest count c load held short so_far = by_outcome (outcome (is_enough count) c load rest so_far.taking held) (answered fuel start bytes) where
   by_outcome : Outcome (is_enough count) c load rest
       → ((rest : List ℕ) (count : ℕ) (c : Client) (load : Load) → AreBytes rest → length rest < fuel → Hearing start (Some bytes) (Some rest) count c load → Answered start bytes) → Answered start bytes
-  by_outcome (inl (more, later, after, step, less, behind)) on =
-      on more (count + 1) later after behind (omega (arith, short, less)) (hearing_on start (Some bytes) (Some rest) (Some more) count c later load after so_far step)
+  by_outcome (inl (more, later, after, step, less, following)) on =
+      on more (count + 1) later after following (omega (arith, short, less)) (hearing_on start (Some bytes) (Some rest) (Some more) count c later load after so_far step)
   by_outcome (inr (inl (new, later, after, done, step, finishes))) on =
       (new, Ok done, hearing_closed start (Some bytes) (Some rest) new count c later load after so_far step done finishes, tt)
-  by_outcome (inr (inr (new, later, after, f, step, told))) on =
-      (new, Err f, hearing_ends start (Some bytes) (Some rest) new count c later load after f so_far step, told)
+  by_outcome (inr (inr (new, later, after, f, step, decided))) on =
+      (new, Err f, hearing_ends start (Some bytes) (Some rest) new count c later load after f so_far step, decided)
 
 -- all bytes end a fetch, with no failed read and with memory enough
 pub some_fetch : (start : Client) (bytes : List ℕ) → start.connection.stage ≡ stage.Before → AreBytes bytes → Answered start bytes

@@ -9,7 +9,7 @@ use Rattle.itch_soup.specs.declared.packet.Packet.{Packet}
 use Rattle.itch_soup.specs.declared.packet.Packet.TheVariants as is
 use Rattle.itch_soup.specs.declared.serve.Opening.TheVariants.{Login, Leave}
 use Rattle.itch_soup.specs.Packets.{PacketSpells, packet_fault}
-use Rattle.itch_soup.specs.Serving.{is_enough, IsIdle, EndsWait, WaitsOn, Wait, WaitsForLogin, IsToldWait}
+use Rattle.itch_soup.specs.Serving.{is_enough, IsIdle, EndsWait, WaitsOn, Wait, WaitsForLogin, IsDecidedWait}
 use Rattle.itch_soup.proofs.Faultless.{faultless-spelled}
 use Rattle.itch_soup.proofs.OneWait.{Front, front}
 use Rattle.itch_soup.proofs.SomeFetch.{OfBlock, of_block}
@@ -19,7 +19,7 @@ use Rattle.itch_soup.proofs.Waiting.{Waiting, waiting_first, waiting_on, waiting
 abbrev Outcome : Bool → List ℕ → Type 0
 Outcome enough rest =
     ((more : List ℕ) × WaitsOn enough (Some rest) (Some more) (Ok None) × (length more < length rest))
-    ⊎ ((new : Option (List ℕ)) × (wait : Wait) × EndsWait enough (Some rest) new wait × IsToldWait wait)
+    ⊎ ((new : Option (List ℕ)) × (wait : Wait) × EndsWait enough (Some rest) new wait × IsDecidedWait wait)
 
 at_end : (enough : Bool) (rest : List ℕ) → HasNoBlock rest → Outcome enough rest
 at_end enough [] none = inr (Some [], Ok Leave, inl refl, tt)
@@ -77,7 +77,7 @@ outcome enough rest = by_front (front rest) where
   by_front (inr none) = at_end enough rest none
 
 abbrev Found : List ℕ → Type 0
-Found bytes = (left : Option (List ℕ)) × (wait : Wait) × WaitsForLogin (Some bytes) left wait × IsToldWait wait
+Found bytes = (left : Option (List ℕ)) × (wait : Wait) × WaitsForLogin (Some bytes) left wait × IsDecidedWait wait
 
 found : (fuel : ℕ) (bytes rest : List ℕ) (count : ℕ) → length rest < fuel → Waiting (Some bytes) (Some rest) count → Found bytes
 found zero bytes rest count short so_far = absurd (omega arith)
@@ -85,7 +85,7 @@ found (suc fuel) bytes rest count short so_far = by_outcome (outcome (is_enough 
   by_outcome : Outcome (is_enough count) rest
       → ((rest : List ℕ) (count : ℕ) → length rest < fuel → Waiting (Some bytes) (Some rest) count → Found bytes) → Found bytes
   by_outcome (inl (more, step, less)) on = on more (count + 1) (omega (arith, short, less)) (waiting_on (Some bytes) (Some rest) (Some more) count so_far step)
-  by_outcome (inr (new, wait, ends, told)) on = (new, wait, waiting_ends (Some bytes) (Some rest) new count wait so_far ends, told)
+  by_outcome (inr (new, wait, ends, decided)) on = (new, wait, waiting_ends (Some bytes) (Some rest) new count wait so_far ends, decided)
 
 -- all bytes end a wait, with no failed read
 pub some_wait : (bytes : List ℕ) → Found bytes

@@ -10,7 +10,7 @@ use Rattle.itch_soup.specs.declared.origin.Origin.TheVariants.{Client}
 use Rattle.itch_soup.specs.declared.packet.Packet.{Packet}
 use Rattle.itch_soup.specs.declared.packet.Packet.TheVariants as is
 use Rattle.std.specs.Prelude.{nat_lt, not, if◌then◌else◌}
-use Rattle.itch_soup.specs.declared.config.ServerConfig.{ServerConfig}
+use Rattle.itch_soup.specs.declared.login.ServerConfig.{ServerConfig}
 use Rattle.itch_soup.specs.declared.connection.Stage.{Stage}
 use Rattle.itch_soup.specs.declared.connection.Stage.TheVariants as stage
 use Rattle.itch_soup.specs.declared.packet.LoginRequest.{LoginRequest}

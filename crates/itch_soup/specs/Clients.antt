@@ -1,6 +1,6 @@
 -- The client's side of a session (SoupBinTCP 3.00): its login, its answer to each packet, and how far it comes.
 use Rattle.std.specs.Prelude.{ℕ, ◌+◌, ◌^◌, nat_lt, if◌then◌else◌}
-use Rattle.itch_soup.specs.declared.config.Credentials.{Credentials}
+use Rattle.itch_soup.specs.declared.login.Credentials.{Credentials}
 use Rattle.itch_soup.specs.declared.packet.LoginRequest.{LoginRequest}
 use Rattle.itch_soup.specs.declared.packet.Packet.{Packet}
 use Rattle.itch_soup.specs.declared.packet.Packet.TheVariants as is

@@ -14,13 +14,13 @@ use Rattle.itch_frame.specs.declared.tally.Failures.{Failures}
 use Rattle.itch_frame.specs.declared.fault.FrameFault.{FrameFault}
 use Rattle.itch_market.specs.Content.{Content, empty, laid}
 use Rattle.itch_market.specs.Runs.{after, run, Follows}
-use Rattle.itch_market.specs.Replays.{NoCause, Fits, IsTold}
+use Rattle.itch_market.specs.Replays.{NoCause, Fits, IsDecided}
 use Rattle.itch_market.specs.declared.stop.Stop.TheVariants as stop
-use Rattle.itch_snapshot.specs.declared.stage.Stage.TheVariants.{Taking}
+use Rattle.itch_snapshot.specs.declared.reader.Stage.TheVariants.{Taking}
 use Rattle.itch_snapshot.specs.Files.{AreSpelled}
-use Rattle.itch_snapshot.specs.Loads.{Load, Loads}
-use Rattle.itch_snapshot.specs.Reads.{FailsHere, IsToldFault}
-use Rattle.itch_soup.specs.declared.config.Credentials.{Credentials}
+use Rattle.itch_snapshot.specs.TakenMessages.{Load, Loads}
+use Rattle.itch_snapshot.specs.Reads.{FailsHere, IsDecidedFault}
+use Rattle.itch_soup.specs.declared.login.Credentials.{Credentials}
 use Rattle.itch_soup.specs.declared.client.ClientAct.{ClientAct}
 use Rattle.itch_soup.specs.declared.client.ClientAct.TheVariants as act
 use Rattle.itch_soup.specs.declared.fault.SoupFault.{SoupFault}
@@ -47,14 +47,14 @@ ArePackets (packet ∷ packets) (payload ∷ payloads) = (IsPayload payload × P
 ArePackets packets payloads = ⊥
 
 -- an answer in front of others, unless it means nothing
-abbrev pub telling : ClientAct → List ClientAct → List ClientAct
-telling act.Nothing later = later
-telling answer later = answer ∷ later
+abbrev pub noted : ClientAct → List ClientAct → List ClientAct
+noted act.Nothing later = later
+noted answer later = answer ∷ later
 
 -- what a session answers to packets, one after the other, without the answers that mean nothing
 abbrev pub news : Client → List Packet → List ClientAct
 news c [] = []
-news c (packet ∷ packets) = telling (client_answer c packet) (news (client_after_packet c packet 0) packets)
+news c (packet ∷ packets) = noted (client_answer c packet) (news (client_after_packet c packet 0) packets)
 
 -- the session after the packets
 abbrev pub after_packets : Client → List Packet → Client
@@ -78,7 +78,7 @@ pub record Heard (c : Client) (old new : Option (List ℕ)) (payloads : List (Li
   pub bytes : Consumes old new (blocks read)
   pub spelled : ArePackets packets read
   pub few : length packets ≤ 10 ^ 19
-  pub told : Hears (news c packets) payloads
+  pub heard : Hears (news c packets) payloads
 
 -- the payloads spell these messages, which follow the order rules (so that none is End of Snapshot), and then an End of
 -- Snapshot with this number
@@ -166,7 +166,7 @@ Fetches remaining reads contents writes credentials reader writer result reader_
     × FetchesAfterLogin remaining reads credentials sent reader result reader_after
 
 -- the bytes alone decide: no read and no write failed, and memory was not refused
-abbrev pub IsToldFetch : Result (Content × ℕ) SoupFault → Type 0
-IsToldFetch (Err (Frame fault)) = IsTold (stop.Frame fault)
-IsToldFetch (Err (Snapshot fault)) = IsToldFault fault
-IsToldFetch result = ⊤
+abbrev pub IsDecidedFetch : Result (Content × ℕ) SoupFault → Type 0
+IsDecidedFetch (Err (Frame fault)) = IsDecided (stop.Frame fault)
+IsDecidedFetch (Err (Snapshot fault)) = IsDecidedFault fault
+IsDecidedFetch result = ⊤

@@ -3,8 +3,8 @@ use Rattle.std.specs.Prelude.{ℕ, ◌==◌, Bool, true, false, List, [], ◌∷
 use Rattle.itch_codec.specs.Layouts.{Column, column, Text, Code, Digits}
 use Rattle.itch_soup.specs.declared.origin.Origin.{Origin}
 use Rattle.itch_soup.specs.declared.origin.Origin.TheVariants.{Client, Server}
-use Rattle.itch_soup.specs.declared.types.Sender.{Sender}
-use Rattle.itch_soup.specs.declared.types.Sender.TheVariants.{Only, Either}
+use Rattle.itch_soup.specs.declared.packet_types.Sender.{Sender}
+use Rattle.itch_soup.specs.declared.packet_types.Sender.TheVariants.{Only, Either}
 
 -- what stands after the type byte: a field as messages have it, the number that a login asks for, or all bytes from a place on
 pub data Part : Type 0 where

@@ -11,7 +11,7 @@ use Rattle.itch_frame.specs.declared.tally.Failures.{Failures}
 use Rattle.itch_frame.specs.declared.fault.FrameFault.{FrameFault}
 use Rattle.itch_market.specs.Content.{Content}
 use Rattle.itch_snapshot.specs.Snapshot.{snap}
-use Rattle.itch_soup.specs.declared.config.ServerConfig.{ServerConfig}
+use Rattle.itch_soup.specs.declared.login.ServerConfig.{ServerConfig}
 use Rattle.itch_soup.specs.declared.packet.LoginRequest.{LoginRequest}
 use Rattle.itch_soup.specs.declared.packet.Packet.{Packet}
 use Rattle.itch_soup.specs.declared.packet.Packet.TheVariants as is

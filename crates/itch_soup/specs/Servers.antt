@@ -1,6 +1,6 @@
 -- The server's side of a session (SoupBinTCP 3.00): its answer to each packet, and how far it comes.
 use Rattle.std.specs.Prelude.{ℕ, ◌+◌, ◌&&◌, max, nat_lt, Bool, not, if◌then◌else◌}
-use Rattle.itch_soup.specs.declared.config.ServerConfig.{ServerConfig}
+use Rattle.itch_soup.specs.declared.login.ServerConfig.{ServerConfig}
 use Rattle.itch_soup.specs.declared.packet.LoginRequest.{LoginRequest}
 use Rattle.itch_soup.specs.declared.packet.LoginAccepted.{LoginAccepted}
 use Rattle.itch_soup.specs.declared.packet.Packet.{Packet}

@@ -9,7 +9,7 @@ use Rattle.itch_frame.specs.Reading.{Reading, bytes_left}
 use Rattle.itch_frame.specs.declared.fault.FrameFault.TheVariants.{Read}
 use Rattle.itch_market.specs.Content.{Content}
 use Rattle.itch_snapshot.specs.Reads.{FailsHere}
-use Rattle.itch_soup.specs.declared.config.ServerConfig.{ServerConfig}
+use Rattle.itch_soup.specs.declared.login.ServerConfig.{ServerConfig}
 use Rattle.itch_soup.specs.declared.fault.SoupFault.{SoupFault}
 use Rattle.itch_soup.specs.declared.fault.SoupFault.TheVariants.{TooManyMessages, Frame}
 use Rattle.itch_soup.specs.declared.origin.Origin.TheVariants.{Client}
@@ -102,6 +102,6 @@ Serves remaining reads contents writes m next config reader writer result reader
     × CountsWait wait (reads reader.reader) (reads reader_after.reader) × OnOk wait (reader_after.held ≡ []) × Replies contents writes m next config wait writer result writer_after
 
 -- the bytes alone decide how the wait ends: no read failed
-abbrev pub IsToldWait : Wait → Type 0
-IsToldWait (Err (Frame (Read error))) = ⊥
-IsToldWait wait = ⊤
+abbrev pub IsDecidedWait : Wait → Type 0
+IsDecidedWait (Err (Frame (Read error))) = ⊥
+IsDecidedWait wait = ⊤

@@ -2,9 +2,9 @@
 ghost use Rattle.std.specs.Prelude.{◌≡◌, ◌≤◌, ◌^◌};
 ghost use Rattle.itch_soup.specs.Clients.{client_turn};
 
-use crate::config::Credentials;
 use crate::connection::{Connection, Stage, Tick};
 use crate::fault::SoupFault;
+use crate::login::Credentials;
 use crate::origin::Origin;
 use crate::packet::{LoginRequest, Packet};
 use crate::payload::Payload;

@@ -5,9 +5,9 @@ ghost use Rattle.itch_soup.specs.Serving.{CountsWait};
 ghost use Rattle.itch_soup.specs.Fetching.{HearsNext, Receives, Fetches};
 
 use crate::client::{ClientAct, ClientSession};
-use crate::config::Credentials;
 use crate::connection::Stage;
 use crate::fault::SoupFault;
+use crate::login::Credentials;
 use crate::origin::Origin;
 use crate::parsing::parse_packet;
 use itch_book::OrderBook;

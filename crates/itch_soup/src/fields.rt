@@ -7,7 +7,7 @@ ghost use Rattle.itch_soup.specs.PacketTable.{Field, Request};
 ghost use Rattle.itch_soup.specs.Packets.{HasPart, part_fault, Reads};
 
 use crate::fault::SoupFault;
-use crate::names::is_blank;
+use crate::login::is_blank;
 use itch_codec::{Alpha, AlphaFault, Seq, read_number20};
 
 // The bytes at this place, as many as the array has.

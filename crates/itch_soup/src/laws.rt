@@ -4,16 +4,16 @@ ghost use Rattle.itch_codec.specs.Fields.{AreBytes, IsAlpha};
 ghost use Rattle.itch_codec.specs.Widths.{IsSequence};
 ghost use Rattle.itch_frame.specs.Blocks.{block};
 ghost use Rattle.itch_market.specs.Content.{Content, laid};
-ghost use Rattle.itch_market.specs.Goods.{IsGood};
-ghost use Rattle.itch_market.specs.Sames.{Same};
+ghost use Rattle.itch_market.specs.GoodMarkets.{IsGood};
+ghost use Rattle.itch_market.specs.SameMarkets.{Same};
 ghost use Rattle.itch_snapshot.specs.Snapshot.{snap};
-ghost use Rattle.itch_soup.specs.declared.config.Credentials.{Credentials};
-ghost use Rattle.itch_soup.specs.declared.config.ServerConfig.{ServerConfig};
+ghost use Rattle.itch_soup.specs.declared.login.Credentials.{Credentials};
+ghost use Rattle.itch_soup.specs.declared.login.ServerConfig.{ServerConfig};
 ghost use Rattle.itch_soup.specs.declared.server.ServerAct.{ServerAct};
 ghost use Rattle.itch_soup.specs.Sending.{verdict, served};
-ghost use Rattle.itch_soup.specs.Fetching.{asking, Fetched, Receives, IsToldFetch};
+ghost use Rattle.itch_soup.specs.Fetching.{asking, Fetched, Receives, IsDecidedFetch};
 ghost use Rattle.itch_soup.specs.declared.fault.SoupFault.{SoupFault};
-ghost use Rattle.itch_soup.specs.Serving.{Wait, WaitsForLogin, IsToldWait, IsIdle};
+ghost use Rattle.itch_soup.specs.Serving.{Wait, WaitsForLogin, IsDecidedWait, IsIdle};
 ghost use Rattle.itch_soup.specs.declared.origin.Origin.{Origin};
 ghost use Rattle.itch_soup.specs.declared.packet.Packet.{Packet};
 ghost use Rattle.itch_soup.specs.Packets.{PacketSpells, packet_fault};
@@ -63,12 +63,12 @@ pub fn served_is_fetched()
 /// input or fault after packets that are passed over.
 pub fn one_wait()
     ensures { (bytes : List ℕ) → (left other : Option (List ℕ)) → (wait found : Wait) → WaitsForLogin (Some bytes) left wait → WaitsForLogin (Some bytes) other found
-        → IsToldWait wait → IsToldWait found → wait ≡ found }
+        → IsDecidedWait wait → IsDecidedWait found → wait ≡ found }
 {}
 
 /// Whatever bytes a client sends, they end a server's wait for a login with no failed read.
 pub fn some_wait()
-    ensures { (bytes : List ℕ) → (left : Option (List ℕ)) × (wait : Wait) × WaitsForLogin (Some bytes) left wait × IsToldWait wait }
+    ensures { (bytes : List ℕ) → (left : Option (List ℕ)) × (wait : Wait) × WaitsForLogin (Some bytes) left wait × IsDecidedWait wait }
 {}
 
 /// The bytes that answer a login end a fetch in one way, unless a read fails or memory is refused: by the market and the
@@ -77,13 +77,13 @@ pub fn some_wait()
 pub fn one_fetch()
     ensures { (credentials : Credentials) → (bytes : List ℕ) → (left other : Option (List ℕ)) → (result found : Result (Content × ℕ) SoupFault)
         → Receives (asking credentials) (Some bytes) left result → Receives (asking credentials) (Some bytes) other found
-        → IsToldFetch result → IsToldFetch found → result ≡ found }
+        → IsDecidedFetch result → IsDecidedFetch found → result ≡ found }
 {}
 
 /// Whatever bytes answer a login, they end a fetch with no failed read and memory enough.
 pub fn some_fetch()
     ensures { (credentials : Credentials) → (bytes : List ℕ) → AreBytes bytes
-        → (left : Option (List ℕ)) × (result : Result (Content × ℕ) SoupFault) × Receives (asking credentials) (Some bytes) left result × IsToldFetch result }
+        → (left : Option (List ℕ)) × (result : Result (Content × ℕ) SoupFault) × Receives (asking credentials) (Some bytes) left result × IsDecidedFetch result }
 {}
 
 /// While a server waits for a login, its table answers with nothing to the packets that are passed over and to no others, with

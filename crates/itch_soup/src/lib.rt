@@ -5,31 +5,37 @@
 //! [`serve_one`] and [`fetch_one`] are whole sessions over a reader and a writer. For a session of another kind a caller
 //! cuts the stream into blocks, hands each to [`parse_packet`] and its packet to [`ServerSession`] or [`ClientSession`],
 //! and does what the session answers; each packet that it sends has a function there, or is written by [`write_data`].
-//! Moments are milliseconds that the caller counts from wherever it likes.
+//! Moments are milliseconds since a time of the caller's choice.
+//!
+//! ```
+//! let mut client = ClientSession::new(credentials, 1, 0);
+//! assert_eq!(client.login(), *b"Luser  secret                                 1");
+//! let accepted = parse_packet(b"A  ITCHSNAP                   1", Origin::Server)?;
+//! assert!(matches!(client.on_packet(&accepted, 20), ClientAct::Accepted { .. }));
+//! ```
 #![tactic(auto)]
 
 mod client;
-mod config;
 mod connection;
 mod fault;
 mod fetch;
 mod fields;
 pub mod laws;
-mod names;
+mod login;
 mod origin;
 mod packet;
+mod packet_types;
 mod parsing;
 mod payload;
 mod sending;
 mod serve;
 mod server;
-mod types;
 
 pub use client::{ClientAct, ClientSession};
-pub use config::{Credentials, ServerConfig};
 pub use connection::Tick;
 pub use fault::SoupFault;
 pub use fetch::fetch_one;
+pub use login::{Credentials, ServerConfig};
 pub use origin::Origin;
 pub use packet::{LoginAccepted, LoginRequest, Packet};
 pub use parsing::parse_packet;

@@ -2,10 +2,9 @@
 
 ghost use Rattle.std.specs.Prelude.{◌≡◌, ◌+◌, ◌≤◌, ◌++◌, length, take};
 
-use crate::config::{Credentials, ServerConfig};
 use crate::fault::SoupFault;
 use crate::fields::{request_at, seq_at, text_at};
-use crate::names::{client_session, server_session};
+use crate::login::{Credentials, ServerConfig, client_session, server_session};
 use crate::origin::Origin;
 use crate::payload::Payload;
 use itch_codec::{Alpha, Seq, number20};

@@ -6,8 +6,8 @@ ghost use Rattle.itch_soup.specs.Packets.{PacketSpells, packet_fault, Reads};
 use crate::fault::SoupFault;
 use crate::origin::Origin;
 use crate::packet::{LoginAccepted, LoginRequest, Packet};
+use crate::packet_types::{sender_of_type, size_of_type};
 use crate::payload::Payload;
-use crate::types::{sender_of_type, size_of_type};
 
 /// Reads a packet that came from that side: the type byte and what stands after it, without the length in front.
 ///
@@ -46,14 +46,14 @@ fn read(block: &[u8], from: Origin) -> Result<Packet<'_>, SoupFault>
         });
     }
     match kind {
-        b'+' => Ok(Packet::Debug(Payload::behind_type(block))),
+        b'+' => Ok(Packet::Debug(Payload::after_type(block))),
         b'A' => Ok(Packet::LoginAccepted(LoginAccepted::parse(block)?)),
         b'J' => Ok(Packet::LoginRejected { code: block[1] }),
-        b'S' => Ok(Packet::SequencedData(Payload::behind_type(block))),
+        b'S' => Ok(Packet::SequencedData(Payload::after_type(block))),
         b'H' => Ok(Packet::ServerHeartbeat),
         b'Z' => Ok(Packet::EndOfSession),
         b'L' => Ok(Packet::LoginRequest(LoginRequest::parse(block)?)),
-        b'U' => Ok(Packet::UnsequencedData(Payload::behind_type(block))),
+        b'U' => Ok(Packet::UnsequencedData(Payload::after_type(block))),
         b'R' => Ok(Packet::ClientHeartbeat),
         b'O' => Ok(Packet::LogoutRequest),
         _ => unreachable!(),

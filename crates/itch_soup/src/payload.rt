@@ -36,7 +36,7 @@ impl<'a> Payload<'a> {
     }
 
     // What stands after the type of a block.
-    pub(crate) fn behind_type(block: &'a [u8]) -> Payload<'a>
+    pub(crate) fn after_type(block: &'a [u8]) -> Payload<'a>
         requires { 1 ≤ length block.now }
         ensures { result ≡ drop 1 block.entry.now }
     {

@@ -8,7 +8,7 @@ ghost use Rattle.itch_soup.specs.Packets.{packet_spelling};
 ghost use Rattle.itch_soup.specs.Servers.{acceptance};
 ghost use Rattle.itch_soup.specs.Sending.{data_packet, session_packets, messages_from, end_part, FitPackets, SendsPackets};
 
-use crate::config::ServerConfig;
+use crate::login::ServerConfig;
 use crate::packet::LoginAccepted;
 use crate::server::ServerSession;
 use byteorder::{BigEndian, ByteOrder};

@@ -4,8 +4,8 @@ ghost use Rattle.itch_frame.specs.Reading.{bytes_left};
 ghost use Rattle.itch_snapshot.specs.Snapshot.{snap};
 ghost use Rattle.itch_soup.specs.Serving.{WaitsOn, WaitsForLogin, CountsWait, AnswersLogin, Serves};
 
-use crate::config::ServerConfig;
 use crate::fault::SoupFault;
+use crate::login::ServerConfig;
 use crate::origin::Origin;
 use crate::packet::{LoginRequest, Packet};
 use crate::parsing::parse_packet;

@@ -2,10 +2,9 @@
 ghost use Rattle.std.specs.Prelude.{◌≡◌, ◌<◌, ◌^◌};
 ghost use Rattle.itch_soup.specs.Servers.{server_turn, is_user, judged};
 
-use crate::config::ServerConfig;
 use crate::connection::{Connection, Stage, Tick};
 use crate::fault::SoupFault;
-use crate::names::{asks_for_session, is_same_name};
+use crate::login::{ServerConfig, asks_for_session, is_same_name};
 use crate::origin::Origin;
 use crate::packet::{LoginAccepted, LoginRequest, Packet};
 use itch_codec::Seq;

@@ -155,7 +155,7 @@ fn check_delete<B: OrderBook>(rt: &impl Abort, book: &mut B) {
     assert_eq!(rt; book.next_price(1, Side::Sell, None), Some(1500300));
 }
 
-// Replaces order 2 by order 7, behind order 3.
+// Replaces order 2 by order 7, after order 3.
 fn check_replace<B: OrderBook>(rt: &impl Abort, book: &mut B) -> Result<(), AllocError> {
     replace(rt, book, 2, 7, 50, 1500000)?;
     assert!(rt; book.get(2).is_none());

@@ -15,7 +15,7 @@ use std::test::Fail;
 // Five blocks, one of them empty.
 const STREAM: &[u8] = b"\x00\x01S\x00\x02RR\x00\x00\x00\x05AAAAA\x00\x01D";
 
-// The splitter takes so many of these bytes, and then holds so many of its block, which is ready or not. This helper and those
+// The splitter takes `taken` of these bytes, and then holds `held` of its block, which is ready or not. This helper and those
 // below have no contract, so that a proof of a test need not carry what each call leaves.
 fn takes<A: Allocator>(
     rt: &impl Abort,
@@ -94,7 +94,7 @@ fn fails<R: CountedRead, A: Allocator>(rt: &impl Abort, reader: &mut BlockReader
     assert!(rt; matches!(reader.next_block(), Err(FrameFault::Read(_))));
 }
 
-// The input ends with so many bytes of a block, however often it is asked.
+// The input ends inside a block, of which this many bytes are held, however often it is asked.
 fn is_truncated<R: CountedRead, A: Allocator>(
     rt: &impl Abort,
     reader: &mut BlockReader<R, A>,
@@ -129,7 +129,7 @@ fn writes_the_longest_block_and_none_longer(rt: HostRuntime) -> Result<(), Fail>
 }
 
 #[test]
-fn tells_how_much_of_a_block_was_sent(rt: HostRuntime) -> Result<(), Fail> {
+fn says_how_much_of_a_block_was_sent(rt: HostRuntime) -> Result<(), Fail> {
     let whole = b"\x00\x05zzzzz";
     for fail_at in 1..=8 {
         let mut writer = FuseWriter::new(rt.alloc(), 1, Some(fail_at));
@@ -140,7 +140,7 @@ fn tells_how_much_of_a_block_was_sent(rt: HostRuntime) -> Result<(), Fail> {
         match outcome {
             Ok(()) => assert_eq!(rt; fail_at, 8),
             Err(fault) => assert!(rt;
-                matches!(fault, FrameFault::Write { sent: told, .. } if told == sent)
+                matches!(fault, FrameFault::Write { sent: count, .. } if count == sent)
             ),
         }
     }
@@ -312,7 +312,7 @@ fn the_very_error_of_a_device_is_kept(rt: HostRuntime) -> Result<(), Fail> {
 }
 
 #[test]
-fn tells_how_much_of_a_block_is_held(rt: HostRuntime) -> Result<(), Fail> {
+fn says_how_much_of_a_block_is_held(rt: HostRuntime) -> Result<(), Fail> {
     for (bytes, want) in [
         (b"\x00".as_slice(), 1),
         (b"\x00\x03", 2),
@@ -324,7 +324,7 @@ fn tells_how_much_of_a_block_is_held(rt: HostRuntime) -> Result<(), Fail> {
     Ok(())
 }
 
-// The failure of a writer that has no more room tells how much of a block was sent.
+// The failure of a writer that has no more room says how much of a block was sent.
 fn has_no_room<W: CountedWrite>(rt: &impl Abort, writer: &mut W, want: usize) {
     assert!(rt;
         matches!(write_block(writer, b"abc"), Err(FrameFault::Write { sent, .. }) if sent == want)

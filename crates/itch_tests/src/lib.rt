@@ -13,6 +13,8 @@ mod book;
 #[cfg(test)]
 mod codec;
 #[cfg(test)]
+mod examples;
+#[cfg(test)]
 mod frame;
 #[cfg(test)]
 mod join;

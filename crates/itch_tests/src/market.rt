@@ -112,7 +112,7 @@ fn keeps_price_and_time_priority(rt: HostRuntime) -> Result<(), Fail> {
     check_references(&rt, rt.alloc(), &market, &[2, 4, 1, 3])
 }
 
-// An attributed order is replaced by order 3, behind order 2.
+// An attributed order is replaced by order 3, after order 2.
 fn with_replacement<B: OrderBook>(alloc: B::Alloc) -> Result<Market<B>, Fail> {
     let mut market = Market::new(alloc);
     apply(&mut market, directory(1, "AAPL", 100))?;

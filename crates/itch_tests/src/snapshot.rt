@@ -165,7 +165,7 @@ fn writes_the_snapshot_of_a_day(rt: HostRuntime) -> Result<(), Fail> {
     Ok(())
 }
 
-// Before each message of a market's snapshot so many are to come, and then none.
+// `remaining` counts down with each message of a market's snapshot, to none.
 fn check_counts<B: OrderBook>(rt: &impl Abort, market: &Market<B>, wants: &[u64]) {
     assert!(rt; snapshot_len(market) < 9);
     let mut messages = SnapshotIter::new(market);
@@ -206,7 +206,7 @@ fn check_parting<A: OrderBook, B: OrderBook>(
 }
 
 #[test]
-fn tells_where_snapshots_part(rt: HostRuntime) -> Result<(), Fail> {
+fn says_where_snapshots_part(rt: HostRuntime) -> Result<(), Fail> {
     let pairs: [(&[&[u8]], &[&[u8]], Option<u64>); 5] = [
         (&[AAPL, ADD_1, ADD_2], &[AAPL, ADD_2, ADD_1], Some(2)),
         (

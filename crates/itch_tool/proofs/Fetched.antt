@@ -5,13 +5,13 @@ use Rattle.itch_frame.specs.declared.fault.FrameFault.{FrameFault}
 use Rattle.itch_frame.specs.declared.tally.Failures.{Failures}
 use Rattle.itch_market.specs.Content.{Content, laid}
 use Rattle.itch_market.specs.Runs.{run}
-use Rattle.itch_market.proofs.Goods.{run_good}
-use Rattle.itch_market.proofs.Sames.{laid_is_same}
+use Rattle.itch_market.proofs.GoodMarkets.{run_good}
+use Rattle.itch_market.proofs.SameMarkets.{laid_is_same}
 use Rattle.itch_snapshot.specs.Snapshot.{snap}
 use Rattle.itch_snapshot.proofs.OneSnapshot.{snap_same}
 use Rattle.itch_snapshot.proofs.Sizes.{short_snap}
 use Rattle.itch_soup.specs.Clients.{Client}
-use Rattle.itch_soup.specs.declared.config.Credentials.{Credentials}
+use Rattle.itch_soup.specs.declared.login.Credentials.{Credentials}
 use Rattle.itch_soup.specs.Fetching.{Fetched, FetchesAfterLogin, Fetches}
 
 received_short : (c : Client) (old new : Option (List ℕ)) (done : Content × ℕ) → Fetched c old new done → length (snap done.0) < 10 ^ 19

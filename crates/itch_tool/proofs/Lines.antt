@@ -7,7 +7,7 @@ use Rattle.itch_frame.specs.declared.tally.Failures.{Failures}
 use Rattle.itch_codec.specs.Messages.{message_of}
 use Rattle.itch_market.specs.Content.{Content, laid}
 use Rattle.itch_market.specs.Runs.{run}
-use Rattle.itch_soup.specs.declared.config.ServerConfig.{ServerConfig}
+use Rattle.itch_soup.specs.declared.login.ServerConfig.{ServerConfig}
 use Rattle.itch_commands.specs.declared.fault.ToolFault.{ToolFault}
 use Rattle.itch_tool.specs.Sessions.{Ending, connection_line, connection_lines, IsEnding, ServesNext, ServesAll, ServesOn, ServesMarket, ServesDay}
 

@@ -7,8 +7,8 @@ use Rattle.itch_frame.specs.declared.tally.Failures.{Failures}
 use Rattle.itch_market.specs.Content.{Content, laid}
 use Rattle.itch_market.specs.Runs.{run}
 use Rattle.itch_snapshot.specs.Snapshot.{snap}
-use Rattle.itch_soup.specs.declared.config.Credentials.{Credentials}
-use Rattle.itch_soup.specs.declared.config.ServerConfig.{ServerConfig}
+use Rattle.itch_soup.specs.declared.login.Credentials.{Credentials}
+use Rattle.itch_soup.specs.declared.login.ServerConfig.{ServerConfig}
 use Rattle.itch_soup.specs.declared.packet.LoginRequest.{LoginRequest}
 use Rattle.itch_soup.specs.declared.serve.Served.{Served}
 use Rattle.itch_soup.specs.declared.serve.Served.TheVariants.{Accepted, Rejected, Left}

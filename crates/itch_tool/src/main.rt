@@ -52,7 +52,7 @@ fn read_words(alloc: Global, args: io::Result<Args>) -> Result<Vec<String>, Erro
     }
 }
 
-// Tells a fault on standard error, and returns the status.
+// Says a fault on standard error, and returns the status.
 fn finish(rt: &impl Eprint, outcome: Result<bool, ToolFault>) -> u8 {
     if let Err(fault) = &outcome {
         if let Err(error) = rt.eprintln(fault) {

@@ -14,7 +14,7 @@ pub struct Patient<'a, C> {
 }
 
 impl<'a, C: Clock> Patient<'a, C> {
-    /// A reader that has so much time from now on.
+    /// A reader that has this much time from now on.
     ///
     /// An error is the clock's.
     pub fn new(

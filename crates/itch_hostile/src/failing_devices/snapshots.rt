@@ -12,7 +12,7 @@ use std::test::Fail;
 const STARTS: [usize; 4] = [0, 14, 55, 93];
 
 // After `written` bytes this many of the block at hand were written.
-fn tells_of_its_block(fault: &SnapFault, written: usize) -> bool {
+fn says_its_block(fault: &SnapFault, written: usize) -> bool {
     let start = STARTS.iter().rfind(|start| **start <= written).copied();
     match fault {
         SnapFault::Frame(FrameFault::Write { sent, .. }) => start == written.checked_sub(*sent),
@@ -35,7 +35,7 @@ fn fails_at(
     let written = writer.written();
     assert_eq!(rt; written.len() as u64, nth.saturating_sub(1));
     assert!(rt; whole.starts_with(written));
-    assert!(rt; tells_of_its_block(&fault, written.len()), "write {nth}");
+    assert!(rt; says_its_block(&fault, written.len()), "write {nth}");
 }
 
 #[test]

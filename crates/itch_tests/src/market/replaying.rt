@@ -23,7 +23,7 @@ fn day(alloc: Global, blocks: &[&[u8]]) -> Result<Vec<u8>, Fail> {
     Ok(bytes)
 }
 
-// Replays what a reader has left, of which so many messages are taken.
+// Replays what a reader has left, and takes `want` messages of it.
 fn replayed<R: CountedRead, A: Allocator, B: OrderBook>(
     rt: &impl Abort,
     reader: &mut BlockReader<R, A>,

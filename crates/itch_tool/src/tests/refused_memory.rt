@@ -1,13 +1,10 @@
 //! Each allocation of `fetch` refused in turn, and of a served connection: the status is 4, and nothing is on the output.
-use super::sessions::{FROM_1, LOGIN_1, LOGIN_3, SNAPSHOT, market};
+use super::sessions::{FROM_1, LOGIN_1, LOGIN_3, SNAPSHOT, serve_day};
 use crate::fetch::fetch;
 use crate::login::Login;
-use crate::serve::serve_on;
-use itch_codec::Seq;
-use itch_commands::{ToolFault, status};
+use itch_commands::{Book, ToolFault, status};
 use itch_frame::BlockReader;
 use itch_frame::testing::{FuseWriter, PieceReader};
-use itch_snapshot::snapshot_len;
 use refusing::Refusing;
 use std::alloc::Global;
 use std::io::Write;
@@ -45,13 +42,10 @@ fn a_fetch(rt: HostRuntime) -> Result<(), Fail> {
     panic!(rt; "more than 64 allocations")
 }
 
+// The buffers of the reader, of its blocks and of the writer.
 #[test]
 fn a_connection_without_memory_ends_the_serving(rt: HostRuntime) -> Result<(), Fail> {
     let alloc = rt.alloc();
-    let market = market(alloc)?;
-    let next = Seq::new(5).ok_or("a number")?;
-    let config = Login::new("user", "secret")?.config();
-    assert!(rt; snapshot_len(&market) < 100);
     let listener = TcpListener::bind(&rt, "127.0.0.1:0")?;
     let address = listener.local_addr()?;
     for nth in 0..8 {
@@ -60,8 +54,7 @@ fn a_connection_without_memory_ends_the_serving(rt: HostRuntime) -> Result<(), F
         client.write_all(LOGIN_3)?;
         let mut out = FuseWriter::new(alloc, 4096, None);
         let pair = (&rt, &refusing);
-        let served = serve_on(&pair, &listener, &market, next, &config, 1, &mut out);
-        // The buffers of the reader, of its blocks and of the writer.
+        let served = serve_day::<_, Book<Global>>(&pair, alloc, &listener, 1, &mut out)?;
         if nth < 3 {
             assert!(rt;
                 matches!(served, Err(ToolFault::OutOfMemory)),

@@ -4,6 +4,7 @@ use crate::fetch::fetch;
 use crate::login::Login;
 use crate::patient::Patient;
 use crate::serve::serve_on;
+use itch_book::OrderBook;
 use itch_codec::Seq;
 use itch_commands::{Book, ToolFault};
 use itch_frame::BlockReader;
@@ -11,7 +12,7 @@ use itch_frame::testing::{FuseWriter, PieceReader};
 use itch_market::{Market, Refusal, replay};
 use itch_snapshot::{SnapFault, snapshot_len};
 use itch_soup::SoupFault;
-use std::alloc::Global;
+use std::alloc::{Alloc, Global};
 use std::cell::Cell;
 use std::io::{self, Read, Write};
 use std::net::{TcpListener, TcpStream};
@@ -55,12 +56,21 @@ pub(super) const SNAPSHOT: &[u8] = b"\0\x0cS\0\0\0\0\0\0\0\0\0\0O\
 // An acceptance of all messages, of which none comes.
 const NOTHING_FROM_1: &[u8] = b"\0\x1fA  ITCHSNAP                   1\0\x01Z";
 
-// The market of the day.
-pub(super) fn market(alloc: Global) -> Result<Market<Book<Global>>, Fail> {
+// Serves the market of the day. It is kept over any book, so that what owns it is proved once.
+pub(super) fn serve_day<R: Clock + Alloc + Abort, B: OrderBook>(
+    rt: &R,
+    alloc: B::Alloc,
+    listener: &TcpListener,
+    count: u64,
+    out: &mut FuseWriter,
+) -> Result<Result<bool, ToolFault>, Fail> {
+    let config = Login::new("user", "secret")?.config();
+    let next = Seq::new(5).ok_or("a number")?;
     let mut reader = BlockReader::new(alloc, PieceReader::new(DAY, 64, None))?;
-    let mut market = Market::new(alloc);
+    let mut market: Market<B> = Market::new(alloc);
     replay(&mut reader, &mut market);
-    Ok(market)
+    assert!(rt; snapshot_len(&market) < 100);
+    Ok(serve_on(rt, listener, &market, next, &config, count, out))
 }
 
 // Serves as many connections as clients have made, and returns their lines.
@@ -70,12 +80,8 @@ pub(super) fn lines<R: Clock + AllocGlobal + Abort>(
     count: u64,
 ) -> Result<Vec<u8>, Fail> {
     let alloc = rt.alloc();
-    let market = market(alloc)?;
-    let next = Seq::new(5).ok_or("a number")?;
-    let config = Login::new("user", "secret")?.config();
-    assert!(rt; snapshot_len(&market) < 100);
     let mut out = FuseWriter::new(alloc, 4096, None);
-    let served = serve_on(rt, listener, &market, next, &config, count, &mut out);
+    let served = serve_day::<R, Book<Global>>(rt, alloc, listener, count, &mut out)?;
     assert!(rt; matches!(served, Ok(true)));
     Ok(out.written().to_vec(alloc)?)
 }

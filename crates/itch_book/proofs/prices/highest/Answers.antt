@@ -1,5 +1,5 @@
 use Rattle.std.proofs.Common.{Some, None, sym, subst}
-use Rattle.itch_codec.specs.declared.side.Side.TheVariants.{Buy}
+use Rattle.itch_codec.specs.declared.orders.Side.TheVariants.{Buy}
 use Rattle.itch_book.specs.Indexed.{queue_at, IsNextOr}
 use Rattle.itch_book.proofs.RangeLemmas.{span_all, span_below, last_of_range}
 use Rattle.itch_book.proofs.prices.highest.Goals as goal

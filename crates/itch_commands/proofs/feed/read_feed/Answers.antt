@@ -1,12 +1,12 @@
 use Rattle.std.proofs.Common.{◌≢◌, IfSome, refl, subst, rules}
 use Rattle.itch_frame.specs.Reading.{bytes_left}
-use Rattle.itch_market.specs.Replays.{IsTold}
+use Rattle.itch_market.specs.Replays.{IsDecided}
 use Rattle.itch_market.specs.Wanted.{has}
 use Rattle.itch_market.specs.declared.stop.Stop.TheVariants.{End}
 use Rattle.itch_commands.specs.AsRead.{as_read}
 use Rattle.itch_commands.specs.Joiners.{position_of, start_of}
 use Rattle.itch_commands.specs.Joining.{StopsFeed}
-use Rattle.itch_commands.proofs.FeedStops.{feed_told}
+use Rattle.itch_commands.proofs.FeedStops.{feed_decided}
 use Rattle.itch_commands.proofs.feed.read_feed.Goals as goal
 
 pub returns-in_default : goal.returns-in_default
@@ -22,7 +22,7 @@ returns-in_default g c =
       refl,
       fault,
       (steps.0, steps.1, steps.2),
-      subst (λ k. IfSome old (λ b. IsTold stop → StopsFeed read start b k stop)) steps.1 (feed_told read start old new steps.0 stop steps.2),
+      subst (λ k. IfSome old (λ b. IsDecided stop → StopsFeed read start b k stop)) steps.1 (feed_decided read start old new steps.0 stop steps.2),
       c.deliver.ensures.failures,
       c.deliver.ensures.reader,
     )

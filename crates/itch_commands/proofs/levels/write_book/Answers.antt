@@ -1,6 +1,6 @@
 use Rattle.std.proofs.Common.{◌++◌, List, ℕ, Ok, Err, subst, ◌∙◌}
 use Rattle.itch_book.specs.Orders.{queue}
-use Rattle.itch_codec.specs.declared.side.Side.TheVariants.{Buy, Sell}
+use Rattle.itch_codec.specs.declared.orders.Side.TheVariants.{Buy, Sell}
 use Rattle.itch_commands.specs.Books.{title_line, side_lines}
 use Rattle.itch_commands.specs.Outputs.{WritesText}
 use Rattle.itch_commands.proofs.Texts.{text_then, text_fails}

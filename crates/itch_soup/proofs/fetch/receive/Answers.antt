@@ -2,7 +2,7 @@ use Rattle.std.proofs.Common.{◌≡◌, refl, ◌∙◌, subst}
 use Rattle.std.proofs.lemmas.Result.{err_from_is_err_and}
 use Rattle.itch_frame.specs.Reading.{bytes_left}
 use Rattle.itch_market.specs.Content.{laid}
-use Rattle.itch_market.specs.Goods.{IsGood}
+use Rattle.itch_market.specs.GoodMarkets.{IsGood}
 use Rattle.itch_soup.proofs.Hearing.{hearing_first, hearing_on, hearing_ends, hearing_closed, hearing_closes}
 use Rattle.itch_soup.proofs.fetch.receive.Goals as goal
 

@@ -1,5 +1,5 @@
 use Rattle.itch_soup.proofs.Rounds.{served_fetched}
-use Rattle.itch_market.proofs.Sames.{laid_is_same}
+use Rattle.itch_market.proofs.SameMarkets.{laid_is_same}
 use Rattle.itch_soup.proofs.laws.served_is_fetched.Goals as goal
 
 pub returns-clause-fetched : goal.returns-clause-fetched

@@ -1,10 +1,10 @@
 use Rattle.std.proofs.Common.{◌≡◌, ℕ, true, eqb, List, [], ◌∷◌, ◌++◌, find, Option, Some, None, IsSome, IsSomeAnd, refl, sym, ap, ◌∙◌, subst}
-use Rattle.itch_codec.specs.declared.side.Side.TheVariants.{Sell}
+use Rattle.itch_codec.specs.declared.orders.Side.TheVariants.{Sell}
 use Rattle.std.specs.List.{list_any}
 use Rattle.std.proofs.lemmas.Bool.{false≢true}
 use Rattle.itch_book.specs.declared.order.Order.{Order}
 use Rattle.itch_book.specs.Links.{first_or}
-use Rattle.itch_book.specs.Orders.{get, after, behind, first, is_level, is_of, is_next}
+use Rattle.itch_book.specs.Orders.{get, after, following, first, is_level, is_of, is_next}
 use Rattle.itch_book.specs.Queued.{Seen, seen, keys_at, order_at, found, shown}
 use Rattle.itch_book.specs.Indexed.{Place, node_of, indexed, has_keys, IsIndexed}
 use Rattle.itch_book.proofs.LinkLemmas.{in_head, in_tail}
@@ -12,7 +12,7 @@ use Rattle.itch_book.proofs.UnlinkLemmas.{in_right}
 use Rattle.itch_book.proofs.QueueSteps.{none_some, inj}
 use Rattle.itch_book.proofs.LiveLemmas.{live_node}
 use Rattle.itch_book.proofs.FrontLemmas.{next_level_some, next_level_none}
-use Rattle.itch_book.proofs.AfterLemmas.{parts_first, after_tail, next_here, next_price_here, last_ask, last_bid, live_is, line_behind}
+use Rattle.itch_book.proofs.AfterLemmas.{parts_first, after_tail, next_here, next_price_here, last_ask, last_bid, live_is, line_after}
 use Rattle.itch_book.proofs.index.Index.after.Goals as goal
 
 some_of : (o : Option (List ℕ)) → IsSome o → (ks : List ℕ) × (o ≡ Some ks)
@@ -44,7 +44,7 @@ head_found orders n js y h = ap (λ o. first (shown o (found orders js))) h
 -- the index and what is known of the order
 module _ (references : List (ℕ × ℕ)) (bids asks : List (Place × ℕ)) (w : Seen) (is : IsIndexed references bids asks w)
     (r k : ℕ) (node : node_of references r ≡ Some k) (next : Option ℕ)
-    (told : (q : ℕ) (before behind_it : List ℕ) → w.keys q ≡ Some (before ++ k ∷ behind_it) → next ≡ first_or behind_it None) where
+    (decided : (q : ℕ) (before after_it : List ℕ) → w.keys q ≡ Some (before ++ k ∷ after_it) → next ≡ first_or after_it None) where
   -- the node after it has an order
   next_some : (n : ℕ) → next ≡ Some n → IsSome (w.orders n)
   next_some n h =
@@ -52,7 +52,7 @@ module _ (references : List (ℕ × ℕ)) (bids asks : List (Place × ℕ)) (w :
       let place = is.listed k known.order known.there in
       let parts = parts_first k place.keys place.member in
       let keys = place.keys_are ∙ ap Some parts.2 in
-      let first_is = some_first parts.1 n (sym (told place.queue parts.0 parts.1 keys) ∙ h) in
+      let first_is = some_first parts.1 n (sym (decided place.queue parts.0 parts.1 keys) ∙ h) in
       is.full place.queue (parts.0 ++ k ∷ parts.1) n keys
       (in_right n parts.0 (k ∷ parts.1) (in_tail n k parts.1 (subst (λ t. list_any (eqb n) t ≡ true) (sym first_is.1) (in_head n first_is.0))))
 
@@ -62,20 +62,20 @@ module _ (references : List (ℕ × ℕ)) (bids asks : List (Place × ℕ)) (w :
       let place = is.listed k x here in
       let parts = parts_first k place.keys place.member in
       let keys = place.keys_are ∙ ap Some parts.2 in
-      let first_is = some_first parts.1 n (sym (told place.queue parts.0 parts.1 keys) ∙ h) in
-      let level = line_behind references bids asks w is r k x node here parts.0 parts.1 parts.3 parts.2
+      let first_is = some_first parts.1 n (sym (decided place.queue parts.0 parts.1 keys) ∙ h) in
+      let level = line_after references bids asks w is r k x node here parts.0 parts.1 parts.3 parts.2
       ∙ ap (λ (ks : List ℕ). first (found w.orders ks)) first_is.1 ∙ head_found w.orders n first_is.0 y there in
       let live = live_is references bids asks w is r k x node here in
       after_tail (indexed w bids asks) is.book r x live ∙ next_here (indexed w bids asks) is.book r x live y level
 
   -- or none stands after it at its price
-  none_level : (x : Order) (here : w.orders k ≡ Some x) → next ≡ None → find (is_level x.locate x.side x.price) (behind r (indexed w bids asks)) ≡ None
+  none_level : (x : Order) (here : w.orders k ≡ Some x) → next ≡ None → find (is_level x.locate x.side x.price) (following r (indexed w bids asks)) ≡ None
   none_level x here h =
       let place = is.listed k x here in
       let parts = parts_first k place.keys place.member in
       let keys = place.keys_are ∙ ap Some parts.2 in
-      let none = none_first parts.1 (sym (told place.queue parts.0 parts.1 keys) ∙ h) in
-      line_behind references bids asks w is r k x node here parts.0 parts.1 parts.3 parts.2 ∙ ap (λ (ks : List ℕ). first (found w.orders ks)) none
+      let none = none_first parts.1 (sym (decided place.queue parts.0 parts.1 keys) ∙ h) in
+      line_after references bids asks w is r k x node here parts.0 parts.1 parts.3 parts.2 ∙ ap (λ (ks : List ℕ). first (found w.orders ks)) none
 
   price_after : (x : Order) (here : w.orders k ≡ Some x) → next ≡ None → (o : Option Order) → IsSome o → find (is_next x.locate x.side (Some x.price)) (indexed w bids asks) ≡ o → after (indexed w bids asks) r ≡ o
   price_after x here h None some e = absurd (false≢true some)

@@ -3,7 +3,7 @@ use Rattle.slab.specs.Slab.{get}
 use Rattle.itch_book.specs.declared.order.Order.{Order}
 use Rattle.itch_book.specs.Links.{with_after, at_key}
 use Rattle.itch_book.specs.Queued.{keys_at, order_at}
-use Rattle.itch_book.proofs.ViewLemmas.{has_head, queue_fits, push_told}
+use Rattle.itch_book.proofs.ViewLemmas.{has_head, queue_fits, push_known}
 use Rattle.itch_book.proofs.queues.Queues.push_last.Goals as goal
 
 pub index-requires : goal.index-requires
@@ -28,14 +28,14 @@ head_with-head-requires-clause-shares g c =
 pub invariant_of-self : goal.invariant_of-self
 invariant_of-self g c =
     let small : c.args.order.shares < 2 ^ 32 = search rules in
-    (push_told c.self.inside.nodes c.insert_reserved-key.new.self c.link_after.new.nodes c.self.inside.heads c.set_head.new.heads c.args.queue c.insert_reserved-key.result c.args.order c.last_node-node.result
+    (push_known c.self.inside.nodes c.insert_reserved-key.new.self c.link_after.new.nodes c.self.inside.heads c.set_head.new.heads c.args.queue c.insert_reserved-key.result c.args.order c.last_node-node.result
     c.index.result.now c.index-2.result.now c.head_with-head.result c.self.invariant c.insert_reserved-key.ensures.was_vacant c.index.ensures c.index-2.ensures c.last_node-node.ensures.order c.last_node-node.ensures.queue
     c.last_node-node.ensures.before c.last_node-node.ensures.after small c.insert_reserved-key.ensures.updates (λ j. c.link_after.ensures.nodes j ∙ ap (λ t. with_after c.index.result.now.last t (get c.insert_reserved-key.new.self) j) c.to-link.ensures) (λ y before shares. c.head_with-head.ensures y c.insert_reserved-key.result before shares c.to-link.ensures) c.set_head.ensures.heads).sound
 
 pub returns-clause-orders : goal.returns-clause-orders
 returns-clause-orders g c k =
     let small : c.args.order.shares < 2 ^ 32 = search rules in
-    (push_told c.self.inside.nodes c.insert_reserved-key.new.self c.link_after.new.nodes c.self.inside.heads c.set_head.new.heads c.args.queue c.insert_reserved-key.result c.args.order c.last_node-node.result
+    (push_known c.self.inside.nodes c.insert_reserved-key.new.self c.link_after.new.nodes c.self.inside.heads c.set_head.new.heads c.args.queue c.insert_reserved-key.result c.args.order c.last_node-node.result
     c.index.result.now c.index-2.result.now c.head_with-head.result c.self.invariant c.insert_reserved-key.ensures.was_vacant c.index.ensures c.index-2.ensures c.last_node-node.ensures.order c.last_node-node.ensures.queue
     c.last_node-node.ensures.before c.last_node-node.ensures.after small c.insert_reserved-key.ensures.updates (λ j. c.link_after.ensures.nodes j ∙ ap (λ t. with_after c.index.result.now.last t (get c.insert_reserved-key.new.self) j) c.to-link.ensures) (λ y before shares. c.head_with-head.ensures y c.insert_reserved-key.result before shares c.to-link.ensures) c.set_head.ensures.heads).orders k
     ∙ ap (λ v. at_key c.insert_reserved-key.result (Some c.args.order) (order_at v) k) c.self.view_is
@@ -43,7 +43,7 @@ returns-clause-orders g c k =
 pub returns-clause-keys : goal.returns-clause-keys
 returns-clause-keys g c p =
     let small : c.args.order.shares < 2 ^ 32 = search rules in
-    (push_told c.self.inside.nodes c.insert_reserved-key.new.self c.link_after.new.nodes c.self.inside.heads c.set_head.new.heads c.args.queue c.insert_reserved-key.result c.args.order c.last_node-node.result
+    (push_known c.self.inside.nodes c.insert_reserved-key.new.self c.link_after.new.nodes c.self.inside.heads c.set_head.new.heads c.args.queue c.insert_reserved-key.result c.args.order c.last_node-node.result
     c.index.result.now c.index-2.result.now c.head_with-head.result c.self.invariant c.insert_reserved-key.ensures.was_vacant c.index.ensures c.index-2.ensures c.last_node-node.ensures.order c.last_node-node.ensures.queue
     c.last_node-node.ensures.before c.last_node-node.ensures.after small c.insert_reserved-key.ensures.updates (λ j. c.link_after.ensures.nodes j ∙ ap (λ t. with_after c.index.result.now.last t (get c.insert_reserved-key.new.self) j) c.to-link.ensures) (λ y before shares. c.head_with-head.ensures y c.insert_reserved-key.result before shares c.to-link.ensures) c.set_head.ensures.heads).keys p
     ∙ ap (λ v. at_key c.args.queue (option_map (λ ks. ks ++ c.insert_reserved-key.result ∷ []) (keys_at v c.args.queue)) (keys_at v) p) c.self.view_is

@@ -1,4 +1,4 @@
-use Rattle.itch_market.proofs.Goods.{without_good, laid_good}
+use Rattle.itch_market.proofs.GoodMarkets.{without_good, laid_good}
 use Rattle.itch_market.proofs.market.Market.delete.Goals as goal
 
 pub invariant_of-self : goal.invariant_of-self

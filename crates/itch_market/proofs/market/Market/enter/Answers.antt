@@ -1,5 +1,5 @@
 use Rattle.std.proofs.Common.{◌<◌, rules, sym}
-use Rattle.itch_market.proofs.Goods.{entered_good}
+use Rattle.itch_market.proofs.GoodMarkets.{entered_good}
 use Rattle.itch_market.proofs.Laid.{laid_already}
 use Rattle.itch_market.proofs.market.Market.enter.Goals as goal
 

@@ -1,4 +1,4 @@
-use Rattle.itch_market.proofs.Goods.{empty_good}
+use Rattle.itch_market.proofs.GoodMarkets.{empty_good}
 use Rattle.itch_market.proofs.market.Market.new.Goals as goal
 
 pub invariant_of-result : goal.invariant_of-result

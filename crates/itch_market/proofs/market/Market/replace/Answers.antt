@@ -1,5 +1,5 @@
 use Rattle.std.proofs.Common.{rules}
-use Rattle.itch_market.proofs.Goods.{laid_or_kept, replaced_good}
+use Rattle.itch_market.proofs.GoodMarkets.{laid_or_kept, replaced_good}
 use Rattle.itch_market.proofs.market.Market.replace.Goals as goal
 
 pub invariant_of-self : goal.invariant_of-self

@@ -1,4 +1,4 @@
-use Rattle.itch_market.proofs.Goods.{taken_good, laid_good}
+use Rattle.itch_market.proofs.GoodMarkets.{taken_good, laid_good}
 use Rattle.itch_market.proofs.market.Market.take.Goals as goal
 
 pub invariant_of-self : goal.invariant_of-self

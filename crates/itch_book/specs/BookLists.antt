@@ -1,0 +1,28 @@
+-- A list is a book's in one way only, so that a book may keep this fact beside its list.
+use Rattle.std.specs.Prelude.{◌≡◌, false, List, [], ◌∷◌}
+use Rattle.std.specs.Coded.{×_prop, Π_prop, Unit-prop, le_prop, Coded-set, coded_bool}
+use Rattle.std.specs.List.{AllByRecursion-prop}
+use Rattle.itch_book.specs.declared.order.Order.{Order}
+use Rattle.itch_book.specs.StableLists.{IsInOrder}
+use Rattle.itch_book.specs.Orders.{stands_before, fits, IsLive, IsDistinct, IsBook}
+
+-- a list is in order in one way
+pub IsInOrder-prop : (xs : List Order) → IsProp (IsInOrder stands_before xs)
+IsInOrder-prop [] = Unit-prop
+IsInOrder-prop (x ∷ xs) = ×_prop (AllByRecursion-prop (λ y. stands_before y x ≡ false) (λ y. Coded-set coded_bool (stands_before y x) false) xs) (IsInOrder-prop xs)
+
+-- that references are distinct
+pub IsDistinct-prop : (xs : List Order) → IsProp (IsDistinct xs)
+IsDistinct-prop xs = Π_prop (λ reference. le_prop)
+
+-- that an order may be live
+pub IsLive-prop : (x : Order) → IsProp (IsLive x)
+IsLive-prop x = ×_prop le_prop (Coded-set coded_bool (fits x) _)
+
+-- and with them the whole fact
+pub IsBook-prop : (xs : List Order) → IsProp (IsBook xs)
+IsBook-prop xs = λ a b i. record {
+  in_place = IsInOrder-prop xs a.in_place b.in_place i;
+  distinct = IsDistinct-prop xs a.distinct b.distinct i;
+  live = AllByRecursion-prop IsLive IsLive-prop xs a.live b.live i;
+}

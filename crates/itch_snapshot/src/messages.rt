@@ -1,0 +1,55 @@
+//! The messages of which a snapshot is made.
+ghost use Rattle.std.specs.Prelude.{◌≡◌};
+ghost use Rattle.std.specs.Option.{option_copied};
+ghost use Rattle.itch_book.specs.declared.order.Order.{Order};
+ghost use Rattle.itch_snapshot.specs.declared.named_order.NamedOrder.{NamedOrder};
+ghost use Rattle.itch_snapshot.specs.Snapshot.{header_at, order_part};
+ghost use Rattle.itch_snapshot.specs.Cursor.{named};
+
+use crate::named_order::NamedOrder;
+use itch_book::Order;
+use itch_codec::{AddOrder, Alpha, AttributedAddOrder, Header, Message, Stamp};
+
+// The header of a snapshot's message.
+pub(crate) fn header_at(locate: u16) -> Header
+    ensures { result ≡ header_at locate }
+{
+    let Some(stamp) = Stamp::new(0) else {
+        unreachable!()
+    };
+    Header {
+        locate,
+        tracking: 0,
+        stamp,
+    }
+}
+
+// The order with the stock of its locate.
+pub(crate) fn named(stock: Alpha<8>, order: Option<&Order>) -> Option<NamedOrder>
+    ensures { result ≡ named stock (option_copied order.entry) }
+{
+    let order = *order?;
+    Some(NamedOrder { stock, order })
+}
+
+// The message of a live order.
+pub(crate) fn order_message<'a>(named: NamedOrder) -> Message<'a>
+    ensures { result ≡ order_part named.stock named.order }
+{
+    let order = named.order;
+    let add = AddOrder {
+        header: header_at(order.locate),
+        reference: order.reference,
+        side: order.side,
+        shares: order.shares,
+        stock: named.stock,
+        price: order.price,
+    };
+    match order.mpid {
+        None => Message::AddOrder(add),
+        Some(attribution) => Message::AttributedAddOrder(AttributedAddOrder {
+            order: add,
+            attribution,
+        }),
+    }
+}

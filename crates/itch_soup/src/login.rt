@@ -1,0 +1,126 @@
+//! A login: what the two sides of a session know of it, and how its names are compared and written.
+ghost use Rattle.std.specs.Prelude.{◌≡◌, ◌≤◌, length, map};
+ghost use Rattle.std.specs.Char.{to_ascii_lowercase};
+ghost use Rattle.std.specs.List.{list_all, prefix_len};
+ghost use Rattle.std.specs.Str.{bytes_eq};
+ghost use Rattle.itch_codec.specs.Text.{IsPrintable};
+ghost use Rattle.itch_codec.specs.Numbers.{is_space, after_spaces};
+ghost use Rattle.itch_codec.specs.Fields.{IsAlpha};
+ghost use Rattle.itch_soup.specs.Names.{is_same_name, session_name, asks_for_session, client_session, server_session};
+
+use itch_codec::Alpha;
+use std::fmt::{self, Debug, Formatter};
+
+/// Whom a server lets in, and the session that it serves.
+///
+/// `{:?}` leaves the password out.
+#[derive(Clone, Copy, PartialEq, Eq)]
+pub struct ServerConfig {
+    pub username: Alpha<6>,
+    pub password: Alpha<10>,
+    pub session: Alpha<10>,
+}
+
+impl Debug for ServerConfig {
+    fn fmt<W: fmt::Write>(&self, f: &mut Formatter<W>) -> fmt::Result {
+        f.debug_struct("ServerConfig")
+            .field("username", &self.username)
+            .field("session", &self.session)
+            .finish_non_exhaustive()
+    }
+}
+
+/// What a client logs in with.
+///
+/// `{:?}` leaves the password out.
+#[derive(Clone, Copy, PartialEq, Eq)]
+pub struct Credentials {
+    pub username: Alpha<6>,
+    pub password: Alpha<10>,
+    /// The session that is asked for; blank for the current one.
+    pub session: Alpha<10>,
+}
+
+impl Debug for Credentials {
+    fn fmt<W: fmt::Write>(&self, f: &mut Formatter<W>) -> fmt::Result {
+        f.debug_struct("Credentials")
+            .field("username", &self.username)
+            .field("session", &self.session)
+            .finish_non_exhaustive()
+    }
+}
+
+/// Whether two user names or passwords are the same: without the spaces at their end, `A` to `Z` taken as `a` to `z`.
+#[tactic(auto, using(crate::proofs::Trimming::texts))]
+pub(crate) fn is_same_name<const N: usize>(name: &Alpha<N>, other: &Alpha<N>) -> bool
+    ensures { result ≡ is_same_name name.now other.now }
+{
+    is_same_text(name.text(), other.text())
+}
+
+#[tactic(auto, using(crate::proofs::Trimming::texts))]
+fn is_same_text(text: &str, other: &str) -> bool
+    ensures { result ≡ bytes_eq (map to_ascii_lowercase text.now) (map to_ascii_lowercase other.now) }
+{
+    text.eq_ignore_ascii_case(other)
+}
+
+/// Whether a login that asks for this session asks for the one that is served: by its name, or by a blank field.
+pub(crate) fn asks_for_session(served: &Alpha<10>, asked: &Alpha<10>) -> bool
+    ensures { result ≡ asks_for_session served.now asked.now }
+{
+    is_blank(asked.bytes()) || session_name(served) == session_name(asked)
+}
+
+/// A session's name as a client writes it, padded on the right.
+pub(crate) fn client_session(session: &Alpha<10>) -> [u8; 10]
+    ensures field { result ≡ client_session session.now }
+    ensures fits { IsAlpha 10 (client_session session.now) }
+{
+    let name = session_name(session);
+    let mut field = [b' '; 10];
+    field[..name.len()].copy_from_slice(name);
+    field
+}
+
+/// A session's name as a server writes it, padded on the left.
+pub(crate) fn server_session(session: &Alpha<10>) -> [u8; 10]
+    ensures field { result ≡ server_session session.now }
+    ensures fits { IsAlpha 10 (server_session session.now) }
+{
+    let name = session_name(session);
+    let mut field = [b' '; 10];
+    field[10 - name.len()..].copy_from_slice(name);
+    field
+}
+
+pub(crate) fn is_blank(field: &[u8]) -> bool
+    ensures { result ≡ list_all is_space field.now }
+{
+    field.iter().all(|byte| *byte == b' ')
+}
+
+// The name without the spaces at both ends: either side may pad it on either.
+#[tactic(auto, using(crate::proofs::Trimming::trimming))]
+fn session_name(session: &Alpha<10>) -> &[u8]
+    ensures name { result.now ≡ session_name session.entry.now }
+    ensures width { length (session_name session.now) ≤ 10 }
+    ensures printable { IsPrintable (session_name session.now) }
+{
+    after_spaces(session.text().as_bytes())
+}
+
+#[tactic(auto, unfolding(itch_codec::specs::Numbers::after_spaces))]
+fn after_spaces(text: &[u8]) -> &[u8]
+    ensures text { result.now ≡ after_spaces text.entry.now }
+    ensures within { length result.now ≤ length text.entry.now }
+{
+    &text[leading_spaces(text)..]
+}
+
+fn leading_spaces(text: &[u8]) -> usize
+    ensures count { result ≡ prefix_len is_space text.now }
+    ensures within { result ≤ length text.now }
+{
+    text.iter().take_while(|byte| **byte == b' ').count()
+}
