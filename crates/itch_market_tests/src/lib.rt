@@ -1,11 +1,11 @@
-//! Tests of the libraries below the commands, each over its crate's public items alone.
+//! Tests of the libraries up to the market, each over its crate's public items alone.
 //!
 //! A module has the tests of the crate of its name: `frame` those of `itch_frame`, and so on. They see what no clause says:
 //! vectors of the formats byte by byte, calls that succeed with ample memory, failures of devices, and each allocation that is
 //! refused.
 //!
-//! The helpers take any book and most have no contract: what owns a market or a joiner of a concrete book then has few exits, and
-//! the proof of a test does not carry what each call leaves.
+//! The helpers take any book and most have no contract: what owns a market of a concrete book then has few exits, and the proof of
+//! a test does not carry what each call leaves.
 #![tactic(auto)]
 
 #[cfg(test)]
@@ -13,14 +13,6 @@ mod book;
 #[cfg(test)]
 mod codec;
 #[cfg(test)]
-mod examples;
-#[cfg(test)]
 mod frame;
 #[cfg(test)]
-mod join;
-#[cfg(test)]
 mod market;
-#[cfg(test)]
-mod snapshot;
-#[cfg(test)]
-mod soup;

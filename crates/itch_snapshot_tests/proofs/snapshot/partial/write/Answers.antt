@@ -4,7 +4,7 @@ use Rattle.itch_market.specs.Partial.{skips}
 use Rattle.itch_market.specs.Wanted.{has}
 use Rattle.itch_snapshot.specs.Snapshot.{snap}
 use Rattle.itch_snapshot.proofs.Cut.{snap_only}
-use Rattle.itch_tests.proofs.snapshot.partial.write.Goals as goal
+use Rattle.itch_snapshot_tests.proofs.snapshot.partial.write.Goals as goal
 
 pub write_partial-requires : goal.write_partial-requires
 write_partial-requires g c =
