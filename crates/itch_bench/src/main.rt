@@ -6,8 +6,7 @@
 
 use itch_book::IndexedBook;
 use itch_codec::decode;
-use itch_frame::BlockReader;
-use itch_frame::counted::{Buffered, CountedRead};
+use itch_frame::{BlockReader, Buffered, CountedRead};
 use itch_join::{Joiner, Snap};
 use std::alloc::Global;
 use std::io::{self, BufReader};

@@ -73,11 +73,7 @@ pub(crate) fn side_at(payload: &[u8], offset: usize) -> Result<Side, CodecFault>
     requires { offset < length payload.now }
     ensures { Reads (λ side. Has payload.now (column offset 1 OneSide) (TheSide side)) (field_fault payload.now (column offset 1 OneSide)) result }
 {
-    match payload[offset] {
-        b'B' => Ok(Side::Buy),
-        b'S' => Ok(Side::Sell),
-        _ => Err(CodecFault::BadSide { offset }),
-    }
+    Side::try_from(payload[offset]).map_err(|_| CodecFault::BadSide { offset })
 }
 
 fn put(out: &mut Buffer, bytes: &[u8])
@@ -163,8 +159,5 @@ pub(crate) fn put_side(out: &mut Buffer, side: Side)
     ensures bytes { out.new.items ≡ out.old.items ++ side_byte side ∷ [] }
     ensures len { array_vec_len out.new ≡ array_vec_len out.old + 1 }
 {
-    out.push(match side {
-        Side::Buy => b'B',
-        Side::Sell => b'S',
-    });
+    out.push(u8::from(side));
 }

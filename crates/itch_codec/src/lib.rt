@@ -16,6 +16,7 @@
 //! ```
 #![tactic(auto)]
 
+mod conversions;
 mod decoding;
 mod encoded;
 mod encoding;
@@ -34,13 +35,14 @@ mod trades;
 mod undecoded;
 mod words;
 
+pub use conversions::{OutOfRange, UnknownSide};
 pub use decoding::decode;
 pub use encoded::Encoded;
 pub use encoding::encode;
 pub use fault::CodecFault;
 pub use header::{Header, Stamp};
 pub use message::Message;
-pub use number::{Seq, number20, read_number20};
+pub use number::{GREATEST_SEQ, MOST_MESSAGES, Seq, number20, read_number20};
 pub use orders::{
     AddOrder, AttributedAddOrder, OrderCancel, OrderDelete, OrderExecuted, OrderExecutedWithPrice,
     OrderReplace, Side,

@@ -10,7 +10,11 @@ use crate::fields::{Buffer, codes_at, put_codes};
 use itoa::write_digits;
 use std::marker::Model;
 
-const GREATEST: u64 = 10_000_000_000_000_000_000;
+/// The greatest sequence number: 10^19.
+pub const GREATEST_SEQ: u64 = 10_000_000_000_000_000_000;
+
+/// The most messages of a feed, a day file or a snapshot: 10^19 - 1, so that the number after the last is a [`Seq`].
+pub const MOST_MESSAGES: u64 = GREATEST_SEQ - 1;
 
 /// A sequence number: 1 to 10^19.
 #[derive(Clone, Copy, Debug, PartialEq, Eq, PartialOrd, Ord, Hash)]
@@ -39,7 +43,7 @@ impl Seq {
         ensures accepts { IsSome result ↔ ((1 ≤ value) × (value ≤ 10 ^ 19)) }
         ensures number { IfSome result (λ number. number ≡ value) }
     {
-        if (1..=GREATEST).contains(&value) {
+        if (1..=GREATEST_SEQ).contains(&value) {
             Some(Seq { value })
         } else {
             None
@@ -174,7 +178,7 @@ fn value_of(digits: &[u8]) -> Option<u64>
     for digit in digits {
         value = value * 10 + u128::from(*digit - b'0');
     }
-    if value <= u128::from(GREATEST) {
+    if value <= u128::from(GREATEST_SEQ) {
         Some(value as u64)
     } else {
         None

@@ -10,14 +10,10 @@ ghost use Rattle.itch_commands.specs.Joining.{ReadsFeed};
 
 use crate::fault::{Source, ToolFault};
 use itch_book::OrderBook;
-use itch_frame::BlockReader;
-use itch_frame::counted::CountedRead;
+use itch_frame::{BlockReader, CountedRead};
 use itch_join::{Cause, JoinFault, Joiner};
 use itch_market::{Refusal, ReplayEnd, Stop};
 use std::alloc::Allocator;
-
-/// As many messages as a feed may have: 10^19 - 1.
-const MOST: u64 = 9_999_999_999_999_999_999;
 
 /// Delivers the messages of a feed to a joiner that has joined, numbered from 1, up to the first that is not taken.
 pub fn read_feed<R: CountedRead, A: Allocator, B: OrderBook>(
@@ -79,7 +75,7 @@ fn deliver_next<R: CountedRead, A: Allocator, B: OrderBook>(
             if payload.is_empty() {
                 return Err(Stop::End);
             }
-            if count == MOST {
+            if count == MOST_MESSAGES {
                 return Err(Stop::TooManyMessages);
             }
             deliver_message(joiner, payload, count + 1)

@@ -16,16 +16,12 @@ use crate::feed::read_feed;
 use crate::start::read_start;
 use crate::writing::write_closed;
 use itch_book::OrderBook;
-use itch_codec::Seq;
-use itch_frame::BlockReader;
-use itch_frame::counted::{CountedRead, CountedWrite};
+use itch_codec::{MOST_MESSAGES, Seq};
+use itch_frame::{BlockReader, CountedRead, CountedWrite};
 use itch_join::Joiner;
 use itch_market::LocateSet;
 use itch_snapshot::snapshot_len;
 use std::alloc::Allocator;
-
-/// As many messages as a snapshot may have before its End of Snapshot: 10^19 - 1.
-const MOST: u128 = 9_999_999_999_999_999_999;
 
 /// Joins a feed to a snapshot, and writes the snapshot after both: the canonical bytes of the market that the snapshot's
 /// messages leave, and then the feed's from the snapshot's number on, and an End of Snapshot with the number of the first
@@ -131,7 +127,7 @@ fn write_joined<B: OrderBook, W: CountedWrite>(
     let (Some(market), Some(next)) = (joiner.market(), joiner.next()) else {
         unreachable!()
     };
-    if snapshot_len(market) > MOST {
+    if snapshot_len(market) > u128::from(MOST_MESSAGES) {
         return Err(ToolFault::TooMany);
     }
     let Some(next) = Seq::new(next) else {

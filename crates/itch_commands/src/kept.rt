@@ -12,8 +12,7 @@ use crate::canonical::length_bytes;
 use crate::fault::{Source, ToolFault};
 use itch_book::OrderBook;
 use itch_codec::Seq;
-use itch_frame::BlockReader;
-use itch_frame::counted::CountedRead;
+use itch_frame::{BlockReader, CountedRead};
 use itch_snapshot::{SnapFault, SnapshotReader};
 use std::alloc::{AllocError, Allocator};
 

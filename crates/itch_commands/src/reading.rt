@@ -5,8 +5,7 @@ ghost use Rattle.itch_commands.specs.Readings.{ReadsMarket, CountsRead, LeavesDa
 
 use crate::fault::{Source, ToolFault};
 use itch_book::OrderBook;
-use itch_frame::BlockReader;
-use itch_frame::counted::CountedRead;
+use itch_frame::{BlockReader, CountedRead};
 use itch_market::{Market, ReplayEnd, Stop, replay, replay_first};
 use std::alloc::Allocator;
 

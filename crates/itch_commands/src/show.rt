@@ -8,14 +8,10 @@ ghost use Rattle.itch_commands.specs.declared.fault.ToolFault.TheVariants.{Stopp
 
 use crate::fault::{Source, ToolFault};
 use crate::writing::write_text;
-use itch_codec::{decode, show as show_message};
-use itch_frame::BlockReader;
-use itch_frame::counted::{CountedRead, CountedWrite};
+use itch_codec::{MOST_MESSAGES, decode, show as show_message};
+use itch_frame::{BlockReader, CountedRead, CountedWrite};
 use itch_market::{ReplayEnd, Stop};
 use std::alloc::Allocator;
-
-/// As many messages as a file may have: 10^19 - 1.
-const MOST: u64 = 9_999_999_999_999_999_999;
 
 /// Writes a line for each message of a day file or a snapshot file, in the form of [`itch_codec::show`].
 ///
@@ -82,7 +78,7 @@ fn show_next<R: CountedRead, A: Allocator, W: CountedWrite>(
             if payload.is_empty() {
                 return Err(stopped(count, Stop::End));
             }
-            if count == MOST {
+            if count == MOST_MESSAGES {
                 return Err(stopped(count, Stop::TooManyMessages));
             }
             show_payload(payload, count, out)

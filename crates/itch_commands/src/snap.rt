@@ -11,8 +11,7 @@ use crate::reading::read_market;
 use crate::writing::{write_closed, write_cut};
 use itch_book::OrderBook;
 use itch_codec::Seq;
-use itch_frame::BlockReader;
-use itch_frame::counted::{CountedRead, CountedWrite};
+use itch_frame::{BlockReader, CountedRead, CountedWrite};
 use itch_market::{LocateSet, Market};
 use std::alloc::Allocator;
 

@@ -11,8 +11,7 @@ ghost use Rattle.itch_commands.specs.Joining.{ReadsStart};
 
 use crate::fault::{Source, ToolFault};
 use itch_book::OrderBook;
-use itch_frame::BlockReader;
-use itch_frame::counted::CountedRead;
+use itch_frame::{BlockReader, CountedRead};
 use itch_join::{Cause, JoinFault, Joiner, Snap};
 use itch_market::Refusal;
 use itch_snapshot::SnapFault;

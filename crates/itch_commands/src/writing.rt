@@ -9,8 +9,7 @@ ghost use Rattle.itch_commands.specs.Outputs.{WritesText, WritesOutput};
 use crate::fault::ToolFault;
 use itch_book::OrderBook;
 use itch_codec::Seq;
-use itch_frame::counted::CountedWrite;
-use itch_frame::{FrameFault, write_part};
+use itch_frame::{CountedWrite, FrameFault, write_part};
 use itch_market::{LocateSet, Market};
 use itch_snapshot::{SnapFault, write_partial, write_snapshot};
 

@@ -9,7 +9,7 @@ use itch_commands::join::join;
 use itch_commands::levels::book;
 use itch_commands::show::show;
 use itch_commands::snap::snap;
-use itch_frame::counted::CountedWrite;
+use itch_frame::CountedWrite;
 use itch_frame::testing::PieceReader;
 use itch_market::LocateSet;
 use std::alloc::{Allocator, Global};

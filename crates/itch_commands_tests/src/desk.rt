@@ -44,51 +44,36 @@ fn compared(
     Ok(())
 }
 
-#[test]
-fn compare_says_whether_markets_are_the_same(rt: HostRuntime) -> Result<(), Fail> {
-    let alloc = rt.alloc();
-    compared(&rt, alloc, &[], &[], "same\n")?;
-    compared(&rt, alloc, &AS_THEY_CAME, &BY_PRICE, "same\n")?;
-    compared(
-        &rt,
-        alloc,
+// Two files, and what is written of them.
+const COMPARED: [(&[&str], &[&str], &str); 12] = [
+    (&[], &[], "same\n"),
+    (&AS_THEY_CAME, &BY_PRICE, "same\n"),
+    (
         &[AAPL, TRADING_RESERVED_0, BUY_7_OF_300, EXECUTE_7, CANCEL_7],
         &[AAPL_LATE, TRADING_RESERVED_58, BUY_7_OF_150],
         "same\n",
-    )?;
-    compared(
-        &rt,
-        alloc,
+    ),
+    (
         &[AAPL, BUY_1, BUY_2],
         &[AAPL, BUY_2, BUY_1],
         "different at 2\n",
-    )?;
-    compared(&rt, alloc, &[START, AAPL], &[START], "different at 2\n")?;
-    compared(&rt, alloc, &[START], &[START, AAPL], "different at 2\n")?;
-    compared(&rt, alloc, &[AAPL], &[], "different at 1\n")?;
-    compared(
-        &rt,
-        alloc,
-        &[AAPL, MSFT],
-        &[AAPL_LOT_200, MSFT],
-        "different at 1\n",
-    )?;
-    compared(
-        &rt,
-        alloc,
-        &[AAPL, TRADING],
-        &[AAPL, UNRESTRICTED],
-        "different at 2\n",
-    )?;
-    compared(&rt, alloc, &[AAPL, BUY_1, DELETE_1], &[AAPL], "same\n")?;
-    compared(
-        &rt,
-        alloc,
-        &[AAPL, ATTRIBUTED_1],
-        &[AAPL, BUY_1],
-        "different at 2\n",
-    )?;
-    compared(&rt, alloc, &[AAPL, "0000", START], &[AAPL], "same\n")?;
+    ),
+    (&[START, AAPL], &[START], "different at 2\n"),
+    (&[START], &[START, AAPL], "different at 2\n"),
+    (&[AAPL], &[], "different at 1\n"),
+    (&[AAPL, MSFT], &[AAPL_LOT_200, MSFT], "different at 1\n"),
+    (&[AAPL, TRADING], &[AAPL, UNRESTRICTED], "different at 2\n"),
+    (&[AAPL, BUY_1, DELETE_1], &[AAPL], "same\n"),
+    (&[AAPL, ATTRIBUTED_1], &[AAPL, BUY_1], "different at 2\n"),
+    (&[AAPL, "0000", START], &[AAPL], "same\n"),
+];
+
+#[test]
+fn compare_says_whether_markets_are_the_same(rt: HostRuntime) -> Result<(), Fail> {
+    let alloc = rt.alloc();
+    for (first, second, line) in COMPARED {
+        compared(&rt, alloc, first, second, line)?;
+    }
     Ok(())
 }
 

@@ -9,69 +9,76 @@ use itch_market::{Refusal, ReplayEnd, Stop};
 use std::io;
 use std::test::Fail;
 
+const TWO: [&str; 3] = [AAPL, MSFT, BUY_1];
+
+// Files that are refused at their last block, that block, and the fault.
+const REFUSED: [(&[&str], &str, &str); 16] = [
+    (&[AAPL, END_2], "", "message 2: unexpected end"),
+    (&[AAPL, MSFT_AT_1], "", "message 2: stock mismatch"),
+    (&[TRADING_AT_3], "", "message 1: unknown locate"),
+    (&["00"], "", "message 1: truncated, 1 bytes held"),
+    (
+        &[SHORT_AAPL],
+        "",
+        "message 1: wrong length for R: want 39, got 38",
+    ),
+    (&[AAPL, HALT_AT_2], "", "message 2: unknown locate"),
+    (
+        &[AAPL, SHORT_HALT],
+        "",
+        "message 2: wrong length for h: want 21, got 20",
+    ),
+    (&[START, UNPRINTABLE], "", "message 2: bad text at 13"),
+    (&[AAPL, BUY_1], BUY_1, "message 3: duplicate reference"),
+    (
+        &[AAPL, BUY_1, EXECUTE_100],
+        DELETE_1,
+        "message 4: unknown reference",
+    ),
+    (
+        &[AAPL, BUY_1],
+        EXECUTE_101,
+        "message 3: too many shares, 100 remain",
+    ),
+    (
+        &[AAPL, BUY_1, CANCEL_40],
+        PRICED_61,
+        "message 4: too many shares, 60 remain",
+    ),
+    (&[START, "000c53"], "", "message 2: truncated, 3 bytes held"),
+    (
+        &["000147"],
+        "",
+        "message 1: wrong length for G: want 21, got 1",
+    ),
+    (
+        &[AAPL, "0015470000000000000000000000000000000000000000"],
+        "",
+        "message 2: bad number",
+    ),
+    (
+        &[AAPL, BUY_1, BUY_2],
+        "0002",
+        "message 4: truncated, 2 bytes held",
+    ),
+];
+
+// Messages that are refused after two stocks and an order, and the fault.
+const REFUSED_AFTER_TWO: [(&[&str], &str, &str); 8] = [
+    (&TWO, EXECUTE_AT_2, "message 4: locate mismatch"),
+    (&TWO, REPLACE_1_BY_1, "message 4: duplicate reference"),
+    (&TWO, REPLACE_BY_NONE, "message 4: zero shares"),
+    (&TWO, REPLACE_AT_2, "message 4: locate mismatch"),
+    (&TWO, BUY_1_OF_0, "message 4: zero shares"),
+    (&TWO, BUY_9_AT_3, "message 4: unknown locate"),
+    (&TWO, DELETE_9, "message 4: unknown reference"),
+    (&TWO, END_4, "message 4: unexpected end"),
+];
+
 #[test]
 fn a_refused_file_has_its_line_and_status(rt: HostRuntime) -> Result<(), Fail> {
-    let two: [&str; 3] = [AAPL, MSFT, BUY_1];
-    let cases: [(&[&str], &str, &str); 24] = [
-        (&[AAPL, END_2], "", "message 2: unexpected end"),
-        (&[AAPL, MSFT_AT_1], "", "message 2: stock mismatch"),
-        (&[TRADING_AT_3], "", "message 1: unknown locate"),
-        (&["00"], "", "message 1: truncated, 1 bytes held"),
-        (
-            &[SHORT_AAPL],
-            "",
-            "message 1: wrong length for R: want 39, got 38",
-        ),
-        (&[AAPL, HALT_AT_2], "", "message 2: unknown locate"),
-        (
-            &[AAPL, SHORT_HALT],
-            "",
-            "message 2: wrong length for h: want 21, got 20",
-        ),
-        (&[START, UNPRINTABLE], "", "message 2: bad text at 13"),
-        (&[AAPL, BUY_1], BUY_1, "message 3: duplicate reference"),
-        (
-            &[AAPL, BUY_1, EXECUTE_100],
-            DELETE_1,
-            "message 4: unknown reference",
-        ),
-        (
-            &[AAPL, BUY_1],
-            EXECUTE_101,
-            "message 3: too many shares, 100 remain",
-        ),
-        (
-            &[AAPL, BUY_1, CANCEL_40],
-            PRICED_61,
-            "message 4: too many shares, 60 remain",
-        ),
-        (&two, EXECUTE_AT_2, "message 4: locate mismatch"),
-        (&two, REPLACE_1_BY_1, "message 4: duplicate reference"),
-        (&two, REPLACE_BY_NONE, "message 4: zero shares"),
-        (&two, REPLACE_AT_2, "message 4: locate mismatch"),
-        (&two, BUY_1_OF_0, "message 4: zero shares"),
-        (&two, BUY_9_AT_3, "message 4: unknown locate"),
-        (&two, DELETE_9, "message 4: unknown reference"),
-        (&two, END_4, "message 4: unexpected end"),
-        (&[START, "000c53"], "", "message 2: truncated, 3 bytes held"),
-        (
-            &["000147"],
-            "",
-            "message 1: wrong length for G: want 21, got 1",
-        ),
-        (
-            &[AAPL, "0015470000000000000000000000000000000000000000"],
-            "",
-            "message 2: bad number",
-        ),
-        (
-            &[AAPL, BUY_1, BUY_2],
-            "0002",
-            "message 4: truncated, 2 bytes held",
-        ),
-    ];
     let alloc = rt.alloc();
-    for (before, last, reason) in cases {
+    for (before, last, reason) in REFUSED.into_iter().chain(REFUSED_AFTER_TWO) {
         let mut input = file(alloc, before)?;
         let ending = file(alloc, &[last])?;
         input.extend_from_slice(ending.as_slice())?;

@@ -4,7 +4,7 @@ use super::files::{file, snapshot};
 use itch_commands::ToolFault;
 use itch_commands::check::check;
 use itch_commands::snap::snap;
-use itch_frame::counted::Counted;
+use itch_frame::Counted;
 use itch_frame::testing::{FuseWriter, PieceReader};
 use std::io::BufReader;
 use std::test::Fail;

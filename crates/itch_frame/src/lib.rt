@@ -7,7 +7,7 @@
 //! - [`BlockReader`] reads blocks one by one, and never reads past the block at hand.
 //! - [`write_block`] writes one.
 //!
-//! Readers and writers count their failures (`counted`), so that no call can blame the outside for a fault of its own.
+//! Readers and writers count their failures ([`CountedRead`], [`CountedWrite`]), so that no call can blame the outside for a fault of its own.
 //! `laws` has what holds of every stream, and `testing` a reader and a writer that fail where a test asks for it.
 //!
 //! ```
@@ -20,7 +20,7 @@
 //! ```
 #![tactic(auto)]
 
-pub mod counted;
+mod counted;
 mod fault;
 pub mod laws;
 mod reader;
@@ -29,6 +29,7 @@ pub mod tally;
 pub mod testing;
 mod writer;
 
+pub use counted::{Buffered, Counted, CountedRead, CountedWrite};
 pub use fault::FrameFault;
 pub use reader::{BlockReader, Stage};
 pub use splitter::Splitter;

@@ -2,9 +2,8 @@
 use crate::files::{AAPL, ADD_1, ADD_2, EVENT, market};
 use itch_book::ListBook;
 use itch_codec::{Alpha, Seq};
-use itch_frame::BlockReader;
-use itch_frame::counted::CountedRead;
 use itch_frame::testing::FuseWriter;
+use itch_frame::{BlockReader, CountedRead};
 use itch_market::Market;
 use itch_soup::{Credentials, ServerConfig, SoupFault, fetch_one};
 use std::alloc::Global;

@@ -99,7 +99,7 @@ fn join_fault_of(fault: SnapFault) -> JoinFault
             cause: Cause::Rule(reason),
         },
         SnapFault::TooManyMessages => JoinFault::BadSnapshot {
-            place: 10_000_000_000_000_000_000,
+            place: GREATEST_SEQ,
             cause: Cause::TooMany,
         },
         SnapFault::NoEnd | SnapFault::Frame(_) | SnapFault::AfterEnd => unreachable!(),
@@ -165,7 +165,7 @@ impl<B: OrderBook> Joiner<B> {
         if let Some(halt) = self.halt {
             return LiveCase::Halted(halt);
         }
-        if number == 0 || number >= 10_000_000_000_000_000_000 {
+        if number == 0 || number > MOST_MESSAGES {
             return LiveCase::BadNumber;
         }
         let next = self.next();

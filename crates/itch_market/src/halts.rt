@@ -1,7 +1,8 @@
 //! The operational halts of a security.
-ghost use Rattle.std.specs.Prelude.{◌≡◌, List, ℕ};
+ghost use Rattle.std.specs.Prelude.{◌≡◌, List, ℕ, ⊤};
 ghost use Rattle.std.specs.Iterator.{YieldsFirst, item_count};
 
+use std::alloc::AllocError;
 use std::collections::btree_map::Iter;
 use std::marker::Model;
 
@@ -17,15 +18,16 @@ impl<'a> Model for Halts<'a> {
     ghost view = { λ h. h.entries };
 }
 
-impl<'a> Halts<'a> {
-    /// A second iterator over the halts that are left.
-    pub fn again(&self) -> Halts<'a>
-        ensures { result ≡ self.now }
-    {
-        match self.entries.clone() {
-            Ok(entries) => Halts { entries },
-            Err(_) => unreachable!(),
-        }
+/// A second iterator over the halts that are left. It takes no memory.
+impl Clone for Halts<'_> {
+    ghost is_clone = { λ halts copy. copy ≡ halts };
+
+    ghost is_infallible = { λ _. ⊤ };
+
+    fn clone(&self) -> Result<Self, AllocError> {
+        Ok(Halts {
+            entries: self.entries.clone()?,
+        })
     }
 }
 

@@ -1,10 +1,10 @@
 //! The locates of the directory.
-ghost use Rattle.std.specs.Prelude.{◌≡◌, ◌≤◌, List, ℕ, length};
+ghost use Rattle.std.specs.Prelude.{◌≡◌, ◌≤◌, List, ℕ, length, ⊤};
 ghost use Rattle.std.specs.Iterator.{YieldsFirst, item_count};
 ghost use Rattle.itch_market.specs.Slots.{locates_from, IsFirstFrom};
 
 use crate::security::Security;
-use std::alloc::Allocator;
+use std::alloc::{AllocError, Allocator};
 use std::marker::Model;
 
 /// The locates of the directory, rising.
@@ -34,15 +34,19 @@ impl<'a, A: Allocator> Locates<'a, A> {
     {
         Locates { slots, next: 0 }
     }
+}
 
-    /// A second iterator over the locates that are left.
-    pub fn again(&self) -> Locates<'a, A>
-        ensures { result ≡ self.now }
-    {
-        Locates {
+/// A second iterator over the locates that are left. It takes no memory.
+impl<A: Allocator> Clone for Locates<'_, A> {
+    ghost is_clone = { λ locates copy. copy ≡ locates };
+
+    ghost is_infallible = { λ _. ⊤ };
+
+    fn clone(&self) -> Result<Self, AllocError> {
+        Ok(Locates {
             slots: self.slots,
             next: self.next,
-        }
+        })
     }
 }
 

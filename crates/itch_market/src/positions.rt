@@ -1,8 +1,9 @@
 //! The market participants' positions in a security.
-ghost use Rattle.std.specs.Prelude.{◌≡◌, List, ℕ};
+ghost use Rattle.std.specs.Prelude.{◌≡◌, List, ℕ, ⊤};
 ghost use Rattle.std.specs.Iterator.{YieldsFirst, item_count};
 
 use itch_codec::Alpha;
+use std::alloc::AllocError;
 use std::collections::btree_map::Iter;
 use std::marker::Model;
 
@@ -18,15 +19,16 @@ impl<'a> Model for Positions<'a> {
     ghost view = { λ p. p.entries };
 }
 
-impl<'a> Positions<'a> {
-    /// A second iterator over the positions that are left.
-    pub fn again(&self) -> Positions<'a>
-        ensures { result ≡ self.now }
-    {
-        match self.entries.clone() {
-            Ok(entries) => Positions { entries },
-            Err(_) => unreachable!(),
-        }
+/// A second iterator over the positions that are left. It takes no memory.
+impl Clone for Positions<'_> {
+    ghost is_clone = { λ positions copy. copy ≡ positions };
+
+    ghost is_infallible = { λ _. ⊤ };
+
+    fn clone(&self) -> Result<Self, AllocError> {
+        Ok(Positions {
+            entries: self.entries.clone()?,
+        })
     }
 }
 

@@ -11,13 +11,9 @@ ghost use Rattle.itch_market.specs.Replays.{Counts, CountsFirst, LeavesReader, L
 use crate::market::Market;
 use crate::stop::{ReplayEnd, Stop};
 use itch_book::OrderBook;
-use itch_codec::decode;
-use itch_frame::BlockReader;
-use itch_frame::counted::CountedRead;
+use itch_codec::{MOST_MESSAGES, decode};
+use itch_frame::{BlockReader, CountedRead};
 use std::alloc::Allocator;
-
-/// As many messages as a day file may have: 10^19 - 1.
-const MOST: u64 = 9_999_999_999_999_999_999;
 
 /// Applies the messages of a day file, up to the first that is not taken, and returns how many there were and why it stopped.
 ///
@@ -57,7 +53,7 @@ pub fn replay_first<R: CountedRead, A: Allocator, B: OrderBook>(
 {
     market.recall_invariant();
     for count in 0..most {
-        if let Err(stop) = step(reader, market, count == MOST) {
+        if let Err(stop) = step(reader, market, count == MOST_MESSAGES) {
             return (count, Some(stop));
         }
     }

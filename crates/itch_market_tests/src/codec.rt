@@ -10,6 +10,7 @@ use std::process::Abort;
 use std::test::Fail;
 
 mod broken_input;
+mod conversions;
 mod lines;
 mod vectors;
 
@@ -260,48 +261,64 @@ fn undecoded(rt: HostRuntime) {
     assert!(rt; Undecoded::new(b"").is_none());
 }
 
+const FAULTS: [(&[u8], CodecFault); 12] = [
+    (b"", CodecFault::Empty),
+    (
+        b"A\x00\x01\x00\x00\x00\x00\x00\x00\x00\x00\x00\x00\x00\x00\x00\x00\x00\x01B\x00\x00\x00dAAPL    \x00\x16\xe3",
+        CodecFault::WrongLength {
+            kind: b'A',
+            want: 36,
+            got: 35,
+        },
+    ),
+    (
+        b"A\x00\x01\x00\x00\x00\x00\x00\x00\x00\x00\x00\x00\x00\x00\x00\x00\x00\x01B\x00\x00\x00dAAPL    \x00\x16\xe3``",
+        CodecFault::WrongLength {
+            kind: b'A',
+            want: 36,
+            got: 37,
+        },
+    ),
+    (
+        b"R\x00\x01\x00\x00\x00\x00\x00\x00\x00\x00AAPL    QN\x00\x00\x00dNCZ PNN1N\x00\x00\x00\x00",
+        CodecFault::WrongLength {
+            kind: b'R',
+            want: 39,
+            got: 38,
+        },
+    ),
+    (
+        b"h\x00\x01\x00\x00\x00\x00\x00\x00\x00\x00AAPL    Q",
+        CodecFault::WrongLength {
+            kind: b'h',
+            want: 21,
+            got: 20,
+        },
+    ),
+    (
+        b"L\x00\x01\x00\x00\x00\x00\x00\x00\x00\x00AB\x7fDAAPL    NNA",
+        CodecFault::BadText { offset: 13 },
+    ),
+    (
+        b"A\x00\x01\x00\x00\x00\x00\x00\x00\x00\x00\x00\x00\x00\x00\x00\x00\x00\x01b\x00\x00\x00dAAPL    \x00\x16\xe3`",
+        CodecFault::BadSide { offset: 19 },
+    ),
+    (
+        b"A\x00\x01\x00\x00\x00\x00\x00\x00\x00\x00\x00\x00\x00\x00\x00\x00\x00\x01B\x00\x00\x00dAA\x7fL    \x00\x16\xe3`",
+        CodecFault::BadText { offset: 26 },
+    ),
+    (
+        b"A\x00\x01\x00\x00\x00\x00\x00\x00\x00\x00\x00\x00\x00\x00\x00\x00\x00\x01b\x00\x00\x00dAA\x7fL    \x00\x16\xe3`",
+        CodecFault::BadSide { offset: 19 },
+    ),
+    (b"G                    ", CodecFault::BadNumber),
+    (b"G                   0", CodecFault::BadNumber),
+    (b"G10000000000000000001", CodecFault::BadNumber),
+];
+
 #[test]
 fn faults(rt: HostRuntime) {
-    let wrong = |kind, want, got| CodecFault::WrongLength { kind, want, got };
-    let rows: [(&[u8], CodecFault); 12] = [
-        (b"", CodecFault::Empty),
-        (
-            b"A\x00\x01\x00\x00\x00\x00\x00\x00\x00\x00\x00\x00\x00\x00\x00\x00\x00\x01B\x00\x00\x00dAAPL    \x00\x16\xe3",
-            wrong(b'A', 36, 35),
-        ),
-        (
-            b"A\x00\x01\x00\x00\x00\x00\x00\x00\x00\x00\x00\x00\x00\x00\x00\x00\x00\x01B\x00\x00\x00dAAPL    \x00\x16\xe3``",
-            wrong(b'A', 36, 37),
-        ),
-        (
-            b"R\x00\x01\x00\x00\x00\x00\x00\x00\x00\x00AAPL    QN\x00\x00\x00dNCZ PNN1N\x00\x00\x00\x00",
-            wrong(b'R', 39, 38),
-        ),
-        (
-            b"h\x00\x01\x00\x00\x00\x00\x00\x00\x00\x00AAPL    Q",
-            wrong(b'h', 21, 20),
-        ),
-        (
-            b"L\x00\x01\x00\x00\x00\x00\x00\x00\x00\x00AB\x7fDAAPL    NNA",
-            CodecFault::BadText { offset: 13 },
-        ),
-        (
-            b"A\x00\x01\x00\x00\x00\x00\x00\x00\x00\x00\x00\x00\x00\x00\x00\x00\x00\x01b\x00\x00\x00dAAPL    \x00\x16\xe3`",
-            CodecFault::BadSide { offset: 19 },
-        ),
-        (
-            b"A\x00\x01\x00\x00\x00\x00\x00\x00\x00\x00\x00\x00\x00\x00\x00\x00\x00\x01B\x00\x00\x00dAA\x7fL    \x00\x16\xe3`",
-            CodecFault::BadText { offset: 26 },
-        ),
-        (
-            b"A\x00\x01\x00\x00\x00\x00\x00\x00\x00\x00\x00\x00\x00\x00\x00\x00\x00\x01b\x00\x00\x00dAA\x7fL    \x00\x16\xe3`",
-            CodecFault::BadSide { offset: 19 },
-        ),
-        (b"G                    ", CodecFault::BadNumber),
-        (b"G                   0", CodecFault::BadNumber),
-        (b"G10000000000000000001", CodecFault::BadNumber),
-    ];
-    for (bytes, fault) in rows {
+    for (bytes, fault) in FAULTS {
         assert_eq!(rt; decode(bytes), Err(fault));
     }
 }

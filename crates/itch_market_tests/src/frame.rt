@@ -1,9 +1,11 @@
 //! Worked cases, each failure in turn, and the calls that take no memory.
 ghost use Rattle.std.specs.Prelude.{None, IsErr};
 
-use itch_frame::counted::{Buffered, Counted, CountedRead, CountedWrite};
 use itch_frame::testing::{FuseWriter, PieceReader};
-use itch_frame::{BlockReader, FrameFault, Splitter, laws, write_block};
+use itch_frame::{
+    BlockReader, Buffered, Counted, CountedRead, CountedWrite, FrameFault, Splitter, laws,
+    write_block,
+};
 use linked_list_allocator::LocalHeap;
 use refusing::Refusing;
 use std::alloc::Allocator;

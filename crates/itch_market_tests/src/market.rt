@@ -151,7 +151,7 @@ fn with_states<B: OrderBook>(alloc: B::Alloc) -> Result<Market<B>, Fail> {
 }
 
 fn locates_of<B: OrderBook>(alloc: Global, market: &Market<B>) -> Result<Vec<u16>, AllocError> {
-    market.locates().again().collect(alloc)
+    market.locates().clone()?.collect(alloc)
 }
 
 fn check_states<A: Allocator>(rt: &impl Abort, security: &Security<A>) {
@@ -209,14 +209,14 @@ fn halts_of<A: Allocator>(
     alloc: Global,
     security: &Security<A>,
 ) -> Result<Vec<(u8, u8)>, AllocError> {
-    security.halts().again().collect(alloc)
+    security.halts().clone()?.collect(alloc)
 }
 
 fn positions_of<A: Allocator>(
     alloc: Global,
     security: &Security<A>,
 ) -> Result<Vec<(Alpha<4>, [u8; 3])>, AllocError> {
-    security.positions().again().collect(alloc)
+    security.positions().clone()?.collect(alloc)
 }
 
 fn check_halts<A: Allocator>(

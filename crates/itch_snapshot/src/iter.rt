@@ -1,5 +1,5 @@
 //! The snapshot list of a market, message by message.
-ghost use Rattle.std.specs.Prelude.{◌≡◌, ◌<◌, ◌^◌, List, [], ◌∷◌, MatchOption, length};
+ghost use Rattle.std.specs.Prelude.{◌≡◌, ◌<◌, ◌^◌, List, [], ◌∷◌, MatchOption, length, ⊤};
 ghost use Rattle.std.specs.Iterator.{YieldsFirst, item_count};
 ghost use Rattle.std.specs.List.{filter};
 ghost use Rattle.itch_codec.specs.declared.message.Message.{Message};
@@ -10,11 +10,11 @@ ghost use Rattle.itch_snapshot.specs.Cursor.{left, in_set, IsCursor};
 
 use crate::messages::{header_at, named, order_message};
 use crate::named_order::NamedOrder;
-use crate::states::{States, next_state, states_again};
+use crate::states::{States, next_state};
 use itch_book::OrderBook;
 use itch_codec::{Message, StockDirectory, SystemEvent};
 use itch_market::{LocateSet, Locates, Market};
-use std::alloc::Allocator;
+use std::alloc::{AllocError, Allocator};
 use std::marker::Model;
 
 /// The messages of a market's snapshot in their order, without the End of Snapshot: of the whole market, or of it cut down to
@@ -75,15 +75,28 @@ impl<'a, B: OrderBook> SnapshotIter<'a, B> {
         requires { length self.now < 2 ^ 64 }
         ensures { result ≡ length self.now }
     {
-        let rest = SnapshotIter {
-            market: self.market,
-            event: self.event,
-            states: states_again(&self.states),
-            order: self.order,
-            locates: self.locates.again(),
-            set: self.set,
+        let Ok(rest) = self.clone() else {
+            unreachable!()
         };
         rest.count() as u64
+    }
+}
+
+/// A second iterator over the messages that are still to come. It takes no memory.
+impl<B: OrderBook> Clone for SnapshotIter<'_, B> {
+    ghost is_clone = { λ messages copy. copy ≡ messages };
+
+    ghost is_infallible = { λ _. ⊤ };
+
+    fn clone(&self) -> Result<Self, AllocError> {
+        Ok(SnapshotIter {
+            market: self.market,
+            event: self.event,
+            states: self.states.clone()?,
+            order: self.order,
+            locates: self.locates.clone()?,
+            set: self.set,
+        })
     }
 }
 

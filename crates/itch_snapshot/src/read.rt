@@ -11,8 +11,7 @@ use crate::fault::SnapFault;
 use crate::reader::take;
 use itch_book::OrderBook;
 use itch_codec::Seq;
-use itch_frame::BlockReader;
-use itch_frame::counted::CountedRead;
+use itch_frame::{BlockReader, CountedRead};
 use itch_market::Market;
 use std::alloc::Allocator;
 

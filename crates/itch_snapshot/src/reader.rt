@@ -6,12 +6,9 @@ ghost use Rattle.itch_snapshot.specs.Stages.{opened};
 
 use crate::fault::SnapFault;
 use itch_book::OrderBook;
-use itch_codec::{Message, Seq, decode};
+use itch_codec::{MOST_MESSAGES, Message, Seq, decode};
 use itch_market::{LocateSet, Market, Refusal};
 use std::marker::Model;
-
-/// As many messages as a snapshot may have before its End of Snapshot: 10^19 - 1.
-const MOST: u64 = 9_999_999_999_999_999_999;
 
 /// How far the reading of a snapshot is.
 #[derive(Clone, Copy, Debug)]
@@ -160,7 +157,7 @@ fn message_of(payload: &[u8], taken: u64) -> Result<Message<'_>, SnapFault>
     ensures { IsNext taken payload.entry.now result }
 {
     let decoded = decode(payload);
-    if taken == MOST && !matches!(&decoded, Ok(Message::End { .. })) {
+    if taken == MOST_MESSAGES && !matches!(&decoded, Ok(Message::End { .. })) {
         return Err(SnapFault::TooManyMessages);
     }
     let place = taken + 1;

@@ -1,5 +1,5 @@
 //! What a snapshot says of a security between its directory entry and its orders.
-ghost use Rattle.std.specs.Prelude.{◌≡◌, List, [], ◌∷◌, MatchOption};
+ghost use Rattle.std.specs.Prelude.{◌≡◌, List, [], ◌∷◌, MatchOption, ⊤};
 ghost use Rattle.itch_codec.specs.declared.message.Message.{Message as MessageValue};
 ghost use Rattle.itch_snapshot.specs.Snapshot.{states_part};
 ghost use Rattle.itch_snapshot.specs.Cursor.{listed};
@@ -9,7 +9,7 @@ use itch_codec::{
     Alpha, Header, Message, OperationalHalt, ParticipantPosition, RegSho, TradingAction,
 };
 use itch_market::{Action, Halts, Positions, Security};
-use std::alloc::Allocator;
+use std::alloc::{AllocError, Allocator};
 use std::marker::Model;
 
 /// The messages of a security's trading states, halts and positions that are still to come.
@@ -33,6 +33,23 @@ impl<'a> Model for States<'a> {
     ghost view = { λ s. states_of s.locate s.stock s.action s.sho s.halts s.positions };
 }
 
+impl Clone for States<'_> {
+    ghost is_clone = { λ states copy. copy ≡ states };
+
+    ghost is_infallible = { λ _. ⊤ };
+
+    fn clone(&self) -> Result<Self, AllocError> {
+        Ok(States {
+            locate: self.locate,
+            stock: self.stock,
+            action: self.action,
+            sho: self.sho,
+            halts: self.halts.clone()?,
+            positions: self.positions.clone()?,
+        })
+    }
+}
+
 impl<'a> States<'a> {
     /// All of them are still to come.
     pub(crate) fn new<A: Allocator>(locate: u16, security: &'a Security<A>) -> States<'a>
@@ -45,20 +62,6 @@ impl<'a> States<'a> {
             sho: security.sho,
             halts: security.halts(),
             positions: security.positions(),
-        }
-    }
-
-    /// A second list of those that are left.
-    pub(crate) fn again(&self) -> States<'a>
-        ensures { result ≡ self.now }
-    {
-        States {
-            locate: self.locate,
-            stock: self.stock,
-            action: self.action,
-            sho: self.sho,
-            halts: self.halts.again(),
-            positions: self.positions.again(),
         }
     }
 
@@ -118,16 +121,6 @@ pub(crate) fn next_state<'m>(states: &mut Option<States<'_>>) -> Option<Message<
 {
     match states {
         Some(states) => states.take_first(),
-        None => None,
-    }
-}
-
-// A second list of those that are left, if there are any.
-pub(crate) fn states_again<'a>(states: &Option<States<'a>>) -> Option<States<'a>>
-    ensures { listed result ≡ listed states.now }
-{
-    match states {
-        Some(states) => Some(states.again()),
         None => None,
     }
 }

@@ -14,8 +14,7 @@ use crate::fault::SnapFault;
 use crate::iter::SnapshotIter;
 use itch_book::OrderBook;
 use itch_codec::{Message, Seq, encode};
-use itch_frame::counted::CountedWrite;
-use itch_frame::{FrameFault, write_block};
+use itch_frame::{CountedWrite, FrameFault, write_block};
 use itch_market::{LocateSet, Market};
 
 /// Writes the canonical bytes of a market and the block of an End of Snapshot with `next`, and returns the number of

@@ -2,9 +2,8 @@
 
 use itch_book::{IndexedBook, ListBook, Order, OrderBook};
 use itch_codec::{Alpha, Message, Seq, Side, decode, encode};
-use itch_frame::counted::Counted;
 use itch_frame::testing::FuseWriter;
-use itch_frame::{BlockReader, write_block};
+use itch_frame::{BlockReader, Counted, write_block};
 use itch_join::{Joiner, Live, Snap};
 use itch_market::{Market, Refusal};
 use itch_snapshot::{read_snapshot, same_market, snapshot_len, write_snapshot};

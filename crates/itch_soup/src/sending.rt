@@ -14,8 +14,7 @@ use crate::server::ServerSession;
 use byteorder::{BigEndian, ByteOrder};
 use itch_book::OrderBook;
 use itch_codec::{Message, Seq, encode};
-use itch_frame::counted::CountedWrite;
-use itch_frame::{FrameFault, write_block, write_part};
+use itch_frame::{CountedWrite, FrameFault, write_block, write_part};
 use itch_market::Market;
 use itch_snapshot::{SnapshotIter, snapshot_len};
 

@@ -13,8 +13,7 @@ use crate::sending::{messages_before_end, write_session};
 use crate::server::{ServerAct, ServerSession, judge};
 use itch_book::OrderBook;
 use itch_codec::Seq;
-use itch_frame::counted::{CountedRead, CountedWrite};
-use itch_frame::{BlockReader, write_block};
+use itch_frame::{BlockReader, CountedRead, CountedWrite, write_block};
 use itch_market::Market;
 use std::alloc::Allocator;
 

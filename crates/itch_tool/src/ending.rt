@@ -6,7 +6,7 @@ ghost use Rattle.itch_tool.specs.Sessions.{accepted_words, ending_words, connect
 
 use arrayvec::ArrayVec;
 use itch_commands::{ToolFault, write_text};
-use itch_frame::counted::CountedWrite;
+use itch_frame::CountedWrite;
 use itch_soup::Served;
 use itoa::Buffer;
 

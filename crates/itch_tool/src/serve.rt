@@ -8,19 +8,15 @@ ghost use Rattle.itch_commands.specs.Readings.{ReadsDay};
 use crate::connection::serve_stream;
 use crate::ending::write_ending;
 use itch_book::OrderBook;
-use itch_codec::Seq;
+use itch_codec::{MOST_MESSAGES, Seq};
 use itch_commands::{Book, Source, ToolFault, read_market, system_fault};
-use itch_frame::BlockReader;
-use itch_frame::counted::{CountedRead, CountedWrite};
+use itch_frame::{BlockReader, CountedRead, CountedWrite};
 use itch_market::Market;
 use itch_snapshot::snapshot_len;
 use itch_soup::ServerConfig;
 use std::alloc::{Alloc, Allocator};
 use std::net::{Ipv4Addr, Net, TcpListener, TcpStream};
 use std::rt::Clock;
-
-/// A snapshot with this many messages has no number left for its End of Snapshot's packet: 10^19 - 1.
-const TOO_MANY: u128 = 9_999_999_999_999_999_999;
 
 /// Serves the market of a day file on a port of 127.0.0.1, as [`serve_on`] does: the snapshot after all of its messages.
 ///
@@ -80,7 +76,7 @@ where
     R: Clock + Alloc + Net<Listener = TcpListener, Stream = TcpStream>,
     ensures { ServesMarket W.contents W.failures market.now next config.now count out.old result out.new }
 {
-    if snapshot_len(market) >= TOO_MANY {
+    if snapshot_len(market) >= u128::from(MOST_MESSAGES) {
         return Err(ToolFault::TooMany);
     }
     match listen(rt, port) {

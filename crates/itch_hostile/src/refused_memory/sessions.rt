@@ -5,9 +5,8 @@ use crate::sessions::{
 };
 use itch_book::{IndexedBook, ListBook, OrderBook};
 use itch_codec::Seq;
-use itch_frame::BlockReader;
-use itch_frame::counted::Counted;
 use itch_frame::testing::{FuseWriter, PieceReader};
+use itch_frame::{BlockReader, Counted};
 use itch_market::{Market, Refusal};
 use itch_snapshot::{SnapFault, same_market, snapshot_len};
 use itch_soup::{SoupFault, fetch_one, serve_one};

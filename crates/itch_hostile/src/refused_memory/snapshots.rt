@@ -1,9 +1,8 @@
 //! The messages of a snapshot taken one by one, a snapshot file read, and what takes no memory.
 use crate::files::{REPLACED, REPLACED_SNAPSHOT, blocks, market, seq};
 use itch_book::{IndexedBook, ListBook, OrderBook};
-use itch_frame::BlockReader;
-use itch_frame::counted::Counted;
 use itch_frame::testing::PieceReader;
+use itch_frame::{BlockReader, Counted};
 use itch_market::{Market, Refusal};
 use itch_snapshot::{
     SnapFault, SnapshotReader, part_place, read_snapshot, same_market, snapshot_len, write_snapshot,

@@ -349,6 +349,11 @@ fn largest_values_of_orders(rt: HostRuntime) {
         fields.order_executed_with_price(),
         "18446744073709551615 C 65535 65535 281474976710655 18446744073709551615 4294967295 18446744073709551615 ff 429496.7295\n",
     );
+}
+
+#[test]
+fn largest_values_of_changes(rt: HostRuntime) {
+    let fields = greatest(&rt);
     shown(
         &rt,
         u64::MAX,

@@ -1,8 +1,7 @@
 //! Replays that fail in the middle, and go on.
 use itch_book::{ListBook, OrderBook};
-use itch_frame::BlockReader;
-use itch_frame::counted::CountedRead;
 use itch_frame::testing::PieceReader;
+use itch_frame::{BlockReader, CountedRead};
 use itch_market::{Market, Refusal, Stop, replay, replay_first};
 use std::alloc::{Allocator, Global};
 use std::process::Abort;

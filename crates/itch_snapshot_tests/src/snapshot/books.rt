@@ -99,53 +99,55 @@ fn check<B: OrderBook>(
     check_snapshot(rt, alloc, &market, next, writer, file.snapshot)
 }
 
+// Files that end, what stands after them, and their snapshots.
+const WHOLE: [(&[&[u8]], &[u8], &[&[u8]]); 14] = [
+    (&[], b"", &[END_1]),
+    (&[EVENT, AAPL, ADD_1], b"", &[EVENT, AAPL, ADD_1, END_4]),
+    (
+        &[EVENT, AAPL, ADD_1],
+        b"\0\0\xde\xad\xbe\xef\x01",
+        &[EVENT, AAPL, ADD_1, END_4],
+    ),
+    (&[MAX, SELL_MAX], b"", &[MAX, SELL_MAX, END_3]),
+    (
+        &[AAPL, ADD_1, ADD_2_HIGHER, ADD_3, ADD_4_HIGHER],
+        b"",
+        &[AAPL, ADD_2_HIGHER, ADD_4_HIGHER, ADD_1, ADD_3, END_6],
+    ),
+    (
+        &[AAPL, ADD_2_HIGHER, ADD_4_HIGHER, ADD_1, ADD_3],
+        b"",
+        &[AAPL, ADD_2_HIGHER, ADD_4_HIGHER, ADD_1, ADD_3, END_6],
+    ),
+    (
+        &[AAPL, TRADES_0, ADD_7, EXECUTE_7, CANCEL_7],
+        b"",
+        &[AAPL, TRADES, ADD_7_OF_150, END_6],
+    ),
+    (
+        &[AAPL_LATER, TRADES_X, ADD_7_OF_150],
+        b"",
+        &[AAPL, TRADES, ADD_7_OF_150, END_4],
+    ),
+    (REPLACED, b"", REPLACED_SNAPSHOT),
+    (&[AAPL, ADD_1, DELETE_1, ADD_1], b"", &[AAPL, ADD_1, END_5]),
+    (&[AAPL, ADD_1, EXECUTE_0], b"", &[AAPL, ADD_1, END_4]),
+    (&[AAPL, ADD_1, EXECUTE_100], b"", &[AAPL, END_4]),
+    (
+        &[AAPL, ADD_1, AAPL_OF_200],
+        b"",
+        &[AAPL_OF_200, ADD_1, END_4],
+    ),
+    (
+        &[MSFT, EVENT, AAPL, RESTRICTS, TRADES],
+        b"",
+        &[EVENT, AAPL, TRADES, RESTRICTS, MSFT, END_6],
+    ),
+];
+
 // Checks the files that end.
 fn check_whole<B: OrderBook>(rt: &impl Abort, alloc: Global, memory: B::Alloc) -> Result<(), Fail> {
-    let files: [(&[&[u8]], &[u8], &[&[u8]]); 14] = [
-        (&[], b"", &[END_1]),
-        (&[EVENT, AAPL, ADD_1], b"", &[EVENT, AAPL, ADD_1, END_4]),
-        (
-            &[EVENT, AAPL, ADD_1],
-            b"\0\0\xde\xad\xbe\xef\x01",
-            &[EVENT, AAPL, ADD_1, END_4],
-        ),
-        (&[MAX, SELL_MAX], b"", &[MAX, SELL_MAX, END_3]),
-        (
-            &[AAPL, ADD_1, ADD_2_HIGHER, ADD_3, ADD_4_HIGHER],
-            b"",
-            &[AAPL, ADD_2_HIGHER, ADD_4_HIGHER, ADD_1, ADD_3, END_6],
-        ),
-        (
-            &[AAPL, ADD_2_HIGHER, ADD_4_HIGHER, ADD_1, ADD_3],
-            b"",
-            &[AAPL, ADD_2_HIGHER, ADD_4_HIGHER, ADD_1, ADD_3, END_6],
-        ),
-        (
-            &[AAPL, TRADES_0, ADD_7, EXECUTE_7, CANCEL_7],
-            b"",
-            &[AAPL, TRADES, ADD_7_OF_150, END_6],
-        ),
-        (
-            &[AAPL_LATER, TRADES_X, ADD_7_OF_150],
-            b"",
-            &[AAPL, TRADES, ADD_7_OF_150, END_4],
-        ),
-        (REPLACED, b"", REPLACED_SNAPSHOT),
-        (&[AAPL, ADD_1, DELETE_1, ADD_1], b"", &[AAPL, ADD_1, END_5]),
-        (&[AAPL, ADD_1, EXECUTE_0], b"", &[AAPL, ADD_1, END_4]),
-        (&[AAPL, ADD_1, EXECUTE_100], b"", &[AAPL, END_4]),
-        (
-            &[AAPL, ADD_1, AAPL_OF_200],
-            b"",
-            &[AAPL_OF_200, ADD_1, END_4],
-        ),
-        (
-            &[MSFT, EVENT, AAPL, RESTRICTS, TRADES],
-            b"",
-            &[EVENT, AAPL, TRADES, RESTRICTS, MSFT, END_6],
-        ),
-    ];
-    for (payloads, rest, snapshot) in files {
+    for (payloads, rest, snapshot) in WHOLE {
         let (count, stop) = (payloads.len() as u64, "end of input");
         let file = File {
             payloads,
@@ -158,6 +160,31 @@ fn check_whole<B: OrderBook>(rt: &impl Abort, alloc: Global, memory: B::Alloc) -
     }
     Ok(())
 }
+
+// Files whose last message is refused, why, and the snapshots of those before.
+const REFUSED: [(&[&[u8]], &str, &[&[u8]]); 5] = [
+    (
+        &[AAPL, ADD_1, ADD_1],
+        "duplicate reference",
+        &[AAPL, ADD_1, END_3],
+    ),
+    (
+        &[AAPL, ADD_1, EXECUTE_100, DELETE_1],
+        "unknown reference",
+        &[AAPL, END_4],
+    ),
+    (
+        &[AAPL, ADD_1, EXECUTE_101],
+        "too many shares, 100 remain",
+        &[AAPL, ADD_1, END_3],
+    ),
+    (
+        &[AAPL, ADD_1, CANCEL_40, PRICED_61],
+        "too many shares, 60 remain",
+        &[AAPL, ADD_1_OF_60, END_4],
+    ),
+    (&[AAPL, MSFT_AT_1], "stock mismatch", &[AAPL, END_2]),
+];
 
 // Checks the files whose last message is refused, or is no message.
 fn check_refused<B: OrderBook>(
@@ -184,30 +211,7 @@ fn check_refused<B: OrderBook>(
         };
         check::<B>(rt, alloc, memory, file)?;
     }
-    let files: [(&[&[u8]], &str, &[&[u8]]); 5] = [
-        (
-            &[AAPL, ADD_1, ADD_1],
-            "duplicate reference",
-            &[AAPL, ADD_1, END_3],
-        ),
-        (
-            &[AAPL, ADD_1, EXECUTE_100, DELETE_1],
-            "unknown reference",
-            &[AAPL, END_4],
-        ),
-        (
-            &[AAPL, ADD_1, EXECUTE_101],
-            "too many shares, 100 remain",
-            &[AAPL, ADD_1, END_3],
-        ),
-        (
-            &[AAPL, ADD_1, CANCEL_40, PRICED_61],
-            "too many shares, 60 remain",
-            &[AAPL, ADD_1_OF_60, END_4],
-        ),
-        (&[AAPL, MSFT_AT_1], "stock mismatch", &[AAPL, END_2]),
-    ];
-    for (payloads, stop, snapshot) in files {
+    for (payloads, stop, snapshot) in REFUSED {
         let count = (payloads.len() as u64).saturating_sub(1);
         let file = File {
             payloads,

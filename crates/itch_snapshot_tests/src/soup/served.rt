@@ -4,9 +4,8 @@ ghost use Rattle.std.specs.Prelude.{◌≤◌};
 use super::{alpha, seq};
 use itch_book::{ListBook, OrderBook};
 use itch_codec::Seq;
-use itch_frame::counted::CountedRead;
 use itch_frame::testing::{FuseWriter, PieceReader};
-use itch_frame::{BlockReader, FrameFault};
+use itch_frame::{BlockReader, CountedRead, FrameFault};
 use itch_market::{Market, replay};
 use itch_snapshot::{same_market, snapshot_len};
 use itch_soup::{
@@ -65,55 +64,57 @@ fn market<A: Allocator + Copy>(alloc: A) -> Result<Market<ListBook<A>>, AllocErr
     Ok(market)
 }
 
-// Logins, what they are answered, and the bytes of the answer.
-fn logins<'a>(rt: &impl Abort) -> [(&'a [u8], Served, &'a [u8]); 12] {
-    let accepted = |from, packets| Served::Accepted {
-        from: seq(rt, from),
-        packets,
-    };
-    [
-        (LOGIN_3, accepted(3, 3), FROM_3),
-        (LOGIN_1, accepted(1, 5), FROM_1),
-        (
-            b"\0\x2fLuser  secret                                 0",
-            accepted(1, 5),
-            FROM_1,
-        ),
-        (
-            b"\0\x2fLuser  secret                                  ",
-            accepted(1, 5),
-            FROM_1,
-        ),
-        (
-            b"\0\x01R\0\x01U\0\x01+\0\x2fLuser  secret                                 6",
-            accepted(6, 0),
-            FROM_6,
-        ),
-        (
-            b"\0\x2fLuser  secret                                 7",
-            Served::Rejected(b'S'),
-            b"\0\x02JS",
-        ),
-        (
-            b"\0\x2fLuser  wrong                                  3",
-            Served::Rejected(b'A'),
-            b"\0\x02JA",
-        ),
-        (
-            b"\0\x2fLuser  secret    OTHER                        3",
-            Served::Rejected(b'S'),
-            b"\0\x02JS",
-        ),
-        (
-            b"\0\x2fLUSER  secret    ITCHSNAP                     3",
-            accepted(3, 3),
-            FROM_3,
-        ),
-        (b"\0\x01O", Served::Left, b""),
-        (b"\0\x01R\0\x01O", Served::Left, b""),
-        (b"\0\x01R", Served::Left, b""),
-    ]
-}
+// Logins that are accepted, from which message on, how many packets follow, and the bytes of the answer.
+const ACCEPTED: [(&[u8], u64, u64, &[u8]); 6] = [
+    (LOGIN_3, 3, 3, FROM_3),
+    (LOGIN_1, 1, 5, FROM_1),
+    (
+        b"\0\x2fLuser  secret                                 0",
+        1,
+        5,
+        FROM_1,
+    ),
+    (
+        b"\0\x2fLuser  secret                                  ",
+        1,
+        5,
+        FROM_1,
+    ),
+    (
+        b"\0\x01R\0\x01U\0\x01+\0\x2fLuser  secret                                 6",
+        6,
+        0,
+        FROM_6,
+    ),
+    (
+        b"\0\x2fLUSER  secret    ITCHSNAP                     3",
+        3,
+        3,
+        FROM_3,
+    ),
+];
+
+// What else comes before a login or in its place, what it leads to, and the bytes of the answer.
+const NOT_ACCEPTED: [(&[u8], Served, &[u8]); 6] = [
+    (
+        b"\0\x2fLuser  secret                                 7",
+        Served::Rejected(b'S'),
+        b"\0\x02JS",
+    ),
+    (
+        b"\0\x2fLuser  wrong                                  3",
+        Served::Rejected(b'A'),
+        b"\0\x02JA",
+    ),
+    (
+        b"\0\x2fLuser  secret    OTHER                        3",
+        Served::Rejected(b'S'),
+        b"\0\x02JS",
+    ),
+    (b"\0\x01O", Served::Left, b""),
+    (b"\0\x01R\0\x01O", Served::Left, b""),
+    (b"\0\x01R", Served::Left, b""),
+];
 
 #[test]
 fn the_laws_of_sessions() {
@@ -158,7 +159,12 @@ fn check_login<B: OrderBook>(
 #[test]
 fn logins_are_served(rt: HostRuntime) -> Result<(), Fail> {
     let market = market(rt.alloc())?;
-    for (input, want, bytes) in logins(&rt) {
+    for (input, from, packets, bytes) in ACCEPTED {
+        let from = seq(&rt, from);
+        let want = Served::Accepted { from, packets };
+        check_login(&rt, rt.alloc(), &market, input, want, bytes)?;
+    }
+    for (input, want, bytes) in NOT_ACCEPTED {
         check_login(&rt, rt.alloc(), &market, input, want, bytes)?;
     }
     Ok(())
