@@ -23,14 +23,14 @@ def closing(number):
 
 
 def locates(count, seed=1):
-    """Directory entries at so many locates, in any order, and their snapshot."""
+    """Directory entries at `count` locates, in any order, and their snapshot."""
     order = list(range(count))
     random.Random(seed).shuffle(order)
     return b"".join(map(entry, order)), b"".join(map(entry, range(count))) + closing(count + 1)
 
 
 def orders(count, symbols=8000, seed=1):
-    """So many orders, all of which stay live, and their snapshot: by locate, bids from the highest price and then asks from
+    """`count` orders, all of which stay live, and their snapshot: by locate, bids from the highest price and then asks from
     the lowest, each price in order of arrival."""
     rng = random.Random(seed)
     entries = [entry(locate) for locate in range(1, symbols + 1)]

@@ -43,7 +43,7 @@ def connect(port):
 
 
 class Server:
-    """`serve` of a file to so many connections."""
+    """`serve` of a file to `count` connections."""
 
     def __init__(self, program, file, count):
         self.port = free_port()

@@ -10,6 +10,7 @@ ghost use Rattle.itch_commands.specs.Joining.{ReadsFeed};
 
 use crate::fault::{Source, ToolFault};
 use itch_book::OrderBook;
+use itch_codec::MOST_MESSAGES;
 use itch_frame::{BlockReader, CountedRead};
 use itch_join::{Cause, JoinFault, Joiner};
 use itch_market::{Refusal, ReplayEnd, Stop};

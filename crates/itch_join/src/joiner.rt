@@ -15,6 +15,7 @@ use crate::position::{Position, advance, drain};
 use crate::state::{Halt, LiveCase, Stopped};
 use crate::waiting::Waiting;
 use itch_book::OrderBook;
+use itch_codec::{GREATEST_SEQ, MOST_MESSAGES};
 use itch_market::{LocateSet, Market, Refusal};
 use itch_snapshot::{SnapFault, SnapshotReader};
 use std::marker::Model;
