@@ -30,6 +30,6 @@ pub mod testing;
 mod writer;
 
 pub use fault::FrameFault;
-pub use reader::{BlockReader, Stage};
+pub use reader::BlockReader;
 pub use splitter::Splitter;
 pub use writer::{write_block, write_part};
