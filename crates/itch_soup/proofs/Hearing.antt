@@ -1,14 +1,13 @@
 -- What a client has heard so far, and one packet more.
-use Rattle.std.proofs.Common.{◌≡◌, ℕ, suc, ◌+◌, ◌-◌, ◌^◌, ◌≤◌, ◌==◌, nat_lt, Bool, true, false, List, [], ◌∷◌, ◌++◌, map, length, drop, Option, None, Some, Ok, Err, refl, sym, ap, subst, ◌∙◌, append-nil, arith, length-append}
+use Rattle.std.proofs.Common.{◌≡◌, ℕ, ◌+◌, ◌-◌, ◌^◌, ◌≤◌, ◌==◌, nat_lt, Bool, true, false, List, [], ◌∷◌, ◌++◌, map, length, drop, Option, None, Some, Ok, Err, refl, sym, ap, subst, ◌∙◌, append-nil, arith, length-append}
 use Rattle.std.proofs.lemmas.Bool.Decides.{nat_tests}
 use Rattle.std.proofs.lemmas.List.{length-map, length-drop}
 use Rattle.std.specs.List.{AllByRecursion}
 use Rattle.std.specs.Option.{is_some}
 use Rattle.std.specs.Io.KnownBytes.{Consumes}
 use Rattle.std.proofs.KnownBytes.{Consumes-nil}
-use Rattle.itch_codec.specs.Messages.{fault, message_of}
+use Rattle.itch_codec.specs.Messages.{message_of}
 use Rattle.itch_codec.specs.Widths.{IsMessage}
-use Rattle.itch_codec.proofs.Spelling.{Spells-message_of}
 use Rattle.itch_frame.specs.Blocks.{IsPayload, block, blocks}
 use Rattle.itch_frame.proofs.BlockLemmas.{each-push}
 use Rattle.itch_book.proofs.Lists.{All-map_rec}
@@ -20,10 +19,10 @@ use Rattle.itch_market.specs.Stops.{cause}
 use Rattle.itch_market.specs.Replays.{NoCause, Fits}
 use Rattle.itch_market.proofs.GoodMarkets.{effect_good}
 use Rattle.itch_market.proofs.Laid.{effect-laid}
-use Rattle.itch_market.proofs.Causes.{cause-laid, no_reason, no_fault, none_more, none_follows, after_more}
+use Rattle.itch_market.proofs.Causes.{cause-laid, no_reason, none_clean, none_more, none_follows, after_more}
 use Rattle.itch_snapshot.specs.declared.reader.Stage.TheVariants.{Taking, Closed}
-use Rattle.itch_snapshot.specs.Files.{AreSpelled}
 use Rattle.itch_snapshot.specs.TakenMessages.{Load, begun, Loads, TakesAt, TakesNext, Finishes, closing_number}
+use Rattle.itch_snapshot.proofs.Decided.{clean_spelled}
 use Rattle.itch_snapshot.proofs.FileLemmas.{Spells-number}
 use Rattle.itch_soup.specs.declared.connection.Stage.{Stage}
 use Rattle.itch_soup.specs.declared.connection.Stage.TheVariants as stage
@@ -147,14 +146,6 @@ applied_on ps taken n k p applied (room, (clean, fits, next)) =
     } where
       not_last : (c : ℕ) → c ≤ 10 ^ 19 - 1 → (c == 10 ^ 19 - 1) ≡ false → c + 1 ≤ 10 ^ 19 - 1
       not_last c few room = grind (arith, nat_tests)
-
-none_clean : (m : Content) (ps : List (List ℕ)) → NoCause m ps → AllByRecursion (λ p. fault p ≡ None) ps
-none_clean m [] none = tt
-none_clean m (p ∷ ps) none = (no_fault m p (none 0 (omega arith)), none_clean (effect m (message_of p)) ps (λ k within. none (suc k) (omega arith)))
-
-clean_spelled : (ps : List (List ℕ)) → AllByRecursion (λ p. fault p ≡ None) ps → AreSpelled (map message_of ps) ps
-clean_spelled [] clean = tt
-clean_spelled (p ∷ ps) clean = (Spells-message_of p clean.0, clean_spelled ps clean.1)
 
 closes : (ps : List (List ℕ)) (taken : ℕ) (n : Content) (p : List ℕ) (next : ℕ) → Applied ps taken n → closing_number p ≡ Some next → SpellsSnapshot (ps ++ p ∷ []) (map message_of ps) next
 closes ps taken n p next applied number = record {

@@ -11,8 +11,8 @@ use Rattle.itch_soup.specs.declared.serve.Opening.TheVariants.{Login, Leave}
 use Rattle.itch_soup.specs.Packets.{PacketSpells, packet_fault}
 use Rattle.itch_soup.specs.Serving.{is_enough, IsIdle, EndsWait, WaitsOn, Wait, WaitsForLogin, IsDecidedWait}
 use Rattle.itch_soup.proofs.Faultless.{faultless-spelled}
-use Rattle.itch_soup.proofs.OneWait.{Front, front}
-use Rattle.itch_soup.proofs.SomeFetch.{OfBlock, of_block}
+use Rattle.itch_soup.proofs.FrontBlocks.{Front, front}
+use Rattle.itch_soup.proofs.BlockFaults.{OfBlock, of_block, of_each}
 use Rattle.itch_soup.proofs.Waiting.{Waiting, waiting_first, waiting_on, waiting_ends}
 
 -- the next packet is passed over, and fewer bytes are left; or the wait ends
@@ -30,21 +30,15 @@ module _ (q more : List ℕ) (fits : IsPayload q) where
   Here = Outcome false (block q ++ more)
 
   faulty : (f : SoupFault) → packet_fault q Client ≡ Some f → OfBlock (Some f) → Here
-  faulty broke.EmptyPacket e h = inr (Some more, Err broke.EmptyPacket, (refl, (q, fits, refl, e)), tt)
-  faulty (broke.UnknownType kind) e h = inr (Some more, Err (broke.UnknownType kind), (refl, (q, fits, refl, e)), tt)
-  faulty (broke.WrongSide kind) e h = inr (Some more, Err (broke.WrongSide kind), (refl, (q, fits, refl, e)), tt)
-  faulty (broke.WrongLength kind want got) e h = inr (Some more, Err (broke.WrongLength kind want got), (refl, (q, fits, refl, e)), tt)
-  faulty (broke.BadText offset) e h = inr (Some more, Err (broke.BadText offset), (refl, (q, fits, refl, e)), tt)
-  faulty (broke.BadNumber offset) e h = inr (Some more, Err (broke.BadNumber offset), (refl, (q, fits, refl, e)), tt)
-  faulty broke.SecondLogin e h = absurd h
-  faulty (broke.Early kind) e h = absurd h
-  faulty broke.Closed e h = absurd h
-  faulty broke.TooManyMessages e h = absurd h
-  faulty (broke.Frame f) e h = absurd h
-  faulty (broke.Rejected code) e h = absurd h
-  faulty (broke.WrongStart next) e h = absurd h
-  faulty broke.EndedEarly e h = absurd h
-  faulty (broke.Snapshot f) e h = absurd h
+  faulty f e h =
+      of_each (λ f. packet_fault q Client ≡ Some f → Here)
+      (λ e. inr (Some more, Err broke.EmptyPacket, (refl, (q, fits, refl, e)), tt))
+      (λ kind e. inr (Some more, Err (broke.UnknownType kind), (refl, (q, fits, refl, e)), tt))
+      (λ kind e. inr (Some more, Err (broke.WrongSide kind), (refl, (q, fits, refl, e)), tt))
+      (λ kind want got e. inr (Some more, Err (broke.WrongLength kind want got), (refl, (q, fits, refl, e)), tt))
+      (λ offset e. inr (Some more, Err (broke.BadText offset), (refl, (q, fits, refl, e)), tt))
+      (λ offset e. inr (Some more, Err (broke.BadNumber offset), (refl, (q, fits, refl, e)), tt))
+      f h e
 
   passed_over : (packet : Packet) → PacketSpells packet q Client → IsIdle packet → Here
   passed_over packet spelled idle =
