@@ -13,14 +13,14 @@ use std::marker::Model;
 /// As many messages as a snapshot may have before its End of Snapshot: 10^19 - 1.
 const MOST: u64 = 9_999_999_999_999_999_999;
 
-/// How far the reading of a snapshot is.
-#[derive(Clone, Copy, Debug)]
-pub enum Stage {
-    /// Messages are taken.
+// How far the reading of a snapshot is.
+#[derive(Clone, Copy)]
+pub(crate) enum Stage {
+    // Messages are taken.
     Taking,
-    /// A message was not taken; every further one has the same fault.
+    // A message was not taken; every further one has the same fault.
     Broken(SnapFault),
-    /// The End of Snapshot came, with the number of the first message that the snapshot does not contain.
+    // The End of Snapshot came, with the number of the first message that the snapshot does not contain.
     Closed(Seq),
 }
 

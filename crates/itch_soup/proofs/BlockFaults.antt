@@ -2,6 +2,7 @@
 use Rattle.std.proofs.Common.{ℕ, ◌+◌, ◌==◌, Bool, true, false, List, [], ◌∷◌, length, Option, Some, None}
 use Rattle.std.specs.Prelude.{if◌then◌else◌, unwrap_or}
 use Rattle.std.specs.Option.{option_map}
+use Rattle.itch_codec.specs.Fields.{first_of}
 use Rattle.itch_codec.specs.Layouts.{Class, Integer, Price, Text, OneSide, Code, Codes, Digits}
 use Rattle.itch_codec.specs.Numbers.{slice_at, read20}
 use Rattle.itch_codec.specs.Text.{first_unprintable}
@@ -9,7 +10,7 @@ use Rattle.itch_soup.specs.declared.fault.SoupFault.{SoupFault}
 use Rattle.itch_soup.specs.declared.fault.SoupFault.TheVariants as broke
 use Rattle.itch_soup.specs.declared.origin.Origin.{Origin}
 use Rattle.itch_soup.specs.PacketTable.{Part, Field, Request, Rest, PacketType, type_of, sends}
-use Rattle.itch_soup.specs.Packets.{packet_fault, first_of, number_fault, requested, class_fault, part_fault, parts_fault, size_fault, fault_by_type}
+use Rattle.itch_soup.specs.Packets.{packet_fault, number_fault, requested, class_fault, part_fault, parts_fault, size_fault, fault_by_type}
 
 -- the faults of a block
 abbrev pub OfBlock : Option SoupFault → Type 0

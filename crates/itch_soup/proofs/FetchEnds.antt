@@ -1,24 +1,21 @@
 -- What stands at the front ends a fetch in one way.
 use Rattle.std.proofs.Common.{◌≡◌, ℕ, ◌+◌, ◌-◌, ◌==◌, Bool, true, false, List, ◌++◌, map, length, Option, Some, None, Result, Ok, Err, refl, sym, ap, subst, ◌∙◌, inl, inr, arith}
 use Rattle.std.proofs.lemmas.Bool.Decides.{nat_tests}
-use Rattle.std.specs.Option.{option_map}
 use Rattle.itch_codec.specs.Numbers.{byte_at}
 use Rattle.itch_codec.specs.Messages.{message_of}
 use Rattle.itch_frame.specs.Blocks.{IsPayload, block, HasNoBlock}
 use Rattle.itch_frame.specs.declared.fault.FrameFault.TheVariants.{Read, Truncated, Write, TooLong}
-use Rattle.itch_market.specs.declared.refusal.Refusal.{Refusal}
 use Rattle.itch_market.specs.declared.stop.Stop.{Stop}
 use Rattle.itch_market.specs.declared.stop.Stop.TheVariants as stop
 use Rattle.itch_market.specs.Content.{Content, laid}
-use Rattle.itch_market.specs.Effects.{takes_memory}
-use Rattle.itch_market.specs.Reasons.{reason}
 use Rattle.itch_market.specs.Runs.{run}
 use Rattle.itch_market.specs.Stops.{cause_by, cause}
-use Rattle.itch_market.specs.Replays.{IsRefusal, Refuses, IsDecided}
+use Rattle.itch_market.proofs.Decided.{refused}
 use Rattle.itch_snapshot.specs.declared.fault.SnapFault.{SnapFault}
 use Rattle.itch_snapshot.specs.declared.fault.SnapFault.TheVariants as snap
 use Rattle.itch_snapshot.specs.TakenMessages.{Load, Loads, number_by, closing_number, is_full}
 use Rattle.itch_snapshot.specs.Reads.{IsDecidedFault}
+use Rattle.itch_frame.proofs.Fronts.{Front, front}
 use Rattle.itch_soup.specs.declared.client.ClientAct.{ClientAct}
 use Rattle.itch_soup.specs.declared.client.ClientAct.TheVariants as act
 use Rattle.itch_soup.specs.declared.fault.SoupFault.{SoupFault}
@@ -30,7 +27,7 @@ use Rattle.itch_soup.specs.Clients.{Client, client_answer}
 use Rattle.itch_soup.specs.Serving.{ReadsBlock}
 use Rattle.itch_soup.specs.Fetching.{HearsPacket, IsRefused, EndsFetch, EndsOtherwise, load_of, IsDecidedFetch}
 use Rattle.itch_soup.proofs.Unique.{packet_at, packet_at-spelled, spelled-none}
-use Rattle.itch_soup.proofs.FrontBlocks.{the_block, some_block, no_bytes, ends_by, cut_off, Front, front}
+use Rattle.itch_soup.proofs.FrontBlocks.{the_block, some_block, no_bytes, ends_by, cut_off}
 
 abbrev pub Answer : Type 0
 Answer = Result (Content × ℕ) SoupFault
@@ -94,14 +91,7 @@ said_there : (enough : Bool) (c : Client) (ps : List (List ℕ)) (q rest : List 
     → at_block enough c ps q ≡ by_answer wanted ps
 said_there enough c ps q rest new wanted fits heard = let (answer, there, same) = heard_there enough c ps q rest new (λ answer. answer ≡ wanted) fits heard in there ∙ ap (λ a. by_answer a ps) same
 
--- a message that is refused, and not for want of memory, is refused for its reason
-refused : (m : Content) (p : List ℕ) (why : Refusal) → IsDecided (stop.Rule why) → Refuses m p why → cause m p ≡ Some (stop.Rule why)
-refused m p why decided (clean, refusal) = ap (λ o. cause_by o m p) clean ∙ ap (option_map stop.Rule) (by_reason (reason m (message_of p)) refusal) where
-  by_reason : (r : Option Refusal) → IsRefusal r (takes_memory m (message_of p)) why → r ≡ Some why
-  by_reason None (wanting, takes) = absurd (subst (λ w. IsDecided (stop.Rule w)) wanting decided)
-  by_reason (Some r) same = ap Some (sym same)
-
-pub open_there : (ps : List (List ℕ)) (p : List ℕ) (full : Bool) → closing_number p ≡ None → is_full (length ps) ≡ full → by_number (closing_number p) ps p ≡ by_room full ps p
+open_there : (ps : List (List ℕ)) (p : List ℕ) (full : Bool) → closing_number p ≡ None → is_full (length ps) ≡ full → by_number (closing_number p) ps p ≡ by_room full ps p
 open_there ps p full none room = ap (λ o. by_number o ps p) none ∙ ap (λ b. by_room b ps p) room
 
 refusal_there : (f : SnapFault) (ps : List (List ℕ)) (n : ℕ) (p : List ℕ) (load : Load) → Loads (load_of ps) p (Err f) load → IsDecidedFault f → by_answer (act.Data n p) ps ≡ Some (Err (broke.Snapshot f))
@@ -216,8 +206,8 @@ ends_at_end (Err f) enough c ps b none (new, load, inr ends) decided = otherwise
 pub same_end : (enough : Bool) (c : Client) (ps : List (List ℕ)) (b : List ℕ) (r s : Answer) → EndsHere enough c ps b r → EndsHere enough c ps b s → IsDecidedFetch r → IsDecidedFetch s → r ≡ s
 same_end enough c ps b r s h k decided certain = by_front (front b) where
   by_front : Front b → r ≡ s
-  by_front (inl (q, rest, fits, is)) =
+  by_front (inr (q, rest, fits, is)) =
       let left : at_block enough c ps q ≡ Some r = ends_there r enough c ps q rest fits (subst (λ b. EndsHere enough c ps b r) is h) decided in
       let right : at_block enough c ps q ≡ Some s = ends_there s enough c ps q rest fits (subst (λ b. EndsHere enough c ps b s) is k) certain in
       let both : Some r ≡ Some s = sym left ∙ right in cc
-  by_front (inr none) = ends_at_end r enough c ps b none h decided ∙ sym (ends_at_end s enough c ps b none k certain)
+  by_front (inl none) = ends_at_end r enough c ps b none h decided ∙ sym (ends_at_end s enough c ps b none k certain)

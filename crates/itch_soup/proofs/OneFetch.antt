@@ -1,8 +1,7 @@
 -- The bytes that answer a login end a fetch in one way.
-use Rattle.std.proofs.Common.{◌≡◌, ℕ, zero, suc, ◌+◌, ◌-◌, ◌^◌, ◌≤◌, ◌<◌, Bool, true, false, List, [], ◌∷◌, ◌++◌, map, length, Option, Some, None, Ok, Err, refl, sym, ap, subst, ◌∙◌, append_assoc, append-nil, arith, length-append}
+use Rattle.std.proofs.Common.{◌≡◌, ℕ, suc, ◌+◌, ◌-◌, ◌^◌, ◌≤◌, ◌<◌, Bool, true, false, List, [], ◌∷◌, ◌++◌, map, length, Option, Some, None, Ok, Err, refl, sym, ap, subst, ◌∙◌, append_assoc, append-nil, arith, length-append}
 use Rattle.std.proofs.lemmas.Bool.Decides.{nat_tests}
 use Rattle.std.specs.List.{AllByRecursion}
-use Rattle.std.specs.Option.{option_map}
 use Rattle.itch_codec.specs.declared.message.Message.{Message}
 use Rattle.itch_codec.specs.declared.message.Message.TheVariants as message
 use Rattle.itch_codec.specs.Messages.{message_of}
@@ -10,17 +9,16 @@ use Rattle.itch_codec.specs.Widths.{IsMessage}
 use Rattle.itch_codec.proofs.Spelling.{fault-Spells, message_of-Spells}
 use Rattle.itch_frame.specs.Blocks.{IsPayload, block, blocks}
 use Rattle.itch_market.specs.declared.stop.Stop.TheVariants as stop
-use Rattle.itch_market.specs.Content.{Content, empty, laid}
+use Rattle.itch_market.specs.Content.{empty, laid}
 use Rattle.itch_market.specs.Effects.{effect}
-use Rattle.itch_market.specs.Reasons.{reason}
-use Rattle.itch_market.specs.Runs.{run, FollowsFrom}
-use Rattle.itch_market.specs.Stops.{cause_by, cause}
+use Rattle.itch_market.specs.Runs.{run}
+use Rattle.itch_market.specs.Stops.{cause}
 use Rattle.itch_market.specs.Replays.{NoCause, Fits}
 use Rattle.itch_market.proofs.GoodMarkets.{empty_good}
 use Rattle.itch_market.proofs.Causes.{after_more}
 use Rattle.itch_snapshot.specs.Files.{AreSpelled}
 use Rattle.itch_snapshot.specs.TakenMessages.{number_by, number_in, closing_number, is_full}
-use Rattle.itch_snapshot.proofs.FileLemmas.{spelled_is}
+use Rattle.itch_snapshot.proofs.FileLemmas.{spelled_none, spelled_is}
 use Rattle.itch_soup.specs.declared.client.ClientAct.{ClientAct}
 use Rattle.itch_soup.specs.declared.client.ClientAct.TheVariants as act
 use Rattle.itch_soup.specs.declared.origin.Origin.TheVariants.{Server}
@@ -141,16 +139,6 @@ module _ (tail all : List (List ℕ)) (b : List ℕ) (r : Answer) (close : (p : 
       subst (λ t. Reaches k c ps t r) (sym (append_assoc (block q) (blocks read) b))
       (step (client_answer c x) k c x xs q read ps qs at n few spelled.0.0 spelled.0.1 refl (next_heard at n (client_answer c x) (news later xs) (qs ++ tail) acts) none fit less whole
       (reaches xs read (k + 1) later (omega (arith, few)) spelled.1 (λ gone. subst (λ k. EndsHere (is_enough k) (after_packets later xs) all b r) same (stop gone))))
-
--- payloads whose messages follow the order rules are all taken
-spelled_none : (m : Content) (ms : List Message) (ps : List (List ℕ)) → AreSpelled ms ps → FollowsFrom m ms → NoCause m ps
-spelled_none m [] [] spelled follows k within = absurd (omega arith)
-spelled_none m [] (p ∷ ps) spelled follows k within = absurd spelled
-spelled_none m (x ∷ xs) [] spelled follows k within = absurd spelled
-spelled_none m (x ∷ xs) (p ∷ ps) spelled follows zero within =
-    ap (λ f. cause_by f m p) (fault-Spells x p spelled.0) ∙ ap (option_map stop.Rule) (ap (reason m) (sym (message_of-Spells x p spelled.0)) ∙ follows.0)
-spelled_none m (x ∷ xs) (p ∷ ps) spelled follows (suc k) within =
-    spelled_none (effect m (message_of p)) xs ps spelled.1 (subst (λ y. FollowsFrom (effect m y) xs) (message_of-Spells x p spelled.0) follows.1) k (omega arith)
 
 spelled_fits : (ms : List Message) (ps : List (List ℕ)) → AreSpelled ms ps → AllByRecursion IsMessage ms → AllByRecursion Fits ps
 spelled_fits [] [] spelled fit = tt

@@ -6,6 +6,7 @@ use Rattle.itch_codec.specs.Numbers.{byte_at}
 use Rattle.itch_frame.specs.Blocks.{IsPayload, block, blocks, HasNoBlock}
 use Rattle.itch_frame.specs.declared.fault.FrameFault.TheVariants.{Read, Truncated, Write, TooLong}
 use Rattle.itch_frame.proofs.BlockLemmas.{same_block}
+use Rattle.itch_frame.proofs.Fronts.{Front, front}
 use Rattle.itch_soup.specs.declared.serve.Opening.TheVariants.{Login, Leave}
 use Rattle.itch_soup.specs.declared.fault.SoupFault.{SoupFault}
 use Rattle.itch_soup.specs.declared.fault.SoupFault.TheVariants as broke
@@ -15,7 +16,7 @@ use Rattle.itch_soup.specs.declared.packet.Packet.TheVariants as is
 use Rattle.itch_soup.specs.Packets.{PacketSpells, packet_fault}
 use Rattle.itch_soup.specs.Serving.{is_enough, ReadsBlock, IsPassedOver, IsIdle, EndsWait, Wait, WaitsForLogin, IsDecidedWait}
 use Rattle.itch_soup.proofs.Unique.{packet_at, packet_at-spelled, spelled-none}
-use Rattle.itch_soup.proofs.FrontBlocks.{the_block, some_block, no_bytes, ends_by, cut_off, Front, front}
+use Rattle.itch_soup.proofs.FrontBlocks.{the_block, some_block, no_bytes, ends_by, cut_off}
 
 -- how a client's packet ends the wait; one that is passed over does not
 abbrev wait_by : Packet → Wait
@@ -100,10 +101,10 @@ end_wait enough b new (Err (broke.Snapshot f)) none (room, read) decided = absur
 same_end : (enough : Bool) (b : List ℕ) (new other : Option (List ℕ)) (w v : Wait) → EndsWait enough (Some b) new w → EndsWait enough (Some b) other v → IsDecidedWait w → IsDecidedWait v → w ≡ v
 same_end enough b new other w v h k decided certain = by_front (front b) where
   by_front : Front b → w ≡ v
-  by_front (inl (q, rest, fits, is)) =
+  by_front (inr (q, rest, fits, is)) =
       block_wait enough q rest new w fits (subst (λ c. EndsWait enough (Some c) new w) is h) decided
       ∙ sym (block_wait enough q rest other v fits (subst (λ c. EndsWait enough (Some c) other v) is k) certain)
-  by_front (inr none) = end_wait enough b new w none h decided ∙ sym (end_wait enough b other v none k certain)
+  by_front (inl none) = end_wait enough b new w none h decided ∙ sym (end_wait enough b other v none k certain)
 
 idle_wait : (packet : Packet) → IsIdle packet → wait_by packet ≡ Err broke.Closed
 idle_wait (is.Debug payload) idle = refl

@@ -25,6 +25,7 @@ use Rattle.itch_snapshot.specs.declared.fault.SnapFault.TheVariants as snap
 use Rattle.itch_snapshot.specs.declared.reader.Stage.TheVariants as at
 use Rattle.itch_snapshot.specs.TakenMessages.{Load, Loads, TakesAt, begun, closing_number, is_full, stage_after, Finishes}
 use Rattle.itch_snapshot.specs.Reads.{IsDecidedFault}
+use Rattle.itch_frame.proofs.Fronts.{Front, front}
 use Rattle.itch_soup.specs.declared.client.ClientAct.{ClientAct}
 use Rattle.itch_soup.specs.declared.client.ClientAct.TheVariants as act
 use Rattle.itch_soup.specs.declared.connection.Stage.{Stage}
@@ -40,7 +41,6 @@ use Rattle.itch_soup.specs.Serving.{is_enough}
 use Rattle.itch_soup.specs.Fetching.{HearsNext, TakesAnswer, IsRefused, Receives, IsDecidedFetch}
 use Rattle.itch_soup.proofs.Faultless.{faultless-spelled}
 use Rattle.itch_soup.proofs.Hearing.{Hearing, hearing_first, hearing_on, hearing_closed, hearing_ends, turn_shows, Shows}
-use Rattle.itch_soup.proofs.FrontBlocks.{Front, front}
 use Rattle.itch_soup.proofs.BlockFaults.{OfBlock, of_block, of_each}
 
 -- a session's own faults are decided by what is received
@@ -207,8 +207,8 @@ module _ (c : Client) (load : Load) (taking : load.stage ≡ at.Taking) (q more 
 outcome : (enough : Bool) (c : Client) (load : Load) (rest : List ℕ) → load.stage ≡ at.Taking → AreBytes rest → Outcome enough c load rest
 outcome enough c load rest taking bytes = by_front (front rest) where
   by_front : Front rest → Outcome enough c load rest
-  by_front (inl (q, more, fits, is)) = subst (Outcome enough c load) (sym is) (here c load taking q more fits (subst AreBytes is bytes) enough)
-  by_front (inr none) = at_end enough c load rest none
+  by_front (inr (q, more, fits, is)) = subst (Outcome enough c load) (sym is) (here c load taking q more fits (subst AreBytes is bytes) enough)
+  by_front (inl none) = at_end enough c load rest none
 
 abbrev Answered : Client → List ℕ → Type 0
 Answered start bytes = (left : Option (List ℕ)) × (r : Result (Content × ℕ) SoupFault) × Receives start (Some bytes) left r × IsDecidedFetch r

@@ -2,6 +2,7 @@
 use Rattle.std.proofs.Common.{◌≡◌, ℕ, zero, suc, ◌+◌, ◌<◌, ◌⊎◌, Bool, true, false, List, [], ◌∷◌, ◌++◌, length, Option, Some, None, Ok, Err, refl, sym, subst, inl, inr, arith, rules, length-append}
 use Rattle.itch_frame.specs.Blocks.{IsPayload, block, HasNoBlock}
 use Rattle.itch_frame.specs.declared.fault.FrameFault.TheVariants.{Truncated}
+use Rattle.itch_frame.proofs.Fronts.{Front, front}
 use Rattle.itch_soup.specs.declared.fault.SoupFault.{SoupFault}
 use Rattle.itch_soup.specs.declared.fault.SoupFault.TheVariants as broke
 use Rattle.itch_soup.specs.declared.origin.Origin.TheVariants.{Client}
@@ -11,7 +12,6 @@ use Rattle.itch_soup.specs.declared.serve.Opening.TheVariants.{Login, Leave}
 use Rattle.itch_soup.specs.Packets.{PacketSpells, packet_fault}
 use Rattle.itch_soup.specs.Serving.{is_enough, IsIdle, EndsWait, WaitsOn, Wait, WaitsForLogin, IsDecidedWait}
 use Rattle.itch_soup.proofs.Faultless.{faultless-spelled}
-use Rattle.itch_soup.proofs.FrontBlocks.{Front, front}
 use Rattle.itch_soup.proofs.BlockFaults.{OfBlock, of_block, of_each}
 use Rattle.itch_soup.proofs.Waiting.{Waiting, waiting_first, waiting_on, waiting_ends}
 
@@ -67,8 +67,8 @@ module _ (q more : List ℕ) (fits : IsPayload q) where
 outcome : (enough : Bool) (rest : List ℕ) → Outcome enough rest
 outcome enough rest = by_front (front rest) where
   by_front : Front rest → Outcome enough rest
-  by_front (inl (q, more, fits, is)) = subst (Outcome enough) (sym is) (here q more fits enough)
-  by_front (inr none) = at_end enough rest none
+  by_front (inr (q, more, fits, is)) = subst (Outcome enough) (sym is) (here q more fits enough)
+  by_front (inl none) = at_end enough rest none
 
 abbrev Found : List ℕ → Type 0
 Found bytes = (left : Option (List ℕ)) × (wait : Wait) × WaitsForLogin (Some bytes) left wait × IsDecidedWait wait
