@@ -8,7 +8,7 @@ use Rattle.itch_book.specs.declared.order.Order.{Order}
 use Rattle.itch_book.specs.StableLists.{IsInOrder}
 use Rattle.itch_book.specs.Orders.{is_level, is_of, is_in, is_worse, is_next, same_side, first, stands_before, has_reference, get, following, next_in, after, IsBook}
 use Rattle.itch_book.specs.Queued.{Seen, found, shown}
-use Rattle.itch_book.specs.Indexed.{Place, orders_in, line_at, indexed, node_of, IsIndexed}
+use Rattle.itch_book.specs.Indexed.{Place, orders_in, indexed, node_of, IsIndexed}
 use Rattle.itch_book.proofs.Lists.{by_test, All-weaker_rec, All-both_rec, All-found_rec, found_passes}
 use Rattle.itch_book.proofs.Distinct.{own_reference, find_first}
 use Rattle.itch_book.proofs.StableLemmas.{not_itself}
@@ -18,6 +18,7 @@ use Rattle.itch_book.proofs.QueueSteps.{same_some, inj}
 use Rattle.itch_book.proofs.IndexSteps.{level_is, level_own, get_some}
 use Rattle.itch_book.proofs.PutLemmas.{level_says}
 use Rattle.itch_book.proofs.FrontLemmas.{find_wider, find_alike, find_none, none_find, in_sides, sides_apart}
+use Rattle.itch_book.proofs.IndexLemmas.{line_at}
 
 -- the orders after one do not stand before it
 back_of : (r : ℕ) (xs : List Order) (x : Order) → IsInOrder stands_before xs → get xs r ≡ Some x → AllByRecursion (λ z. stands_before z x ≡ false) (following r xs)

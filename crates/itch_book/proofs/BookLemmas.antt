@@ -5,10 +5,10 @@ use Rattle.std.proofs.lemmas.Bool.{cond_both}
 use Rattle.std.proofs.lemmas.List.Elements.{filter-append}
 use Rattle.itch_codec.specs.declared.orders.Side.{Side}
 use Rattle.itch_book.specs.declared.order.Order.{Order}
-use Rattle.itch_book.specs.StableLists.{in_order, later_in}
+use Rattle.itch_book.specs.StableLists.{in_order}
 use Rattle.itch_book.specs.Orders.{is_of, is_in, queue, sides, lay, stands_before, fits, AllFit, IsLive, IsDistinct, IsBook, first, has_reference, get, without, less, has_shares, taken, added, replaced_by, replaced}
 use Rattle.itch_book.proofs.Lists.{by_test, filter_swap, filter-map}
-use Rattle.itch_book.proofs.StableLemmas.{IsInOrder-filter, IsInOrder-in_order, in_order-map, in_order-filter, in_order-sorted, in_order-push}
+use Rattle.itch_book.proofs.StableLemmas.{later_in, IsInOrder-filter, IsInOrder-in_order, in_order-map, in_order-filter, in_order-sorted, in_order-push}
 use Rattle.itch_book.proofs.Distinct.{find_first, live_fit, live_added, live_without, live_taken, live_replaced, IsDistinct-added, IsDistinct-without, IsDistinct-taken, IsDistinct-replaced}
 use Rattle.itch_book.proofs.OrderLemmas.{stands_order, queue_is, both_queues, lay_is, lay_fit, lay_twice, All-lay, IsDistinct-lay}
 pub use Rattle.itch_book.proofs.OrderLemmas.{get-lay, AllAt-lay}

@@ -8,7 +8,7 @@ use Rattle.itch_book.specs.declared.order.Order.{Order}
 use Rattle.itch_book.specs.Orders.{is_level, level, lay, less, taken, has_shares, has_reference, IsLive, IsBook}
 use Rattle.itch_book.specs.Links.{at_key}
 use Rattle.itch_book.specs.Queued.{Seen, found, shown, left_with}
-use Rattle.itch_book.specs.Indexed.{Place, orders_in, line, line_at, joined, indexed, queue_of_side, node_of, IsIndexed}
+use Rattle.itch_book.specs.Indexed.{Place, orders_in, line, joined, indexed, queue_of_side, node_of, IsIndexed}
 use Rattle.itch_book.proofs.Lists.{by_test, All-map_rec, All-weaker_rec, filter_swap, filter_all, filter-map}
 use Rattle.itch_book.proofs.Distinct.{own_reference, has_own}
 use Rattle.itch_book.proofs.OrderLemmas.{lay_same_levels}
@@ -17,7 +17,7 @@ use Rattle.itch_book.proofs.PlaceLemmas.{taken_part}
 use Rattle.itch_book.proofs.LinkLemmas.{eqb_itself, eqb_is}
 use Rattle.itch_book.proofs.QueueSteps.{same_some}
 use Rattle.itch_book.proofs.SoundSteps.{at_apart, at_same}
-use Rattle.itch_book.proofs.IndexLemmas.{level_both}
+use Rattle.itch_book.proofs.IndexLemmas.{line_at, level_both}
 use Rattle.itch_book.proofs.IndexSteps.{level_is, get_some, All-found}
 
 module _ (references : List (ℕ × ℕ)) (bids asks : List (Place × ℕ)) (w : Seen) (is : IsIndexed references bids asks w)

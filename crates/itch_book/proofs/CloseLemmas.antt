@@ -8,13 +8,13 @@ use Rattle.itch_codec.specs.declared.orders.Side.{Side}
 use Rattle.itch_book.specs.Orders.{is_level, level, IsBook}
 use Rattle.itch_book.specs.Links.{at_key}
 use Rattle.itch_book.specs.Queued.{Seen}
-use Rattle.itch_book.specs.Indexed.{Place, place_cmp, orders_in, line, line_at, joined, indexed, queue_of_side, is_there, has_keys, IsPlace, IsIndexed, IsBusy, IsBusyBut}
+use Rattle.itch_book.specs.Indexed.{Place, place_cmp, orders_in, line, joined, indexed, queue_of_side, is_there, has_keys, IsPlace, IsIndexed, IsBusy, IsBusyBut}
 use Rattle.itch_book.proofs.Lists.{by_test}
 use Rattle.itch_book.proofs.OrderLemmas.{lay_same_levels, same_side_self}
 use Rattle.itch_book.proofs.LinkLemmas.{eqb_itself, eqb_is}
 use Rattle.itch_book.proofs.QueueSteps.{none_some, same_some}
 use Rattle.itch_book.proofs.SoundSteps.{at_apart, at_same}
-use Rattle.itch_book.proofs.IndexLemmas.{level_both, place_self}
+use Rattle.itch_book.proofs.IndexLemmas.{line_at, level_both, place_self}
 use Rattle.itch_book.proofs.OpenLemmas.{there_is}
 
 is_there_self : (s : Side) (l p : ℕ) → is_there s l p s l p ≡ true

@@ -7,7 +7,7 @@ use Rattle.itch_book.specs.declared.order.Order.{Order}
 use Rattle.itch_book.specs.Orders.{is_level, level, lay, without, has_reference, get, IsDistinct, IsBook}
 use Rattle.itch_book.specs.Links.{at_key}
 use Rattle.itch_book.specs.Queued.{Seen, found, shown, without_key}
-use Rattle.itch_book.specs.Indexed.{Place, orders_in, line, line_at, joined, indexed, queue_of_side, node_of, has_keys, IsIndexed, IsBusy, IsBusyBut}
+use Rattle.itch_book.specs.Indexed.{Place, orders_in, line, joined, indexed, queue_of_side, node_of, has_keys, IsIndexed, IsBusy, IsBusyBut}
 use Rattle.itch_book.proofs.Lists.{by_test, All-filter_rec, filter_swap}
 use Rattle.itch_book.proofs.Distinct.{own_reference, has_own, head_distinct, tail_distinct}
 use Rattle.itch_book.proofs.OrderLemmas.{lay_same_levels}
@@ -16,7 +16,7 @@ use Rattle.itch_book.proofs.PlaceLemmas.{without_absent}
 use Rattle.itch_book.proofs.LinkLemmas.{In, NotIn, eqb_itself, eqb_is, in_head, in_tail, in_cases}
 use Rattle.itch_book.proofs.QueueSteps.{none_some, same_some, inj}
 use Rattle.itch_book.proofs.SoundSteps.{at_apart, at_same, without_none}
-use Rattle.itch_book.proofs.IndexLemmas.{level_both}
+use Rattle.itch_book.proofs.IndexLemmas.{line_at, level_both}
 use Rattle.itch_book.proofs.IndexSteps.{level_is, get_some}
 use Rattle.itch_book.proofs.PutLemmas.{level_says}
 

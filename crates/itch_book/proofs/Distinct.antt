@@ -7,7 +7,7 @@ use Rattle.std.proofs.lemmas.Bool.Decides.{nat_tests}
 use Rattle.std.proofs.lemmas.List.Elements.{filter-append}
 use Rattle.itch_book.specs.declared.order.Order.{Order}
 use Rattle.itch_book.specs.StableLists.{in_order}
-use Rattle.itch_book.specs.Orders.{first, fits, AllFit, AllAt, has_reference, get, without, less, has_shares, taken, added, replaced_by, replaced, IsDistinct, IsLive}
+use Rattle.itch_book.specs.Orders.{first, fits, AllFit, has_reference, get, without, less, has_shares, taken, added, replaced_by, replaced, IsDistinct, IsLive}
 use Rattle.std.proofs.lemmas.List.{length-map}
 use Rattle.itch_book.proofs.Lists.{by_test, All-append_rec, All-filter_rec, All-map_rec, All-weaker_rec, All-both_rec, All-found_rec, passes_filter, filter_swap, filter-map, length_filter_le, absent_in_filter}
 use Rattle.itch_book.proofs.StableLemmas.{in_order-filter, length-in_order}
@@ -106,6 +106,10 @@ pub live_fit : (xs : List Order) → AllByRecursion IsLive xs → AllFit xs
 live_fit xs h = All-weaker_rec IsLive (λ x. fits x ≡ true) (λ x live. live.1) xs h
 
 -- a fact of each locate is kept by each effect
+-- a fact of the locate of every order
+abbrev pub AllAt : (ℕ → Type 0) → List Order → Type 0
+AllAt P orders = AllByRecursion (λ x. P x.locate) orders
+
 pub AllAt-added : (P : ℕ → Type 0) (x : Order) (xs : List Order) → P x.locate → AllAt P xs → AllAt P (added x xs)
 AllAt-added P x xs h all = All-append_rec (λ y. P y.locate) xs (x ∷ []) all (h, tt)
 

@@ -9,12 +9,13 @@ use Rattle.itch_book.specs.declared.order.Order.{Order}
 use Rattle.itch_book.specs.StableLists.{IsInOrder}
 use Rattle.itch_book.specs.Orders.{is_level, is_of, is_in, is_better, is_worse, is_next, next_price, same_side, first, stands_before}
 use Rattle.itch_book.specs.Queued.{Seen, found, shown}
-use Rattle.itch_book.specs.Indexed.{Place, orders_in, line_at, joined, indexed, queue_of_side, has_keys, IsIndexed, IsNextLevel, IsNextOr}
+use Rattle.itch_book.specs.Indexed.{Place, orders_in, joined, indexed, queue_of_side, has_keys, IsIndexed, IsNextLevel, IsNextOr}
 use Rattle.itch_book.proofs.Lists.{by_test, All-append_rec, All-weaker_rec, All-found_rec, found_passes}
 use Rattle.itch_book.proofs.Distinct.{find_first}
 use Rattle.itch_book.proofs.OrderLemmas.{All-lay, stands_of, locate_is, side_is, of_in}
 use Rattle.itch_book.proofs.LinkLemmas.{in_head}
 use Rattle.itch_book.proofs.IndexSteps.{All-joined, level_is}
+use Rattle.itch_book.proofs.IndexLemmas.{line_at}
 
 -- what passes a test first is what passes a narrower one first, where that stands before all else
 pub find_wider : (f g : Order → Bool) (xs : List Order) → IsInOrder stands_before xs → ((y : Order) → g y ≡ true → f y ≡ true)

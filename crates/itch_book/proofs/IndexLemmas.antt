@@ -17,9 +17,14 @@ use Rattle.itch_codec.specs.declared.orders.Side.TheVariants.{Buy, Sell}
 use Rattle.itch_book.specs.declared.order.Order.{Order}
 use Rattle.itch_book.specs.Orders.{is_level, same_side, level}
 use Rattle.itch_book.specs.Queued.{Seen}
-use Rattle.itch_book.specs.Indexed.{Place, place_cmp, queue_at, line, line_at, joined, queue_of_side}
+use Rattle.itch_book.specs.Indexed.{Place, place_cmp, queue_at, line, joined, queue_of_side}
 use Rattle.itch_book.proofs.Lists.{by_test, filter_none, filter_all, All-weaker_rec}
 use Rattle.itch_book.proofs.OrderLemmas.{same_side_is}
+
+-- the orders of a queue, if there is one
+abbrev pub line_at : Seen → Option ℕ → List Order
+line_at v None = []
+line_at v (Some q) = line v q
 
 -- the orders of a queue are all at one price
 abbrev pub IsAt : Seen → Side → Place × ℕ → Type 0

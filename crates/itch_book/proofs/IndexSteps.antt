@@ -10,14 +10,14 @@ use Rattle.itch_codec.specs.declared.orders.Side.TheVariants.{Buy, Sell}
 use Rattle.itch_book.specs.declared.order.Order.{Order}
 use Rattle.itch_book.specs.Orders.{is_level, same_side, level, level_total, fits, AllFit, has_reference, get, stands_before, IsDistinct}
 use Rattle.itch_book.specs.Queued.{Seen, found, shown, totals_of}
-use Rattle.itch_book.specs.Indexed.{Place, orders_in, line, line_at, joined, indexed, queue_of_side, node_of, IsIndexed, IsBusy}
+use Rattle.itch_book.specs.Indexed.{Place, orders_in, line, joined, indexed, queue_of_side, node_of, IsIndexed, IsBusy}
 use Rattle.itch_book.proofs.Lists.{by_test, All-append_rec, found_passes, absent_in_filter}
 use Rattle.itch_book.proofs.Distinct.{has_own, own_reference, head_distinct, tail_distinct}
 use Rattle.itch_book.proofs.OrderLemmas.{stands_order, lay_fit, same_side_self, same_side_is, ties_level}
 use Rattle.itch_book.proofs.Levels.{ties, in_order-tied}
 use Rattle.itch_book.proofs.LinkLemmas.{In, eqb_itself, in_cases}
 use Rattle.itch_book.proofs.QueueSteps.{none_some, same_some, inj}
-use Rattle.itch_book.proofs.IndexLemmas.{level_both}
+use Rattle.itch_book.proofs.IndexLemmas.{line_at, level_both}
 
 -- a fact of every node's order is one of all orders
 pub All-found : (P : Order → Type 0) (orders : ℕ → Option Order) → ((k : ℕ) (x : Order) → orders k ≡ Some x → P x) → (ks : List ℕ) → AllByRecursion P (found orders ks)

@@ -1,5 +1,5 @@
 -- Facts on each element, said by recursion over a list, and what a filter keeps.
-use Rattle.std.proofs.Common.{◌≡◌, ◌≤◌, Bool, true, false, List, [], ◌∷◌, ◌++◌, map, length, filter, find, Some, None, refl, ap, ◌∙◌, arith}
+use Rattle.std.proofs.Common.{◌≡◌, ◌≤◌, Bool, true, false, List, [], ◌∷◌, ◌++◌, map, length, filter, find, Option, Some, None, IsSome, refl, ap, ◌∙◌, arith}
 use Rattle.std.specs.List.{AllByRecursion}
 use Rattle.std.proofs.lemmas.Bool.{cond_both}
 
@@ -106,3 +106,8 @@ All-found_rec P p (y ∷ ys) x all h =
     by_test (p y)
     (λ e. let same : Some y ≡ Some x = simp e at h in let this : y ≡ x = cc in rw (← this) (all.0))
     (λ e. let less : find p ys ≡ Some x = simp e at h in All-found_rec P p ys x all.1 less)
+
+-- what is there
+pub some_of : {X : Type 0} (o : Option X) → IsSome o → (x : X) × (o ≡ Some x)
+some_of None h = absurd (let no_one : ⊥ = cc in no_one)
+some_of (Some x) h = (x, refl)

@@ -12,13 +12,13 @@ use Rattle.itch_book.specs.Links.{at_key}
 use Rattle.std.specs.Prelude.{Result, Ok, Err, OnErr}
 use Rattle.std.proofs.Common.{get_or}
 use Rattle.itch_book.specs.Queued.{Queued, Seen, seen}
-use Rattle.itch_book.specs.Indexed.{Place, place_cmp, orders_in, line, line_at, joined, indexed, queue_of_side, is_there, node_of, has_keys, IsPlace, IsIndexed, IsBusy, IsBusyBut}
+use Rattle.itch_book.specs.Indexed.{Place, place_cmp, orders_in, line, joined, indexed, queue_of_side, is_there, node_of, has_keys, IsPlace, IsIndexed, IsBusy, IsBusyBut}
 use Rattle.itch_book.proofs.Lists.{by_test}
 use Rattle.itch_book.proofs.OrderLemmas.{lay_same_levels, same_side_is}
 use Rattle.itch_book.proofs.LinkLemmas.{eqb_itself, eqb_is}
 use Rattle.itch_book.proofs.QueueSteps.{none_some, same_some}
 use Rattle.itch_book.proofs.SoundSteps.{at_apart, at_same}
-use Rattle.itch_book.proofs.IndexLemmas.{level_both, place_is}
+use Rattle.itch_book.proofs.IndexLemmas.{line_at, level_both, place_is}
 
 pub there_is : (s0 : Side) (l0 p0 : ℕ) (s : Side) (l p : ℕ) → is_there s0 l0 p0 s l p ≡ true → IsPlace s0 l0 p0 s l p
 there_is s0 l0 p0 s l p h =

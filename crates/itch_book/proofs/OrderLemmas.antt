@@ -8,11 +8,11 @@ use Rattle.itch_codec.specs.declared.orders.Side.{Side}
 use Rattle.itch_codec.specs.declared.orders.Side.TheVariants.{Buy, Sell}
 use Rattle.itch_book.specs.declared.order.Order.{Order}
 use Rattle.itch_book.specs.StableLists.{in_order}
-use Rattle.itch_book.specs.Orders.{is_better, same_side, is_of, is_in, is_level, level, queue, sides, queues_below, lay, place_before, stands_before, fits, AllFit, AllAt, IsDistinct, first, has_reference, get}
+use Rattle.itch_book.specs.Orders.{is_better, same_side, is_of, is_in, is_level, level, queue, sides, queues_below, lay, place_before, stands_before, fits, AllFit, IsDistinct, first, has_reference, get}
 use Rattle.itch_book.proofs.Lists.{All-filter_rec, passes_filter, filter_none, filter_all, filter_swap}
 use Rattle.itch_book.proofs.StableLemmas.{All-in_order, in_order-agree, in_order-short, in_order-filter, in_order-twice, in_order-parts}
 use Rattle.itch_book.proofs.Levels.{ties, in_order_same}
-use Rattle.itch_book.proofs.Distinct.{find_first, IsDistinct-in_order, IsDistinct-filter}
+use Rattle.itch_book.proofs.Distinct.{AllAt, find_first, IsDistinct-in_order, IsDistinct-filter}
 
 place_one_way : (s t : Side) (l p m q : ℕ) → place_before l s p m t q ≡ true → place_before m t q l s p ≡ false
 place_one_way Buy Buy l p m q h = grind (arith, nat_tests)

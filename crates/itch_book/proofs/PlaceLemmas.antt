@@ -9,12 +9,13 @@ use Rattle.std.proofs.lemmas.List.Folds.{find_at}
 use Rattle.std.proofs.lemmas.Grind.{common_steps}
 use Rattle.std.proofs.lemmas.Option.{slice_get_within, get_or_from_slice_get}
 use Rattle.itch_book.specs.declared.order.Order.{Order}
-use Rattle.itch_book.specs.StableLists.{later_in, IsInOrder}
+use Rattle.itch_book.specs.StableLists.{IsInOrder}
 use Rattle.itch_book.specs.Orders.{IsBook, fits, lay, added, stands_before, has_reference, has_shares, less, get, without, taken, replaced_by, replaced, IsDistinct, IsLive, is_in, following, after, next_in}
 use Rattle.itch_book.proofs.Lists.{by_test, absent_in_filter}
 use Rattle.itch_book.proofs.Distinct.{own_reference, head_distinct, tail_distinct}
 use Rattle.itch_book.proofs.OrderLemmas.{stands_order}
 use Rattle.itch_book.proofs.BookLemmas.{added-book, without-book, taken-book, lay-added_laid, IsBook-without}
+use Rattle.itch_book.proofs.StableLemmas.{later_in}
 
 -- a later arrival is put in front of the first that it stands before
 pub later_in_there : {A : Type 0} (before : A → A → Bool) (x : A) (xs : List A) → later_in before x xs ≡ insert xs (position_or_len (before x) xs) x

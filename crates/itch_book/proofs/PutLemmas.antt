@@ -9,7 +9,7 @@ use Rattle.itch_book.specs.declared.order.Order.{Order}
 use Rattle.itch_book.specs.Orders.{is_level, same_side, lay, level, added, fits, AllFit, get, stands_before, IsLive, IsBook}
 use Rattle.itch_book.specs.Links.{at_key}
 use Rattle.itch_book.specs.Queued.{Seen, found, shown}
-use Rattle.itch_book.specs.Indexed.{Place, orders_in, line, line_at, joined, indexed, queue_of_side, node_of, has_keys, IsBusy, IsBusyBut, IsPlace, IsIndexed}
+use Rattle.itch_book.specs.Indexed.{Place, orders_in, line, joined, indexed, queue_of_side, node_of, has_keys, IsBusy, IsBusyBut, IsPlace, IsIndexed}
 use Rattle.itch_book.proofs.Lists.{by_test, All-append_rec}
 use Rattle.itch_book.proofs.Distinct.{live_fit}
 use Rattle.itch_book.proofs.StableLemmas.{length-in_order}
@@ -19,7 +19,7 @@ use Rattle.itch_book.proofs.LinkLemmas.{In, NotIn, eqb_itself, eqb_is, in_head, 
 use Rattle.itch_book.proofs.UnlinkLemmas.{in_left, in_right, in_parts}
 use Rattle.itch_book.proofs.QueueSteps.{none_some, same_some}
 use Rattle.itch_book.proofs.SoundSteps.{at_apart, at_same}
-use Rattle.itch_book.proofs.IndexLemmas.{level_both}
+use Rattle.itch_book.proofs.IndexLemmas.{line_at, level_both}
 use Rattle.itch_book.proofs.IndexSteps.{level_is, level_own, get_some}
 
 found-append : (orders : ℕ → Option Order) (xs ys : List ℕ) → found orders (xs ++ ys) ≡ found orders xs ++ found orders ys

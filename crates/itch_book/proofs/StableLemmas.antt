@@ -3,8 +3,13 @@ use Rattle.std.proofs.Common.{◌≡◌, ◌≤◌, ◌+◌, Bool, true, false, 
 use Rattle.std.specs.List.{AllByRecursion}
 use Rattle.std.specs.Cmp.{IsStrictWeakOrder}
 use Rattle.std.proofs.lemmas.Bool.{cond_both, false≢true}
-use Rattle.itch_book.specs.StableLists.{earlier_in, later_in, in_order, IsInOrder}
+use Rattle.itch_book.specs.StableLists.{earlier_in, in_order, IsInOrder}
 use Rattle.itch_book.proofs.Lists.{by_test, All-weaker_rec, All-filter_rec, passes_filter}
+
+-- o, which came later than all of the list, goes in front of the first that it is before
+abbrev pub later_in : {A : Type 0} → (A → A → Bool) → A → List A → List A
+later_in before o [] = o ∷ []
+later_in before o (y ∷ ys) = cond (before o y) (o ∷ y ∷ ys) (y ∷ later_in before o ys)
 
 -- the facts for which the comparison need not be an order
 module _ {A : Type 0} (before : A → A → Bool) where

@@ -33,11 +33,6 @@ orders_in orders (Some ks) = found orders ks
 abbrev pub line : Seen → ℕ → List Order
 line v q = orders_in (v.orders) (v.keys q)
 
--- the orders of a queue, if there is one
-abbrev pub line_at : Seen → Option ℕ → List Order
-line_at v None = []
-line_at v (Some q) = line v q
-
 -- the orders of the queues of one side
 abbrev pub joined : Seen → List (Place × ℕ) → List Order
 joined v [] = []

@@ -60,10 +60,6 @@ fits x = nat_lt x.locate 65536
 abbrev pub AllFit : List Order → Type 0
 AllFit orders = AllByRecursion (λ x. fits x ≡ true) orders
 
--- a fact of the locate of every order
-abbrev pub AllAt : (ℕ → Type 0) → List Order → Type 0
-AllAt P orders = AllByRecursion (λ x. P x.locate) orders
-
 -- the order has this reference
 abbrev pub has_reference : ℕ → Order → Bool
 has_reference reference x = x.reference == reference
@@ -168,13 +164,3 @@ level_total orders locate side price = (sum_by (λ x. x.shares) (level orders lo
 abbrev pub first : List Order → Option Order
 first [] = None
 first (x ∷ xs) = Some x
-
--- the order has this price
-abbrev pub is_at_price : ℕ → Order → Bool
-is_at_price price x = x.price == price
-
--- the one list of the orders of a locate and side in which better prices come first,
--- and the orders at one price stand as they came
-pub record IsQueue (orders : List Order) (locate : ℕ) (side : Side) (line : List Order) : Type 0 where
-  pub better_first : IsInOrder (λ x y. is_better side x.price y.price) line
-  pub as_they_came : (price : ℕ) → filter (is_at_price price) line ≡ filter (is_at_price price) (filter (is_of locate side) orders)

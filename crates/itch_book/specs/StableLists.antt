@@ -7,11 +7,6 @@ abbrev pub earlier_in : {A : Type 0} → (A → A → Bool) → A → List A →
 earlier_in before x [] = x ∷ []
 earlier_in before x (y ∷ ys) = cond (before y x) (y ∷ earlier_in before x ys) (x ∷ y ∷ ys)
 
--- o, which came later than all of the list, goes in front of the first that it is before
-abbrev pub later_in : {A : Type 0} → (A → A → Bool) → A → List A → List A
-later_in before o [] = o ∷ []
-later_in before o (y ∷ ys) = cond (before o y) (o ∷ y ∷ ys) (y ∷ later_in before o ys)
-
 -- the list in order
 abbrev pub in_order : {A : Type 0} → (A → A → Bool) → List A → List A
 in_order before [] = []

@@ -6,9 +6,20 @@ use Rattle.byteorder.specs.Endian.{big_number, big_bytes}
 use Rattle.byteorder.specs.Numbers.{big_number-reads_back, big_from-lt, length-bytes_high_first}
 use Rattle.itch_codec.specs.Numbers.{slice_at, number_at, byte_at, be, dec20, SpellsNumber}
 use Rattle.itch_codec.specs.Layouts.{Class, Integer, Price, Text, OneSide, Code, Codes, Digits, Column}
-use Rattle.itch_codec.specs.Fields.{AreBytes, Value, Number, Bytes, TheSide, HasAt, HasAll, FitsAt, FitAll, bytes_at, joined, side_byte}
+use Rattle.itch_codec.specs.Fields.{AreBytes, Value, Number, Bytes, TheSide, HasAt, HasAll, bytes_at, joined, side_byte, IsAlpha, IsBytes}
 use Rattle.itch_codec.proofs.Numbers.{dec20-spells, length-dec20}
 use Rattle.itch_codec.proofs.Bytes.{be-number, slice_bytes, length-slice_at, each_byte}
+
+-- the value fits the field's width and class
+abbrev pub FitsAt : Class → ℕ → Value → Type 0
+FitsAt Integer width (Number number) = number < 256 ^ width
+FitsAt Price width (Number number) = number < 256 ^ width
+FitsAt Text width (Bytes bytes) = IsAlpha width bytes
+FitsAt OneSide width (TheSide side) = Unit {0}
+FitsAt Code width (Number byte) = byte < 256
+FitsAt Codes width (Bytes bytes) = IsBytes width bytes
+FitsAt Digits width (Number number) = (1 ≤ number) × (number ≤ 10 ^ 19)
+FitsAt class width value = ⊥
 
 -- how wide a field of this class is
 abbrev pub is_wide : Class → ℕ → Bool
@@ -97,6 +108,12 @@ has_mid Digits offset width (Number n) front rest w h f =
     let there = slice_mid offset width front (dec20 n) rest f (length-dec20 n (omega arith) ∙ sym e) in
     (subst (λ field. SpellsNumber field n) (sym there) (dec20-spells n h.1), h.0)
 has_mid class offset width value front rest w h f = absurd h
+
+-- each value fits its column
+abbrev pub FitAll : List Column → List Value → Type 0
+FitAll [] [] = Unit {0}
+FitAll (column ∷ columns) (value ∷ values) = FitsAt column.class column.width value × FitAll columns values
+FitAll columns values = ⊥
 
 -- fields that fit stand in their joined bytes
 pub joined_has : (at end : ℕ) (cs : List Column) (vs : List Value) (front payload : List ℕ) → is_gapless at end cs ≡ true → FitAll cs vs → length front ≡ at

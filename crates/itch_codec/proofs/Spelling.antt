@@ -7,11 +7,11 @@ use Rattle.itch_codec.specs.declared.fault.CodecFault.{CodecFault}
 use Rattle.itch_codec.specs.declared.message.Message.{Message}
 use Rattle.itch_codec.specs.declared.message.Message.TheVariants as is
 use Rattle.itch_codec.specs.Layouts.{Layout, table, layout_in, layout_of, IsUndecoded, end_of_snapshot, system_event, stock_directory, trading_action, reg_sho, operational_halt, participant_position, add_order, attributed_add_order, order_executed, order_executed_with_price, order_cancel, order_delete, order_replace, trade, cross_trade, broken_trade}
-use Rattle.itch_codec.specs.Fields.{AreBytes, Value, FitAll, value_at, first_fault, Reads}
+use Rattle.itch_codec.specs.Fields.{AreBytes, Value, value_at, first_fault, Reads}
 use Rattle.itch_codec.specs.Widths.{IsMessage, IsOther}
 use Rattle.itch_codec.specs.Messages.{Shape, Fields, Payload, shape, IsLaid, HasShape, Spells, bytes_of_shape, spelling, IsEnd, IsWhole, IsKeptWhole, laid_fault, fault_by_layout, fault, made, message_by_layout, message_of}
 use Rattle.itch_codec.proofs.Tables.{all_values, all_none, none_all}
-use Rattle.itch_codec.proofs.Joined.{is_gapless, gapless_le, has_no_digits, joined_has, joined_len, has_joined, all_fit}
+use Rattle.itch_codec.proofs.Joined.{FitAll, is_gapless, gapless_le, has_no_digits, joined_has, joined_len, has_joined, all_fit}
 
 -- the values of a payload's fields
 abbrev values_at : Layout → List ℕ → List Value

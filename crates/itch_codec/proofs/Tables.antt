@@ -5,11 +5,11 @@ use Rattle.std.proofs.lemmas.Bool.Decides.{nat_tests}
 use Rattle.itch_codec.specs.declared.orders.Side.{Side}
 use Rattle.itch_codec.specs.declared.orders.Side.TheVariants.{Buy, Sell}
 use Rattle.itch_codec.specs.declared.fault.CodecFault.{CodecFault}
-use Rattle.itch_codec.specs.declared.fault.CodecFault.TheVariants.{BadText, BadSide}
+use Rattle.itch_codec.specs.declared.fault.CodecFault.TheVariants.{BadText, BadSide, BadNumber}
 use Rattle.itch_codec.specs.Text.{IsPrintable}
 use Rattle.itch_codec.specs.Numbers.{slice_at, byte_at, SpellsNumber, read20}
 use Rattle.itch_codec.specs.Layouts.{Class, Integer, Price, Text, OneSide, Code, Codes, Digits, Column}
-use Rattle.itch_codec.specs.Fields.{Value, Number, Bytes, TheSide, HasAt, HasAll, side_byte, side_of, value_by, value_at, side_fault, number_fault, fault_by, field_fault, first_of, first_fault}
+use Rattle.itch_codec.specs.Fields.{Value, Number, Bytes, TheSide, HasAt, HasAll, side_byte, side_of, value_by, value_at, text_fault, side_fault, positive_fault, fault_by, field_fault, first_of, first_fault}
 use Rattle.itch_codec.proofs.Texts.{printable-none, none-printable}
 use Rattle.itch_codec.proofs.Numbers.{read-spells, spells-read}
 
@@ -30,19 +30,28 @@ side_found offset byte true s e f h = rw e (grind (arith, nat_tests))
 side_found offset byte false true e f h = rw e (grind (arith, nat_tests))
 side_found offset byte false false e f h = absurd (cc)
 
-text_found : (offset : ℕ) (place : Option ℕ) → option_map (λ k. BadText (offset + k)) place ≡ None → place ≡ None
-text_found offset None h = refl
-text_found offset (Some k) h = absurd (cc)
+place_none : {F : Type 0} (bad : ℕ → F) (place : Option ℕ) → option_map bad place ≡ None → place ≡ None
+place_none bad None h = refl
+place_none bad (Some k) h = absurd (cc)
 
-number_found : (field : List ℕ) (read : Option ℕ) → read20 field ≡ read → number_fault read ≡ None
-    → SpellsNumber field (unwrap_or read 0) × (1 ≤ unwrap_or read 0)
-number_found field None e h = absurd (cc)
-number_found field (Some zero) e h = absurd (cc)
-number_found field (Some (suc n)) e h = (read-spells field (suc n) e, omega arith)
+-- a text without a fault is printable
+pub text_printable : {F : Type 0} (bad : ℕ → F) (offset : ℕ) (text : List ℕ) → text_fault bad offset text ≡ None → IsPrintable text
+text_printable bad offset text h = none-printable text (place_none _ _ h)
 
-number_fine : (n : ℕ) → 1 ≤ n → number_fault (Some n) ≡ None
-number_fine zero h = absurd (omega arith)
-number_fine (suc n) h = let above : eqb (suc n) 0 ≡ false = grind (arith, nat_tests) in rw above refl
+-- a number without a fault is there, and is 1 or more
+pub positive_some : {F : Type 0} (bad : F) (found : Option ℕ) → positive_fault bad found ≡ None → (n : ℕ) × (found ≡ Some n) × (1 ≤ n)
+positive_some bad None h = absurd (cc)
+positive_some bad (Some zero) h = absurd (cc)
+positive_some bad (Some (suc n)) h = (suc n, refl, omega arith)
+
+number_found : (field : List ℕ) → positive_fault BadNumber (read20 field) ≡ None → SpellsNumber field (unwrap_or (read20 field) 0) × (1 ≤ unwrap_or (read20 field) 0)
+number_found field h =
+    let (n, read, positive) = positive_some BadNumber (read20 field) h in
+    subst (λ found. SpellsNumber field (unwrap_or found 0) × (1 ≤ unwrap_or found 0)) (sym read) (read-spells field n read, positive)
+
+pub positive_none : {F : Type 0} (bad : F) (n : ℕ) → 1 ≤ n → positive_fault bad (Some n) ≡ None
+positive_none bad zero h = absurd (omega arith)
+positive_none bad (suc n) h = let above : eqb (suc n) 0 ≡ false = grind (arith, nat_tests) in rw above refl
 
 -- a field holds one value
 has_value : (class : Class) (offset width : ℕ) (payload : List ℕ) (value : Value) → HasAt class offset width payload value
@@ -64,7 +73,7 @@ has_no_fault Text offset width payload (Bytes bytes) h =
     ap (option_map (λ k. BadText (offset + k))) (printable-none (slice_at offset width payload) (subst IsPrintable h.0 h.1))
 has_no_fault OneSide offset width payload (TheSide side) h = side_fine offset payload side h
 has_no_fault Digits offset width payload (Number n) h =
-    ap number_fault (spells-read (slice_at offset width payload) n h.0) ∙ number_fine n h.1
+    ap (positive_fault BadNumber) (spells-read (slice_at offset width payload) n h.0) ∙ positive_none BadNumber n h.1
 has_no_fault Integer offset width payload value h = refl
 has_no_fault Price offset width payload value h = refl
 has_no_fault Code offset width payload value h = refl
@@ -76,11 +85,11 @@ no_fault_has : (class : Class) (offset width : ℕ) (payload : List ℕ) → fau
     → HasAt class offset width payload (value_by class offset width payload)
 no_fault_has Integer offset width payload h = refl
 no_fault_has Price offset width payload h = refl
-no_fault_has Text offset width payload h = (refl, none-printable (slice_at offset width payload) (text_found offset _ h))
+no_fault_has Text offset width payload h = (refl, text_printable BadText offset (slice_at offset width payload) h)
 no_fault_has OneSide offset width payload h = side_found offset (byte_at offset payload) _ _ refl refl h
 no_fault_has Code offset width payload h = refl
 no_fault_has Codes offset width payload h = refl
-no_fault_has Digits offset width payload h = number_found (slice_at offset width payload) _ refl h
+no_fault_has Digits offset width payload h = number_found (slice_at offset width payload) h
 
 -- the same for all fields
 pub all_values : (payload : List ℕ) (columns : List Column) (values : List Value) → HasAll payload columns values → values ≡ map (value_at payload) columns
@@ -99,7 +108,7 @@ all_none payload (c ∷ cs) (v ∷ vs) h =
     ap (λ fault. first_of fault (first_fault payload cs)) (has_no_fault c.class c.offset c.width payload v h.0)
     ∙ all_none payload cs vs h.1
 
-both_none : (first later : Option CodecFault) → first_of first later ≡ None → (first ≡ None) × (later ≡ None)
+pub both_none : {F : Type 0} (first later : Option F) → first_of first later ≡ None → (first ≡ None) × (later ≡ None)
 both_none None later h = (refl, h)
 both_none (Some fault) later h = absurd (cc)
 

@@ -53,23 +53,6 @@ HasAll payload [] [] = Unit {0}
 HasAll payload (column ∷ columns) (value ∷ values) = Has payload column value × HasAll payload columns values
 HasAll payload columns values = ⊥
 
--- the value fits the field's width and class
-abbrev pub FitsAt : Class → ℕ → Value → Type 0
-FitsAt Integer width (Number number) = number < 256 ^ width
-FitsAt Price width (Number number) = number < 256 ^ width
-FitsAt Text width (Bytes bytes) = IsAlpha width bytes
-FitsAt OneSide width (TheSide side) = Unit {0}
-FitsAt Code width (Number byte) = byte < 256
-FitsAt Codes width (Bytes bytes) = IsBytes width bytes
-FitsAt Digits width (Number number) = (1 ≤ number) × (number ≤ 10 ^ 19)
-FitsAt class width value = ⊥
-
--- each value fits its column
-abbrev pub FitAll : List Column → List Value → Type 0
-FitAll [] [] = Unit {0}
-FitAll (column ∷ columns) (value ∷ values) = FitsAt column.class column.width value × FitAll columns values
-FitAll columns values = ⊥
-
 -- the bytes of a value in a field of this class and width
 abbrev pub bytes_at : Class → ℕ → Value → List ℕ
 bytes_at Digits width (Number number) = dec20 number
@@ -102,23 +85,23 @@ value_by Digits offset width payload = Number (unwrap_or (read20 (slice_at offse
 abbrev pub value_at : List ℕ → Column → Value
 value_at payload column = value_by column.class column.offset column.width payload
 
--- the first byte of the text that is not printable
-abbrev pub text_fault : ℕ → ℕ → List ℕ → Option CodecFault
-text_fault offset width payload = option_map (λ place. BadText (offset + place)) (first_unprintable (slice_at offset width payload))
+-- a text that is not printable has the fault of its first such byte
+abbrev pub text_fault : {F : Type 0} → (ℕ → F) → ℕ → List ℕ → Option F
+text_fault bad offset text = option_map (λ place. bad (offset + place)) (first_unprintable text)
 
 -- a byte that is neither B nor S
 abbrev pub side_fault : ℕ → List ℕ → Option CodecFault
 side_fault offset payload = if byte_at offset payload == 66 || byte_at offset payload == 83 then None else Some (BadSide offset)
 
--- no number, or the number 0
-abbrev pub number_fault : Option ℕ → Option CodecFault
-number_fault number = if unwrap_or number 0 == 0 then Some BadNumber else None
+-- no number, or the number 0, has this fault
+abbrev pub positive_fault : {F : Type 0} → F → Option ℕ → Option F
+positive_fault bad number = if unwrap_or number 0 == 0 then Some bad else None
 
 -- the fault of a field: a text that is not printable, no side, or no number from 1 on
 abbrev pub fault_by : Class → ℕ → ℕ → List ℕ → Option CodecFault
-fault_by Text offset width payload = text_fault offset width payload
+fault_by Text offset width payload = text_fault BadText offset (slice_at offset width payload)
 fault_by OneSide offset width payload = side_fault offset payload
-fault_by Digits offset width payload = number_fault (read20 (slice_at offset width payload))
+fault_by Digits offset width payload = positive_fault BadNumber (read20 (slice_at offset width payload))
 fault_by class offset width payload = None
 
 -- the fault of a column's field
@@ -126,7 +109,7 @@ abbrev pub field_fault : List ℕ → Column → Option CodecFault
 field_fault payload column = fault_by column.class column.offset column.width payload
 
 -- the first fault of two
-abbrev pub first_of : Option CodecFault → Option CodecFault → Option CodecFault
+abbrev pub first_of : {F : Type 0} → Option F → Option F → Option F
 first_of (Some fault) later = Some fault
 first_of None later = later
 
@@ -136,6 +119,6 @@ first_fault payload [] = None
 first_fault payload (column ∷ columns) = first_of (field_fault payload column) (first_fault payload columns)
 
 -- what is read is so, and nothing has a fault; or this is the fault
-abbrev pub Reads : {X : Type 0} → (X → Type 0) → Option CodecFault → Result X CodecFault → Type 0
+abbrev pub Reads : {X F : Type 0} → (X → Type 0) → Option F → Result X F → Type 0
 Reads Is fault (Ok x) = Is x × (fault ≡ None)
 Reads Is fault (Err found) = fault ≡ Some found

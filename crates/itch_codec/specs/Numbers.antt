@@ -22,9 +22,13 @@ byte_at offset payload = slice_index payload offset
 unfoldable pub be : ℕ → ℕ → List ℕ
 be width number = big_bytes width number
 
+-- a text with spaces before it, up to the width of its field
+abbrev pub padded_on_left : ℕ → List ℕ → List ℕ
+padded_on_left width text = replicate (width - length text) 32 ++ text
+
 -- a number in twenty bytes: its digits, and spaces in front of them
 unfoldable pub dec20 : ℕ → List ℕ
-dec20 number = replicate (20 - length (decimal number)) 32 ++ decimal number
+dec20 number = padded_on_left 20 (decimal number)
 
 -- the byte is a space
 abbrev pub is_space : ℕ → Bool

@@ -29,6 +29,7 @@ mod number;
 mod orders;
 mod showing;
 mod sizes;
+pub mod spaces;
 mod stocks;
 mod text;
 mod trades;

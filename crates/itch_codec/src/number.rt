@@ -1,12 +1,13 @@
 //! Sequence numbers, and numbers in twenty decimal digits.
 ghost use Rattle.std.specs.Prelude.{◌≡◌, ℕ, ◌≤◌, ◌<◌, ◌^◌, ◌↔◌, IsTrue, IsSome, IfSome, length, replicate, Option, Some, None};
 ghost use Rattle.std.specs.Char.{is_ascii_digit};
-ghost use Rattle.std.specs.List.{prefix_len, list_all};
+ghost use Rattle.std.specs.List.{prefix_len};
 ghost use Rattle.std.specs.Str.{all_ascii_digits};
-ghost use Rattle.itch_codec.specs.Numbers.{dec20, SpellsNumber, read20, is_space, after_spaces, digits_in_front, after_digits, number_of_digits, number_of_parts};
+ghost use Rattle.itch_codec.specs.Numbers.{dec20, SpellsNumber, read20, digits_in_front, after_digits, number_of_digits, number_of_parts};
 
 use crate::fault::CodecFault;
 use crate::fields::{Buffer, codes_at, put_codes};
+use crate::spaces::{after_spaces, is_blank};
 use itoa::write_digits;
 use std::marker::Model;
 
@@ -100,6 +101,7 @@ pub fn number20(number: u64) -> [u8; 20]
 ///
 /// The number is 0 to 10^19; for any other field `None` is returned.
 pub fn read_number20(field: &[u8; 20]) -> Option<u64>
+    ensures value { result ≡ read20 field.now }
     ensures spelled { IfSome result (λ number. SpellsNumber field.now number) }
     ensures complete { (number : ℕ) → SpellsNumber field.now number → result ≡ Some number }
 {
@@ -119,28 +121,12 @@ pub(crate) fn read(field: &[u8; 20]) -> Option<u64>
 fn read_parts(field: &[u8; 20]) -> Option<u64>
     ensures { result ≡ read20 field.now }
 {
-    let text = without_spaces(field);
+    let text = after_spaces(field);
     let (digits, right) = split_digits(text);
     if digits.is_empty() || !is_blank(right) {
         return None;
     }
     value_of(digits)
-}
-
-// The text without the spaces in front.
-#[tactic(auto, using(crate::proofs::Numbers::fronts), unfolding(crate::specs::Numbers::after_spaces))]
-fn without_spaces(field: &[u8]) -> &[u8]
-    ensures text { result.now ≡ after_spaces field.entry.now }
-    ensures len { length result.now ≤ length field.entry.now }
-{
-    &field[count_spaces(field)..]
-}
-
-fn count_spaces(field: &[u8]) -> usize
-    ensures count { result ≡ prefix_len is_space field.now }
-    ensures within { result ≤ length field.now }
-{
-    field.iter().take_while(|byte| **byte == b' ').count()
 }
 
 // The digits that the text begins with, and what stands after them.
@@ -159,12 +145,6 @@ fn count_digits(text: &[u8]) -> usize
     ensures within { result ≤ length text.now }
 {
     text.iter().take_while(|byte| byte.is_ascii_digit()).count()
-}
-
-fn is_blank(text: &[u8]) -> bool
-    ensures { result ≡ list_all is_space text.now }
-{
-    text.iter().all(|byte| *byte == b' ')
 }
 
 // The value of at most twenty digits, if it is at most 10^19.

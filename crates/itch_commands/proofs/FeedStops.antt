@@ -1,34 +1,22 @@
 -- What the reading of a feed says of a feed whose bytes are known.
 use Rattle.std.proofs.Common.{◌≡◌, ℕ, ◌+◌, ◌-◌, ◌^◌, ◌<◌, ◌≤◌, ◌==◌, nat_lt, min, Bool, true, false, cond, List, [], ◌∷◌, ◌++◌, map, length, Option, None, Some, IfSome, refl, sym, ap, subst, ◌∙◌, inl, inr, arith, length-append, append-nil, eq-eqb}
-use Rattle.std.specs.Option.{option_map}
 use Rattle.std.specs.List.{AllByRecursion}
-use Rattle.std.proofs.lemmas.Bool.{ne_eqb, eqb-false, eqb-true}
+use Rattle.std.proofs.lemmas.Bool.{ne_eqb, eqb-true}
 use Rattle.std.proofs.lemmas.Bool.Decides.{nat_tests}
 use Rattle.std.proofs.lemmas.List.{drop-append-le, length-drop, length-map, map-append}
-use Rattle.itch_codec.specs.Messages.{message_of}
 use Rattle.itch_frame.specs.Blocks.{block, blocks, Ends, Open, IsFull, Day}
-use Rattle.itch_frame.proofs.Days.{day_on, day_later, day_some}
 use Rattle.itch_frame.specs.declared.fault.FrameFault.TheVariants.{Read, Truncated, Write, TooLong}
-use Rattle.itch_market.specs.declared.refusal.Refusal.{Refusal}
 use Rattle.itch_market.specs.declared.stop.Stop.{Stop}
 use Rattle.itch_market.specs.declared.stop.Stop.TheVariants.{End, Frame, Codec, Rule, TooManyMessages}
-use Rattle.itch_market.specs.Content.{Content}
-use Rattle.itch_market.specs.Effects.{takes_memory}
-use Rattle.itch_market.specs.Reasons.{reason}
 use Rattle.itch_market.specs.Stops.{cause_by, cause, cause_at, end_of, last_stop}
 use Rattle.itch_market.specs.FirstPlaces.{IsFirst}
-use Rattle.itch_market.specs.Replays.{NoCause, IsRefusal, Refuses, TakesOff, IsDecided}
+use Rattle.itch_market.specs.Replays.{NoCause, TakesOff, IsDecided}
 use Rattle.itch_market.proofs.Causes.{cause_after, cause_before}
-use Rattle.itch_market.proofs.Stopping.{chosen, passed_over, ends_stop, open_stops}
+use Rattle.itch_market.proofs.Taking.{not_full}
+use Rattle.itch_market.proofs.Decided.{refused}
+use Rattle.itch_market.proofs.Stopping.{after_day, chosen, passed_over, ends_stop, open_stops}
 use Rattle.itch_commands.specs.AsRead.{HaltsAs}
 use Rattle.itch_commands.specs.Joining.{Start, from_number, joined_market, TakesFeed, IsOfMessage, EndsFeed, feed_cause_at, feed_stop_at, StopsFeed}
-
--- a message that is refused, and not for want of memory, is refused for its reason
-refused : (m : Content) (p : List ℕ) (why : Refusal) → IsDecided (Rule why) → Refuses m p why → cause m p ≡ Some (Rule why)
-refused m p why decided (clean, refusal) = ap (λ o. cause_by o m p) clean ∙ ap (option_map Rule) (by_reason (reason m (message_of p)) refusal) where
-  by_reason : (r : Option Refusal) → IsRefusal r (takes_memory m (message_of p)) why → r ≡ Some why
-  by_reason None (wanting, takes) = absurd (subst (λ w. IsDecided (Rule w)) wanting decided)
-  by_reason (Some r) same = ap Some (sym same)
 
 module _ (start : Start) where
   abbrev most : ℕ
@@ -96,18 +84,6 @@ module _ (start : Start) where
         before = λ k early. before_last (done ++ p ∷ more) rest k (omega arith) ∙ none_before done (p ∷ more) k none early;
       }
 
--- a payload after those that are taken, and a day after it
-pub day_after : (bytes unread : List ℕ) (done : List (List ℕ)) (p : List ℕ) → bytes ≡ blocks done ++ (block p ++ unread) → AllByRecursion IsFull done → IsFull p
-    → (more : List (List ℕ)) × (rest : List ℕ) × Day bytes (done ++ p ∷ more) rest
-day_after bytes unread done p whole full_done full = found (day_some unread) where
-  found : (ps : List (List ℕ)) × (rest : List ℕ) × Day unread ps rest → (more : List (List ℕ)) × (rest : List ℕ) × Day bytes (done ++ p ∷ more) rest
-  found (more, rest, later) =
-      let all : Day (blocks done ++ (block p ++ unread)) (done ++ p ∷ more) rest = day_later done (block p ++ unread) (p ∷ more) rest full_done (day_on p unread more rest full later) in
-      (more, rest, record { whole = whole ∙ all.whole; each = all.each; last = all.last })
-
-not_full : (count : ℕ) → count ≤ 10 ^ 19 - 1 → (count == 10 ^ 19 - 1) ≡ false → count < 10 ^ 19 - 1
-not_full count few room = let other : count ≡ 10 ^ 19 - 1 → ⊥ = eqb-false count (10 ^ 19 - 1) room in omega arith
-
 module _ (read : List ℕ → List ℕ) (start : Start) where
   none_ends : (bytes : List ℕ) (ps : List (List ℕ)) (rest : List ℕ) → Day bytes ps rest → length ps ≤ 10 ^ 19 - 1 → NoCause start.0 (from_number start.1 (map read ps))
       → StopsFeed read start bytes (length ps) (end_of rest)
@@ -132,7 +108,7 @@ module _ (read : List ℕ → List ℕ) (start : Start) where
   one_stops : (bytes unread : List ℕ) (done : List (List ℕ)) (p : List ℕ) (why : Stop) → bytes ≡ blocks done ++ (block p ++ unread) → AllByRecursion IsFull done → IsFull p
       → length done < 10 ^ 19 - 1 → NoCause start.0 (from_number start.1 (map read done)) → start.1 ≤ length done + 1 → cause (joined_market start (map read done)) (read p) ≡ Some why
       → StopsFeed read start bytes (length done) why
-  one_stops bytes unread done p why whole full_done full few none low is = found (day_after bytes unread done p whole full_done full) where
+  one_stops bytes unread done p why whole full_done full few none low is = found (after_day bytes unread done p whole full_done full) where
     size : length (map read done) ≡ length done
     size = length-map done read
 
@@ -148,7 +124,7 @@ module _ (read : List ℕ → List ℕ) (start : Start) where
 
   full_stops : (bytes unread : List ℕ) (done : List (List ℕ)) (p : List ℕ) → bytes ≡ blocks done ++ (block p ++ unread) → AllByRecursion IsFull done → IsFull p → length done ≡ 10 ^ 19 - 1
       → NoCause start.0 (from_number start.1 (map read done)) → StopsFeed read start bytes (length done) TooManyMessages
-  full_stops bytes unread done p whole full_done full many none = found (day_after bytes unread done p whole full_done full) where
+  full_stops bytes unread done p whole full_done full many none = found (after_day bytes unread done p whole full_done full) where
     found : (more : List (List ℕ)) × (rest : List ℕ) × Day bytes (done ++ p ∷ more) rest → StopsFeed read start bytes (length done) TooManyMessages
     found (more, rest, day) = record {
       payloads = done ++ p ∷ more;

@@ -1,17 +1,17 @@
 -- What a joiner has taken of a feed, and one block more.
-use Rattle.std.proofs.Common.{◌≡◌, ℕ, ◌+◌, ◌-◌, ◌^◌, ◌<◌, ◌≤◌, ◌==◌, max, Bool, false, List, [], ◌∷◌, ◌++◌, map, length, Option, Some, None, Result, Ok, Err, refl, sym, ap, ◌∙◌, subst, inl, inr, arith, length-append}
+use Rattle.std.proofs.Common.{◌≡◌, ℕ, ◌+◌, ◌-◌, ◌^◌, ◌<◌, ◌≤◌, ◌==◌, max, Bool, false, List, [], ◌∷◌, ◌++◌, map, length, Option, None, Result, Ok, Err, refl, sym, ap, ◌∙◌, subst, inl, inr, arith, length-append}
 use Rattle.std.proofs.lemmas.Bool.Decides.{nat_tests}
 use Rattle.std.proofs.lemmas.List.{drop_all, drop-append-le, length-map, map-append}
 use Rattle.std.specs.Io.KnownBytes.{Consumes}
 use Rattle.std.proofs.KnownBytes.{Consumes-nil}
 use Rattle.itch_codec.specs.Messages.{message_of}
-use Rattle.itch_frame.specs.Blocks.{block, blocks, IsFull}
-use Rattle.itch_frame.proofs.BlockLemmas.{each-push}
+use Rattle.itch_frame.specs.Blocks.{block, IsFull}
+use Rattle.itch_frame.proofs.BlockLemmas.{consumed_more, each-push}
 use Rattle.itch_market.specs.Content.{Content, laid}
 use Rattle.itch_market.specs.Effects.{effect}
 use Rattle.itch_market.specs.GoodMarkets.{IsGood}
 use Rattle.itch_market.specs.Runs.{after}
-use Rattle.itch_market.specs.Replays.{Fits, NoCause, Halts}
+use Rattle.itch_market.specs.Replays.{Fits, NoCause}
 use Rattle.itch_market.specs.Stops.{cause}
 use Rattle.itch_market.specs.Wanted.{Wanted, has}
 use Rattle.itch_market.specs.declared.stop.Stop.{Stop}
@@ -24,7 +24,6 @@ use Rattle.itch_join.specs.States.{State}
 use Rattle.itch_commands.specs.AsRead.{as_read, HaltsAs}
 use Rattle.itch_commands.specs.Joining.{Start, from_number, joined_market, joined_next, TakesFeed, EndsFeed}
 use Rattle.itch_commands.specs.Joiners.{position_of, IsJoined, IsStart, IsAfter, FeedStep, DeliversAll, StaysJoined, start_of}
-use Rattle.itch_commands.proofs.Fronts.{consumed_more}
 
 -- these payloads of a feed were taken, and a joiner stands after them
 pub record Feeding (read : List ℕ → List ℕ) (start : Start) (old new : Option (List ℕ)) (count : ℕ) (j : Position) : Type 0 where

@@ -7,7 +7,6 @@ pub mod Closings
 pub mod Comparisons
 pub mod AsRead
 pub mod Seen
-pub mod Fronts
 pub mod Starting
 pub mod Deliveries
 pub mod Feeding

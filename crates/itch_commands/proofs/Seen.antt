@@ -1,22 +1,22 @@
 -- The fault of a snapshot whose bytes are known, as it is read.
-use Rattle.std.proofs.Common.{◌≡◌, ℕ, ◌-◌, ◌≤◌, ◌^◌, Bool, List, [], ◌∷◌, ◌++◌, map, length, Option, None, Some, IfSome, Ok, Err, refl, sym, ap, subst, ◌∙◌, inl, inr}
+use Rattle.std.proofs.Common.{◌≡◌, ℕ, ◌-◌, ◌≤◌, ◌^◌, Bool, List, ◌∷◌, ◌++◌, map, length, Option, None, Some, IfSome, Err, refl, sym, ap, subst, ◌∙◌, inl, inr}
 use Rattle.std.proofs.lemmas.List.{length-map, map-append, append_assoc}
 use Rattle.itch_codec.specs.Messages.{message_of}
-use Rattle.itch_frame.specs.Blocks.{block, blocks, Ends, Open, IsFull, Day}
+use Rattle.itch_frame.specs.Blocks.{block, blocks, Day}
 use Rattle.itch_frame.specs.declared.fault.FrameFault.TheVariants.{Read, Truncated, Write, TooLong}
 use Rattle.itch_frame.proofs.BlockLemmas.{blocks-append}
 use Rattle.itch_market.specs.Content.{Content, empty}
 use Rattle.itch_market.specs.Replays.{TakesOff, Takes}
 use Rattle.itch_market.specs.Runs.{run}
+use Rattle.itch_market.proofs.Stopping.{after_day}
 use Rattle.itch_snapshot.specs.declared.fault.SnapFault.{SnapFault}
 use Rattle.itch_snapshot.specs.declared.fault.SnapFault.TheVariants.{NoEnd, Frame, Codec, Rule, AfterEnd, TooManyMessages}
 use Rattle.itch_snapshot.specs.Files.{IsFaultOf}
 use Rattle.itch_snapshot.specs.TakenMessages.{TakesNext}
-use Rattle.itch_snapshot.specs.Reads.{EndsHere, ReadsNext, IsDecidedFault}
-use Rattle.itch_snapshot.proofs.Decided.{reads_fault}
-use Rattle.itch_commands.specs.AsRead.{as_read, TakesAs, ReadsNextAs, ReadsAs, IsSeen, IsFaultAs}
+use Rattle.itch_snapshot.specs.Reads.{ReadsNext, IsDecidedFault}
+use Rattle.itch_snapshot.proofs.Decided.{reads_fault, ends_here}
+use Rattle.itch_commands.specs.AsRead.{as_read, TakesAs, ReadsNextAs, ReadsAs, IsFaultAs}
 use Rattle.itch_commands.proofs.AsRead.{read_full, all_full}
-use Rattle.itch_commands.proofs.FeedStops.{day_after}
 
 module _ (wanted : ℕ → Bool) (b c : List ℕ) (ps : List (List ℕ)) (n : Content) (takes : TakesAs (as_read wanted) (Some b) (Some c) ps n) (few : length ps ≤ 10 ^ 19 - 1) where
   abbrev read : List ℕ → List ℕ
@@ -47,7 +47,7 @@ module _ (wanted : ℕ → Bool) (b c : List ℕ) (ps : List (List ℕ)) (n : Co
   at_one : (new : Option (List ℕ)) (p : List ℕ) (fault : SnapFault) → TakesOff (Some c) new p
       → ((more : List ℕ) → ReadsNext (length qs) m (Some (block (read p) ++ more)) (Some more) (Err fault) m) → IsDecidedFault fault → IsFaultAs read b fault
   at_one None p fault off next decided = absurd off.1
-  at_one (Some d) p fault off next decided = found (day_after b d ps p (takes.bytes ∙ ap (λ t. blocks ps ++ t) off.1) takes.full off.0) where
+  at_one (Some d) p fault off next decided = found (after_day b d ps p (takes.bytes ∙ ap (λ t. blocks ps ++ t) off.1) takes.full off.0) where
     found : (more : List (List ℕ)) × (rest : List ℕ) × Day b (ps ++ p ∷ more) rest → IsFaultAs read b fault
     found (more, rest, day) =
         let unread = blocks (map read more) ++ rest in (
@@ -66,17 +66,12 @@ module _ (wanted : ℕ → Bool) (b c : List ℕ) (ps : List (List ℕ)) (n : Co
               ∙ sym (append_assoc (blocks qs) (blocks (read p ∷ map read more)) rest)
               ∙ ap (λ t. t ++ rest) (sym (blocks-append qs (read p ∷ map read more)))
 
-  ends_there : (new : Option (List ℕ)) → EndsHere (Some c) new → Ends c
-  ends_there new (inl none) = inl none
-  ends_there None (inr empty_block) = absurd empty_block
-  ends_there (Some e) (inr empty_block) = inr (e, empty_block)
-
   counted : (p : List ℕ) (fault : SnapFault) → TakesNext (length ps) m (read p) (Err fault) m → TakesNext (length qs) m (read p) (Err fault) m
   counted p fault h = subst (λ l. TakesNext l m (read p) (Err fault) m) (sym size) h
 
   fault_there : (new : Option (List ℕ)) (fault : SnapFault) → ReadsNextAs read (length ps) m (Some c) new (Err fault) m → IsDecidedFault fault → IsFaultAs read b fault
   fault_there new NoEnd (same, ends) =
-      at_end NoEnd (record { whole = takes.bytes; each = takes.full; last = inl (ends_there new ends) }) (read_so c new NoEnd (same, ends))
+      at_end NoEnd (record { whole = takes.bytes; each = takes.full; last = inl (ends_here c new ends) }) (read_so c new NoEnd (same, ends))
   fault_there new (Frame (Truncated held)) (same, part) =
       at_end (Frame (Truncated held)) (record { whole = takes.bytes; each = takes.full; last = inr part.0 }) (read_so c new (Frame (Truncated held)) (same, part))
   fault_there new (Frame (Read error)) h = λ decided. absurd decided

@@ -1,6 +1,5 @@
 -- What a joiner has taken of a snapshot, and one block more.
-use Rattle.std.proofs.Common.{◌≡◌, ℕ, ◌+◌, ◌-◌, ◌^◌, ◌≤◌, ◌==◌, false, List, [], ◌∷◌, ◌++◌, map, length, Bool, Option, Some, None, Result, Ok, Err, refl, sym, ap, ◌∙◌, subst, arith, length-append}
-use Rattle.std.proofs.lemmas.Bool.Decides.{nat_tests}
+use Rattle.std.proofs.Common.{◌≡◌, ℕ, ◌+◌, ◌-◌, ◌^◌, ◌≤◌, List, [], ◌∷◌, ◌++◌, map, length, Bool, Option, Some, None, Result, Ok, Err, refl, sym, ap, ◌∙◌, subst, arith, length-append}
 use Rattle.std.proofs.lemmas.List.{map-append}
 use Rattle.std.specs.List.{AllByRecursion}
 use Rattle.std.specs.Ordering.{nat_cmp}
@@ -12,17 +11,17 @@ use Rattle.itch_codec.specs.Messages.{message_of, Spells}
 use Rattle.itch_codec.specs.Widths.{IsMessage, IsSequence}
 use Rattle.itch_codec.specs.declared.message.Message.TheVariants as is
 use Rattle.itch_frame.specs.Blocks.{IsFull}
-use Rattle.itch_frame.proofs.BlockLemmas.{each-push}
+use Rattle.itch_frame.proofs.BlockLemmas.{consumed_more, each-push}
 use Rattle.itch_market.specs.Content.{Content, empty, laid}
 use Rattle.itch_market.specs.Effects.{effect}
 use Rattle.itch_market.specs.GoodMarkets.{IsGood}
 use Rattle.itch_market.specs.Runs.{run}
 use Rattle.itch_market.specs.Replays.{Fits, NoCause}
-use Rattle.itch_market.specs.Stops.{cause}
 use Rattle.itch_market.specs.Wanted.{Wanted, has}
-use Rattle.itch_market.proofs.Causes.{cause-laid, refuses-laid, no_reason, none_more, none_follows, after_more}
-use Rattle.itch_market.proofs.GoodMarkets.{effect_good, empty_good, laid_good, run_good}
-use Rattle.itch_market.proofs.Laid.{effect-laid, laid_twice}
+use Rattle.itch_market.proofs.Causes.{refuses-laid, none_more, none_follows, after_more}
+use Rattle.itch_market.proofs.GoodMarkets.{empty_good, laid_good, run_good}
+use Rattle.itch_market.proofs.Taking.{taken_on, not_full}
+use Rattle.itch_market.proofs.Laid.{laid_twice}
 use Rattle.itch_snapshot.specs.declared.fault.SnapFault.{SnapFault}
 use Rattle.itch_snapshot.specs.declared.fault.SnapFault.TheVariants as snapshot
 use Rattle.itch_snapshot.proofs.FileLemmas.{Spells-number}
@@ -31,7 +30,6 @@ use Rattle.itch_join.specs.States.{State, new}
 use Rattle.itch_commands.specs.AsRead.{as_read, TakesAs, ReadsNextAs, ReadsAs}
 use Rattle.itch_commands.specs.Joiners.{half_market, position_of, IsReading, IsJoined, IsStart, StartsAll}
 use Rattle.itch_commands.proofs.AsRead.{read_number}
-use Rattle.itch_commands.proofs.Fronts.{consumed_more}
 
 -- these payloads of a snapshot came off the front, and as they are read they leave this market
 pub record Starting (read : List ℕ → List ℕ) (old new : Option (List ℕ)) (taken : ℕ) (n : Content) : Type 0 where
@@ -72,7 +70,7 @@ starting_on read old mid new taken n k going (p, off, (room, (clean, fits, next)
     let so_far = run (map message_of qs) in
     let pushed : map read (ps ++ p ∷ []) ≡ qs ++ q ∷ [] = map-append read ps (p ∷ []) in
     let after : run (map message_of (map read (ps ++ p ∷ []))) ≡ effect so_far (message_of q) = ap (λ xs. run (map message_of xs)) pushed ∙ after_more empty qs q in
-    let here : cause so_far q ≡ None = sym (cause-laid so_far q going.good) ∙ ap (λ x. cause x q) (sym going.takes.left) ∙ clean in
+    let (here, after_it, still) = taken_on so_far n k q going.good going.takes.left clean fits next in
     record {
       payloads = ps ++ p ∷ [];
       takes = record {
@@ -80,14 +78,12 @@ starting_on read old mid new taken n k going (p, off, (room, (clean, fits, next)
         full = each-push IsFull ps p going.takes.full off.0;
         none = subst (NoCause empty) (sym pushed) (none_more empty qs q going.takes.none here);
         fits = subst (AllByRecursion Fits) (sym pushed) (each-push Fits qs q going.takes.fits fits);
-        left = next ∙ ap (λ x. laid (effect x (message_of q))) going.takes.left ∙ effect-laid so_far (message_of q) going.good ∙ ap laid (sym after);
+        left = after_it ∙ ap laid (sym after);
       };
-      good = subst IsGood (sym after) (effect_good so_far (message_of q) going.good fits (no_reason so_far q here));
+      good = subst IsGood (sym after) still;
       counted = length-append ps (p ∷ []) ∙ ap (λ c. c + 1) going.counted;
-      few = not_last taken going.few room;
-    } where
-      not_last : (c : ℕ) → c ≤ 10 ^ 19 - 1 → (c == 10 ^ 19 - 1) ≡ false → c + 1 ≤ 10 ^ 19 - 1
-      not_last c few room = grind (arith, nat_tests)
+      few = omega (arith, not_full taken going.few room);
+    }
 
 -- a laid market has no other fault
 fault-laid : (read : List ℕ → List ℕ) (taken : ℕ) (m n : Content) (old new : Option (List ℕ)) (fault : SnapFault) → IsGood m → ReadsNextAs read taken (laid m) old new (Err fault) n

@@ -1,6 +1,8 @@
 -- The status that the program ends with.
 use Rattle.std.specs.Prelude.{ℕ, Bool, true, false, Result, Ok, Err}
+use Rattle.itch_frame.specs.declared.fault.FrameFault.{FrameFault}
 use Rattle.itch_frame.specs.declared.fault.FrameFault.TheVariants.{Read, Write}
+use Rattle.itch_market.specs.declared.refusal.Refusal.{Refusal}
 use Rattle.itch_market.specs.declared.refusal.Refusal.TheVariants as refusal
 use Rattle.itch_market.specs.declared.stop.Stop.{Stop}
 use Rattle.itch_market.specs.declared.stop.Stop.TheVariants.{Frame, Rule}
@@ -11,25 +13,33 @@ use Rattle.itch_soup.specs.declared.fault.SoupFault.TheVariants as soup
 use Rattle.itch_commands.specs.declared.fault.ToolFault.{ToolFault}
 use Rattle.itch_commands.specs.declared.fault.ToolFault.TheVariants as tool
 
--- a stop of a replay: a failed read is 3, want of memory 4, any other stop 1
+-- a fault of blocks: a failed read or write is 3, any other fault 1
+abbrev pub frame_status : FrameFault → ℕ
+frame_status (Read error) = 3
+frame_status (Write sent error) = 3
+frame_status fault = 1
+
+-- a message that was refused: 4 for want of memory, 1 for any other reason
+abbrev pub refusal_status : Refusal → ℕ
+refusal_status refusal.OutOfMemory = 4
+refusal_status reason = 1
+
+-- a stop of a replay
 abbrev pub stop_status : Stop → ℕ
-stop_status (Frame (Read error)) = 3
-stop_status (Frame (Write sent error)) = 3
-stop_status (Rule refusal.OutOfMemory) = 4
+stop_status (Frame fault) = frame_status fault
+stop_status (Rule reason) = refusal_status reason
 stop_status stop = 1
 
--- a fault of a snapshot file: the same
+-- a fault of a snapshot file
 abbrev pub snapshot_status : SnapFault → ℕ
-snapshot_status (snapshot.Frame (Read error)) = 3
-snapshot_status (snapshot.Frame (Write sent error)) = 3
-snapshot_status (snapshot.Rule place refusal.OutOfMemory) = 4
+snapshot_status (snapshot.Frame fault) = frame_status fault
+snapshot_status (snapshot.Rule place reason) = refusal_status reason
 snapshot_status fault = 1
 
--- a session that ended without a snapshot: a failed read or write is 3, want of memory 4, any other fault 1
+-- a session that ended without a snapshot
 abbrev pub soup_status : SoupFault → ℕ
-soup_status (soup.Frame (Read error)) = 3
-soup_status (soup.Frame (Write sent error)) = 3
-soup_status (soup.Snapshot (snapshot.Rule place refusal.OutOfMemory)) = 4
+soup_status (soup.Frame fault) = frame_status fault
+soup_status (soup.Snapshot (snapshot.Rule place reason)) = refusal_status reason
 soup_status fault = 1
 
 -- 1 refused; 2 usage; 3 read, write, file or socket; 4 memory

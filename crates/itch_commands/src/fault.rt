@@ -1,7 +1,7 @@
 //! Why a command failed: its line on standard error, and the program's status.
 ghost use Rattle.std.specs.Prelude.{◌≡◌, ◌≢◌};
 ghost use Rattle.std.specs.IoError.{error_kind};
-ghost use Rattle.itch_commands.specs.Statuses.{stop_status, snapshot_status, soup_status, status_of, exit_status};
+ghost use Rattle.itch_commands.specs.Statuses.{frame_status, refusal_status, stop_status, snapshot_status, soup_status, status_of, exit_status};
 
 use itch_frame::FrameFault;
 use itch_market::{Refusal, ReplayEnd, Stop};
@@ -113,8 +113,8 @@ fn stop_status(stop: &Stop) -> u8
     ensures { result ≡ stop_status stop.now }
 {
     match stop {
-        Stop::Frame(FrameFault::Read(_)) | Stop::Frame(FrameFault::Write { .. }) => 3,
-        Stop::Rule(Refusal::OutOfMemory) => 4,
+        Stop::Frame(fault) => frame_status(fault),
+        Stop::Rule(reason) => refusal_status(reason),
         _ => 1,
     }
 }
@@ -123,11 +123,8 @@ fn snapshot_status(fault: &SnapFault) -> u8
     ensures { result ≡ snapshot_status fault.now }
 {
     match fault {
-        SnapFault::Frame(FrameFault::Read(_)) | SnapFault::Frame(FrameFault::Write { .. }) => 3,
-        SnapFault::Rule {
-            reason: Refusal::OutOfMemory,
-            ..
-        } => 4,
+        SnapFault::Frame(fault) => frame_status(fault),
+        SnapFault::Rule { reason, .. } => refusal_status(reason),
         _ => 1,
     }
 }
@@ -136,13 +133,26 @@ fn soup_status(fault: &SoupFault) -> u8
     ensures { result ≡ soup_status fault.now }
 {
     match fault {
-        SoupFault::Frame(FrameFault::Read(_)) | SoupFault::Frame(FrameFault::Write { .. }) => 3,
-        SoupFault::Snapshot(
-            SnapFault::Rule {
-                reason: Refusal::OutOfMemory,
-                ..
-            },
-        ) => 4,
+        SoupFault::Frame(fault) => frame_status(fault),
+        SoupFault::Snapshot(SnapFault::Rule { reason, .. }) => refusal_status(reason),
+        _ => 1,
+    }
+}
+
+fn frame_status(fault: &FrameFault) -> u8
+    ensures { result ≡ frame_status fault.now }
+{
+    match fault {
+        FrameFault::Read(_) | FrameFault::Write { .. } => 3,
+        _ => 1,
+    }
+}
+
+fn refusal_status(reason: &Refusal) -> u8
+    ensures { result ≡ refusal_status reason.now }
+{
+    match reason {
+        Refusal::OutOfMemory => 4,
         _ => 1,
     }
 }

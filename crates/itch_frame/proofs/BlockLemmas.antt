@@ -1,8 +1,10 @@
 -- What the bytes of blocks certain of their payloads.
-use Rattle.std.proofs.Common.{◌≡◌, ℕ, ◌%◌, ◌/◌, List, [], ◌∷◌, ◌++◌, length, take, drop, refl, sym, ap, ◌∙◌, append_assoc, arith}
+use Rattle.std.proofs.Common.{◌≡◌, ℕ, ◌%◌, ◌/◌, List, [], ◌∷◌, ◌++◌, length, take, drop, Option, refl, sym, ap, subst, ◌∙◌, append_assoc, arith}
 use Rattle.std.specs.List.{AllByRecursion}
 use Rattle.std.proofs.lemmas.List.{take_at, drop_at, append-nil}
 use Rattle.std.proofs.lemmas.List.Concat.{flat_map-append}
+use Rattle.std.specs.Io.KnownBytes.{Consumes}
+use Rattle.std.proofs.KnownBytes.{Consumes-trans}
 use Rattle.itch_frame.specs.Blocks.{IsPayload, block, blocks, Blocks}
 
 -- where two streams begin with a block and are the same, the payloads are the same, and what stands after them
@@ -27,6 +29,10 @@ blocks-append ps qs = flat_map-append block ps qs
 -- the blocks of one payload more
 pub blocks-push : (ps : List (List ℕ)) (p : List ℕ) → blocks (ps ++ p ∷ []) ≡ blocks ps ++ block p
 blocks-push ps p = blocks-append ps (p ∷ []) ∙ ap (λ bytes. blocks ps ++ bytes) (append-nil (block p))
+
+-- a block more came off the front
+pub consumed_more : (old mid new : Option (List ℕ)) (ps : List (List ℕ)) (p : List ℕ) → Consumes old mid (blocks ps) → Consumes mid new (block p) → Consumes old new (blocks (ps ++ p ∷ []))
+consumed_more old mid new ps p first second = subst (Consumes old new) (sym (blocks-push ps p)) (Consumes-trans old mid new (blocks ps) (block p) first second)
 
 -- no beginning of these bytes is the block of such a payload
 abbrev pub HasNone : (List ℕ → Type 0) → List ℕ → Type 0

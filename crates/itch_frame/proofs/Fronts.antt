@@ -32,7 +32,7 @@ front_block x y rest x_fits y_fits enough =
     λ i. high i ∷ low i ∷ following i
 
 -- no block stands in front, or one does
-abbrev Front : List ℕ → Type 0
+abbrev pub Front : List ℕ → Type 0
 Front bytes = HasNoBlock bytes ⊎ ((payload : List ℕ) × (more : List ℕ) × IsPayload payload × (bytes ≡ block payload ++ more))
 
 front_from : (x y : ℕ) (rest : List ℕ) → (x < 256) ⊎ (256 ≤ x) → (y < 256) ⊎ (256 ≤ y) → (length rest < x * 256 + y) ⊎ (x * 256 + y ≤ length rest) → Front (x ∷ y ∷ rest)
@@ -43,7 +43,7 @@ front_from x y rest (inl x_fits) (inl y_fits) (inr enough) =
     let n : length (take (x * 256 + y) rest) ≡ x * 256 + y = length-take-le (x * 256 + y) rest enough in
     inr (take (x * 256 + y) rest, drop (x * 256 + y) rest, omega arith, front_block x y rest x_fits y_fits enough)
 
-front : (bytes : List ℕ) → Front bytes
+pub front : (bytes : List ℕ) → Front bytes
 front [] = inl (nothing_left IsPayload)
 front (x ∷ []) = inl (one_byte x)
 front (x ∷ y ∷ rest) = front_from x y rest (cases_lt x 256) (cases_lt y 256) (cases_lt (length rest) (x * 256 + y))

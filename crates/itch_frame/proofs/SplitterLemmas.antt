@@ -4,7 +4,7 @@ use Rattle.std.proofs.lemmas.List.{take_all, take_at, take-append-le, take-take,
 use Rattle.std.proofs.Math.Seq.{take-append-add, take-add}
 use Rattle.std.proofs.lemmas.Bool.{cases_lt}
 use Rattle.itch_frame.specs.Blocks.{IsPayload, block, blocks, IsBlock, IsBlockOf, HasNoBlock, Blocks}
-use Rattle.itch_frame.specs.Cuts.{IsBegun, IsTake, CutStep, Run, stream_of, payloads_of, AnyCut}
+use Rattle.itch_frame.specs.Cuts.{IsTake, CutStep, Run, stream_of, payloads_of, AnyCut}
 use Rattle.itch_frame.specs.Cuts.CutStep.{Takes, Clears}
 use Rattle.itch_frame.specs.Needs.{need}
 use Rattle.itch_frame.proofs.BlockLemmas.{nothing_left}
@@ -133,6 +133,10 @@ two_moves held piece mid rest new first second begun first_is mid_is rest_is sec
         take (length new - 2) (drop 2 new),
         whole_block new (omega arith) (omega (arith, rest_length, mid_begun)) bound (omega (arith, bytes 0)) (omega (arith, bytes 1)),
       )
+
+-- no shorter beginning of these bytes is a block
+abbrev IsBegun : List ℕ → Type 0
+IsBegun bytes = (k : ℕ) → k < length bytes → IsBlock (take k bytes) → ⊥
 
 -- bytes of which no beginning is a block, nor they themselves, begin with no block
 begun_open : (held : List ℕ) → IsBegun held → (IsBlock held → ⊥) → HasNoBlock held

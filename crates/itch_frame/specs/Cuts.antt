@@ -2,10 +2,6 @@
 use Rattle.std.specs.Prelude.{◌≡◌, ℕ, ◌<◌, ◌≤◌, List, [], ◌∷◌, ◌++◌, length, take}
 use Rattle.itch_frame.specs.Blocks.{IsBlock, IsBlockOf, Blocks}
 
--- no shorter beginning of these bytes is a block
-abbrev pub IsBegun : List ℕ → Type 0
-IsBegun bytes = (k : ℕ) → k < length bytes → IsBlock (take k bytes) → ⊥
-
 -- Of the piece the first n bytes are taken: the fewest that make a block with those held, or all where none do.
 pub record IsTake (held piece : List ℕ) (n : ℕ) (new : List ℕ) : Type 0 where
   pub within : n ≤ length piece

@@ -31,6 +31,6 @@ mod writer;
 
 pub use counted::{Buffered, Counted, CountedRead, CountedWrite};
 pub use fault::FrameFault;
-pub use reader::{BlockReader, Stage};
+pub use reader::BlockReader;
 pub use splitter::Splitter;
 pub use writer::{write_block, write_part};

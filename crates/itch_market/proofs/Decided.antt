@@ -1,7 +1,7 @@
 -- What a replay says of a file whose bytes are known.
-use Rattle.std.proofs.Common.{◌≡◌, ℕ, ◌-◌, ◌^◌, ◌<◌, ◌≤◌, ◌==◌, false, List, ◌++◌, map, length, take, Option, None, Some, IfSome, sym, ap, subst, ◌∙◌, inl, inr, arith}
+use Rattle.std.proofs.Common.{◌≡◌, ℕ, ◌-◌, ◌^◌, ◌≤◌, ◌==◌, List, ◌++◌, map, length, take, Option, None, Some, IfSome, sym, ap, subst, ◌∙◌, inl, inr}
 use Rattle.std.specs.Option.{option_map}
-use Rattle.std.proofs.lemmas.Bool.{eqb-false, eqb-true}
+use Rattle.std.proofs.lemmas.Bool.{eqb-true}
 use Rattle.std.proofs.Math.Seq.{take-append_seam}
 use Rattle.itch_codec.specs.declared.fault.CodecFault.{CodecFault}
 use Rattle.itch_codec.specs.Messages.{fault, message_of}
@@ -17,6 +17,7 @@ use Rattle.itch_market.specs.Effects.{takes_memory}
 use Rattle.itch_market.specs.Runs.{after}
 use Rattle.itch_market.specs.Stops.{cause_by, cause, Stops}
 use Rattle.itch_market.specs.Replays.{IsRefusal, Refuses, TakesOff, Halts, Takes, Replays, IsDecided}
+use Rattle.itch_market.proofs.Taking.{not_full}
 use Rattle.itch_market.proofs.Stopping.{none_ends, one_stops, full_stops, ends_stop, open_stops}
 
 -- a payload with a fault is not taken for that
@@ -24,14 +25,11 @@ faulty : (m : Content) (p : List ℕ) (f : CodecFault) → fault p ≡ Some f �
 faulty m p f is = ap (λ o. cause_by o m p) is
 
 -- a message that is refused, and not for want of memory, is refused for its reason
-refused : (m : Content) (p : List ℕ) (why : Refusal) → IsDecided (Rule why) → Refuses m p why → cause m p ≡ Some (Rule why)
+pub refused : (m : Content) (p : List ℕ) (why : Refusal) → IsDecided (Rule why) → Refuses m p why → cause m p ≡ Some (Rule why)
 refused m p why decided (clean, refusal) = ap (λ o. cause_by o m p) clean ∙ ap (option_map Rule) (by_reason (reason m (message_of p)) refusal) where
   by_reason : (r : Option Refusal) → IsRefusal r (takes_memory m (message_of p)) why → r ≡ Some why
   by_reason None (wanting, takes) = absurd (subst (λ w. IsDecided (Rule w)) wanting decided)
   by_reason (Some r) same = ap Some (sym same)
-
-not_full : (count : ℕ) → count ≤ 10 ^ 19 - 1 → (count == 10 ^ 19 - 1) ≡ false → count < 10 ^ 19 - 1
-not_full count few room = let other : count ≡ 10 ^ 19 - 1 → ⊥ = eqb-false count (10 ^ 19 - 1) room in omega arith
 
 -- after the payloads that were taken the rest of the file follows
 module _ (m n : Content) (b c : List ℕ) (ps : List (List ℕ)) (takes : Takes m (Some b) (Some c) ps n) (few : length ps ≤ 10 ^ 19 - 1) where

@@ -45,7 +45,7 @@ none_ends m bytes ps rest day few none = record {
 }
 
 -- a payload after those that are taken, and a day after it
-after_day : (bytes unread : List ℕ) (done : List (List ℕ)) (p : List ℕ) → bytes ≡ blocks done ++ (block p ++ unread) → AllByRecursion IsFull done → IsFull p
+pub after_day : (bytes unread : List ℕ) (done : List (List ℕ)) (p : List ℕ) → bytes ≡ blocks done ++ (block p ++ unread) → AllByRecursion IsFull done → IsFull p
     → (more : List (List ℕ)) × (rest : List ℕ) × Day bytes (done ++ p ∷ more) rest
 after_day bytes unread done p whole full_done full = found (day_some unread) where
   found : (ps : List (List ℕ)) × (rest : List ℕ) × Day unread ps rest → (more : List (List ℕ)) × (rest : List ℕ) × Day bytes (done ++ p ∷ more) rest

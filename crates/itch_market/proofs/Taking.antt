@@ -1,11 +1,10 @@
 -- What a replay has done so far, and one block more.
-use Rattle.std.proofs.Common.{◌≡◌, ℕ, ◌+◌, ◌-◌, ◌^◌, ◌≤◌, ◌==◌, false, List, [], ◌∷◌, ◌++◌, map, length, Option, None, Ok, Err, refl, sym, ap, subst, ◌∙◌, arith, length-append, append-nil}
+use Rattle.std.proofs.Common.{◌≡◌, ℕ, ◌+◌, ◌-◌, ◌^◌, ◌≤◌, ◌<◌, ◌==◌, false, List, [], ◌∷◌, ◌++◌, map, length, Option, None, Ok, Err, refl, sym, ap, subst, ◌∙◌, arith, length-append}
 use Rattle.std.proofs.lemmas.Bool.Decides.{nat_tests}
-use Rattle.std.specs.Io.KnownBytes.{Consumes}
-use Rattle.std.proofs.KnownBytes.{Consumes-nil, Consumes-trans}
+use Rattle.std.proofs.KnownBytes.{Consumes-nil}
 use Rattle.itch_codec.specs.Messages.{message_of}
-use Rattle.itch_frame.specs.Blocks.{block, blocks, IsFull}
-use Rattle.itch_frame.proofs.BlockLemmas.{blocks-append, each-push}
+use Rattle.itch_frame.specs.Blocks.{IsFull}
+use Rattle.itch_frame.proofs.BlockLemmas.{consumed_more, each-push}
 use Rattle.itch_market.specs.declared.stop.Stop.{Stop}
 use Rattle.itch_market.specs.Content.{Content, laid}
 use Rattle.itch_market.specs.Effects.{effect}
@@ -35,16 +34,26 @@ going_first m bytes good in_place = record {
   few = omega arith;
 }
 
-consumed_more : (a b c : Option (List ℕ)) (ps : List (List ℕ)) (p : List ℕ) → Consumes a b (blocks ps) → Consumes b c (block p) → Consumes a c (blocks (ps ++ p ∷ []))
-consumed_more a b c ps p first second =
-    subst (Consumes a c) (ap (λ last. blocks ps ++ last) (sym (append-nil (block p))) ∙ sym (blocks-append ps (p ∷ []))) (Consumes-trans a b c (blocks ps) (block p) first second)
+-- what is taken of a laid market is taken of the market itself, which stays good
+pub taken_on : (m n k : Content) (p : List ℕ) → IsGood m → n ≡ laid m → cause n p ≡ None → Fits p → k ≡ laid (effect n (message_of p))
+    → (cause m p ≡ None) × (k ≡ laid (effect m (message_of p))) × IsGood (effect m (message_of p))
+taken_on m n k p good is clean fits next =
+    let took : cause m p ≡ None = sym (cause-laid m p good) ∙ ap (λ x. cause x p) (sym is) ∙ clean in (
+      took,
+      next ∙ ap (λ x. laid (effect x (message_of p))) is ∙ effect-laid m (message_of p) good,
+      effect_good m (message_of p) good fits (no_reason m p took),
+    )
+
+-- fewer than may be
+pub not_full : (count : ℕ) → count ≤ 10 ^ 19 - 1 → (count == 10 ^ 19 - 1) ≡ false → count < 10 ^ 19 - 1
+not_full count few room = grind (arith, nat_tests)
 
 -- then one more, unless there are as many as may be
 pub going_on : (m : Content) (old mid new : Option (List ℕ)) (count : ℕ) (n k : Content) → Going m old mid count n → Step (count == 10 ^ 19 - 1) n mid new (Ok tt) k → Going m old new (count + 1) k
 going_on m old mid new count n k going (p, off, room, (clean, fits, next)) =
     let ps = going.payloads in
     let so_far = after m (map message_of ps) in
-    let taken : cause so_far p ≡ None = sym (cause-laid so_far p going.good) ∙ ap (λ x. cause x p) (sym going.takes.left) ∙ clean in
+    let (taken, after_it, still) = taken_on so_far n k p going.good going.takes.left clean fits next in
     record {
       payloads = ps ++ p ∷ [];
       takes = record {
@@ -52,16 +61,12 @@ going_on m old mid new count n k going (p, off, room, (clean, fits, next)) =
         full = each-push IsFull ps p going.takes.full off.0;
         none = none_more m ps p going.takes.none taken;
         fits = each-push Fits ps p going.takes.fits fits;
-        left =
-            next ∙ ap (λ x. laid (effect x (message_of p))) going.takes.left ∙ effect-laid so_far (message_of p) going.good
-            ∙ ap laid (sym (after_more m ps p));
+        left = after_it ∙ ap laid (sym (after_more m ps p));
       };
-      good = subst IsGood (sym (after_more m ps p)) (effect_good so_far (message_of p) going.good fits (no_reason so_far p taken));
+      good = subst IsGood (sym (after_more m ps p)) still;
       counted = length-append ps (p ∷ []) ∙ ap (λ c. c + 1) going.counted;
-      few = not_last count going.few room;
-    } where
-      not_last : (c : ℕ) → c ≤ 10 ^ 19 - 1 → (c == 10 ^ 19 - 1) ≡ false → c + 1 ≤ 10 ^ 19 - 1
-      not_last c few room = grind (arith, nat_tests)
+      few = omega (arith, not_full count going.few room);
+    }
 
 -- and there it stops
 pub going_halts : (m : Content) (old mid new : Option (List ℕ)) (count : ℕ) (n k : Content) (stop : Stop)

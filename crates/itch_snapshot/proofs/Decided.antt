@@ -45,7 +45,7 @@ closes_here b c d ps n next takes few (last, off, closes) = record {
 }
 
 -- an end that was met is one in the file
-ends_here : (d : List ℕ) (new : Option (List ℕ)) → EndsHere (Some d) new → Ends d
+pub ends_here : (d : List ℕ) (new : Option (List ℕ)) → EndsHere (Some d) new → Ends d
 ends_here d new (inl none) = inl none
 ends_here d None (inr empty_block) = absurd empty_block
 ends_here d (Some e) (inr empty_block) = inr (e, empty_block)

@@ -89,7 +89,7 @@ spelled_full (x ∷ xs) [] spelled fit = absurd spelled
 spelled_full (x ∷ xs) (p ∷ ps) spelled fit = ((some_bytes p (fault-Spells x p spelled.0), fit.0), spelled_full xs ps spelled.1 fit.1)
 
 -- payloads whose messages follow the order rules are all taken
-spelled_none : (m : Content) (ms : List Message) (ps : List (List ℕ)) → AreSpelled ms ps → FollowsFrom m ms → NoCause m ps
+pub spelled_none : (m : Content) (ms : List Message) (ps : List (List ℕ)) → AreSpelled ms ps → FollowsFrom m ms → NoCause m ps
 spelled_none m [] [] spelled follows k within = absurd (omega arith)
 spelled_none m [] (p ∷ ps) spelled follows k within = absurd spelled
 spelled_none m (x ∷ xs) [] spelled follows k within = absurd spelled

@@ -34,5 +34,5 @@ pub use fault::SnapFault;
 pub use iter::SnapshotIter;
 pub use length::snapshot_len;
 pub use read::read_snapshot;
-pub use reader::{SnapshotReader, Stage};
+pub use reader::SnapshotReader;
 pub use write::{write_partial, write_snapshot};

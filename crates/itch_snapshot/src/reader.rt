@@ -10,14 +10,14 @@ use itch_codec::{MOST_MESSAGES, Message, Seq, decode};
 use itch_market::{LocateSet, Market, Refusal};
 use std::marker::Model;
 
-/// How far the reading of a snapshot is.
-#[derive(Clone, Copy, Debug)]
-pub enum Stage {
-    /// Messages are taken.
+// How far the reading of a snapshot is.
+#[derive(Clone, Copy)]
+pub(crate) enum Stage {
+    // Messages are taken.
     Taking,
-    /// A message was not taken; every further one has the same fault.
+    // A message was not taken; every further one has the same fault.
     Broken(SnapFault),
-    /// The End of Snapshot came, with the number of the first message that the snapshot does not contain.
+    // The End of Snapshot came, with the number of the first message that the snapshot does not contain.
     Closed(Seq),
 }
 

@@ -1,27 +1,20 @@
 -- A block without a fault spells a packet.
-use Rattle.std.proofs.Common.{◌≡◌, ℕ, ◌≤◌, Bool, true, false, cond, eqb, MatchBool, List, [], ◌∷◌, length, Option, None, Some, refl, arith}
-use Rattle.std.specs.Prelude.{option_map}
+use Rattle.std.proofs.Common.{◌≡◌, ℕ, Bool, true, false, cond, eqb, MatchBool, List, [], ◌∷◌, length, Option, None, Some, refl, arith}
 use Rattle.std.specs.List.{list_all}
 use Rattle.std.proofs.lemmas.Bool.{eqb-true}
-use Rattle.std.proofs.lemmas.Bool.Decides.{nat_tests}
-use Rattle.itch_codec.specs.Text.{IsPrintable}
 use Rattle.itch_codec.specs.Numbers.{slice_at, byte_at, is_space, SpellsNumber, read20}
 use Rattle.itch_codec.proofs.Numbers.{read-spells}
-use Rattle.itch_codec.proofs.Texts.{none-printable}
+use Rattle.itch_codec.proofs.Tables.{text_printable, positive_some, both_none}
 use Rattle.itch_soup.specs.declared.origin.Origin.{Origin}
 use Rattle.itch_soup.specs.declared.fault.SoupFault.{SoupFault}
-use Rattle.itch_soup.specs.declared.fault.SoupFault.TheVariants.{WrongSide}
+use Rattle.itch_soup.specs.declared.fault.SoupFault.TheVariants.{WrongSide, BadText, BadNumber}
 use Rattle.itch_soup.specs.declared.packet.Packet.{Packet}
 use Rattle.itch_soup.specs.declared.packet.Packet.TheVariants as is
 use Rattle.itch_soup.specs.PacketTable.{PacketType, sends}
-use Rattle.itch_soup.specs.Packets.{packet_type, packet_values, Requests, HasParts, HasSize, PacketSpells, text_fault, positive_fault, number_fault, requested, first_of, parts_fault, size_fault, fault_by_type, packet_fault}
+use Rattle.itch_soup.specs.Packets.{packet_type, packet_values, Requests, HasParts, HasSize, PacketSpells, number_fault, requested, parts_fault, size_fault, fault_by_type, packet_fault}
 
 abbrev pub IsSpelled : List ℕ → Origin → Type 0
 IsSpelled block from = (packet : Packet) × PacketSpells packet block from
-
-first_none : (first later : Option SoupFault) → first_of first later ≡ None → (first ≡ None) × (later ≡ None)
-first_none (Some fault) later h = absurd (cc)
-first_none None later h = (refl, h)
 
 side_none : (b : Bool) (kind : ℕ) (found : Option SoupFault) → cond b found (Some (WrongSide kind)) ≡ None → (b ≡ true) × (found ≡ None)
 side_none true kind found h = (refl, h)
@@ -43,23 +36,8 @@ spelled_by : (packet : Packet) (kind : ℕ) (rest : List ℕ) (from : Origin) �
 spelled_by packet kind rest from same h holds =
     let t = packet_type packet in
     let side = side_none (sends t.sender from) kind _ h in
-    let parts = first_none (size_fault kind t.size (kind ∷ rest)) _ side.1 in
+    let parts = both_none (size_fault kind t.size (kind ∷ rest)) _ side.1 in
     record { first = same; side = side.0; size = size_has kind t.size kind rest parts.0; parts = holds parts.1 }
-
-map_none : (place : ℕ → SoupFault) (found : Option ℕ) → option_map place found ≡ None → found ≡ None
-map_none place None h = refl
-map_none place (Some n) h = absurd (cc)
-
-text_holds : (offset : ℕ) (field : List ℕ) → text_fault offset field ≡ None → IsPrintable field
-text_holds offset field h = none-printable field (map_none _ _ h)
-
-positive_some : (offset : ℕ) (found : Option ℕ) → positive_fault offset found ≡ None → (n : ℕ) × (found ≡ Some n) × (1 ≤ n)
-positive_some offset None h = absurd (cc)
-positive_some offset (Some n) h = (n, refl, positive n (eqb n 0) refl h)
-  where
-    positive : (n : ℕ) (b : Bool) → eqb n 0 ≡ b → positive_fault offset (Some n) ≡ None → 1 ≤ n
-    positive n true e k = absurd (let m = rw e at k in cc)
-    positive n false e k = grind (arith, nat_tests)
 
 number_some : (offset : ℕ) (found : Option ℕ) → number_fault offset found ≡ None → (n : ℕ) × (found ≡ Some n)
 number_some offset None h = absurd (cc)
@@ -79,12 +57,12 @@ accepted_spelled kind rest from same h =
     let block = kind ∷ rest in
     let session = slice_at 1 10 block in
     let side = side_none _ kind _ h in
-    let parts = first_none _ _ (first_none _ _ side.1).1 in
-    let number = positive_some 11 (read20 (slice_at 11 20 block)) (first_none _ _ parts.1).0 in
+    let parts = both_none _ _ (both_none _ _ side.1).1 in
+    let number = positive_some (BadNumber 11) (read20 (slice_at 11 20 block)) (both_none _ _ parts.1).0 in
     let packet = is.LoginAccepted (record { session = session; next = number.0 }) in (
       packet,
       spelled_by packet kind rest from same h (λ _.
-          ((refl, text_holds 1 session parts.0), ((read-spells _ number.0 number.1, number.2), tt))),
+          ((refl, text_printable BadText 1 session parts.0), ((read-spells _ number.0 number.1, number.2), tt))),
     )
 
 request_spelled : (kind : ℕ) (rest : List ℕ) (from : Origin) → kind ≡ 76
@@ -96,17 +74,17 @@ request_spelled kind rest from same h =
     let password = slice_at 7 10 block in
     let session = slice_at 17 10 block in
     let side = side_none _ kind _ h in
-    let named = first_none _ _ (first_none _ _ side.1).1 in
-    let passed = first_none _ _ named.1 in
-    let asked = first_none _ _ passed.1 in
-    let number = number_some 27 (requested (slice_at 27 20 block)) (first_none _ _ asked.1).0 in
+    let named = both_none _ _ (both_none _ _ side.1).1 in
+    let passed = both_none _ _ named.1 in
+    let asked = both_none _ _ passed.1 in
+    let number = number_some 27 (requested (slice_at 27 20 block)) (both_none _ _ asked.1).0 in
     let packet = is.LoginRequest (record { username = username; password = password; session = session; number = number.0 }) in (
       packet,
       spelled_by packet kind rest from same h (λ _. (
-        (refl, text_holds 1 username named.0),
+        (refl, text_printable BadText 1 username named.0),
         (
-          (refl, text_holds 7 password passed.0),
-          ((refl, text_holds 17 session asked.0), (requested-requests (slice_at 27 20 block) number.0 number.1, tt)),
+          (refl, text_printable BadText 7 password passed.0),
+          ((refl, text_printable BadText 17 session asked.0), (requested-requests (slice_at 27 20 block) number.0 number.1, tt)),
         ),
       )),
     )

@@ -1,29 +1,24 @@
 -- What a client has heard so far, and one packet more.
-use Rattle.std.proofs.Common.{◌≡◌, ℕ, suc, ◌+◌, ◌-◌, ◌^◌, ◌≤◌, ◌==◌, nat_lt, Bool, true, false, List, [], ◌∷◌, ◌++◌, map, length, drop, Option, None, Some, Ok, Err, refl, sym, ap, subst, ◌∙◌, append-nil, arith, length-append}
-use Rattle.std.proofs.lemmas.Bool.Decides.{nat_tests}
+use Rattle.std.proofs.Common.{◌≡◌, ℕ, ◌+◌, ◌-◌, ◌^◌, ◌≤◌, nat_lt, Bool, true, false, List, [], ◌∷◌, ◌++◌, map, length, drop, Option, None, Some, Ok, Err, refl, sym, ap, subst, ◌∙◌, append-nil, arith, length-append}
 use Rattle.std.proofs.lemmas.List.{length-map, length-drop}
 use Rattle.std.specs.List.{AllByRecursion}
 use Rattle.std.specs.Option.{is_some}
 use Rattle.std.specs.Io.KnownBytes.{Consumes}
 use Rattle.std.proofs.KnownBytes.{Consumes-nil}
-use Rattle.itch_codec.specs.Messages.{fault, message_of}
+use Rattle.itch_codec.specs.Messages.{message_of}
 use Rattle.itch_codec.specs.Widths.{IsMessage}
-use Rattle.itch_codec.proofs.Spelling.{Spells-message_of}
 use Rattle.itch_frame.specs.Blocks.{IsPayload, block, blocks}
-use Rattle.itch_frame.proofs.BlockLemmas.{each-push}
+use Rattle.itch_frame.proofs.BlockLemmas.{consumed_more, each-push}
 use Rattle.itch_book.proofs.Lists.{All-map_rec}
 use Rattle.itch_market.specs.Content.{Content, empty, laid}
-use Rattle.itch_market.specs.Effects.{effect}
 use Rattle.itch_market.specs.GoodMarkets.{IsGood}
 use Rattle.itch_market.specs.Runs.{after, run}
-use Rattle.itch_market.specs.Stops.{cause}
 use Rattle.itch_market.specs.Replays.{NoCause, Fits}
-use Rattle.itch_market.proofs.GoodMarkets.{effect_good}
-use Rattle.itch_market.proofs.Laid.{effect-laid}
-use Rattle.itch_market.proofs.Causes.{cause-laid, no_reason, no_fault, none_more, none_follows, after_more}
+use Rattle.itch_market.proofs.Causes.{none_clean, none_more, none_follows, after_more}
+use Rattle.itch_market.proofs.Taking.{taken_on, not_full}
 use Rattle.itch_snapshot.specs.declared.reader.Stage.TheVariants.{Taking, Closed}
-use Rattle.itch_snapshot.specs.Files.{AreSpelled}
 use Rattle.itch_snapshot.specs.TakenMessages.{Load, begun, Loads, TakesAt, TakesNext, Finishes, closing_number}
+use Rattle.itch_snapshot.proofs.Decided.{clean_spelled}
 use Rattle.itch_snapshot.proofs.FileLemmas.{Spells-number}
 use Rattle.itch_soup.specs.declared.connection.Stage.{Stage}
 use Rattle.itch_soup.specs.declared.connection.Stage.TheVariants as stage
@@ -37,7 +32,7 @@ use Rattle.itch_soup.specs.Packets.{PacketSpells}
 use Rattle.itch_soup.specs.Clients.{Client, client_turn, client_answer, client_after_packet}
 use Rattle.itch_soup.specs.Serving.{is_enough}
 use Rattle.itch_soup.specs.Fetching.{ArePackets, noted, news, after_packets, numbered, Hears, SpellsSnapshot, Fetched, HearsNext, TakesAnswer, EndsFetch, Receives, load_of}
-use Rattle.itch_soup.proofs.Waiting.{consumed_more, one_more}
+use Rattle.itch_soup.proofs.Waiting.{one_more}
 
 -- what a turn of a session says of its stage and number
 abbrev pub Shows : Packet → Stage → ℕ → ClientAct → Stage → ℕ → Type 0
@@ -134,27 +129,15 @@ pub record Applied (payloads : List (List ℕ)) (taken : ℕ) (n : Content) : Ty
 applied_on : (payloads : List (List ℕ)) (taken : ℕ) (n k : Content) (p : List ℕ) → Applied payloads taken n → TakesNext taken n p (Ok None) k → Applied (payloads ++ p ∷ []) (taken + 1) k
 applied_on ps taken n k p applied (room, (clean, fits, next)) =
     let so_far = run (map message_of ps) in
-    let took : cause so_far p ≡ None = sym (cause-laid so_far p applied.good) ∙ ap (λ x. cause x p) (sym applied.left) ∙ clean in
+    let (took, after_it, still) = taken_on so_far n k p applied.good applied.left clean fits next in
     record {
       none = none_more empty ps p applied.none took;
       fits = each-push Fits ps p applied.fits fits;
-      left =
-          next ∙ ap (λ x. laid (effect x (message_of p))) applied.left ∙ effect-laid so_far (message_of p) applied.good
-          ∙ ap laid (sym (after_more empty ps p));
-      good = subst IsGood (sym (after_more empty ps p)) (effect_good so_far (message_of p) applied.good fits (no_reason so_far p took));
+      left = after_it ∙ ap laid (sym (after_more empty ps p));
+      good = subst IsGood (sym (after_more empty ps p)) still;
       counted = length-append ps (p ∷ []) ∙ ap (λ c. c + 1) applied.counted;
-      few = not_last taken applied.few room;
-    } where
-      not_last : (c : ℕ) → c ≤ 10 ^ 19 - 1 → (c == 10 ^ 19 - 1) ≡ false → c + 1 ≤ 10 ^ 19 - 1
-      not_last c few room = grind (arith, nat_tests)
-
-none_clean : (m : Content) (ps : List (List ℕ)) → NoCause m ps → AllByRecursion (λ p. fault p ≡ None) ps
-none_clean m [] none = tt
-none_clean m (p ∷ ps) none = (no_fault m p (none 0 (omega arith)), none_clean (effect m (message_of p)) ps (λ k within. none (suc k) (omega arith)))
-
-clean_spelled : (ps : List (List ℕ)) → AllByRecursion (λ p. fault p ≡ None) ps → AreSpelled (map message_of ps) ps
-clean_spelled [] clean = tt
-clean_spelled (p ∷ ps) clean = (Spells-message_of p clean.0, clean_spelled ps clean.1)
+      few = omega (arith, not_full taken applied.few room);
+    }
 
 closes : (ps : List (List ℕ)) (taken : ℕ) (n : Content) (p : List ℕ) (next : ℕ) → Applied ps taken n → closing_number p ≡ Some next → SpellsSnapshot (ps ++ p ∷ []) (map message_of ps) next
 closes ps taken n p next applied number = record {

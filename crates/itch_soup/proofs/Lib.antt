@@ -9,7 +9,12 @@ pub mod Sessions
 pub mod Waiting
 pub mod Hearing
 pub mod Rounds
+pub mod FrontBlocks
+pub mod BlockFaults
 pub mod OneWait
+pub mod FetchEnds
+pub mod FetchRuns
+pub mod SaidAnswers
 pub mod OneFetch
 pub mod SomeFetch
 pub mod SomeWait

@@ -1,12 +1,12 @@
 -- The bytes of a client end a wait for a login in one way.
-use Rattle.std.proofs.Common.{◌≡◌, ℕ, suc, ◌+◌, ◌^◌, ◌≤◌, ◌<◌, ◌⊎◌, Bool, true, false, List, [], ◌∷◌, ◌++◌, length, Option, Some, None, Ok, Err, refl, sym, ap, subst, ◌∙◌, inl, inr, append_assoc, arith}
+use Rattle.std.proofs.Common.{◌≡◌, ℕ, suc, ◌+◌, ◌^◌, ◌≤◌, Bool, true, false, List, [], ◌∷◌, ◌++◌, length, Option, Some, None, Ok, Err, refl, sym, ap, subst, ◌∙◌, inl, inr, append_assoc, arith}
 use Rattle.std.proofs.lemmas.Bool.Decides.{nat_tests}
 use Rattle.std.specs.List.{AllByRecursion}
 use Rattle.itch_codec.specs.Numbers.{byte_at}
-use Rattle.itch_frame.specs.Blocks.{IsPayload, block, blocks, HasNoBlock, Ends, Open, Day}
+use Rattle.itch_frame.specs.Blocks.{IsPayload, block, blocks, HasNoBlock}
 use Rattle.itch_frame.specs.declared.fault.FrameFault.TheVariants.{Read, Truncated, Write, TooLong}
 use Rattle.itch_frame.proofs.BlockLemmas.{same_block}
-use Rattle.itch_frame.proofs.Days.{day_some}
+use Rattle.itch_frame.proofs.Fronts.{Front, front}
 use Rattle.itch_soup.specs.declared.serve.Opening.TheVariants.{Login, Leave}
 use Rattle.itch_soup.specs.declared.fault.SoupFault.{SoupFault}
 use Rattle.itch_soup.specs.declared.fault.SoupFault.TheVariants as broke
@@ -16,6 +16,7 @@ use Rattle.itch_soup.specs.declared.packet.Packet.TheVariants as is
 use Rattle.itch_soup.specs.Packets.{PacketSpells, packet_fault}
 use Rattle.itch_soup.specs.Serving.{is_enough, ReadsBlock, IsPassedOver, IsIdle, EndsWait, Wait, WaitsForLogin, IsDecidedWait}
 use Rattle.itch_soup.proofs.Unique.{packet_at, packet_at-spelled, spelled-none}
+use Rattle.itch_soup.proofs.FrontBlocks.{the_block, some_block, no_bytes, ends_by, cut_off}
 
 -- how a client's packet ends the wait; one that is passed over does not
 abbrev wait_by : Packet → Wait
@@ -32,17 +33,7 @@ wait_of true payload = Err broke.TooManyMessages
 wait_of false payload = wait_of_fault (packet_fault payload Client) payload
 
 abbrev wait_at_end : List ℕ → Wait
-wait_at_end [] = Ok Leave
-wait_at_end (x ∷ xs) = Err (broke.Frame (Truncated (length (x ∷ xs))))
-
--- the block that was read is the one at the front
-pub the_block : (q rest : List ℕ) (new : Option (List ℕ)) (P : List ℕ → Type 0) → IsPayload q → ReadsBlock (Some (block q ++ rest)) new P → P q
-the_block q rest None P fits (payload, short, consumed, h) = absurd consumed
-the_block q rest (Some c) P fits (payload, short, consumed, h) = subst P (sym (same_block q payload rest c fits short consumed).0) h
-
-pub some_block : (b : List ℕ) (new : Option (List ℕ)) (P : List ℕ → Type 0) → HasNoBlock b → ReadsBlock (Some b) new P → ⊥
-some_block b None P none (payload, short, consumed, h) = consumed
-some_block b (Some c) P none (payload, short, consumed, h) = none payload c short consumed
+wait_at_end rest = ends_by (Ok Leave) rest
 
 spelled_wait : (packet : Packet) (q : List ℕ) → PacketSpells packet q Client → wait_of false q ≡ wait_by packet
 spelled_wait packet q h =
@@ -50,9 +41,6 @@ spelled_wait packet q h =
 
 faulty_wait : (f : SoupFault) (q : List ℕ) → packet_fault q Client ≡ Some f → wait_of false q ≡ Err f
 faulty_wait f q h = ap (λ found. wait_of_fault found q) h
-
-pub no_bytes : (q rest : List ℕ) → block q ++ rest ≡ [] → ⊥
-no_bytes q rest same = let no_one : ⊥ = cc in no_one
 
 -- a packet that has a fault, read before as many as may be
 faulty : (enough : Bool) (q rest : List ℕ) (new : Option (List ℕ)) (f : SoupFault) → IsPayload q → (enough ≡ false) × ReadsBlock (Some (block q ++ rest)) new (λ payload. packet_fault payload Client ≡ Some f)
@@ -86,16 +74,12 @@ block_wait enough q rest new (Err (broke.WrongStart next)) fits h decided = faul
 block_wait enough q rest new (Err broke.EndedEarly) fits h decided = faulty enough q rest new broke.EndedEarly fits h
 block_wait enough q rest new (Err (broke.Snapshot f)) fits h decided = faulty enough q rest new (broke.Snapshot f) fits h
 
-cut_wait : (b : List ℕ) (held : ℕ) → 0 < length b → held ≡ length b → Err (broke.Frame (Truncated held)) ≡ wait_at_end b
-cut_wait [] held some count = absurd (omega arith)
-cut_wait (x ∷ xs) held some count = ap (λ n. Err (broke.Frame (Truncated n))) count
-
 -- where none does, the end of input decides, or the unfinished block
 end_wait : (enough : Bool) (b : List ℕ) (new : Option (List ℕ)) (wait : Wait) → HasNoBlock b → EndsWait enough (Some b) new wait → IsDecidedWait wait → wait ≡ wait_at_end b
 end_wait enough b new (Ok (Login login)) none (room, read) decided = absurd (some_block b new _ none read)
 end_wait enough b new (Ok Leave) none (inl at_end) decided = sym (ap wait_at_end at_end)
 end_wait enough b new (Ok Leave) none (inr (room, read)) decided = absurd (some_block b new _ none read)
-end_wait enough b new (Err (broke.Frame (Truncated held))) none (part, count) decided = cut_wait b held part.0 count
+end_wait enough b new (Err (broke.Frame (Truncated held))) none (part, count) decided = cut_off (Ok Leave) b held part.0 count
 end_wait enough b new (Err (broke.Frame (Read error))) none h decided = absurd decided
 end_wait enough b new (Err (broke.Frame (Write sent error))) none h decided = absurd h
 end_wait enough b new (Err (broke.Frame TooLong)) none h decided = absurd h
@@ -114,27 +98,13 @@ end_wait enough b new (Err (broke.WrongStart next)) none (room, read) decided = 
 end_wait enough b new (Err broke.EndedEarly) none (room, read) decided = absurd (some_block b new _ none read)
 end_wait enough b new (Err (broke.Snapshot f)) none (room, read) decided = absurd (some_block b new _ none read)
 
--- a block stands at the front, or none
-abbrev pub Front : List ℕ → Type 0
-Front b = ((q : List ℕ) × (rest : List ℕ) × IsPayload q × (b ≡ block q ++ rest)) ⊎ HasNoBlock b
-
-pub front : (b : List ℕ) → Front b
-front b = by_day (day_some b) where
-  by_day : (ps : List (List ℕ)) × (rest : List ℕ) × Day b ps rest → Front b
-  by_day (p ∷ ps, rest, day) = inl (p, blocks ps ++ rest, day.each.0.1, day.whole ∙ append_assoc (block p) (blocks ps) rest)
-  by_day ([], rest, day) = by_last day.last where
-    by_last : Ends rest ⊎ Open rest → Front b
-    by_last (inl (inl none)) = inr (λ payload more fits same. no_bytes payload more (sym same ∙ day.whole ∙ none))
-    by_last (inl (inr (more, empty))) = inl ([], more, omega arith, day.whole ∙ empty)
-    by_last (inr part) = inr (λ payload more fits same. part.1 payload more fits (sym day.whole ∙ same))
-
 same_end : (enough : Bool) (b : List ℕ) (new other : Option (List ℕ)) (w v : Wait) → EndsWait enough (Some b) new w → EndsWait enough (Some b) other v → IsDecidedWait w → IsDecidedWait v → w ≡ v
 same_end enough b new other w v h k decided certain = by_front (front b) where
   by_front : Front b → w ≡ v
-  by_front (inl (q, rest, fits, is)) =
+  by_front (inr (q, rest, fits, is)) =
       block_wait enough q rest new w fits (subst (λ c. EndsWait enough (Some c) new w) is h) decided
       ∙ sym (block_wait enough q rest other v fits (subst (λ c. EndsWait enough (Some c) other v) is k) certain)
-  by_front (inr none) = end_wait enough b new w none h decided ∙ sym (end_wait enough b other v none k certain)
+  by_front (inl none) = end_wait enough b new w none h decided ∙ sym (end_wait enough b other v none k certain)
 
 idle_wait : (packet : Packet) → IsIdle packet → wait_by packet ≡ Err broke.Closed
 idle_wait (is.Debug payload) idle = refl

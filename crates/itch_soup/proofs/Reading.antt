@@ -1,23 +1,11 @@
 -- What the codec's readers of a field say, in the words of the packets' faults.
-use Rattle.std.proofs.Common.{◌≡◌, ℕ, ◌<◌, Bool, true, false, not, ltb, List, length, Option, None, Some, IfSome, refl, sym, arith}
+use Rattle.std.proofs.Common.{◌≡◌, ℕ, ◌<◌, Bool, true, false, not, ltb, List, length, Option, None, Some, refl, arith}
 use Rattle.std.specs.Prelude.{option_map}
 use Rattle.std.proofs.lemmas.Bool.Decides.{nat_tests}
 use Rattle.std.specs.List.{prefix_len}
 use Rattle.itch_codec.specs.declared.text.AlphaFault.TheVariants.{NotPrintable}
 use Rattle.itch_codec.specs.Text.{is_unprintable, first_unprintable}
-use Rattle.itch_codec.specs.Numbers.{SpellsNumber, read20}
-use Rattle.itch_codec.proofs.Numbers.{read-spells, spells-read}
 use Rattle.itch_codec.proofs.Texts.{printable-none}
-
-none_found : (field : List ℕ) (found : Option ℕ) → read20 field ≡ found → ((n : ℕ) → SpellsNumber field n → None ≡ Some n) → None ≡ found
-none_found field None e h = refl
-none_found field (Some n) e h = h n (read-spells field n e)
-
--- what is returned exactly where a field spells a number is the number that is read
-pub answer-read : (field : List ℕ) (answer : Option ℕ) → IfSome answer (λ n. SpellsNumber field n)
-    → ((n : ℕ) → SpellsNumber field n → answer ≡ Some n) → answer ≡ read20 field
-answer-read field None spelled complete = none_found field (read20 field) refl complete
-answer-read field (Some n) spelled complete = sym (spells-read field n spelled)
 
 first_lt : (bytes : List ℕ) (place : ℕ) (b : Bool) → ltb (prefix_len (λ byte. not (is_unprintable byte)) bytes) (length bytes) ≡ b
     → first_unprintable bytes ≡ Some place → place < length bytes

@@ -1,14 +1,11 @@
 -- All bytes that answer a login end a fetch.
 use Rattle.std.proofs.Common.{◌≡◌, ℕ, zero, suc, ◌+◌, ◌<◌, ◌⊎◌, ◌==◌, Bool, true, false, List, [], ◌∷◌, ◌++◌, length, drop, Option, Some, None, Result, Ok, Err, refl, sym, ap, subst, ◌∙◌, inl, inr, arith, length-append}
 use Rattle.std.proofs.lemmas.Bool.{eqb-true, eqb-false}
-use Rattle.std.specs.Prelude.{if◌then◌else◌, unwrap_or}
+use Rattle.std.specs.Prelude.{if◌then◌else◌}
 use Rattle.std.specs.Option.{option_map}
 use Rattle.itch_codec.specs.declared.fault.CodecFault.{CodecFault}
 use Rattle.itch_codec.specs.Fields.{AreBytes}
-use Rattle.itch_codec.specs.Layouts.{Class, Integer, Price, Text, OneSide, Code, Codes, Digits}
 use Rattle.itch_codec.specs.Messages.{fault, message_of}
-use Rattle.itch_codec.specs.Numbers.{slice_at, read20}
-use Rattle.itch_codec.specs.Text.{first_unprintable}
 use Rattle.itch_codec.proofs.Spelling.{Spells-message_of, IsMessage-Spells}
 use Rattle.itch_frame.specs.Blocks.{IsPayload, block, HasNoBlock}
 use Rattle.itch_frame.specs.declared.fault.FrameFault.TheVariants.{Truncated}
@@ -28,91 +25,23 @@ use Rattle.itch_snapshot.specs.declared.fault.SnapFault.TheVariants as snap
 use Rattle.itch_snapshot.specs.declared.reader.Stage.TheVariants as at
 use Rattle.itch_snapshot.specs.TakenMessages.{Load, Loads, TakesAt, begun, closing_number, is_full, stage_after, Finishes}
 use Rattle.itch_snapshot.specs.Reads.{IsDecidedFault}
+use Rattle.itch_frame.proofs.Fronts.{Front, front}
 use Rattle.itch_soup.specs.declared.client.ClientAct.{ClientAct}
 use Rattle.itch_soup.specs.declared.client.ClientAct.TheVariants as act
 use Rattle.itch_soup.specs.declared.connection.Stage.{Stage}
 use Rattle.itch_soup.specs.declared.connection.Stage.TheVariants as stage
 use Rattle.itch_soup.specs.declared.fault.SoupFault.{SoupFault}
 use Rattle.itch_soup.specs.declared.fault.SoupFault.TheVariants as broke
-use Rattle.itch_soup.specs.declared.origin.Origin.{Origin}
 use Rattle.itch_soup.specs.declared.origin.Origin.TheVariants.{Server}
 use Rattle.itch_soup.specs.declared.packet.Packet.{Packet}
 use Rattle.itch_soup.specs.declared.packet.Packet.TheVariants as is
-use Rattle.itch_soup.specs.PacketTable.{Part, Field, Request, Rest, PacketType, type_of, sends}
-use Rattle.itch_soup.specs.Packets.{PacketSpells, packet_fault, first_of, number_fault, requested, class_fault, part_fault, parts_fault, size_fault, fault_by_type}
+use Rattle.itch_soup.specs.Packets.{PacketSpells, packet_fault}
 use Rattle.itch_soup.specs.Clients.{Client, client_turn, client_answer, client_after_packet}
 use Rattle.itch_soup.specs.Serving.{is_enough}
 use Rattle.itch_soup.specs.Fetching.{HearsNext, TakesAnswer, IsRefused, Receives, IsDecidedFetch}
 use Rattle.itch_soup.proofs.Faultless.{faultless-spelled}
 use Rattle.itch_soup.proofs.Hearing.{Hearing, hearing_first, hearing_on, hearing_closed, hearing_ends, turn_shows, Shows}
-use Rattle.itch_soup.proofs.OneWait.{Front, front}
-
--- the faults of a block
-abbrev pub OfBlock : Option SoupFault → Type 0
-OfBlock None = Unit {0}
-OfBlock (Some broke.EmptyPacket) = Unit {0}
-OfBlock (Some (broke.UnknownType kind)) = Unit {0}
-OfBlock (Some (broke.WrongSide kind)) = Unit {0}
-OfBlock (Some (broke.WrongLength kind want got)) = Unit {0}
-OfBlock (Some (broke.BadText offset)) = Unit {0}
-OfBlock (Some (broke.BadNumber offset)) = Unit {0}
-OfBlock (Some other) = ⊥
-
-of_first : (a b : Option SoupFault) → OfBlock a → OfBlock b → OfBlock (first_of a b)
-of_first (Some f) b h k = h
-of_first None b h k = k
-
-of_test : (b : Bool) (f : SoupFault) → OfBlock (Some f) → OfBlock (if b then Some f else None)
-of_test true f h = h
-of_test false f h = tt
-
-of_length : (b : Bool) (f : SoupFault) → OfBlock (Some f) → OfBlock (if b then None else Some f)
-of_length true f h = tt
-of_length false f h = h
-
-of_text : (offset : ℕ) (o : Option ℕ) → OfBlock (option_map (λ place. broke.BadText (offset + place)) o)
-of_text offset None = tt
-of_text offset (Some place) = tt
-
-of_number : (offset : ℕ) (o : Option ℕ) → OfBlock (number_fault offset o)
-of_number offset None = tt
-of_number offset (Some n) = tt
-
-of_class : (class : Class) (offset : ℕ) (field : List ℕ) → OfBlock (class_fault class offset field)
-of_class Integer offset field = tt
-of_class Price offset field = tt
-of_class Text offset field = of_text offset (first_unprintable field)
-of_class OneSide offset field = tt
-of_class Code offset field = tt
-of_class Codes offset field = tt
-of_class Digits offset field = of_test (unwrap_or (read20 field) 0 == 0) (broke.BadNumber offset) tt
-
-of_part : (block : List ℕ) (part : Part) → OfBlock (part_fault block part)
-of_part block (Field column) = of_class column.class column.offset (slice_at column.offset column.width block)
-of_part block (Request offset) = of_number offset (requested (slice_at offset 20 block))
-of_part block (Rest offset) = tt
-
-of_parts : (block : List ℕ) (parts : List Part) → OfBlock (parts_fault block parts)
-of_parts block [] = tt
-of_parts block (part ∷ parts) = of_first (part_fault block part) (parts_fault block parts) (of_part block part) (of_parts block parts)
-
-of_size : (kind : ℕ) (size : Option ℕ) (block : List ℕ) → OfBlock (size_fault kind size block)
-of_size kind None block = tt
-of_size kind (Some size) block = of_length (length block == size) (broke.WrongLength kind size (length block)) tt
-
-of_side : (b : Bool) (kind : ℕ) (o : Option SoupFault) → OfBlock o → OfBlock (if b then o else Some (broke.WrongSide kind))
-of_side true kind o h = h
-of_side false kind o h = tt
-
-of_type : (t : Option PacketType) (kind : ℕ) (block : List ℕ) (from : Origin) → OfBlock (fault_by_type t kind block from)
-of_type None kind block from = tt
-of_type (Some t) kind block from =
-    of_side (sends t.sender from) kind (first_of (size_fault kind t.size block) (parts_fault block t.parts))
-    (of_first (size_fault kind t.size block) (parts_fault block t.parts) (of_size kind t.size block) (of_parts block t.parts))
-
-pub of_block : (block : List ℕ) (from : Origin) → OfBlock (packet_fault block from)
-of_block [] from = tt
-of_block (kind ∷ rest) from = of_type (type_of kind) kind (kind ∷ rest) from
+use Rattle.itch_soup.proofs.BlockFaults.{OfBlock, of_block, of_each}
 
 -- a session's own faults are decided by what is received
 abbrev DecidedTurn : ClientAct → Type 0
@@ -176,21 +105,15 @@ module _ (c : Client) (load : Load) (taking : load.stage ≡ at.Taking) (q more 
   less = omega (arith, length-append q more)
 
   faulty : (f : SoupFault) → packet_fault q Server ≡ Some f → OfBlock (Some f) → Here
-  faulty broke.EmptyPacket e h = inr (inr (Some more, c, load, broke.EmptyPacket, inr (refl, (q, fits, refl, e)), tt))
-  faulty (broke.UnknownType kind) e h = inr (inr (Some more, c, load, broke.UnknownType kind, inr (refl, (q, fits, refl, e)), tt))
-  faulty (broke.WrongSide kind) e h = inr (inr (Some more, c, load, broke.WrongSide kind, inr (refl, (q, fits, refl, e)), tt))
-  faulty (broke.WrongLength kind want got) e h = inr (inr (Some more, c, load, broke.WrongLength kind want got, inr (refl, (q, fits, refl, e)), tt))
-  faulty (broke.BadText offset) e h = inr (inr (Some more, c, load, broke.BadText offset, inr (refl, (q, fits, refl, e)), tt))
-  faulty (broke.BadNumber offset) e h = inr (inr (Some more, c, load, broke.BadNumber offset, inr (refl, (q, fits, refl, e)), tt))
-  faulty broke.SecondLogin e h = absurd h
-  faulty (broke.Early kind) e h = absurd h
-  faulty broke.Closed e h = absurd h
-  faulty broke.TooManyMessages e h = absurd h
-  faulty (broke.Frame f) e h = absurd h
-  faulty (broke.Rejected code) e h = absurd h
-  faulty (broke.WrongStart next) e h = absurd h
-  faulty broke.EndedEarly e h = absurd h
-  faulty (broke.Snapshot f) e h = absurd h
+  faulty f e h =
+      of_each (λ f. packet_fault q Server ≡ Some f → Here)
+      (λ e. inr (inr (Some more, c, load, broke.EmptyPacket, inr (refl, (q, fits, refl, e)), tt)))
+      (λ kind e. inr (inr (Some more, c, load, broke.UnknownType kind, inr (refl, (q, fits, refl, e)), tt)))
+      (λ kind e. inr (inr (Some more, c, load, broke.WrongSide kind, inr (refl, (q, fits, refl, e)), tt)))
+      (λ kind want got e. inr (inr (Some more, c, load, broke.WrongLength kind want got, inr (refl, (q, fits, refl, e)), tt)))
+      (λ offset e. inr (inr (Some more, c, load, broke.BadText offset, inr (refl, (q, fits, refl, e)), tt)))
+      (λ offset e. inr (inr (Some more, c, load, broke.BadNumber offset, inr (refl, (q, fits, refl, e)), tt)))
+      f h e
 
   module _ (packet : Packet) (spelled : PacketSpells packet q Server) where
     abbrev later : Client
@@ -284,8 +207,8 @@ module _ (c : Client) (load : Load) (taking : load.stage ≡ at.Taking) (q more 
 outcome : (enough : Bool) (c : Client) (load : Load) (rest : List ℕ) → load.stage ≡ at.Taking → AreBytes rest → Outcome enough c load rest
 outcome enough c load rest taking bytes = by_front (front rest) where
   by_front : Front rest → Outcome enough c load rest
-  by_front (inl (q, more, fits, is)) = subst (Outcome enough c load) (sym is) (here c load taking q more fits (subst AreBytes is bytes) enough)
-  by_front (inr none) = at_end enough c load rest none
+  by_front (inr (q, more, fits, is)) = subst (Outcome enough c load) (sym is) (here c load taking q more fits (subst AreBytes is bytes) enough)
+  by_front (inl none) = at_end enough c load rest none
 
 abbrev Answered : Client → List ℕ → Type 0
 Answered start bytes = (left : Option (List ℕ)) × (r : Result (Content × ℕ) SoupFault) × Receives start (Some bytes) left r × IsDecidedFetch r

@@ -2,6 +2,7 @@
 use Rattle.std.proofs.Common.{◌≡◌, ℕ, zero, suc, ◌+◌, ◌<◌, ◌⊎◌, Bool, true, false, List, [], ◌∷◌, ◌++◌, length, Option, Some, None, Ok, Err, refl, sym, subst, inl, inr, arith, rules, length-append}
 use Rattle.itch_frame.specs.Blocks.{IsPayload, block, HasNoBlock}
 use Rattle.itch_frame.specs.declared.fault.FrameFault.TheVariants.{Truncated}
+use Rattle.itch_frame.proofs.Fronts.{Front, front}
 use Rattle.itch_soup.specs.declared.fault.SoupFault.{SoupFault}
 use Rattle.itch_soup.specs.declared.fault.SoupFault.TheVariants as broke
 use Rattle.itch_soup.specs.declared.origin.Origin.TheVariants.{Client}
@@ -11,8 +12,7 @@ use Rattle.itch_soup.specs.declared.serve.Opening.TheVariants.{Login, Leave}
 use Rattle.itch_soup.specs.Packets.{PacketSpells, packet_fault}
 use Rattle.itch_soup.specs.Serving.{is_enough, IsIdle, EndsWait, WaitsOn, Wait, WaitsForLogin, IsDecidedWait}
 use Rattle.itch_soup.proofs.Faultless.{faultless-spelled}
-use Rattle.itch_soup.proofs.OneWait.{Front, front}
-use Rattle.itch_soup.proofs.SomeFetch.{OfBlock, of_block}
+use Rattle.itch_soup.proofs.BlockFaults.{OfBlock, of_block, of_each}
 use Rattle.itch_soup.proofs.Waiting.{Waiting, waiting_first, waiting_on, waiting_ends}
 
 -- the next packet is passed over, and fewer bytes are left; or the wait ends
@@ -30,21 +30,15 @@ module _ (q more : List ℕ) (fits : IsPayload q) where
   Here = Outcome false (block q ++ more)
 
   faulty : (f : SoupFault) → packet_fault q Client ≡ Some f → OfBlock (Some f) → Here
-  faulty broke.EmptyPacket e h = inr (Some more, Err broke.EmptyPacket, (refl, (q, fits, refl, e)), tt)
-  faulty (broke.UnknownType kind) e h = inr (Some more, Err (broke.UnknownType kind), (refl, (q, fits, refl, e)), tt)
-  faulty (broke.WrongSide kind) e h = inr (Some more, Err (broke.WrongSide kind), (refl, (q, fits, refl, e)), tt)
-  faulty (broke.WrongLength kind want got) e h = inr (Some more, Err (broke.WrongLength kind want got), (refl, (q, fits, refl, e)), tt)
-  faulty (broke.BadText offset) e h = inr (Some more, Err (broke.BadText offset), (refl, (q, fits, refl, e)), tt)
-  faulty (broke.BadNumber offset) e h = inr (Some more, Err (broke.BadNumber offset), (refl, (q, fits, refl, e)), tt)
-  faulty broke.SecondLogin e h = absurd h
-  faulty (broke.Early kind) e h = absurd h
-  faulty broke.Closed e h = absurd h
-  faulty broke.TooManyMessages e h = absurd h
-  faulty (broke.Frame f) e h = absurd h
-  faulty (broke.Rejected code) e h = absurd h
-  faulty (broke.WrongStart next) e h = absurd h
-  faulty broke.EndedEarly e h = absurd h
-  faulty (broke.Snapshot f) e h = absurd h
+  faulty f e h =
+      of_each (λ f. packet_fault q Client ≡ Some f → Here)
+      (λ e. inr (Some more, Err broke.EmptyPacket, (refl, (q, fits, refl, e)), tt))
+      (λ kind e. inr (Some more, Err (broke.UnknownType kind), (refl, (q, fits, refl, e)), tt))
+      (λ kind e. inr (Some more, Err (broke.WrongSide kind), (refl, (q, fits, refl, e)), tt))
+      (λ kind want got e. inr (Some more, Err (broke.WrongLength kind want got), (refl, (q, fits, refl, e)), tt))
+      (λ offset e. inr (Some more, Err (broke.BadText offset), (refl, (q, fits, refl, e)), tt))
+      (λ offset e. inr (Some more, Err (broke.BadNumber offset), (refl, (q, fits, refl, e)), tt))
+      f h e
 
   passed_over : (packet : Packet) → PacketSpells packet q Client → IsIdle packet → Here
   passed_over packet spelled idle =
@@ -73,8 +67,8 @@ module _ (q more : List ℕ) (fits : IsPayload q) where
 outcome : (enough : Bool) (rest : List ℕ) → Outcome enough rest
 outcome enough rest = by_front (front rest) where
   by_front : Front rest → Outcome enough rest
-  by_front (inl (q, more, fits, is)) = subst (Outcome enough) (sym is) (here q more fits enough)
-  by_front (inr none) = at_end enough rest none
+  by_front (inr (q, more, fits, is)) = subst (Outcome enough) (sym is) (here q more fits enough)
+  by_front (inl none) = at_end enough rest none
 
 abbrev Found : List ℕ → Type 0
 Found bytes = (left : Option (List ℕ)) × (wait : Wait) × WaitsForLogin (Some bytes) left wait × IsDecidedWait wait

@@ -9,9 +9,9 @@ use Rattle.std.proofs.lemmas.List.Sums.{prefix_len-le-length}
 use Rattle.std.proofs.lemmas.Bool.Decides.{same_from_decides}
 use Rattle.std.proofs.lemmas.Slice.Eq.{bytes_eq-Decides}
 use Rattle.itch_codec.specs.Text.{IsPrintableByte, IsPrintable, padded_to, before_spaces}
-use Rattle.itch_codec.specs.Numbers.{is_space, after_spaces}
+use Rattle.itch_codec.specs.Numbers.{is_space, after_spaces, padded_on_left}
 use Rattle.itch_codec.specs.Fields.{IsAlpha}
-use Rattle.itch_soup.specs.Names.{session_name, padded_on_left, server_session}
+use Rattle.itch_soup.specs.Names.{session_name, server_session}
 
 abbrev spaces : ℕ → List ℕ
 spaces n = replicate n 32

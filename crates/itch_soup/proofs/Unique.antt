@@ -1,24 +1,24 @@
 -- One block spells at most one packet; what is spelled has no fault, and a block without a fault spells a packet.
-use Rattle.std.proofs.Common.{◌≡◌, ℕ, ◌+◌, ◌≤◌, Bool, true, false, eqb, MatchBool, List, [], ◌∷◌, length, drop, Option, None, Some, Result, Ok, Err, refl, sym, ap, ◌∙◌, arith, rules}
+use Rattle.std.proofs.Common.{◌≡◌, ℕ, ◌+◌, Bool, true, false, MatchBool, List, [], ◌∷◌, length, drop, Option, None, Some, Result, Ok, Err, refl, sym, ap, ◌∙◌, arith, rules}
 use Rattle.std.specs.Prelude.{◌==◌, if◌then◌else◌, unwrap_or, option_map}
 use Rattle.std.specs.List.{list_all}
 use Rattle.std.proofs.lemmas.Bool.{eq-eqb}
-use Rattle.std.proofs.lemmas.Bool.Decides.{nat_tests}
 use Rattle.itch_codec.specs.Text.{first_unprintable}
 use Rattle.itch_codec.specs.Numbers.{slice_at, byte_at, is_space, SpellsNumber, read20}
 use Rattle.itch_codec.specs.Layouts.{Class, Integer, Price, Text, OneSide, Code, Codes, Digits, column}
-use Rattle.itch_codec.specs.Fields.{Value, Number, Bytes, HasAt}
+use Rattle.itch_codec.specs.Fields.{Value, Number, Bytes, HasAt, positive_fault, Reads}
 use Rattle.itch_codec.proofs.Numbers.{spells-read}
+use Rattle.itch_codec.proofs.Tables.{positive_none}
 use Rattle.itch_codec.proofs.Texts.{printable-none}
 use Rattle.itch_soup.specs.declared.origin.Origin.{Origin}
 use Rattle.itch_soup.specs.declared.fault.SoupFault.{SoupFault}
-use Rattle.itch_soup.specs.declared.fault.SoupFault.TheVariants.{BadText}
+use Rattle.itch_soup.specs.declared.fault.SoupFault.TheVariants.{BadText, BadNumber}
 use Rattle.itch_soup.specs.declared.packet.LoginRequest.{LoginRequest}
 use Rattle.itch_soup.specs.declared.packet.LoginAccepted.{LoginAccepted}
 use Rattle.itch_soup.specs.declared.packet.Packet.{Packet}
 use Rattle.itch_soup.specs.declared.packet.Packet.TheVariants as is
 use Rattle.itch_soup.specs.PacketTable.{Part, Field, Request, Rest, PacketType, type_of, sends}
-use Rattle.itch_soup.specs.Packets.{packet_type, packet_values, Requests, HasPart, HasParts, HasSize, IsPacket, PacketSpells, positive_fault, number_fault, requested, class_fault, part_fault, parts_fault, size_fault, fault_by_type, packet_fault, Reads}
+use Rattle.itch_soup.specs.Packets.{packet_type, packet_values, Requests, HasPart, HasParts, HasSize, IsPacket, PacketSpells, number_fault, requested, class_fault, part_fault, parts_fault, size_fault, fault_by_type, packet_fault}
 
 -- the number in a field that spells one, or that asks for one
 abbrev pub spelled_number : List ℕ → ℕ
@@ -91,9 +91,6 @@ packet_at-spelled is.LogoutRequest block from h = rw h.first refl
 pub same_packet : (p q : Packet) (block : List ℕ) (from other : Origin) → PacketSpells p block from → PacketSpells q block other → p ≡ q
 same_packet p q block from other h k = packet_at-spelled p block from h ∙ sym (packet_at-spelled q block other k)
 
-positive_none : (offset n : ℕ) → 1 ≤ n → positive_fault offset (Some n) ≡ None
-positive_none offset n h = let k : eqb n 0 ≡ false = grind (arith, nat_tests) in rw k refl
-
 class_none : (class : Class) (offset width : ℕ) (block : List ℕ) (value : Value) → HasAt class offset width block value
     → class_fault class offset (slice_at offset width block) ≡ None
 class_none Integer offset width block value h = refl
@@ -105,7 +102,7 @@ class_none OneSide offset width block value h = refl
 class_none Code offset width block value h = refl
 class_none Codes offset width block value h = refl
 class_none Digits offset width block (Number n) h =
-    ap (λ found. positive_fault offset found) (spells-read _ n h.0) ∙ positive_none offset n h.1
+    ap (positive_fault (BadNumber offset)) (spells-read _ n h.0) ∙ positive_none (BadNumber offset) n h.1
 class_none Digits offset width block value h = absurd h
 
 part_none : (block : List ℕ) (part : Part) (value : Value) → HasPart block part value → part_fault block part ≡ None

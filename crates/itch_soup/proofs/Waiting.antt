@@ -3,9 +3,9 @@ use Rattle.std.proofs.Common.{rules, ◌≡◌, ℕ, ◌+◌, ◌^◌, ◌≤◌
 use Rattle.std.proofs.lemmas.Bool.Decides.{nat_tests}
 use Rattle.std.specs.List.{AllByRecursion}
 use Rattle.std.specs.Io.KnownBytes.{Consumes}
-use Rattle.std.proofs.KnownBytes.{Consumes-nil, Consumes-trans}
+use Rattle.std.proofs.KnownBytes.{Consumes-nil}
 use Rattle.itch_frame.specs.Blocks.{block, blocks}
-use Rattle.itch_frame.proofs.BlockLemmas.{blocks-push, each-push}
+use Rattle.itch_frame.proofs.BlockLemmas.{consumed_more, each-push}
 use Rattle.itch_soup.specs.declared.origin.Origin.TheVariants.{Client}
 use Rattle.itch_soup.specs.declared.packet.Packet.{Packet}
 use Rattle.itch_soup.specs.declared.packet.Packet.TheVariants as is
@@ -20,10 +20,6 @@ use Rattle.itch_soup.specs.Names.{asks_for_session}
 use Rattle.itch_soup.specs.Servers.{is_user, first_asked, not_authorised, not_available, judged, server_turn}
 use Rattle.itch_soup.specs.Packets.{PacketSpells}
 use Rattle.itch_soup.specs.Serving.{is_enough, IsIdle, IsPassedOver, EndsWait, WaitsOn, WaitsForLogin, Wait}
-
--- a block more came off the front
-pub consumed_more : (a b c : Option (List ℕ)) (ps : List (List ℕ)) (p : List ℕ) → Consumes a b (blocks ps) → Consumes b c (block p) → Consumes a c (blocks (ps ++ p ∷ []))
-consumed_more a b c ps p first second = subst (Consumes a c) (sym (blocks-push ps p)) (Consumes-trans a b c (blocks ps) (block p) first second)
 
 -- not as many as may be
 pub one_more : (count : ℕ) → count ≤ 10 ^ 19 → is_enough count ≡ false → count + 1 ≤ 10 ^ 19

@@ -1,10 +1,10 @@
 -- How the names in a login are compared and written.
-use Rattle.std.specs.Prelude.{ℕ, ◌-◌, Bool, ◌||◌, List, ◌++◌, length, map, replicate}
+use Rattle.std.specs.Prelude.{ℕ, Bool, ◌||◌, List, map}
 use Rattle.std.specs.Char.{to_ascii_lowercase}
 use Rattle.std.specs.List.{list_all}
 use Rattle.std.specs.Str.{bytes_eq}
 use Rattle.itch_codec.specs.Text.{padded_to, before_spaces}
-use Rattle.itch_codec.specs.Numbers.{is_space, after_spaces}
+use Rattle.itch_codec.specs.Numbers.{is_space, after_spaces, padded_on_left}
 
 -- user names and passwords are compared without the spaces at their end, A to Z taken as a to z
 abbrev pub is_same_name : List ℕ → List ℕ → Bool
@@ -14,10 +14,6 @@ is_same_name name other =
 -- a session's name is what stands between the spaces at both ends
 abbrev pub session_name : List ℕ → List ℕ
 session_name field = after_spaces (before_spaces field)
-
--- a text with spaces before it, up to the width of its field
-abbrev pub padded_on_left : ℕ → List ℕ → List ℕ
-padded_on_left width text = replicate (width - length text) 32 ++ text
 
 -- the field that a client writes for a session: its name, padded on the right
 abbrev pub client_session : List ℕ → List ℕ

@@ -1,10 +1,9 @@
 -- What spells a packet, what a block's fault is, and which packet a block spells (SoupBinTCP 3.00, "Logical Packets").
-use Rattle.std.specs.Prelude.{◌≡◌, ℕ, ◌+◌, ◌<◌, ◌==◌, IsTrue, MatchBool, List, [], ◌∷◌, ◌++◌, length, drop, Option, None, Some, option_map, unwrap_or, Result, Ok, Err, if◌then◌else◌}
+use Rattle.std.specs.Prelude.{◌≡◌, ℕ, ◌<◌, ◌==◌, IsTrue, MatchBool, List, [], ◌∷◌, ◌++◌, length, drop, Option, None, Some, if◌then◌else◌}
 use Rattle.std.specs.List.{list_all}
-use Rattle.itch_codec.specs.Text.{first_unprintable}
 use Rattle.itch_codec.specs.Numbers.{slice_at, byte_at, dec20, is_space, SpellsNumber, read20}
 use Rattle.itch_codec.specs.Layouts.{Class, Text, Digits}
-use Rattle.itch_codec.specs.Fields.{Value, Number, Bytes, Has, bytes_at}
+use Rattle.itch_codec.specs.Fields.{Value, Number, Bytes, Has, bytes_at, text_fault, positive_fault, first_of}
 use Rattle.itch_soup.specs.declared.origin.Origin.{Origin}
 use Rattle.itch_soup.specs.declared.fault.SoupFault.{SoupFault}
 use Rattle.itch_soup.specs.declared.fault.SoupFault.TheVariants.{EmptyPacket, UnknownType, WrongSide, WrongLength, BadText, BadNumber}
@@ -94,14 +93,6 @@ joined_parts parts values = []
 abbrev pub packet_spelling : Packet → List ℕ
 packet_spelling packet = (packet_type packet).kind ∷ joined_parts (packet_type packet).parts (packet_values packet)
 
--- a text that is not printable has the fault of its first such byte
-abbrev pub text_fault : ℕ → List ℕ → Option SoupFault
-text_fault offset field = option_map (λ place. BadText (offset + place)) (first_unprintable field)
-
--- a number that is not there, or is 0, is a fault where the field begins
-abbrev pub positive_fault : ℕ → Option ℕ → Option SoupFault
-positive_fault offset number = if unwrap_or number 0 == 0 then Some (BadNumber offset) else None
-
 -- a number that is not there is a fault where the field begins
 abbrev pub number_fault : ℕ → Option ℕ → Option SoupFault
 number_fault offset None = Some (BadNumber offset)
@@ -113,8 +104,8 @@ requested field = if list_all is_space field then Some 0 else read20 field
 
 -- the fault of a field of this class
 abbrev pub class_fault : Class → ℕ → List ℕ → Option SoupFault
-class_fault Text offset field = text_fault offset field
-class_fault Digits offset field = positive_fault offset (read20 field)
+class_fault Text offset field = text_fault BadText offset field
+class_fault Digits offset field = positive_fault (BadNumber offset) (read20 field)
 class_fault class offset field = None
 
 -- the fault of a part
@@ -122,11 +113,6 @@ abbrev pub part_fault : List ℕ → Part → Option SoupFault
 part_fault block (Field column) = class_fault column.class column.offset (slice_at column.offset column.width block)
 part_fault block (Request offset) = number_fault offset (requested (slice_at offset 20 block))
 part_fault block (Rest offset) = None
-
--- the first fault of two
-abbrev pub first_of : Option SoupFault → Option SoupFault → Option SoupFault
-first_of (Some fault) later = Some fault
-first_of None later = later
 
 -- the fault of the first part that has one
 abbrev pub parts_fault : List ℕ → List Part → Option SoupFault
@@ -148,8 +134,3 @@ fault_by_type (Some t) kind block from =
 abbrev pub packet_fault : List ℕ → Origin → Option SoupFault
 packet_fault [] from = Some EmptyPacket
 packet_fault (kind ∷ rest) from = fault_by_type (type_of kind) kind (kind ∷ rest) from
-
--- what is read is so, and nothing has a fault; or this is the fault
-abbrev pub Reads : {X : Type 0} → (X → Type 0) → Option SoupFault → Result X SoupFault → Type 0
-Reads Is fault (Ok x) = Is x × (fault ≡ None)
-Reads Is fault (Err found) = fault ≡ Some found

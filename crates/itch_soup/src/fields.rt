@@ -1,13 +1,13 @@
 //! Fields of a packet: one reader for each kind of field.
-ghost use Rattle.std.specs.Prelude.{◌≡◌, ◌+◌, ◌≤◌, length, IfSome};
-ghost use Rattle.itch_codec.specs.Numbers.{slice_at, SpellsNumber, read20};
+ghost use Rattle.std.specs.Prelude.{◌≡◌, ◌+◌, ◌≤◌, length};
+ghost use Rattle.itch_codec.specs.Numbers.{slice_at};
 ghost use Rattle.itch_codec.specs.Layouts.{column, Text, Digits};
-ghost use Rattle.itch_codec.specs.Fields.{Number, Bytes};
+ghost use Rattle.itch_codec.specs.Fields.{Number, Bytes, Reads};
 ghost use Rattle.itch_soup.specs.PacketTable.{Field, Request};
-ghost use Rattle.itch_soup.specs.Packets.{HasPart, part_fault, Reads};
+ghost use Rattle.itch_soup.specs.Packets.{HasPart, part_fault};
 
 use crate::fault::SoupFault;
-use crate::login::is_blank;
+use itch_codec::spaces::is_blank;
 use itch_codec::{Alpha, AlphaFault, Seq, read_number20};
 
 // The bytes at this place, as many as the array has.
@@ -36,21 +36,12 @@ pub(crate) fn text_at<const N: usize>(block: &[u8], offset: usize) -> Result<Alp
     }
 }
 
-// The number that the twenty bytes at this place spell, if they spell one.
-fn number_at(block: &[u8], offset: usize) -> Option<u64>
-    requires { offset + 20 ≤ length block.now }
-    ensures value { result ≡ read20 (slice_at offset 20 block.now) }
-    ensures spelled { IfSome result (λ number. SpellsNumber (slice_at offset 20 block.now) number) }
-{
-    read_number20(&bytes_at(block, offset))
-}
-
 /// The sequence number in the twenty bytes at this place.
 pub(crate) fn seq_at(block: &[u8], offset: usize) -> Result<Seq, SoupFault>
     requires { offset + 20 ≤ length block.now }
     ensures { Reads (λ next. HasPart block.now (Field (column offset 20 Digits)) (Number next)) (part_fault block.now (Field (column offset 20 Digits))) result }
 {
-    let Some(value) = number_at(block, offset) else {
+    let Some(value) = read_number20(&bytes_at(block, offset)) else {
         return Err(SoupFault::BadNumber { offset });
     };
     match Seq::new(value) {
@@ -64,8 +55,9 @@ pub(crate) fn request_at(block: &[u8], offset: usize) -> Result<u64, SoupFault>
     requires { offset + 20 ≤ length block.now }
     ensures { Reads (λ number. HasPart block.now (Request offset) (Number number)) (part_fault block.now (Request offset)) result }
 {
-    if is_blank(&bytes_at::<20>(block, offset)) {
+    let field = bytes_at(block, offset);
+    if is_blank(&field) {
         return Ok(0);
     }
-    number_at(block, offset).ok_or(SoupFault::BadNumber { offset })
+    read_number20(&field).ok_or(SoupFault::BadNumber { offset })
 }

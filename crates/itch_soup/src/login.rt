@@ -1,14 +1,13 @@
 //! A login: what the two sides of a session know of it, and how its names are compared and written.
 ghost use Rattle.std.specs.Prelude.{◌≡◌, ◌≤◌, length, map};
 ghost use Rattle.std.specs.Char.{to_ascii_lowercase};
-ghost use Rattle.std.specs.List.{list_all, prefix_len};
 ghost use Rattle.std.specs.Str.{bytes_eq};
 ghost use Rattle.itch_codec.specs.Text.{IsPrintable};
-ghost use Rattle.itch_codec.specs.Numbers.{is_space, after_spaces};
 ghost use Rattle.itch_codec.specs.Fields.{IsAlpha};
 ghost use Rattle.itch_soup.specs.Names.{is_same_name, session_name, asks_for_session, client_session, server_session};
 
 use itch_codec::Alpha;
+use itch_codec::spaces::{after_spaces, is_blank};
 use std::fmt::{self, Debug, Formatter};
 
 /// Whom a server lets in, and the session that it serves.
@@ -94,12 +93,6 @@ pub(crate) fn server_session(session: &Alpha<10>) -> [u8; 10]
     field
 }
 
-pub(crate) fn is_blank(field: &[u8]) -> bool
-    ensures { result ≡ list_all is_space field.now }
-{
-    field.iter().all(|byte| *byte == b' ')
-}
-
 // The name without the spaces at both ends: either side may pad it on either.
 #[tactic(auto, using(crate::proofs::Trimming::trimming))]
 fn session_name(session: &Alpha<10>) -> &[u8]
@@ -108,19 +101,4 @@ fn session_name(session: &Alpha<10>) -> &[u8]
     ensures printable { IsPrintable (session_name session.now) }
 {
     after_spaces(session.text().as_bytes())
-}
-
-#[tactic(auto, unfolding(itch_codec::specs::Numbers::after_spaces))]
-fn after_spaces(text: &[u8]) -> &[u8]
-    ensures text { result.now ≡ after_spaces text.entry.now }
-    ensures within { length result.now ≤ length text.entry.now }
-{
-    &text[leading_spaces(text)..]
-}
-
-fn leading_spaces(text: &[u8]) -> usize
-    ensures count { result ≡ prefix_len is_space text.now }
-    ensures within { result ≤ length text.now }
-{
-    text.iter().take_while(|byte| **byte == b' ').count()
 }

@@ -25,8 +25,9 @@ pub struct LoginRequest {
 
 impl LoginRequest {
     ghost use Rattle.std.specs.Prelude.{◌≡◌, ◌≤◌, ◌^◌, length};
+    ghost use Rattle.itch_codec.specs.Fields.{Reads};
     ghost use Rattle.itch_soup.specs.PacketTable.{login_request};
-    ghost use Rattle.itch_soup.specs.Packets.{PacketSpells, packet_spelling, HasParts, parts_fault, login_request_values, Reads};
+    ghost use Rattle.itch_soup.specs.Packets.{PacketSpells, packet_spelling, HasParts, parts_fault, login_request_values};
     ghost use Rattle.itch_soup.specs.Clients.{login_with};
 
     pub(crate) fn parse(block: &[u8]) -> Result<LoginRequest, SoupFault>
@@ -77,8 +78,9 @@ pub struct LoginAccepted {
 
 impl LoginAccepted {
     ghost use Rattle.std.specs.Prelude.{◌≡◌, length};
+    ghost use Rattle.itch_codec.specs.Fields.{Reads};
     ghost use Rattle.itch_soup.specs.PacketTable.{login_accepted};
-    ghost use Rattle.itch_soup.specs.Packets.{PacketSpells, packet_spelling, HasParts, parts_fault, login_accepted_values, Reads};
+    ghost use Rattle.itch_soup.specs.Packets.{PacketSpells, packet_spelling, HasParts, parts_fault, login_accepted_values};
     ghost use Rattle.itch_soup.specs.Servers.{acceptance};
 
     /// The bytes of this server's acceptance from this number on. Both fields are padded on the left.

@@ -1,7 +1,8 @@
 //! Packets out of blocks.
 ghost use Rattle.std.specs.Prelude.{◌≡◌, Some, Ok, IfOk, IfErr};
+ghost use Rattle.itch_codec.specs.Fields.{Reads};
 ghost use Rattle.itch_soup.specs.declared.packet.Packet.{Packet as PacketValue};
-ghost use Rattle.itch_soup.specs.Packets.{PacketSpells, packet_fault, Reads};
+ghost use Rattle.itch_soup.specs.Packets.{PacketSpells, packet_fault};
 
 use crate::fault::SoupFault;
 use crate::origin::Origin;

@@ -3,15 +3,11 @@ use Rattle.std.proofs.lemmas.Bool.{false≢true}
 use Rattle.itch_book.specs.Links.{at_key, first_or}
 use Rattle.itch_book.specs.Queued.{Seen, seen, keys_at}
 use Rattle.itch_book.specs.Indexed.{indexed, has_keys, IsIndexed, IsBusy}
-use Rattle.itch_book.proofs.Lists.{by_test}
+use Rattle.itch_book.proofs.Lists.{some_of, by_test}
 use Rattle.itch_book.proofs.LinkLemmas.{eqb_is}
 use Rattle.itch_book.proofs.OpenLemmas.{seen_same, same_orders}
 use Rattle.itch_book.proofs.CloseLemmas.{close_view, close_index, close_busy}
 use Rattle.itch_book.proofs.index.close_empty.Goals as goal
-
-some_of : (o : Option (List ℕ)) → IsSome o → (ks : List ℕ) × (o ≡ Some ks)
-some_of None h = absurd (let no_one : ⊥ = cc in no_one)
-some_of (Some ks) h = (ks, refl)
 
 empty_of : (ks : List ℕ) (o : Option ℕ) → o ≡ first_or ks None → is_some o ≡ false → ks ≡ []
 empty_of [] o e none = refl

@@ -4,11 +4,8 @@ use Rattle.itch_book.specs.Links.{first_or}
 use Rattle.itch_book.specs.Orders.{first}
 use Rattle.itch_book.specs.Queued.{keys_at, order_at, shown, found}
 use Rattle.itch_book.proofs.QueueSteps.{first_in, none_some, inj}
+use Rattle.itch_book.proofs.Lists.{some_of}
 use Rattle.itch_book.proofs.index.head_of.Goals as goal
-
-some_of : (o : Option (List ℕ)) → IsSome o → (ks : List ℕ) × (o ≡ Some ks)
-some_of None h = absurd (let no_one : ⊥ = cc in no_one)
-some_of (Some ks) h = (ks, refl)
 
 first_found : (orders : ℕ → Option Order) (key : ℕ) (x : Order) (ks : List ℕ) → first_or ks None ≡ Some key → orders key ≡ Some x → Some x ≡ first (found orders ks)
 first_found orders key x [] h there = none_some refl h

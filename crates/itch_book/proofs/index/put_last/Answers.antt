@@ -5,11 +5,8 @@ use Rattle.itch_book.specs.Queued.{Seen, seen, keys_at}
 use Rattle.itch_book.specs.Indexed.{indexed, node_of, IsIndexed}
 use Rattle.itch_book.proofs.OpenLemmas.{seen_same}
 use Rattle.itch_book.proofs.PutLemmas.{put_view, put_index, put_keys_busy, unnamed}
+use Rattle.itch_book.proofs.Lists.{some_of}
 use Rattle.itch_book.proofs.index.put_last.Goals as goal
-
-some_of : (o : Option (List ℕ)) → IsSome o → (ks : List ℕ) × (o ≡ Some ks)
-some_of None h = absurd (let no_one : ⊥ = cc in no_one)
-some_of (Some ks) h = (ks, refl)
 
 pub returns-clause-index : goal.returns-clause-index
 returns-clause-index g c bids asks is at fresh =

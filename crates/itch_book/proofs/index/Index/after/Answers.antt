@@ -13,11 +13,8 @@ use Rattle.itch_book.proofs.QueueSteps.{none_some, inj}
 use Rattle.itch_book.proofs.LiveLemmas.{live_node}
 use Rattle.itch_book.proofs.FrontLemmas.{next_level_some, next_level_none}
 use Rattle.itch_book.proofs.AfterLemmas.{parts_first, after_tail, next_here, next_price_here, last_ask, last_bid, live_is, line_after}
+use Rattle.itch_book.proofs.Lists.{some_of}
 use Rattle.itch_book.proofs.index.Index.after.Goals as goal
-
-some_of : (o : Option (List ℕ)) → IsSome o → (ks : List ℕ) × (o ≡ Some ks)
-some_of None h = absurd (let no_one : ⊥ = cc in no_one)
-some_of (Some ks) h = (ks, refl)
 
 order_some : (o : Option Order) → IsSome o → (x : Order) × (o ≡ Some x)
 order_some None h = absurd (let no_one : ⊥ = cc in no_one)

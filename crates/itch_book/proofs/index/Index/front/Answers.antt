@@ -4,11 +4,8 @@ use Rattle.itch_book.specs.Orders.{is_of}
 use Rattle.itch_book.specs.Queued.{keys_at}
 use Rattle.itch_book.specs.Indexed.{has_keys}
 use Rattle.itch_book.proofs.FrontLemmas.{next_level_some, next_level_none, next_all}
+use Rattle.itch_book.proofs.Lists.{some_of}
 use Rattle.itch_book.proofs.index.Index.front.Goals as goal
-
-some_of : (o : Option (List ℕ)) → IsSome o → (ks : List ℕ) × (o ≡ Some ks)
-some_of None h = absurd (let no_one : ⊥ = cc in no_one)
-some_of (Some ks) h = (ks, refl)
 
 pub returns-in-Some-clause-front : goal.returns-in-Some-clause-front
 returns-in-Some-clause-front g c =

@@ -2,11 +2,8 @@ use Rattle.std.proofs.Common.{◌≡◌, ℕ, List, Option, Some, None, IsSome, 
 use Rattle.itch_book.specs.Orders.{level_total}
 use Rattle.itch_book.specs.Queued.{keys_at}
 use Rattle.itch_book.proofs.IndexSteps.{level_none, level_some}
+use Rattle.itch_book.proofs.Lists.{some_of}
 use Rattle.itch_book.proofs.index.Index.level_total.Goals as goal
-
-some_of : (o : Option (List ℕ)) → IsSome o → (ks : List ℕ) × (o ≡ Some ks)
-some_of None h = absurd (let no_one : ⊥ = cc in no_one)
-some_of (Some ks) h = (ks, refl)
 
 pub totals-requires : goal.totals-requires
 totals-requires g c = c.self.invariant.index.there c.args.side c.args.locate c.args.price c.in-Some.queue (sym c.in-Some.ensures)

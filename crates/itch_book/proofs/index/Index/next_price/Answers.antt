@@ -4,11 +4,8 @@ use Rattle.itch_book.specs.Orders.{next_price}
 use Rattle.itch_book.specs.Queued.{keys_at}
 use Rattle.itch_book.specs.Indexed.{has_keys}
 use Rattle.itch_book.proofs.FrontLemmas.{next_level_some, next_level_none}
+use Rattle.itch_book.proofs.Lists.{some_of}
 use Rattle.itch_book.proofs.index.Index.next_price.Goals as goal
-
-some_of : (o : Option (List ℕ)) → IsSome o → (ks : List ℕ) × (o ≡ Some ks)
-some_of None h = absurd (let no_one : ⊥ = cc in no_one)
-some_of (Some ks) h = (ks, refl)
 
 pub returns-in-Some : goal.returns-in-Some
 returns-in-Some g c =
