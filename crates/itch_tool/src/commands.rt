@@ -4,6 +4,9 @@ use clap::error::ErrorKind;
 use clap::{Arg, ArgAction, Command, Error};
 use std::alloc::{AllocError, Global};
 
+/// The program's version, and the toolchain that it is proved with, as `rt version` prints it.
+const VERSION: &str = "0.1.0 (proved with rattle-kit-13b logic dac8208d650f15bf)";
+
 /// The most that `--after` takes.
 const MOST_AFTER: i64 = 999_999_999_999;
 
@@ -23,6 +26,7 @@ fn program<'a>(alloc: Global) -> Result<Command<'a>, AllocError> {
     Ok(
         program
             .about("Market snapshots for TotalView-ITCH 5.0")
+            .version(VERSION)
             .subcommand_required(true),
     )
 }
@@ -52,25 +56,28 @@ fn snap<'a>(alloc: Global) -> Result<Command<'a>, AllocError> {
         .about("Write the snapshot of a file of messages")
         .arg(file(alloc))?
         .arg(after)?
-        .arg(only(alloc))
+        .arg(only(alloc))?
+        .arg(progress(alloc))
 }
 
 fn check<'a>(alloc: Global) -> Result<Command<'a>, AllocError> {
     Command::new(alloc, "check")
         .about("Check that a file follows the order rules")
-        .arg(file(alloc))
+        .arg(file(alloc))?
+        .arg(progress(alloc))
 }
 
 fn compare<'a>(alloc: Global) -> Result<Command<'a>, AllocError> {
     Command::new(alloc, "compare")
         .about("Say whether two files leave the same market")
-        .arg(named(alloc, "A", "The first file"))?
-        .arg(named(alloc, "B", "The second file"))
+        .arg(named(alloc, "A", "The first file, `-` for standard input"))?
+        .arg(named(alloc, "B", "The second file, or `-`"))?
+        .arg(progress(alloc))
 }
 
 fn canon<'a>(alloc: Global) -> Result<Command<'a>, AllocError> {
     let snapshot = Arg::new(alloc, "SNAP").help(
-        "The snapshot to read, or standard input where none is named",
+        "The snapshot to read: standard input where it is `-` or left out",
     );
     let check = Arg::new(alloc, "check")
         .long("check")
@@ -79,7 +86,8 @@ fn canon<'a>(alloc: Global) -> Result<Command<'a>, AllocError> {
     Command::new(alloc, "canon")
         .about("Write a snapshot in canonical form")
         .arg(snapshot)?
-        .arg(check)
+        .arg(check)?
+        .arg(progress(alloc))
 }
 
 fn join<'a>(alloc: Global) -> Result<Command<'a>, AllocError> {
@@ -88,10 +96,11 @@ fn join<'a>(alloc: Global) -> Result<Command<'a>, AllocError> {
         .arg(named(
             alloc,
             "SNAP",
-            "The snapshot, read up to its End of Snapshot",
+            "The snapshot, read up to its End of Snapshot; `-` for standard input",
         ))?
-        .arg(named(alloc, "FEED", "The feed, from its first message on"))?
-        .arg(only(alloc))
+        .arg(named(alloc, "FEED", "The feed, from its first message on, or `-`"))?
+        .arg(only(alloc))?
+        .arg(progress(alloc))
 }
 
 fn show<'a>(alloc: Global) -> Result<Command<'a>, AllocError> {
@@ -118,10 +127,18 @@ fn only<'a>(alloc: Global) -> Arg<'a> {
         .help("Keep only these locates, as 1,2,40")
 }
 
+/// The flag that tells how far a file has been read.
+pub fn progress<'a>(alloc: Global) -> Arg<'a> {
+    Arg::new(alloc, "progress")
+        .long("progress")
+        .help("Tell on standard error how far a file was read, each 64 MiB")
+        .action(ArgAction::SetTrue)
+}
+
 fn named<'a>(alloc: Global, name: &'a str, help: &'a str) -> Arg<'a> {
     Arg::new(alloc, name).help(help).required(true)
 }
 
 fn file<'a>(alloc: Global) -> Arg<'a> {
-    Arg::new(alloc, "FILE").help("The file to read, or standard input where none is named")
+    Arg::new(alloc, "FILE").help("The file to read: standard input where it is `-` or left out")
 }

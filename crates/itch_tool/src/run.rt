@@ -3,6 +3,7 @@ ghost use Rattle.std.specs.Option.{option_copied};
 ghost use Rattle.itch_tool.specs.Requests.{IsOverOne, Performs};
 
 use crate::job::Job;
+use crate::opened::open;
 use crate::request::Request;
 use crate::sockets::{run_fetch, run_serve};
 use itch_commands::canon::canon_blocks;
@@ -12,12 +13,11 @@ use itch_commands::join::join_blocks;
 use itch_commands::levels::book_blocks;
 use itch_commands::show::show_blocks;
 use itch_commands::snap::snap_blocks;
-use itch_commands::{ToolFault, read_locates, system_fault};
+use itch_commands::{ToolFault, read_locates};
 use itch_frame::BlockReader;
 use itch_frame::counted::{Buffered, Counted, CountedRead, CountedWrite};
 use itch_market::LocateSet;
 use std::alloc::{Allocator, Global};
-use std::fs;
 use std::io::{self, BufReader, BufWriter, Read, Write};
 use std::net::{Net, TcpListener, TcpStream};
 use std::rt::{Clock, Files};
@@ -28,19 +28,25 @@ pub const PIECE: usize = 1 << 16;
 /// Does what is asked for, with its output on standard output. True is status 0, and false status 1 with the output written.
 pub fn run<R>(rt: &R, job: Job<'_>) -> Result<bool, ToolFault>
 where
-    R: Files + Input + Print + AllocGlobal + Clock,
+    R: Files + Input + Print + Eprint + AllocGlobal + Clock,
     R: Net<Listener = TcpListener, Stream = TcpStream>,
 {
     match job {
-        Job::Files(request) => run_request(rt, request),
-        Job::Serve { file, peer, count } => run_serve(rt, file, peer, count),
+        Job::Files { request, progress } => run_request(rt, request, progress),
+        Job::Serve {
+            file,
+            peer,
+            count,
+            progress,
+        } => run_serve(rt, file, peer, count, progress),
         Job::Fetch(peer) => run_fetch(rt, peer),
     }
 }
 
-fn run_request<R: Files + Input + Print + AllocGlobal>(
+fn run_request<R: Files + Input + Print + Eprint + AllocGlobal + Clock>(
     rt: &R,
     request: Request<'_>,
+    progress: bool,
 ) -> Result<bool, ToolFault> {
     let alloc = rt.alloc();
     let only = match request.only() {
@@ -51,7 +57,7 @@ fn run_request<R: Files + Input + Print + AllocGlobal>(
         return Err(ToolFault::OutOfMemory);
     };
     let mut out = Counted::new(buffered);
-    let answer = answer(rt, request, only, &mut out)?;
+    let answer = answer(rt, request, progress, only, &mut out)?;
     match out.into_inner().flush() {
         Ok(()) => Ok(answer),
         Err(error) => Err(ToolFault::Write(error)),
@@ -59,35 +65,29 @@ fn run_request<R: Files + Input + Print + AllocGlobal>(
 }
 
 // Opens what a request reads, and performs it.
-fn answer<R: Files + Input + AllocGlobal, W: CountedWrite>(
+fn answer<R: Files + Input + Eprint + AllocGlobal + Clock, W: CountedWrite>(
     rt: &R,
     request: Request<'_>,
+    progress: bool,
     only: Option<LocateSet<Global>>,
     out: &mut W,
 ) -> Result<bool, ToolFault> {
     let alloc = rt.alloc();
     match request {
         Request::Compare { first, second } => {
-            let first = open(rt, first)?;
-            let second = open(rt, second)?;
+            let first = open(rt, first, progress)?;
+            let second = open(rt, second, progress)?;
             compare_over(alloc, first, second, out)
         }
         Request::Join { snapshot, feed, .. } => {
-            let snapshot = open(rt, snapshot)?;
-            let feed = open(rt, feed)?;
+            let snapshot = open(rt, snapshot, progress)?;
+            let feed = open(rt, feed, progress)?;
             join_over(alloc, snapshot, feed, only, out)
         }
-        _ => match request.file() {
-            Some(path) => perform_over(alloc, request, only.as_ref(), open(rt, path)?, out),
-            None => perform_over(alloc, request, only.as_ref(), rt.reader(), out),
-        },
-    }
-}
-
-fn open<R: Files + AllocGlobal>(rt: &R, path: &str) -> Result<R::File, ToolFault> {
-    match fs::open(rt, path) {
-        Ok(file) => Ok(file),
-        Err(error) => Err(system_fault(error, ToolFault::Open)),
+        _ => {
+            let file = open(rt, request.file(), progress)?;
+            perform_over(alloc, request, only.as_ref(), file, out)
+        }
     }
 }
 
