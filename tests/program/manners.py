@@ -1,4 +1,4 @@
-"""Runs of the program as a shell user meets it: its version, terminals, closed pipes, progress, and the scripts beside it.
+"""Runs of the program as a shell user meets it: its version, terminals, closed pipes, and the scripts beside it.
 
 RUNS has a function for each run, named for what it shows; it is given the program, and yields what differs.
 """
@@ -107,39 +107,6 @@ def both_files_may_not_be_standard_input(program):
             yield f"{command}: {done}"
 
 
-def progress(program, words, **options):
-    return subprocess.run([program, *words, "--progress"], capture_output=True, timeout=120, **options)
-
-
-def how_far_a_file_was_read_is_told_every_64_mib(program):
-    # 41 bytes and 38 bytes a message: 160 MiB are told twice.
-    count = 4_200_000
-    day, _ = large.orders(1)
-    entries = day[:8000 * 41]
-    order = day[8000 * 41:]
-    whole = entries + b"".join(order[:13] + number.to_bytes(8, "big") + order[21:] for number in range(1, count + 1))
-    with tempfile.NamedTemporaryFile(suffix=".itch") as file:
-        file.write(whole)
-        file.flush()
-        done = progress(program, ["check", file.name])
-        piped = progress(program, ["check", "-"], input=whole)
-    told = re.compile(rb"(\r\d+ bytes, \d+ messages, +\d+ MB/s){2}\n")
-    for name, ran in (("a file", done), ("standard input", piped)):
-        if (ran.returncode, ran.stdout) != (0, b"ok %d messages\n" % (8000 + count)) or not told.fullmatch(ran.stderr):
-            yield f"{name}: status {ran.returncode}, {ran.stdout!r}, {ran.stderr!r}"
-        for bytes_read, messages in re.findall(rb"\r(\d+) bytes, (\d+) messages", ran.stderr):
-            wanted = 8000 + (int(bytes_read) - 8000 * 41) // len(order)
-            if int(messages) != wanted:
-                yield f"{name}: {messages} messages at byte {bytes_read}, not {wanted}"
-
-
-def nothing_is_told_of_a_small_file(program):
-    for words, output in ((["check", OPENING], b"ok 5 messages\n"), (["snap", OPENING], SNAPSHOT.read_bytes())):
-        done = progress(program, words)
-        if (done.returncode, done.stdout, done.stderr) != (0, output, b""):
-            yield f"{words[0]}: {done}"
-
-
 def the_program_is_installed_with_its_page(program):
     with tempfile.TemporaryDirectory() as folder:
         prefix = Path(folder) / "new/prefix"
@@ -227,8 +194,6 @@ RUNS = [
     a_snapshot_is_kept_from_a_terminal,
     lines_are_shown_on_a_terminal,
     both_files_may_not_be_standard_input,
-    how_far_a_file_was_read_is_told_every_64_mib,
-    nothing_is_told_of_a_small_file,
     the_program_is_installed_with_its_page,
     what_cannot_be_installed_is_one_line,
     the_page_has_each_command_and_option,

@@ -1,3 +1,2 @@
 pub mod Fetched
 pub mod Lines
-pub mod Tallying

@@ -13,12 +13,10 @@ mod job;
 mod login;
 mod opened;
 mod patient;
-mod progress;
 mod request;
 mod run;
 mod serve;
 mod sockets;
-mod tally;
 #[cfg(test)]
 mod tests;
 

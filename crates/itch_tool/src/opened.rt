@@ -1,11 +1,10 @@
 //! What a command reads: a file, or standard input.
 ghost use Rattle.itch_tool.specs.Opening.{opened_remaining};
 
-use crate::progress::{Watch, Watched};
 use itch_commands::{ToolFault, system_fault};
 use std::fs;
 use std::io::{self, Read};
-use std::rt::{Clock, Files};
+use std::rt::Files;
 
 /// A file that was opened, or standard input. It gives the bytes of the one that it is.
 #[derive(Drop)]
@@ -25,21 +24,18 @@ impl<F: Read, I: Read> Read for Opened<F, I> {
     }
 }
 
-/// Opens the file of a path, or standard input where there is none. How far it has been read is told if that is wanted.
+/// Opens the file of a path, or standard input where there is none.
 ///
 /// An error is `Open`, or `OutOfMemory` where the system has no memory for it.
-pub fn open<'a, R: Files + Input + Eprint + Clock>(
-    rt: &'a R,
+pub fn open<R: Files + Input>(
+    rt: &R,
     path: Option<&str>,
-    progress: bool,
-) -> Result<Watched<'a, Opened<R::File, R::Reader>, R>, ToolFault> {
-    let opened = match path {
-        Some(path) => match fs::open(rt, path) {
-            Ok(file) => Opened::File(file),
-            Err(error) => return Err(system_fault(error, ToolFault::Open)),
-        },
-        None => Opened::Standard(rt.reader()),
+) -> Result<Opened<R::File, R::Reader>, ToolFault> {
+    let Some(path) = path else {
+        return Ok(Opened::Standard(rt.reader()));
     };
-    let watch = if progress { Watch::begin(rt) } else { None };
-    Ok(Watched::new(opened, watch))
+    match fs::open(rt, path) {
+        Ok(file) => Ok(Opened::File(file)),
+        Err(error) => Err(system_fault(error, ToolFault::Open)),
+    }
 }

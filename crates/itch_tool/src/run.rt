@@ -28,25 +28,19 @@ pub const PIECE: usize = 1 << 16;
 /// Does what is asked for, with its output on standard output. True is status 0, and false status 1 with the output written.
 pub fn run<R>(rt: &R, job: Job<'_>) -> Result<bool, ToolFault>
 where
-    R: Files + Input + Print + Eprint + AllocGlobal + Clock,
+    R: Files + Input + Print + AllocGlobal + Clock,
     R: Net<Listener = TcpListener, Stream = TcpStream>,
 {
     match job {
-        Job::Files { request, progress } => run_request(rt, request, progress),
-        Job::Serve {
-            file,
-            peer,
-            count,
-            progress,
-        } => run_serve(rt, file, peer, count, progress),
+        Job::Files(request) => run_request(rt, request),
+        Job::Serve { file, peer, count } => run_serve(rt, file, peer, count),
         Job::Fetch(peer) => run_fetch(rt, peer),
     }
 }
 
-fn run_request<R: Files + Input + Print + Eprint + AllocGlobal + Clock>(
+fn run_request<R: Files + Input + Print + AllocGlobal>(
     rt: &R,
     request: Request<'_>,
-    progress: bool,
 ) -> Result<bool, ToolFault> {
     let alloc = rt.alloc();
     let only = match request.only() {
@@ -57,7 +51,7 @@ fn run_request<R: Files + Input + Print + Eprint + AllocGlobal + Clock>(
         return Err(ToolFault::OutOfMemory);
     };
     let mut out = Counted::new(buffered);
-    let answer = answer(rt, request, progress, only, &mut out)?;
+    let answer = answer(rt, request, only, &mut out)?;
     match out.into_inner().flush() {
         Ok(()) => Ok(answer),
         Err(error) => Err(ToolFault::Write(error)),
@@ -65,27 +59,26 @@ fn run_request<R: Files + Input + Print + Eprint + AllocGlobal + Clock>(
 }
 
 // Opens what a request reads, and performs it.
-fn answer<R: Files + Input + Eprint + AllocGlobal + Clock, W: CountedWrite>(
+fn answer<R: Files + Input + AllocGlobal, W: CountedWrite>(
     rt: &R,
     request: Request<'_>,
-    progress: bool,
     only: Option<LocateSet<Global>>,
     out: &mut W,
 ) -> Result<bool, ToolFault> {
     let alloc = rt.alloc();
     match request {
         Request::Compare { first, second } => {
-            let first = open(rt, first, progress)?;
-            let second = open(rt, second, progress)?;
+            let first = open(rt, first)?;
+            let second = open(rt, second)?;
             compare_over(alloc, first, second, out)
         }
         Request::Join { snapshot, feed, .. } => {
-            let snapshot = open(rt, snapshot, progress)?;
-            let feed = open(rt, feed, progress)?;
+            let snapshot = open(rt, snapshot)?;
+            let feed = open(rt, feed)?;
             join_over(alloc, snapshot, feed, only, out)
         }
         _ => {
-            let file = open(rt, request.file(), progress)?;
+            let file = open(rt, request.file())?;
             perform_over(alloc, request, only.as_ref(), file, out)
         }
     }

@@ -19,14 +19,13 @@ pub fn run_serve<R>(
     file: Option<&str>,
     peer: Peer<'_>,
     count: u64,
-    progress: bool,
 ) -> Result<bool, ToolFault>
 where
-    R: Files + Input + Print + Eprint + AllocGlobal + Clock,
+    R: Files + Input + Print + AllocGlobal + Clock,
     R: Net<Listener = TcpListener, Stream = TcpStream>,
 {
     let login = Login::new(peer.user, peer.password)?;
-    let file = open(rt, file, progress)?;
+    let file = open(rt, file)?;
     let Ok(buffered) = BufReader::with_capacity(rt.alloc(), PIECE, file) else {
         return Err(ToolFault::OutOfMemory);
     };
