@@ -145,8 +145,8 @@ pub fn read_path<'a>(options: &ArgMatches<'a>, name: &str) -> Option<&'a str> {
 
 /// The path of a file that is named so, or none where that is standard input: it is `-`, or no name is there.
 pub fn path_of<'a>(name: Option<&'a str>) -> Option<&'a str>
-    ensures standard { IsNone result ↔ IfSome name (λ path. path.now ≡ codes "-") }
-    ensures path { IfSome result (λ path. name ≡ Some path) }
+    ensures standard { IsNone result ↔ IfSome name.entry (λ path. path.now ≡ codes "-") }
+    ensures path { IfSome result (λ path. name.entry ≡ Some path) }
 {
     match name {
         Some(path) if path == "-" => None,
