@@ -25,7 +25,7 @@ def version(program):
 
 def the_version_is_that_of_the_changes_and_the_toolchain(program):
     printed = version(program)
-    newest = re.search(r"^## (\S+)", (TOP / "CHANGELOG.md").read_text(), re.M)[1]
+    newest = re.search(r"^## ([\d.]+)", (TOP / "CHANGELOG.md").read_text(), re.M)[1]
     parts = re.fullmatch(r"itchsnap (\S+) \(proved with (.+)\)\n", printed)
     if not parts or parts[1] != newest:
         yield f"printed {printed!r}, where the newest changes are those of {newest}"
