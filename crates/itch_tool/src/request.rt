@@ -148,10 +148,8 @@ pub fn path_of<'a>(name: Option<&'a str>) -> Option<&'a str>
     ensures standard { IsNone result ↔ IfSome name.entry (λ path. path.now ≡ codes "-") }
     ensures path { IfSome result (λ path. name.entry ≡ Some path) }
 {
-    match name {
-        Some(path) if path == "-" => None,
-        _ => name,
-    }
+    let path = name?;
+    if path == "-" { None } else { Some(path) }
 }
 
 fn read_book<'a>(alloc: Global, options: &ArgMatches<'a>) -> Result<Request<'a>, Error> {
