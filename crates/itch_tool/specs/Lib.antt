@@ -1,3 +1,6 @@
 pub mod Requests
+pub mod Jobs
+pub mod Opening
+pub mod Endings
 pub mod Logins
 pub mod Sessions

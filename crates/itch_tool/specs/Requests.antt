@@ -13,6 +13,13 @@ use Rattle.itch_commands.specs.Showing.{Shows}
 use Rattle.itch_commands.specs.Outputs.{Outputs, ok_line_of, snapshot_in, closed_bytes}
 use Rattle.itch_commands.specs.Books.{ReadsListed, book_of}
 
+-- the requests whose output is a snapshot, which is no text
+abbrev pub is_binary : Request → Bool
+is_binary (Snap file after only) = true
+is_binary (Canon file false) = true
+is_binary (Join snapshot feed only) = true
+is_binary request = false
+
 -- a request over one file
 abbrev pub IsOverOne : Request → Type 0
 IsOverOne (Compare first second) = ⊥

@@ -4,6 +4,9 @@ use clap::error::ErrorKind;
 use clap::{Arg, ArgAction, Command, Error};
 use std::alloc::{AllocError, Global};
 
+/// The program's version, and the toolchain that it is proved with, as `rt version` prints it.
+const VERSION: &str = "0.1.0 (proved with rattle-kit-13b logic dac8208d650f15bf)";
+
 /// The most that `--after` takes.
 const MOST_AFTER: i64 = 999_999_999_999;
 
@@ -23,6 +26,7 @@ fn program<'a>(alloc: Global) -> Result<Command<'a>, AllocError> {
     Ok(
         program
             .about("Market snapshots for TotalView-ITCH 5.0")
+            .version(VERSION)
             .subcommand_required(true),
     )
 }
@@ -64,13 +68,13 @@ fn check<'a>(alloc: Global) -> Result<Command<'a>, AllocError> {
 fn compare<'a>(alloc: Global) -> Result<Command<'a>, AllocError> {
     Command::new(alloc, "compare")
         .about("Say whether two files leave the same market")
-        .arg(named(alloc, "A", "The first file"))?
-        .arg(named(alloc, "B", "The second file"))
+        .arg(named(alloc, "A", "The first file, `-` for standard input"))?
+        .arg(named(alloc, "B", "The second file, or `-`"))
 }
 
 fn canon<'a>(alloc: Global) -> Result<Command<'a>, AllocError> {
     let snapshot = Arg::new(alloc, "SNAP").help(
-        "The snapshot to read, or standard input where none is named",
+        "The snapshot to read: standard input where it is `-` or left out",
     );
     let check = Arg::new(alloc, "check")
         .long("check")
@@ -88,9 +92,9 @@ fn join<'a>(alloc: Global) -> Result<Command<'a>, AllocError> {
         .arg(named(
             alloc,
             "SNAP",
-            "The snapshot, read up to its End of Snapshot",
+            "The snapshot, read up to its End of Snapshot; `-` for standard input",
         ))?
-        .arg(named(alloc, "FEED", "The feed, from its first message on"))?
+        .arg(named(alloc, "FEED", "The feed, from its first message on, or `-`"))?
         .arg(only(alloc))
 }
 
@@ -123,5 +127,5 @@ fn named<'a>(alloc: Global, name: &'a str, help: &'a str) -> Arg<'a> {
 }
 
 fn file<'a>(alloc: Global) -> Arg<'a> {
-    Arg::new(alloc, "FILE").help("The file to read, or standard input where none is named")
+    Arg::new(alloc, "FILE").help("The file to read: standard input where it is `-` or left out")
 }

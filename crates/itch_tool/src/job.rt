@@ -1,7 +1,9 @@
 //! What the program is asked to do: a request over files, or a session with a peer on this machine.
+ghost use Rattle.std.specs.Prelude.{◌≡◌};
+ghost use Rattle.itch_tool.specs.Jobs.{writes_snapshot};
 
 use crate::commands::{command, usage_fault};
-use crate::request::{Request, read_request};
+use crate::request::{Request, read_path, read_request};
 use clap::{Arg, ArgMatches, Command, Error};
 use std::alloc::{AllocError, Global};
 use std::fmt::{self, Debug, Formatter};
@@ -11,14 +13,27 @@ use std::fmt::{self, Debug, Formatter};
 pub enum Job<'a> {
     /// A request over files and standard streams.
     Files(Request<'a>),
-    /// Serve the market of a file to `count` connections.
+    /// Serve the market of a file, or of standard input where none is named, to `count` connections.
     Serve {
-        file: &'a str,
+        file: Option<&'a str>,
         peer: Peer<'a>,
         count: u64,
     },
     /// Fetch the snapshot that a server has.
     Fetch(Peer<'a>),
+}
+
+impl Job<'_> {
+    /// Whether the output is a snapshot, which is no text.
+    pub fn writes_snapshot(&self) -> bool
+        ensures { result ≡ writes_snapshot self.now }
+    {
+        match self {
+            Job::Files(request) => request.is_binary(),
+            Job::Serve { .. } => false,
+            Job::Fetch(_) => true,
+        }
+    }
 }
 
 /// The port that a server listens on, and the user name and password of a login to it, as the words have them.
@@ -40,27 +55,31 @@ impl Debug for Peer<'_> {
     }
 }
 
-/// Reads the words, of which the first is the program's name.
+/// Reads the words, of which the first is the program's name. A snapshot is refused where standard output is a terminal.
 ///
 /// An error is a usage fault, a request for help, or want of memory: its kind says which.
-pub fn read_job<'a>(alloc: Global, words: &'a [String]) -> Result<Job<'a>, Error> {
+pub fn read_job<'a>(alloc: Global, words: &'a [String], terminal: bool) -> Result<Job<'a>, Error> {
     let command = command(alloc)?
         .subcommand(serve(alloc)?)?
         .subcommand(fetch(alloc)?)?;
     let matches = command.try_get_matches_from(words)?;
-    match matches.subcommand() {
-        Some(("serve", options)) => read_serve(alloc, options),
-        Some(("fetch", options)) => Ok(Job::Fetch(read_peer(alloc, options)?)),
-        _ => Ok(Job::Files(read_request(alloc, &matches)?)),
+    let job = match matches.subcommand() {
+        Some(("serve", options)) => read_serve(alloc, options)?,
+        Some(("fetch", options)) => Job::Fetch(read_peer(alloc, options)?),
+        _ => Job::Files(read_request(alloc, &matches)?),
+    };
+    if terminal && job.writes_snapshot() {
+        return Err(usage_fault(
+            alloc,
+            "a snapshot is not written to a terminal: redirect it",
+        )?);
     }
+    Ok(job)
 }
 
 fn read_serve<'a>(alloc: Global, options: &ArgMatches<'a>) -> Result<Job<'a>, Error> {
-    let Some(file) = options.get_str("FILE") else {
-        return Err(usage_fault(alloc, "a file is missing")?);
-    };
     Ok(Job::Serve {
-        file,
+        file: read_path(options, "FILE"),
         peer: read_peer(alloc, options)?,
         count: read_number(alloc, options, "count")?,
     })
@@ -89,9 +108,9 @@ fn read_number<'a>(alloc: Global, options: &ArgMatches<'a>, name: &str) -> Resul
 }
 
 fn serve<'a>(alloc: Global) -> Result<Command<'a>, AllocError> {
-    let file = Arg::new(alloc, "FILE")
-        .required(true)
-        .help("The file of messages whose market is served");
+    let file = Arg::new(alloc, "FILE").required(true).help(
+        "The file of messages whose market is served, `-` for standard input",
+    );
     let count = Arg::new(alloc, "count")
         .long("count")
         .value_name("N")

@@ -4,12 +4,14 @@
 //! the two ends of a SoupBinTCP 3.00 session, over sockets of this machine.
 #![tactic(auto)]
 
+mod closed_pipe;
 mod commands;
 mod connection;
 mod ending;
 mod fetch;
 mod job;
 mod login;
+mod opened;
 mod patient;
 mod request;
 mod run;
@@ -18,21 +20,23 @@ mod sockets;
 #[cfg(test)]
 mod tests;
 
+use crate::closed_pipe::{ends_by_closed_pipe, final_status};
 use crate::commands::usage_fault;
 use crate::job::read_job;
 use crate::run::run;
 use clap::Error;
 use clap::error::ErrorKind;
-use itch_commands::{ToolFault, status, system_fault};
+use itch_commands::{ToolFault, system_fault};
 use std::alloc::{AllocError, Global};
 use std::env::{self, Args};
-use std::io;
+use std::io::{self, IsTerminal};
 use std::process::ExitCode;
 
 fn main(rt: HostRuntime) -> ExitCode {
     let alloc = rt.alloc();
+    let terminal = rt.stdout().is_terminal();
     let status = match read_words(alloc, env::args(&rt)) {
-        Ok(words) => match read_job(alloc, words.as_slice()) {
+        Ok(words) => match read_job(alloc, words.as_slice(), terminal) {
             Ok(job) => finish(&rt, run(&rt, job)),
             Err(error) => explain(&rt, error),
         },
@@ -52,14 +56,15 @@ fn read_words(alloc: Global, args: io::Result<Args>) -> Result<Vec<String>, Erro
     }
 }
 
-// Says a fault on standard error, and returns the status.
+// Says a fault on standard error, and returns the status. Of a closed pipe nothing is said.
 fn finish(rt: &impl Eprint, outcome: Result<bool, ToolFault>) -> u8 {
-    if let Err(fault) = &outcome {
-        if let Err(error) = rt.eprintln(fault) {
-            return ToolFault::Write(error).status();
-        }
+    match &outcome {
+        Err(fault) if !ends_by_closed_pipe(&outcome) => match rt.eprintln(fault) {
+            Ok(()) => final_status(&outcome),
+            Err(error) => final_status(&Err(ToolFault::Write(error))),
+        },
+        _ => final_status(&outcome),
     }
-    status(&outcome)
 }
 
 // Prints what help or a usage fault has to say, and returns the status.

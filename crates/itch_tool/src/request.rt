@@ -1,10 +1,12 @@
 //! What the words of the command line ask for.
+ghost use Rattle.std.specs.Prelude.{◌≡◌, ◌↔◌, Some, IsNone, IfSome, codes};
+ghost use Rattle.itch_tool.specs.Requests.{is_binary};
 
 use crate::commands::usage_fault;
 use clap::{ArgMatches, Error};
 use std::alloc::Global;
 
-/// What the program is asked to do. Where no file is named, it reads standard input.
+/// What the program is asked to do. A file is the path of one, or none for standard input.
 #[derive(Clone, Copy, Debug, PartialEq, Eq)]
 pub enum Request<'a> {
     /// Write the snapshot after the whole file, or after its first messages; or of it what a list of locates wants.
@@ -28,8 +30,8 @@ pub enum Request<'a> {
     },
     /// Say whether two files leave the same market.
     Compare {
-        first: &'a str,
-        second: &'a str,
+        first: Option<&'a str>,
+        second: Option<&'a str>,
     },
     /// Write the prices of a locate.
     Book {
@@ -38,8 +40,8 @@ pub enum Request<'a> {
     },
     /// Join a feed to a snapshot, and write the snapshot after both; or do so for a list of locates.
     Join {
-        snapshot: &'a str,
-        feed: &'a str,
+        snapshot: Option<&'a str>,
+        feed: Option<&'a str>,
         only: Option<&'a str>,
     },
 }
@@ -53,9 +55,19 @@ impl<'a> Request<'a> {
             | Request::Show { file }
             | Request::Canon { file, .. }
             | Request::Book { file, .. } => file,
-            Request::Compare { first, .. } => Some(first),
-            Request::Join { snapshot, .. } => Some(snapshot),
+            Request::Compare { first, .. } => first,
+            Request::Join { snapshot, .. } => snapshot,
         }
+    }
+
+    /// Whether the output is a snapshot, which is no text.
+    pub fn is_binary(&self) -> bool
+        ensures { result ≡ is_binary self.now }
+    {
+        matches!(
+            self,
+            Request::Snap { .. } | Request::Join { .. } | Request::Canon { check: false, .. }
+        )
     }
 
     /// The list of the locates that are wanted, where not all are.
@@ -74,13 +86,13 @@ pub fn read_request<'a>(alloc: Global, matches: &ArgMatches<'a>) -> Result<Reque
     match matches.subcommand() {
         Some(("snap", options)) => read_snap(alloc, options),
         Some(("check", options)) => Ok(Request::Check {
-            file: options.get_str("FILE"),
+            file: read_path(options, "FILE"),
         }),
         Some(("show", options)) => Ok(Request::Show {
-            file: options.get_str("FILE"),
+            file: read_path(options, "FILE"),
         }),
         Some(("canon", options)) => Ok(Request::Canon {
-            file: options.get_str("SNAP"),
+            file: read_path(options, "SNAP"),
             check: options.get_flag("check"),
         }),
         Some(("compare", options)) => read_compare(alloc, options),
@@ -93,35 +105,58 @@ pub fn read_request<'a>(alloc: Global, matches: &ArgMatches<'a>) -> Result<Reque
 fn read_snap<'a>(alloc: Global, options: &ArgMatches<'a>) -> Result<Request<'a>, Error> {
     let after = read_after(alloc, options)?;
     Ok(Request::Snap {
-        file: options.get_str("FILE"),
+        file: read_path(options, "FILE"),
         after,
         only: options.get_str("only"),
     })
 }
 
 fn read_compare<'a>(alloc: Global, options: &ArgMatches<'a>) -> Result<Request<'a>, Error> {
-    match (options.get_str("A"), options.get_str("B")) {
-        (Some(first), Some(second)) => Ok(Request::Compare { first, second }),
-        _ => Err(usage_fault(alloc, "compare takes two files")?),
-    }
+    let (first, second) = read_two(alloc, options, "A", "B")?;
+    Ok(Request::Compare { first, second })
 }
 
 fn read_join<'a>(alloc: Global, options: &ArgMatches<'a>) -> Result<Request<'a>, Error> {
-    match (options.get_str("SNAP"), options.get_str("FEED")) {
-        (Some(snapshot), Some(feed)) => Ok(Request::Join {
-            snapshot,
-            feed,
-            only: options.get_str("only"),
-        }),
-        _ => Err(usage_fault(alloc, "join takes a snapshot and a feed")?),
+    let (snapshot, feed) = read_two(alloc, options, "SNAP", "FEED")?;
+    Ok(Request::Join {
+        snapshot,
+        feed,
+        only: options.get_str("only"),
+    })
+}
+
+// The two files of a command, of which one may be standard input.
+fn read_two<'a>(
+    alloc: Global,
+    options: &ArgMatches<'a>,
+    first: &str,
+    second: &str,
+) -> Result<(Option<&'a str>, Option<&'a str>), Error> {
+    match (read_path(options, first), read_path(options, second)) {
+        (None, None) => Err(usage_fault(alloc, "only one of the two files may be standard input")?),
+        paths => Ok(paths),
     }
+}
+
+/// The path of a file among the words, or none where it is standard input.
+pub fn read_path<'a>(options: &ArgMatches<'a>, name: &str) -> Option<&'a str> {
+    path_of(options.get_str(name))
+}
+
+/// The path of a file that is named so, or none where that is standard input: it is `-`, or no name is there.
+pub fn path_of<'a>(name: Option<&'a str>) -> Option<&'a str>
+    ensures standard { IsNone result ↔ IfSome name.entry (λ path. path.now ≡ codes "-") }
+    ensures path { IfSome result (λ path. name.entry ≡ Some path) }
+{
+    let path = name?;
+    if path == "-" { None } else { Some(path) }
 }
 
 fn read_book<'a>(alloc: Global, options: &ArgMatches<'a>) -> Result<Request<'a>, Error> {
     let locate = read_locate(alloc, options)?;
     Ok(Request::Book {
         locate,
-        file: options.get_str("FILE"),
+        file: read_path(options, "FILE"),
     })
 }
 

@@ -3,6 +3,7 @@ ghost use Rattle.std.specs.Option.{option_copied};
 ghost use Rattle.itch_tool.specs.Requests.{IsOverOne, Performs};
 
 use crate::job::Job;
+use crate::opened::open;
 use crate::request::Request;
 use crate::sockets::{run_fetch, run_serve};
 use itch_commands::canon::canon_blocks;
@@ -12,11 +13,10 @@ use itch_commands::join::join_blocks;
 use itch_commands::levels::book_blocks;
 use itch_commands::show::show_blocks;
 use itch_commands::snap::snap_blocks;
-use itch_commands::{ToolFault, read_locates, system_fault};
+use itch_commands::{ToolFault, read_locates};
 use itch_frame::{BlockReader, Buffered, Counted, CountedRead, CountedWrite};
 use itch_market::LocateSet;
 use std::alloc::{Allocator, Global};
-use std::fs;
 use std::io::{self, BufReader, BufWriter, Read, Write};
 use std::net::{Net, TcpListener, TcpStream};
 use std::rt::{Clock, Files};
@@ -76,17 +76,10 @@ fn answer<R: Files + Input + AllocGlobal, W: CountedWrite>(
             let feed = open(rt, feed)?;
             join_over(alloc, snapshot, feed, only, out)
         }
-        _ => match request.file() {
-            Some(path) => perform_over(alloc, request, only.as_ref(), open(rt, path)?, out),
-            None => perform_over(alloc, request, only.as_ref(), rt.reader(), out),
-        },
-    }
-}
-
-fn open<R: Files + AllocGlobal>(rt: &R, path: &str) -> Result<R::File, ToolFault> {
-    match fs::open(rt, path) {
-        Ok(file) => Ok(file),
-        Err(error) => Err(system_fault(error, ToolFault::Open)),
+        _ => {
+            let file = open(rt, request.file())?;
+            perform_over(alloc, request, only.as_ref(), file, out)
+        }
     }
 }
 

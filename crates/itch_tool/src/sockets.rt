@@ -3,25 +3,28 @@
 use crate::fetch::fetch;
 use crate::job::Peer;
 use crate::login::Login;
+use crate::opened::open;
 use crate::run::PIECE;
 use crate::serve::serve_blocks;
 use itch_commands::{ToolFault, system_fault};
 use itch_frame::{BlockReader, Buffered, Counted};
-use std::fs;
 use std::io::{self, BufReader, BufWriter, Write};
 use std::net::{Ipv4Addr, Net, TcpListener, TcpStream};
 use std::rt::{Clock, Files};
 
-/// Serves the market of a file on a port of 127.0.0.1. The line of each connection is written once it has ended.
-pub fn run_serve<R>(rt: &R, file: &str, peer: Peer<'_>, count: u64) -> Result<bool, ToolFault>
+/// Serves the market of a file, or of standard input, on a port of 127.0.0.1. The line of each connection is written once it has ended.
+pub fn run_serve<R>(
+    rt: &R,
+    file: Option<&str>,
+    peer: Peer<'_>,
+    count: u64,
+) -> Result<bool, ToolFault>
 where
-    R: Files + Print + AllocGlobal + Clock + Net<Listener = TcpListener, Stream = TcpStream>,
+    R: Files + Input + Print + AllocGlobal + Clock,
+    R: Net<Listener = TcpListener, Stream = TcpStream>,
 {
     let login = Login::new(peer.user, peer.password)?;
-    let file = match fs::open(rt, file) {
-        Ok(file) => file,
-        Err(error) => return Err(system_fault(error, ToolFault::Open)),
-    };
+    let file = open(rt, file)?;
     let Ok(buffered) = BufReader::with_capacity(rt.alloc(), PIECE, file) else {
         return Err(ToolFault::OutOfMemory);
     };

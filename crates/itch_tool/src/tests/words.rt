@@ -8,7 +8,7 @@ use std::test::Fail;
 #[test]
 fn words_are_read(rt: HostRuntime) -> Result<(), Fail> {
     let alloc = rt.alloc();
-    let cases: [(&str, Result<Request<'static>, i32>); 43] = [
+    let cases: [(&str, Result<Request<'static>, i32>); 48] = [
         (
             "snap",
             Ok(Request::Snap {
@@ -113,30 +113,48 @@ fn words_are_read(rt: HostRuntime) -> Result<(), Fail> {
         (
             "compare a.itch b.itch",
             Ok(Request::Compare {
-                first: "a.itch",
-                second: "b.itch",
+                first: Some("a.itch"),
+                second: Some("b.itch"),
             }),
         ),
+        (
+            "compare - b.itch",
+            Ok(Request::Compare {
+                first: None,
+                second: Some("b.itch"),
+            }),
+        ),
+        ("compare - -", Err(2)),
         ("compare a.itch", Err(2)),
         ("compare", Err(2)),
         ("compare a.itch b.itch c.itch", Err(2)),
         (
             "join a.snap b.itch",
             Ok(Request::Join {
-                snapshot: "a.snap",
-                feed: "b.itch",
+                snapshot: Some("a.snap"),
+                feed: Some("b.itch"),
                 only: None,
             }),
         ),
         (
             "join --only=40 a.snap b.itch",
             Ok(Request::Join {
-                snapshot: "a.snap",
-                feed: "b.itch",
+                snapshot: Some("a.snap"),
+                feed: Some("b.itch"),
                 only: Some("40"),
             }),
         ),
+        (
+            "join a.snap -",
+            Ok(Request::Join {
+                snapshot: Some("a.snap"),
+                feed: None,
+                only: None,
+            }),
+        ),
+        ("join - -", Err(2)),
         ("join a.snap", Err(2)),
+        ("check -", Ok(Request::Check { file: None })),
         ("check --only 1", Err(2)),
         ("join a.snap b.itch c.itch", Err(2)),
         (
@@ -173,7 +191,7 @@ fn words_are_read(rt: HostRuntime) -> Result<(), Fail> {
         for word in line.split_whitespace() {
             words.push(String::from_str(alloc, word)?)?;
         }
-        match (read_job(alloc, words.as_slice()), wanted) {
+        match (read_job(alloc, words.as_slice(), false), wanted) {
             (Ok(Job::Files(request)), Ok(wanted)) => assert!(rt; request == wanted, "{line}"),
             (Err(error), Err(status)) => assert_eq!(rt; error.exit_code(), status, "{line}"),
             _ => assert!(rt; false, "{line}"),
@@ -191,11 +209,11 @@ fn words_of_sessions_are_read(rt: HostRuntime) -> Result<(), Fail> {
         password: "secret",
     };
     let serve = Job::Serve {
-        file: "day.itch",
+        file: Some("day.itch"),
         peer,
         count: 1_000_000,
     };
-    let cases: [(&str, Result<Job<'static>, i32>); 18] = [
+    let cases: [(&str, Result<Job<'static>, i32>); 20] = [
         (
             "serve day.itch --port 65535 --user user --pass secret --count 1000000",
             Ok(serve),
@@ -212,7 +230,16 @@ fn words_of_sessions_are_read(rt: HostRuntime) -> Result<(), Fail> {
             "fetch --port=65535 --user=user --pass=secret",
             Ok(Job::Fetch(peer)),
         ),
+        (
+            "serve - --port 65535 --user user --pass secret --count 1000000",
+            Ok(Job::Serve {
+                file: None,
+                peer,
+                count: 1_000_000,
+            }),
+        ),
         ("fetch --help", Err(0)),
+        ("--version", Err(0)),
         ("fetch --port 0 --user user --pass secret", Err(2)),
         ("fetch --port 65536 --user user --pass secret", Err(2)),
         ("fetch --port +1 --user user --pass secret", Err(2)),
@@ -241,7 +268,7 @@ fn words_of_sessions_are_read(rt: HostRuntime) -> Result<(), Fail> {
         for word in line.split_whitespace() {
             words.push(String::from_str(alloc, word)?)?;
         }
-        match (read_job(alloc, words.as_slice()), wanted) {
+        match (read_job(alloc, words.as_slice(), false), wanted) {
             (Ok(job), Ok(wanted)) => assert!(rt; job == wanted, "{line}"),
             (Err(error), Err(status)) => assert_eq!(rt; error.exit_code(), status, "{line}"),
             _ => assert!(rt; false, "{line}"),
@@ -268,5 +295,31 @@ fn passwords_are_not_shown(rt: HostRuntime) -> Result<(), Fail> {
     let shown = format!(in rt.alloc(); "{peer:?} {login:?}")?;
     assert!(rt; shown.contains("user"));
     assert!(rt; !shown.contains("secret"));
+    Ok(())
+}
+
+#[test]
+fn snapshots_are_kept_from_a_terminal(rt: HostRuntime) -> Result<(), Fail> {
+    let alloc = rt.alloc();
+    let cases: [(&str, Option<i32>); 8] = [
+        ("snap", Some(2)),
+        ("join a.snap b.itch", Some(2)),
+        ("canon", Some(2)),
+        ("fetch --port 1 --user user --pass secret", Some(2)),
+        ("canon --check", None),
+        ("check", None),
+        ("show", None),
+        ("snap --help", Some(0)),
+    ];
+    for (line, wanted) in cases {
+        let mut words: Vec<String> = vec![in alloc; String::from_str(alloc, "itchsnap")?]?;
+        for word in line.split_whitespace() {
+            words.push(String::from_str(alloc, word)?)?;
+        }
+        match read_job(alloc, words.as_slice(), true) {
+            Ok(_) => assert!(rt; wanted.is_none(), "{line}"),
+            Err(error) => assert_eq!(rt; Some(error.exit_code()), wanted, "{line}"),
+        }
+    }
     Ok(())
 }

@@ -1,0 +1,201 @@
+"""Runs of the program as a shell user meets it: its version, terminals, closed pipes, and the scripts beside it.
+
+RUNS has a function for each run, named for what it shows; it is given the program, and yields what differs.
+"""
+import os
+import pty
+import re
+import shutil
+import signal
+import subprocess
+import tempfile
+from pathlib import Path
+
+import large
+
+TOP = Path(__file__).resolve().parent.parent.parent
+OPENING = TOP / "examples/opening.itch"
+SNAPSHOT = TOP / "examples/opening.snap"
+CLOSED_PIPE = 141
+
+
+def version(program):
+    return subprocess.run([program, "--version"], capture_output=True, text=True, check=True).stdout
+
+
+def the_version_is_that_of_the_changes_and_the_toolchain(program):
+    printed = version(program)
+    newest = re.search(r"^## ([\d.]+)", (TOP / "CHANGELOG.md").read_text(), re.M)[1]
+    parts = re.fullmatch(r"itchsnap (\S+) \(proved with (.+)\)\n", printed)
+    if not parts or parts[1] != newest:
+        yield f"printed {printed!r}, where the newest changes are those of {newest}"
+    elif f"`rt version`: {parts[2]})" not in (TOP / "README.md").read_text():
+        yield f"README has another toolchain than {parts[2]}"
+    elif shutil.which("rt"):
+        line = subprocess.run(["rt", "version"], capture_output=True, text=True, check=True).stdout.strip()
+        if parts[2] != line:
+            yield f"the program says {parts[2]}, and rt version {line}"
+
+
+def ended(words, ignored):
+    """The status and the error of a command whose output nobody reads, where SIGPIPE has its default or is ignored."""
+    read, write = os.pipe()
+    os.close(read)
+    with os.fdopen(write, "wb") as output:
+        done = subprocess.run(words, stdout=output, stderr=subprocess.PIPE, stdin=subprocess.DEVNULL, timeout=60,
+                              preexec_fn=(lambda: signal.signal(signal.SIGPIPE, signal.SIG_IGN)) if ignored else None)
+    # As a shell tells a signal.
+    return done.returncode if done.returncode >= 0 else 128 - done.returncode, done.stderr
+
+
+def a_closed_pipe_ends_quietly(program):
+    for words in (["snap", OPENING], ["show", OPENING], ["check", OPENING], ["canon", SNAPSHOT], ["--help"], ["--version"]):
+        for ignored in (False, True):
+            got = ended([program, *words], ignored)
+            if got != (CLOSED_PIPE, b""):
+                yield f"{words[0]}, SIGPIPE {'ignored' if ignored else 'as it is'}: ended with {got}"
+
+
+def a_pipe_that_is_closed_early_ends_quietly(program):
+    day, _ = large.locates(65_536)
+    with tempfile.NamedTemporaryFile(suffix=".itch") as file:
+        file.write(day)
+        file.flush()
+        done = subprocess.run(["bash", "-c", 'trap "" PIPE; "$0" show "$1" | head -n 1; echo "${PIPESTATUS[0]}"', program, file.name],
+                              capture_output=True, timeout=60)
+    lines = done.stdout.split(b"\n")
+    if not lines[0].startswith(b"1 R ") or lines[1:] != [b"141", b""] or done.stderr:
+        yield f"ended with {done}"
+
+
+def on_terminal(words):
+    """The status, what a terminal was given, and the error."""
+    controller, terminal = pty.openpty()
+    try:
+        done = subprocess.run(words, stdout=terminal, stderr=subprocess.PIPE, stdin=subprocess.DEVNULL, timeout=60)
+        os.set_blocking(controller, False)
+        try:
+            shown = os.read(controller, 1 << 16)
+        except BlockingIOError:
+            shown = b""
+    finally:
+        os.close(terminal)
+        os.close(controller)
+    return done.returncode, shown, done.stderr
+
+
+def a_snapshot_is_kept_from_a_terminal(program):
+    login = ["--port", "1", "--user", "u", "--pass", "p"]
+    for words in (["snap", OPENING], ["canon", SNAPSHOT], ["join", SNAPSHOT, OPENING], ["fetch", *login]):
+        status, shown, error = on_terminal([program, *words])
+        if (status, shown) != (2, b"") or not error.startswith(b"error: a snapshot is not written to a terminal"):
+            yield f"{words[0]}: status {status}, {shown!r}, {error!r}"
+
+
+def lines_are_shown_on_a_terminal(program):
+    for words, line in ((["check", OPENING], b"ok 5 messages\r\n"), (["canon", "--check", SNAPSHOT], b"canonical\r\n")):
+        got = on_terminal([program, *words])
+        if got != (0, line, b""):
+            yield f"{words[0]}: {got}"
+
+
+def both_files_may_not_be_standard_input(program):
+    for command in ("compare", "join"):
+        done = subprocess.run([program, command, "-", "-"], capture_output=True, stdin=subprocess.DEVNULL, timeout=60)
+        first = done.stderr.split(b"\n")[0]
+        if (done.returncode, done.stdout, first) != (2, b"", b"error: only one of the two files may be standard input"):
+            yield f"{command}: {done}"
+
+
+def the_program_is_installed_with_its_page(program):
+    with tempfile.TemporaryDirectory() as folder:
+        prefix = Path(folder) / "new/prefix"
+        for _ in range(2):
+            done = subprocess.run([TOP / "install", prefix], capture_output=True, timeout=60)
+            if (done.returncode, done.stdout, done.stderr) != (0, b"", b""):
+                yield f"ended with {done}"
+                return
+        placed = sorted(str(it.relative_to(prefix)) for it in prefix.rglob("*") if it.is_file())
+        if placed != ["bin/itchsnap", "share/man/man1/itchsnap.1"]:
+            yield f"placed {placed}"
+        if version(prefix / "bin/itchsnap") != version(program):
+            yield "another program was installed"
+        checked = subprocess.run([prefix / "bin/itchsnap", "check", OPENING], capture_output=True, timeout=60)
+        if (checked.returncode, checked.stdout) != (0, b"ok 5 messages\n"):
+            yield f"the installed program ended with {checked}"
+
+
+def what_cannot_be_installed_is_one_line(program):
+    with tempfile.NamedTemporaryFile() as file:
+        for words, status, line in (([file.name], 1, f"install: cannot write {file.name}/bin/itchsnap\n"), ([], 2, "usage: ./install PREFIX\n")):
+            done = subprocess.run([TOP / "install", *words], capture_output=True, text=True, timeout=60)
+            if (done.returncode, done.stdout, done.stderr) != (status, "", line):
+                yield f"{words}: ended with {done}"
+
+
+def the_page_has_each_command_and_option(program):
+    page = (TOP / "docs/itchsnap.1").read_text().replace("\\-", "-")
+    helps = [subprocess.run([program, *words, "--help"], capture_output=True, text=True, check=True).stdout
+             for words in ([], *([it] for it in "snap check compare canon join show book serve fetch".split()))]
+    for name in re.findall(r"^  ([a-z]+)  ", helps[0], re.M):
+        if f"\n.TP\n.B {name}\n" not in page:
+            yield f"the page lacks the command {name}"
+    for option in {it for text in helps for it in re.findall(r"--[a-z]+", text)}:
+        if not re.search(rf"\n\.TP\n\.[BRI]+ .*{option}\b", page):
+            yield f"the page lacks the option {option}"
+    if f'"itchsnap {version(program).split()[1]}"' not in page:
+        yield "the page is that of another version"
+
+
+FAKE_RT = """#!/bin/sh
+# Builds nothing: the program that it makes prints its words.
+[ "$1" != "$FAILS" ] || { echo "rt: not proved"; exit 1; }
+[ "$1" != run ] || { mkdir -p out; printf '#!/bin/sh\\necho "$@"\\n' >out/itch_tool; chmod +x out/itch_tool; }
+"""
+
+
+def the_first_start_tells_what_is_proved(program):
+    with tempfile.TemporaryDirectory() as folder:
+        top = Path(folder)
+        for name in ("itchsnap", "crates.txt"):
+            shutil.copy(TOP / name, top / name)
+        for crate in (TOP / "crates").iterdir():
+            (top / "crates" / crate.name).mkdir(parents=True)
+        (top / "crates/itch_tool/out").mkdir()
+        (top / "rt").write_text(FAKE_RT)
+        (top / "rt").chmod(0o755)
+        names = "refusing itch_frame itch_codec itch_book itch_market itch_snapshot itch_soup itch_join itch_commands itch_tool".split()
+        crates = "".join(f"itchsnap: proving {name} ({number} of {len(names)}) ..\n" for number, name in enumerate(names, 1))
+
+        def start(**more):
+            environment = {**os.environ, "PATH": f"{top}:{os.environ['PATH']}", **more}
+            done = subprocess.run([top / "itchsnap", "one", "two"], capture_output=True, text=True, env=environment, timeout=60)
+            return done.returncode, done.stdout, done.stderr
+
+        before = "itchsnap: proving and building the program, which "
+        first = before + "takes about a quarter of an hour on four cores\n"
+        failed = first + crates.split("\n")[0] + "\nrt: not proved\n"
+        for label, more, wanted in (("a failed build", {"FAILS": "lib"}, (1, "", failed)), ("the first start", {}, (0, "one two\n", first + crates)),
+                                    ("the second start", {}, (0, "one two\n", ""))):
+            got = start(**more)
+            if got != wanted:
+                yield f"{label}: {got}"
+        (top / "crates/itch_tool/out/seconds").write_text("754\n")
+        os.utime(top / "crates/itch_tool/out/itch_tool", (0, 0))
+        got = start()
+        if got != (0, "one two\n", before + "took 12 min 34 s the last time\n" + crates):
+            yield f"a start after a change: {got}"
+
+
+RUNS = [
+    the_version_is_that_of_the_changes_and_the_toolchain,
+    a_closed_pipe_ends_quietly,
+    a_pipe_that_is_closed_early_ends_quietly,
+    a_snapshot_is_kept_from_a_terminal,
+    lines_are_shown_on_a_terminal,
+    both_files_may_not_be_standard_input,
+    the_program_is_installed_with_its_page,
+    what_cannot_be_installed_is_one_line,
+    the_page_has_each_command_and_option,
+    the_first_start_tells_what_is_proved,
+]
