@@ -91,7 +91,7 @@ said_there : (enough : Bool) (c : Client) (ps : List (List ℕ)) (q rest : List 
     → at_block enough c ps q ≡ by_answer wanted ps
 said_there enough c ps q rest new wanted fits heard = let (answer, there, same) = heard_there enough c ps q rest new (λ answer. answer ≡ wanted) fits heard in there ∙ ap (λ a. by_answer a ps) same
 
-open_there : (ps : List (List ℕ)) (p : List ℕ) (full : Bool) → closing_number p ≡ None → is_full (length ps) ≡ full → by_number (closing_number p) ps p ≡ by_room full ps p
+pub open_there : (ps : List (List ℕ)) (p : List ℕ) (full : Bool) → closing_number p ≡ None → is_full (length ps) ≡ full → by_number (closing_number p) ps p ≡ by_room full ps p
 open_there ps p full none room = ap (λ o. by_number o ps p) none ∙ ap (λ b. by_room b ps p) room
 
 refusal_there : (f : SnapFault) (ps : List (List ℕ)) (n : ℕ) (p : List ℕ) (load : Load) → Loads (load_of ps) p (Err f) load → IsDecidedFault f → by_answer (act.Data n p) ps ≡ Some (Err (broke.Snapshot f))
