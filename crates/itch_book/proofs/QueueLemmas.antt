@@ -1,16 +1,18 @@
 -- A queue is the one line of its orders in which each stands by priority.
-use Rattle.std.proofs.Common.{◌≡◌, ℕ, ◌<◌, ◌+◌, true, false, List, [], ◌∷◌, filter, Some, None, IsPermutation, inl, inr, refl, sym, ◌∙◌, subst, arith}
+use Rattle.std.proofs.Common.{◌≡◌, ℕ, ◌<◌, ◌+◌, ◌==◌, true, false, not, ◌&&◌, List, [], ◌∷◌, filter, Some, None, IsPermutation, inl, inr, refl, sym, ◌∙◌, subst, arith}
 use Rattle.std.specs.List.{AllByRecursion}
 use Rattle.std.proofs.lemmas.Bool.{false≢true}
 use Rattle.std.proofs.lemmas.Bool.Decides.{nat_tests}
 use Rattle.itch_codec.specs.declared.orders.Side.{Side}
 use Rattle.itch_codec.specs.declared.orders.Side.TheVariants.{Buy, Sell}
 use Rattle.itch_book.specs.declared.order.Order.{Order}
-use Rattle.itch_book.specs.Orders.{is_better, is_of, queue, has_reference, get, IsDistinct}
+use Rattle.itch_book.specs.Orders.{is_better, is_of, is_at_price, queue, has_reference, get, IsDistinct, IsQueue}
 use Rattle.itch_book.specs.Priority.{arrival, HasPriority, IsByPriority, IsLine}
 use Rattle.itch_book.proofs.Lists.{by_test, All-weaker_rec}
+use Rattle.itch_book.proofs.StableLemmas.{IsInOrder-in_order}
+use Rattle.itch_book.proofs.Levels.{ties, ordered_same, in_order-tied}
 use Rattle.itch_book.proofs.Distinct.{has_own, head_distinct, tail_distinct, IsDistinct-filter}
-use Rattle.itch_book.proofs.OrderLemmas.{better_order}
+use Rattle.itch_book.proofs.OrderLemmas.{better_order, filter_alike}
 use Rattle.itch_book.proofs.Rises.{Rises, Rises-weaker, Rises-filter, Rises-from_places, places_exactly, Rises-same, Stably, Rises-in_order, IsPermutation-in_order, short_same}
 
 better_than_none : (s : Side) (p : ℕ) → is_better s p p ≡ false
@@ -21,6 +23,32 @@ better_than_none Sell p = grind (arith, nat_tests)
 price_is : (s : Side) (p q : ℕ) → is_better s p q ≡ false → is_better s q p ≡ false → p ≡ q
 price_is Buy p q h k = grind (arith, nat_tests)
 price_is Sell p q h k = grind (arith, nat_tests)
+
+ties_price : (s : Side) (p q : ℕ) → (not (is_better s p q) && not (is_better s q p)) ≡ (q == p)
+ties_price Buy p q = grind (arith, nat_tests)
+ties_price Sell p q = grind (arith, nat_tests)
+
+one_price : (s : Side) (price p q : ℕ) → (p == price) ≡ true → (q == price) ≡ true → is_better s q p ≡ false
+one_price Buy price p q h k = grind (arith, nat_tests)
+one_price Sell price p q h k = grind (arith, nat_tests)
+
+-- a queue has the better prices first, and the orders at a price as they came
+pub IsQueue-queue : (orders : List Order) (l : ℕ) (s : Side) → IsQueue orders l s (queue orders l s)
+IsQueue-queue orders l s = record {
+  better_first = IsInOrder-in_order (λ x y. is_better s x.price y.price) (better_order s) (filter (is_of l s) orders);
+  as_they_came = λ price. in_order-tied (λ x y. is_better s x.price y.price) (better_order s) (is_at_price price) (λ x y h k. one_price s price x.price y.price h k) (filter (is_of l s) orders);
+}
+
+-- and is the only such list
+pub IsQueue-unique : (orders : List Order) (l : ℕ) (s : Side) (line : List Order) → IsQueue orders l s line → line ≡ queue orders l s
+IsQueue-unique orders l s line h =
+    let was = IsQueue-queue orders l s in
+    let before = λ (x y : Order). is_better s x.price y.price in
+    ordered_same before (better_order s) line (queue orders l s) h.better_first was.better_first (λ z.
+    filter_alike (ties before z) (is_at_price z.price) (λ x. ties_price s z.price x.price) line
+    ∙ h.as_they_came z.price
+    ∙ sym (was.as_they_came z.price)
+    ∙ sym (filter_alike (ties before z) (is_at_price z.price) (λ x. ties_price s z.price x.price) (queue orders l s)))
 
 other_reference : (r : ℕ) (x : Order) (xs : List Order) → get xs r ≡ None → has_reference r x ≡ true → AllByRecursion (λ y. has_reference y.reference x ≡ false) xs
 other_reference r x [] h e = tt

@@ -164,3 +164,13 @@ level_total orders locate side price = (sum_by (λ x. x.shares) (level orders lo
 abbrev pub first : List Order → Option Order
 first [] = None
 first (x ∷ xs) = Some x
+
+-- the order has this price
+abbrev pub is_at_price : ℕ → Order → Bool
+is_at_price price x = x.price == price
+
+-- the one list of the orders of a locate and side in which better prices come first,
+-- and the orders at one price stand as they came
+pub record IsQueue (orders : List Order) (locate : ℕ) (side : Side) (line : List Order) : Type 0 where
+  pub better_first : IsInOrder (λ x y. is_better side x.price y.price) line
+  pub as_they_came : (price : ℕ) → filter (is_at_price price) line ≡ filter (is_at_price price) (filter (is_of locate side) orders)
