@@ -1,4 +1,4 @@
-"""Runs of the program as a shell user meets it: its version, terminals, closed pipes, and the scripts beside it.
+"""Runs of the program as a shell user meets it: its version, terminals, closed pipes, progress, and the scripts beside it.
 
 RUNS has a function for each run, named for what it shows; it is given the program, and yields what differs.
 """
@@ -107,6 +107,50 @@ def both_files_may_not_be_standard_input(program):
             yield f"{command}: {done}"
 
 
+TRADE = large.block(b"P", 1, bytes(8) + b"B" + (1).to_bytes(4) + large.stock(1) + (1).to_bytes(4) + bytes(8))
+
+
+def what_was_read_is_told_every_64_mib(program):
+    count = 3_000_000
+    day = large.entry(1) + TRADE * count
+    line = rb"\r(\d+) bytes, (\d+) messages, +\d+ MB/s"
+    checked = b"ok %d messages\n" % (1 + count)
+    twice = rb"(%s){2}\n" % line
+    with tempfile.NamedTemporaryFile(suffix=".itch") as file:
+        file.write(day)
+        file.flush()
+        for words, data, output, told in (
+                (["check", file.name], b"", checked, twice),
+                (["check", "-"], day, checked, twice),
+                (["snap", "--after", "1600000", file.name], b"", large.entry(1) + large.closing(1_600_001), rb"%s\n" % line),
+                (["compare", file.name, "-"], day, b"same\n", twice * 2)):
+            plain, done = (subprocess.run([program, *words, *flag], input=data, capture_output=True, timeout=120) for flag in ([], ["--progress"]))
+            if (plain.returncode, plain.stdout, plain.stderr) != (0, output, b""):
+                yield f"{words[0]} without: status {plain.returncode}, {plain.stdout[:80]!r}, {plain.stderr!r}"
+            if (done.returncode, done.stdout) != (0, output) or not re.fullmatch(told, done.stderr):
+                yield f"{words[0]}: status {done.returncode}, {done.stdout[:80]!r}, {done.stderr!r}"
+            for place, (bytes_read, messages) in enumerate(re.findall(line, done.stderr), 1):
+                if not place * 2**26 <= int(bytes_read) < place * 2**26 + 2**16:
+                    yield f"{words[0]}: line {place} is of byte {bytes_read}"
+                if int(messages) != whole_messages(int(bytes_read), len(day)):
+                    yield f"{words[0]}: {messages} messages at byte {bytes_read}"
+
+
+def whole_messages(bytes_read, length):
+    """How many messages are whole at so many bytes of a file of an entry and then trades, and of that file again."""
+    files, more = divmod(bytes_read, length)
+    entry = len(large.entry(1))
+    return files * (1 + (length - entry) // len(TRADE)) + (1 + (more - entry) // len(TRADE) if more else 0)
+
+
+def nothing_is_told_of_a_small_file(program):
+    for words, output in ((["check", OPENING], b"ok 5 messages\n"), (["snap", OPENING], SNAPSHOT.read_bytes()), (["compare", OPENING, OPENING], b"same\n"),
+                          (["canon", SNAPSHOT], SNAPSHOT.read_bytes()), (["join", SNAPSHOT, OPENING], SNAPSHOT.read_bytes())):
+        done = subprocess.run([program, *words, "--progress"], capture_output=True, timeout=60)
+        if (done.returncode, done.stdout, done.stderr) != (0, output, b""):
+            yield f"{words[0]}: {done}"
+
+
 def the_program_is_installed_with_its_page(program):
     with tempfile.TemporaryDirectory() as folder:
         prefix = Path(folder) / "new/prefix"
@@ -194,6 +238,8 @@ RUNS = [
     a_snapshot_is_kept_from_a_terminal,
     lines_are_shown_on_a_terminal,
     both_files_may_not_be_standard_input,
+    what_was_read_is_told_every_64_mib,
+    nothing_is_told_of_a_small_file,
     the_program_is_installed_with_its_page,
     what_cannot_be_installed_is_one_line,
     the_page_has_each_command_and_option,

@@ -1,5 +1,5 @@
 -- How the program ends where nobody reads what it writes.
-use Rattle.std.specs.Prelude.{◌≡◌, Bool, Result, Ok, Err}
+use Rattle.std.specs.Prelude.{◌≡◌, Bool, Result, Err}
 use Rattle.std.specs.IoError.{error_kind}
 use Rattle.std.specs.declared.io.ErrorKind.TheVariants.{BrokenPipe}
 use Rattle.itch_commands.specs.declared.fault.ToolFault.{ToolFault}

@@ -6,6 +6,6 @@ use Rattle.itch_tool.specs.Requests.{is_binary}
 
 -- the jobs whose output is a snapshot, which is no text
 abbrev pub writes_snapshot : Job → Bool
-writes_snapshot (Files request) = is_binary request
-writes_snapshot (Serve file peer count) = false
+writes_snapshot (Files request progress) = is_binary request
+writes_snapshot (Serve file peer count progress) = false
 writes_snapshot (Fetch peer) = true

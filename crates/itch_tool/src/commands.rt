@@ -56,20 +56,23 @@ fn snap<'a>(alloc: Global) -> Result<Command<'a>, AllocError> {
         .about("Write the snapshot of a file of messages")
         .arg(file(alloc))?
         .arg(after)?
-        .arg(only(alloc))
+        .arg(only(alloc))?
+        .arg(progress(alloc))
 }
 
 fn check<'a>(alloc: Global) -> Result<Command<'a>, AllocError> {
     Command::new(alloc, "check")
         .about("Check that a file follows the order rules")
-        .arg(file(alloc))
+        .arg(file(alloc))?
+        .arg(progress(alloc))
 }
 
 fn compare<'a>(alloc: Global) -> Result<Command<'a>, AllocError> {
     Command::new(alloc, "compare")
         .about("Say whether two files leave the same market")
         .arg(named(alloc, "A", "The first file, `-` for standard input"))?
-        .arg(named(alloc, "B", "The second file, or `-`"))
+        .arg(named(alloc, "B", "The second file, or `-`"))?
+        .arg(progress(alloc))
 }
 
 fn canon<'a>(alloc: Global) -> Result<Command<'a>, AllocError> {
@@ -83,7 +86,8 @@ fn canon<'a>(alloc: Global) -> Result<Command<'a>, AllocError> {
     Command::new(alloc, "canon")
         .about("Write a snapshot in canonical form")
         .arg(snapshot)?
-        .arg(check)
+        .arg(check)?
+        .arg(progress(alloc))
 }
 
 fn join<'a>(alloc: Global) -> Result<Command<'a>, AllocError> {
@@ -95,7 +99,8 @@ fn join<'a>(alloc: Global) -> Result<Command<'a>, AllocError> {
             "The snapshot, read up to its End of Snapshot; `-` for standard input",
         ))?
         .arg(named(alloc, "FEED", "The feed, from its first message on, or `-`"))?
-        .arg(only(alloc))
+        .arg(only(alloc))?
+        .arg(progress(alloc))
 }
 
 fn show<'a>(alloc: Global) -> Result<Command<'a>, AllocError> {
@@ -120,6 +125,14 @@ fn only<'a>(alloc: Global) -> Arg<'a> {
         .long("only")
         .value_name("LIST")
         .help("Keep only these locates, as 1,2,40")
+}
+
+/// The flag that has the progress told.
+pub fn progress<'a>(alloc: Global) -> Arg<'a> {
+    Arg::new(alloc, "progress")
+        .long("progress")
+        .help("Tell on standard error what was read so far, each 64 MiB")
+        .action(ArgAction::SetTrue)
 }
 
 fn named<'a>(alloc: Global, name: &'a str, help: &'a str) -> Arg<'a> {

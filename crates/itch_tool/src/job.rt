@@ -2,22 +2,26 @@
 ghost use Rattle.std.specs.Prelude.{◌≡◌};
 ghost use Rattle.itch_tool.specs.Jobs.{writes_snapshot};
 
-use crate::commands::{command, usage_fault};
+use crate::commands::{command, progress, usage_fault};
 use crate::request::{Request, read_path, read_request};
 use clap::{Arg, ArgMatches, Command, Error};
 use std::alloc::{AllocError, Global};
 use std::fmt::{self, Debug, Formatter};
 
-/// What the words of the command line ask for.
+/// What the words of the command line ask for; with `progress` what was read so far is told on standard error.
 #[derive(Clone, Copy, Debug, PartialEq, Eq)]
 pub enum Job<'a> {
     /// A request over files and standard streams.
-    Files(Request<'a>),
+    Files {
+        request: Request<'a>,
+        progress: bool,
+    },
     /// Serve the market of a file, or of standard input where none is named, to `count` connections.
     Serve {
         file: Option<&'a str>,
         peer: Peer<'a>,
         count: u64,
+        progress: bool,
     },
     /// Fetch the snapshot that a server has.
     Fetch(Peer<'a>),
@@ -29,7 +33,7 @@ impl Job<'_> {
         ensures { result ≡ writes_snapshot self.now }
     {
         match self {
-            Job::Files(request) => request.is_binary(),
+            Job::Files { request, .. } => request.is_binary(),
             Job::Serve { .. } => false,
             Job::Fetch(_) => true,
         }
@@ -66,7 +70,11 @@ pub fn read_job<'a>(alloc: Global, words: &'a [String], terminal: bool) -> Resul
     let job = match matches.subcommand() {
         Some(("serve", options)) => read_serve(alloc, options)?,
         Some(("fetch", options)) => Job::Fetch(read_peer(alloc, options)?),
-        _ => Job::Files(read_request(alloc, &matches)?),
+        Some((_, options)) => Job::Files {
+            request: read_request(alloc, &matches)?,
+            progress: options.get_flag("progress"),
+        },
+        None => return Err(usage_fault(alloc, "a command is missing")?),
     };
     if terminal && job.writes_snapshot() {
         return Err(usage_fault(
@@ -82,6 +90,7 @@ fn read_serve<'a>(alloc: Global, options: &ArgMatches<'a>) -> Result<Job<'a>, Er
         file: read_path(options, "FILE"),
         peer: read_peer(alloc, options)?,
         count: read_number(alloc, options, "count")?,
+        progress: options.get_flag("progress"),
     })
 }
 
@@ -120,7 +129,8 @@ fn serve<'a>(alloc: Global) -> Result<Command<'a>, AllocError> {
     let command = Command::new(alloc, "serve")
         .about("Serve the snapshot of a file over SoupBinTCP on 127.0.0.1")
         .arg(file)?
-        .arg(count)?;
+        .arg(count)?
+        .arg(progress(alloc))?;
     with_peer(alloc, command)
 }
 

@@ -13,10 +13,12 @@ mod job;
 mod login;
 mod opened;
 mod patient;
+mod progress;
 mod request;
 mod run;
 mod serve;
 mod sockets;
+mod tally;
 #[cfg(test)]
 mod tests;
 

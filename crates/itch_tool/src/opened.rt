@@ -1,6 +1,7 @@
 //! What a command reads: a file, or standard input.
 ghost use Rattle.itch_tool.specs.Opening.{opened_remaining};
 
+use crate::progress::{Progress, Watched};
 use itch_commands::{ToolFault, system_fault};
 use std::fs;
 use std::io::{self, Read};
@@ -24,18 +25,20 @@ impl<F: Read, I: Read> Read for Opened<F, I> {
     }
 }
 
-/// Opens the file of a path, or standard input where there is none.
+/// Opens the file of a path, or standard input where there is none. What is read of it is told to `progress`.
 ///
 /// An error is `Open`, or `OutOfMemory` where the system has no memory for it.
-pub fn open<R: Files + Input>(
+pub fn open<'a, R: Files + Input + Eprint>(
     rt: &R,
     path: Option<&str>,
-) -> Result<Opened<R::File, R::Reader>, ToolFault> {
-    let Some(path) = path else {
-        return Ok(Opened::Standard(rt.reader()));
+    progress: Option<&'a Progress<'a, R>>,
+) -> Result<Watched<'a, Opened<R::File, R::Reader>, R>, ToolFault> {
+    let opened = match path {
+        Some(path) => match fs::open(rt, path) {
+            Ok(file) => Opened::File(file),
+            Err(error) => return Err(system_fault(error, ToolFault::Open)),
+        },
+        None => Opened::Standard(rt.reader()),
     };
-    match fs::open(rt, path) {
-        Ok(file) => Ok(Opened::File(file)),
-        Err(error) => Err(system_fault(error, ToolFault::Open)),
-    }
+    Ok(Watched::new(opened, progress))
 }

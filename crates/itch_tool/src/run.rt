@@ -4,6 +4,7 @@ ghost use Rattle.itch_tool.specs.Requests.{IsOverOne, Performs};
 
 use crate::job::Job;
 use crate::opened::open;
+use crate::progress::Progress;
 use crate::request::Request;
 use crate::sockets::{run_fetch, run_serve};
 use itch_commands::canon::canon_blocks;
@@ -27,19 +28,25 @@ pub const PIECE: usize = 1 << 16;
 /// Does what is asked for, with its output on standard output. True is status 0, and false status 1 with the output written.
 pub fn run<R>(rt: &R, job: Job<'_>) -> Result<bool, ToolFault>
 where
-    R: Files + Input + Print + AllocGlobal + Clock,
+    R: Files + Input + Print + Eprint + AllocGlobal + Clock,
     R: Net<Listener = TcpListener, Stream = TcpStream>,
 {
     match job {
-        Job::Files(request) => run_request(rt, request),
-        Job::Serve { file, peer, count } => run_serve(rt, file, peer, count),
+        Job::Files { request, progress } => run_request(rt, request, progress),
+        Job::Serve {
+            file,
+            peer,
+            count,
+            progress,
+        } => run_serve(rt, file, peer, count, progress),
         Job::Fetch(peer) => run_fetch(rt, peer),
     }
 }
 
-fn run_request<R: Files + Input + Print + AllocGlobal>(
+fn run_request<R: Files + Input + Print + Eprint + AllocGlobal + Clock>(
     rt: &R,
     request: Request<'_>,
+    progress: bool,
 ) -> Result<bool, ToolFault> {
     let alloc = rt.alloc();
     let only = match request.only() {
@@ -50,7 +57,8 @@ fn run_request<R: Files + Input + Print + AllocGlobal>(
         return Err(ToolFault::OutOfMemory);
     };
     let mut out = Counted::new(buffered);
-    let answer = answer(rt, request, only, &mut out)?;
+    let progress = if progress { Progress::begin(rt) } else { None };
+    let answer = answer(rt, request, progress.as_ref(), only, &mut out)?;
     match out.into_inner().flush() {
         Ok(()) => Ok(answer),
         Err(error) => Err(ToolFault::Write(error)),
@@ -58,26 +66,27 @@ fn run_request<R: Files + Input + Print + AllocGlobal>(
 }
 
 // Opens what a request reads, and performs it.
-fn answer<R: Files + Input + AllocGlobal, W: CountedWrite>(
+fn answer<R: Files + Input + Eprint + AllocGlobal + Clock, W: CountedWrite>(
     rt: &R,
     request: Request<'_>,
+    progress: Option<&Progress<'_, R>>,
     only: Option<LocateSet<Global>>,
     out: &mut W,
 ) -> Result<bool, ToolFault> {
     let alloc = rt.alloc();
     match request {
         Request::Compare { first, second } => {
-            let first = open(rt, first)?;
-            let second = open(rt, second)?;
+            let first = open(rt, first, progress)?;
+            let second = open(rt, second, progress)?;
             compare_over(alloc, first, second, out)
         }
         Request::Join { snapshot, feed, .. } => {
-            let snapshot = open(rt, snapshot)?;
-            let feed = open(rt, feed)?;
+            let snapshot = open(rt, snapshot, progress)?;
+            let feed = open(rt, feed, progress)?;
             join_over(alloc, snapshot, feed, only, out)
         }
         _ => {
-            let file = open(rt, request.file())?;
+            let file = open(rt, request.file(), progress)?;
             perform_over(alloc, request, only.as_ref(), file, out)
         }
     }

@@ -4,6 +4,7 @@ use crate::fetch::fetch;
 use crate::job::Peer;
 use crate::login::Login;
 use crate::opened::open;
+use crate::progress::Progress;
 use crate::run::PIECE;
 use crate::serve::serve_blocks;
 use itch_commands::{ToolFault, system_fault};
@@ -18,13 +19,15 @@ pub fn run_serve<R>(
     file: Option<&str>,
     peer: Peer<'_>,
     count: u64,
+    progress: bool,
 ) -> Result<bool, ToolFault>
 where
-    R: Files + Input + Print + AllocGlobal + Clock,
+    R: Files + Input + Print + Eprint + AllocGlobal + Clock,
     R: Net<Listener = TcpListener, Stream = TcpStream>,
 {
     let login = Login::new(peer.user, peer.password)?;
-    let file = open(rt, file)?;
+    let progress = if progress { Progress::begin(rt) } else { None };
+    let file = open(rt, file, progress.as_ref())?;
     let Ok(buffered) = BufReader::with_capacity(rt.alloc(), PIECE, file) else {
         return Err(ToolFault::OutOfMemory);
     };

@@ -2,6 +2,7 @@
 
 mod broken_input;
 mod failing_devices;
+mod progress;
 mod refused_memory;
 mod sessions;
 mod words;

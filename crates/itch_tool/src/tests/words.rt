@@ -8,7 +8,7 @@ use std::test::Fail;
 #[test]
 fn words_are_read(rt: HostRuntime) -> Result<(), Fail> {
     let alloc = rt.alloc();
-    let cases: [(&str, Result<Request<'static>, i32>); 48] = [
+    let cases: [(&str, Result<Request<'static>, i32>); 49] = [
         (
             "snap",
             Ok(Request::Snap {
@@ -155,6 +155,7 @@ fn words_are_read(rt: HostRuntime) -> Result<(), Fail> {
         ("join - -", Err(2)),
         ("join a.snap", Err(2)),
         ("check -", Ok(Request::Check { file: None })),
+        ("show --progress", Err(2)),
         ("check --only 1", Err(2)),
         ("join a.snap b.itch c.itch", Err(2)),
         (
@@ -192,7 +193,10 @@ fn words_are_read(rt: HostRuntime) -> Result<(), Fail> {
             words.push(String::from_str(alloc, word)?)?;
         }
         match (read_job(alloc, words.as_slice(), false), wanted) {
-            (Ok(Job::Files(request)), Ok(wanted)) => assert!(rt; request == wanted, "{line}"),
+            (Ok(Job::Files { request, .. }), Ok(wanted)) => assert!(rt;
+                request == wanted,
+                "{line}"
+            ),
             (Err(error), Err(status)) => assert_eq!(rt; error.exit_code(), status, "{line}"),
             _ => assert!(rt; false, "{line}"),
         }
@@ -212,8 +216,9 @@ fn words_of_sessions_are_read(rt: HostRuntime) -> Result<(), Fail> {
         file: Some("day.itch"),
         peer,
         count: 1_000_000,
+        progress: false,
     };
-    let cases: [(&str, Result<Job<'static>, i32>); 20] = [
+    let cases: [(&str, Result<Job<'static>, i32>); 21] = [
         (
             "serve day.itch --port 65535 --user user --pass secret --count 1000000",
             Ok(serve),
@@ -231,11 +236,19 @@ fn words_of_sessions_are_read(rt: HostRuntime) -> Result<(), Fail> {
             Ok(Job::Fetch(peer)),
         ),
         (
-            "serve - --port 65535 --user user --pass secret --count 1000000",
+            "serve - --progress --port 65535 --user user --pass secret --count 1000000",
             Ok(Job::Serve {
                 file: None,
                 peer,
                 count: 1_000_000,
+                progress: true,
+            }),
+        ),
+        (
+            "check --progress",
+            Ok(Job::Files {
+                request: Request::Check { file: None },
+                progress: true,
             }),
         ),
         ("fetch --help", Err(0)),
