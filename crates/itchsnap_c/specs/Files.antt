@@ -7,7 +7,7 @@ use Rattle.itch_commands.specs.declared.fault.ToolFault.TheVariants as tool
 use Rattle.itch_commands.specs.Comparing.{IsPartPlace}
 use Rattle.itch_commands.specs.Readings.{AreTaken, IsPart, IsShort}
 use Rattle.itch_market.specs.Content.{Content, empty, laid}
-use Rattle.itch_market.specs.Replays.{Fits, IsDecided}
+use Rattle.itch_market.specs.Replays.{Fits}
 use Rattle.itch_market.specs.Runs.{run}
 use Rattle.itch_market.specs.Stops.{Stops}
 use Rattle.itch_market.specs.declared.stop.Stop.{Stop}
@@ -41,14 +41,13 @@ abbrev pub ReadsDay : List ℕ → Option ℕ → Content → ℕ → Type 0
 ReadsDay day after m count =
     (payloads : List (List ℕ)) × Reads day after payloads × (m ≡ laid (run (map message_of payloads))) × (length payloads ≡ count)
 
--- Why a day file is refused: after so many messages a replay stops, at the file's first bad place where the file alone decides;
--- or the file ends before as many as are wanted; or memory is refused before the first.
+-- Why a day file is refused: at its first bad place, after so many messages; or it ends before as many as are wanted; or memory
+-- is refused.
 abbrev pub RefusesDay : List ℕ → Option ℕ → Outcome → Type 0
 RefusesDay day after o =
-    ((count : ℕ) × (stop : Stop) × (o ≡ outcome count 0 (stop_answer stop).detail (stop_answer stop).code) × (stop ≢ End)
-    × (IsDecided stop → Stops empty day count stop))
+    ((count : ℕ) × (stop : Stop) × (o ≡ outcome count 0 (stop_answer stop).detail (stop_answer stop).code) × (stop ≢ End) × Stops empty day count stop)
     ⊎ ((count : ℕ) × (o ≡ outcome count 0 0 37) × IsShort after count × Stops empty day count End)
-    ⊎ (o ≡ outcome 0 0 0 48)
+    ⊎ ((count : ℕ) × (o ≡ outcome count 0 0 48))
 
 -- a day file follows the order rules, and this is its number of messages; or it is refused
 abbrev pub Checks : List ℕ → Outcome → Type 0

@@ -1,5 +1,5 @@
 -- What look-ups in a market are answered, and where there is none.
-use Rattle.std.specs.Prelude.{ℕ, ◌%◌, ◌/◌, ◌^◌, ◌∷◌, [], List, length, Bool, true, false, Option, None, Some, is_some, unwrap_or, if◌then◌else◌}
+use Rattle.std.specs.Prelude.{ℕ, ◌%◌, ◌/◌, ◌^◌, ◌∷◌, [], length, Bool, true, false, Option, None, Some, is_some, unwrap_or, if◌then◌else◌}
 use Rattle.itch_book.specs.Orders as book
 use Rattle.itch_book.specs.declared.order.Order.{Order}
 use Rattle.itch_codec.specs.declared.orders.Side.{Side}

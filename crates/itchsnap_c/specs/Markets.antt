@@ -2,10 +2,11 @@
 use Rattle.std.specs.Prelude.{◌≡◌, ◌⊎◌, ℕ, List, Option, Some, None, Result}
 use Rattle.itch_market.specs.Content.{Content}
 use Rattle.itch_market.specs.Replays.{TakesOne}
+use Rattle.itch_market.specs.declared.refusal.Refusal.TheVariants.{OutOfMemory}
 use Rattle.itch_market.specs.declared.stop.Stop.{Stop}
 use Rattle.itch_snapshot.specs.Files.{IsMarketOf, IsFaultOf}
-use Rattle.itch_snapshot.specs.Reads.{IsDecidedFault}
 use Rattle.itch_snapshot.specs.declared.fault.SnapFault.{SnapFault}
+use Rattle.itch_snapshot.specs.declared.fault.SnapFault.TheVariants.{Rule}
 use Rattle.itchsnap_c.specs.declared.answers.Answer.{Answer}
 use Rattle.itchsnap_c.specs.declared.answers.Loaded.{Loaded}
 use Rattle.itchsnap_c.specs.declared.object.Object.{Object}
@@ -20,12 +21,15 @@ Applies payload m answer n = (outcome : Result (Unit {0}) Stop) × (answer ≡ o
 abbrev pub read_to : ℕ → Loaded
 read_to next = record { next = next; place = 0; detail = 0; code = 0 }
 
--- A new market of a snapshot file is put into an empty handle, or nothing is: for the file's one fault, where the file alone
--- decides, or for want of memory.
+-- why a snapshot file is refused: for its one fault, or since memory is
+abbrev pub IsRefusedFor : List ℕ → SnapFault → Type 0
+IsRefusedFor bytes fault = IsFaultOf bytes fault ⊎ ((place : ℕ) × (fault ≡ Rule place OutOfMemory))
+
+-- a new market of a snapshot file is put into an empty handle, or the file is refused and nothing is
 abbrev pub LoadsNew : List ℕ → Loaded → Option Object → Type 0
 LoadsNew bytes answer new =
     ((done : Content × ℕ) × IsMarketOf bytes done × (answer ≡ read_to done.1) × (new ≡ Some (Market done.0)))
-    ⊎ ((fault : SnapFault) × (IsDecidedFault fault → IsFaultOf bytes fault) × (answer ≡ snapshot_answer fault) × (new ≡ None))
+    ⊎ ((fault : SnapFault) × IsRefusedFor bytes fault × (answer ≡ snapshot_answer fault) × (new ≡ None))
 
 abbrev pub Loads : List ℕ → Option Object → Loaded → Option Object → Type 0
 Loads bytes None answer new = LoadsNew bytes answer new

@@ -7,10 +7,10 @@ ghost use Rattle.itch_market.specs.Partial.{only};
 use crate::answers::{Comparison, Outcome, Written};
 use crate::codes::{OUT_OF_MEMORY, UNREAD, stop_answer};
 use crate::object::Book;
+use crate::slice::SliceReader;
 use crate::snapshots::{put_partial, put_whole};
 use itch_commands::{Source, ToolFault, read_market};
 use itch_frame::BlockReader;
-use itch_frame::counted::Counted;
 use itch_market::Market;
 use itch_snapshot::part_place;
 use std::alloc::Global;
@@ -83,7 +83,7 @@ fn read_day(alloc: Global, day: &[u8], after: Option<u64>) -> Result<(Market<Boo
     ensures read { IfOk result (λ done. ReadsDay day.now after done.0 done.1) }
     ensures refused { IfErr result (λ outcome. RefusesDay day.now after outcome) }
 {
-    let Ok(mut reader) = BlockReader::new(alloc, Counted::new(day)) else {
+    let Ok(mut reader) = BlockReader::new(alloc, SliceReader { rest: day }) else {
         return Err(outcome(0, 0, 0, OUT_OF_MEMORY));
     };
     let mut market = Market::new(alloc);

@@ -22,6 +22,7 @@ impl Model for Kept {
     ghost also_owns = { λ k. kept_owns k.at k.object };
 }
 
+/// No object.
 pub(crate) fn empty() -> Kept
     ensures { result.object ≡ None }
 {
@@ -30,6 +31,7 @@ pub(crate) fn empty() -> Kept
     }
 }
 
+/// The block of an object, as a pointer whose type C does not see.
 pub(crate) fn seal(loose: Loose<Object, Global>) -> Kept
     ensures { result.object ≡ Some loose.value }
 {
@@ -37,6 +39,7 @@ pub(crate) fn seal(loose: Loose<Object, Global>) -> Kept
     Kept { at: at as *mut u8 }
 }
 
+/// The block of an object, as a pointer to it again.
 pub(crate) fn unseal(alloc: Global, kept: Kept) -> Loose<Object, Global>
     requires { IsSome kept.object }
     ensures { kept.object ≡ Some result.value }

@@ -22,6 +22,7 @@ pub mod message;
 mod object;
 pub mod server;
 pub mod session;
+mod slice;
 pub mod snapshots;
 mod soup_codes;
 

@@ -2,19 +2,17 @@
 ghost use Rattle.std.specs.Prelude.{◌≡◌, None, IfOk, IfErr};
 ghost use Rattle.itch_market.specs.Content as content;
 ghost use Rattle.itch_market.specs.Replays.{TakesOne};
-ghost use Rattle.itch_snapshot.specs.Files.{IsFaultOf};
-ghost use Rattle.itch_snapshot.specs.Reads.{IsDecidedFault};
 ghost use Rattle.itchsnap_c.specs.Codes.{wrong};
 ghost use Rattle.itchsnap_c.specs.Objects.{OnHandle, AtMarket, Fills};
-ghost use Rattle.itchsnap_c.specs.Markets.{Applies, Loads, LoadsNew, HasMarketOf};
+ghost use Rattle.itchsnap_c.specs.Markets.{Applies, Loads, LoadsNew, HasMarketOf, IsRefusedFor};
 
 use crate::answers::{Answer, Loaded};
 use crate::codes::{IN_USE, WRONG, not_loaded, outcome_answer, snapshot_answer};
 use crate::handle::Handle;
 use crate::object::{Book, Object};
+use crate::slice::SliceReader;
 use itch_codec::{Seq, decode};
 use itch_frame::BlockReader;
-use itch_frame::counted::Counted;
 use itch_market::{Market, Refusal, Stop};
 use itch_snapshot::{SnapFault, read_snapshot};
 use std::alloc::Global;
@@ -105,9 +103,9 @@ fn load(alloc: Global, handle: &mut Handle, snapshot: &[u8]) -> Loaded
 // The market of a snapshot file, boxed, and the number of the next message.
 fn read(alloc: Global, snapshot: &[u8]) -> Result<(Box<Object>, Seq), SnapFault>
     ensures market { IfOk result (λ done. HasMarketOf snapshot.now done.0.value done.1) }
-    ensures fault { IfErr result (λ fault. IsDecidedFault fault → IsFaultOf snapshot.now fault) }
+    ensures fault { IfErr result (λ fault. IsRefusedFor snapshot.now fault) }
 {
-    let Ok(mut reader) = BlockReader::new(alloc, Counted::new(snapshot)) else {
+    let Ok(mut reader) = BlockReader::new(alloc, SliceReader { rest: snapshot }) else {
         return Err(OUT_OF_MEMORY);
     };
     let (market, next) = read_snapshot(alloc, &mut reader)?;

@@ -1,5 +1,5 @@
-use Rattle.std.proofs.Common.{inl, sym, ap, ◌∙◌, subst}
-use Rattle.itchsnap_c.specs.Files.{part_of, outcome, ReadsDay}
+use Rattle.std.proofs.Common.{inl, inr, refl, sym, ap, ◌∙◌, subst}
+use Rattle.itchsnap_c.specs.Files.{part_of, outcome, ReadsDay, RefusesDay}
 use Rattle.itch_market.specs.Partial.{only}
 use Rattle.itchsnap_c.specs.Snapshots.{is_listed}
 use Rattle.itchsnap_c.proofs.Days.{canon_only_read, written_read}
@@ -20,3 +20,6 @@ returns-in-Ok c =
       c.written.ensures ∙ ap (λ count. outcome count written.len 0 written.code) (sym read.3),
       written_read after read.0 m taken fits read.2 (only (is_listed c.args.locates.now)) c.in-Ok.count c.args.out.now c.put_partial.new.out written read.3 (canon_only_read after read.0 m taken fits read.2 (is_listed c.args.locates.now)) c.put_partial.ensures,
     )
+
+pub returns-in-Err : goal.returns-in-Err
+returns-in-Err c = inr (subst (λ part. RefusesDay c.args.day.now part c.in-Err.outcome) c.part_of.ensures c.in-Err.ensures.refused, refl)

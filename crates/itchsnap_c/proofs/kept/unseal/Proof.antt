@@ -1,4 +1,4 @@
--- The walk of `unseal`.
+-- The walk of `unseal`, by hand for the reasons that `seal` has.
 use Rattle.std.proofs.Common.{◌≡◌, List, [], ◌∷◌, ◌++◌, Some, None, IsSome, refl, sym, ap, subst, lit<}
 use mir.Raw.{raw as bare}
 use mir.Val.{Val, vptr}
@@ -46,7 +46,7 @@ unseal_spec 𝓤 𝓛 𝓜 𝓡 wired =
     move ! (1 ∷ []) $ fsplit ! $ kept_out ! d z.0.4.1.0 (λ ed.
     rewrite ! 0 (λ (k : Rattle.std.proofs.Common.Option Object). ‵ (kept_owns d.at k)) is.1 refl $
     in_a_block ! d.at (λ p. kept_owns p (Some m)) (fst∗ 𝓤 (never 𝓤) (sem 𝓛 (token null_ptr))) (λ b o eb.
-    -- [the market; true; the allocator; the tokens]
+    -- [the object; true; the allocator; the tokens]
     let w : Val = alone (vptr b o) in let made = both (vptr b o) h in
     let all : z.0.4.0 ++ (z.0.4.1.0 ++ []) ≡ h ∷ w ∷ [] =
     λ i. eh i ++ (subst (λ (p : Ptr). z.0.4.1.0 ≡ alone (ptr_val p) ∷ []) eb ed i ++ []) in

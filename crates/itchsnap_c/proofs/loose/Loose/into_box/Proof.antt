@@ -1,4 +1,4 @@
--- `into_box` makes the box again.
+-- The walk of `into_box`, by hand: `Box::from_raw` takes ownership by a starred clause, whose callers have no generated proof.
 use Rattle.std.proofs.Common.{◌≡◌, List, [], ◌∷◌, ◌++◌, refl, sym, ap, subst}
 use mir.Syntax.{a_type, dcons, dnil}
 use mir.Val.{Val, vptr}

@@ -1,4 +1,4 @@
--- `of` takes the box apart.
+-- The walk of `of`, by hand: `Box::into_raw_with_allocator` hands over ownership by a starred clause, whose callers have no generated proof.
 use Rattle.std.proofs.Common.{◌≡◌, List, [], ◌∷◌, ◌++◌, refl, sym, ap, ◌∙◌, subst}
 use mir.Syntax.{a_type, dcons, dnil}
 use mir.Raw.{raw as bare}
