@@ -59,7 +59,7 @@ enum itchsnap_code {
     /* A file is refused. */
     ITCHSNAP_TRUNCATED = 32, /* an unfinished block; detail: the bytes of it that are there */
     ITCHSNAP_TOO_MANY_MESSAGES = 33,
-    ITCHSNAP_UNREAD = 34,    /* a block was not read: does not happen, since all files are in memory */
+    ITCHSNAP_UNREAD = 34,    /* a read failed: proved not to happen, since all files are in memory */
     ITCHSNAP_NO_END = 35,    /* a snapshot file without End of Snapshot */
     ITCHSNAP_AFTER_END = 36, /* a message after End of Snapshot */
     ITCHSNAP_SHORT = 37,     /* fewer messages than are wanted */
