@@ -1,0 +1,103 @@
+/* bench.c: how long the calls take on a day file.
+ *
+ *   bench DAY    three rounds of: the whole file at once, message by message, look-ups, and calls that are refused at once */
+#define _POSIX_C_SOURCE 199309L
+#include "itchsnap.h"
+
+#include <inttypes.h>
+#include <stdio.h>
+#include <stdlib.h>
+#include <time.h>
+
+enum { REFUSALS = 10000000, LOOKUPS = 2 * 65536 };
+
+static double now(void) {
+    struct timespec moment;
+    clock_gettime(CLOCK_MONOTONIC, &moment);
+    return (double)moment.tv_sec + (double)moment.tv_nsec * 1e-9;
+}
+
+static void told(const char *what, double seconds, uint64_t calls) {
+    printf("%-28s %12" PRIu64 " calls %10.3f s %10.1f ns each\n", what, calls, seconds, seconds * 1e9 / (double)(calls > 0 ? calls : 1));
+}
+
+static uint64_t apply_all(itchsnap_handle *market, const uint8_t *day, size_t len) {
+    uint64_t count = 0;
+    size_t at = 0;
+    while (len - at >= 2) {
+        size_t size = (size_t)day[at] << 8 | day[at + 1];
+        if (size == 0 || len - at - 2 < size) {
+            break;
+        }
+        itchsnap_answer answer = itchsnap_market_apply(market, day + at + 2, size);
+        if (answer.code != ITCHSNAP_OK) {
+            printf("message %" PRIu64 ": code %" PRIu32 "\n", count + 1, answer.code);
+            break;
+        }
+        at += 2 + size;
+        count++;
+    }
+    return count;
+}
+
+static void round_of(const uint8_t *day, size_t len) {
+    double begun = now();
+    itchsnap_outcome checked = itchsnap_check(day, len);
+    told("itchsnap_check, a message", now() - begun, checked.count);
+
+    itchsnap_handle market = ITCHSNAP_NONE;
+    if (itchsnap_market_new(&market).code != ITCHSNAP_OK) {
+        exit(1);
+    }
+    begun = now();
+    uint64_t count = apply_all(&market, day, len);
+    told("itchsnap_market_apply", now() - begun, count);
+
+    uint64_t found = 0;
+    begun = now();
+    for (uint32_t locate = 0; locate < 65536; locate++) {
+        found += itchsnap_best(&market, (uint16_t)locate, true).code == ITCHSNAP_OK;
+        found += itchsnap_best(&market, (uint16_t)locate, false).code == ITCHSNAP_OK;
+    }
+    told("itchsnap_best", now() - begun, LOOKUPS);
+
+    uint8_t byte = 0;
+    uint64_t codes = 0;
+    begun = now();
+    for (int k = 0; k < REFUSALS; k++) {
+        codes += itchsnap_market_apply(&market, &byte, 0).code;
+    }
+    told("apply of an empty payload", now() - begun, REFUSALS);
+
+    begun = now();
+    for (int k = 0; k < REFUSALS; k++) {
+        codes += itchsnap_decode_fault(&byte, 0).code;
+    }
+    told("decode_fault of one", now() - begun, REFUSALS);
+
+    begun = now();
+    itchsnap_written written = itchsnap_snapshot(&market, count + 1, &byte, 0);
+    told("itchsnap_snapshot, a byte", now() - begun, written.len);
+    printf("%" PRIu64 " locates and sides with orders, codes %" PRIu64 "\n", found, codes);
+    itchsnap_free(&market);
+}
+
+int main(int argc, char **argv) {
+    FILE *file = argc == 2 ? fopen(argv[1], "rb") : NULL;
+    if (file == NULL || fseek(file, 0, SEEK_END) != 0) {
+        fprintf(stderr, "usage: bench DAY\n");
+        return 2;
+    }
+    size_t len = (size_t)ftell(file);
+    rewind(file);
+    uint8_t *day = malloc(len > 0 ? len : 1);
+    if (day == NULL || fread(day, 1, len, file) != len) {
+        return 1;
+    }
+    fclose(file);
+    for (int k = 0; k < 3; k++) {
+        round_of(day, len);
+    }
+    free(day);
+    return 0;
+}

@@ -1,0 +1,265 @@
+/* demo.c: a day file's messages applied one by one to a market, its look-ups, its snapshot, a joiner and a session.
+ *
+ *   demo DAY SNAPSHOT    writes the snapshot of the day file DAY to SNAPSHOT, and what it finds to standard output
+ *
+ * It makes each snapshot in every way that there is, and ends with status 1 where two of them differ. */
+#include "itchsnap.h"
+
+#include <inttypes.h>
+#include <stdio.h>
+#include <stdlib.h>
+#include <string.h>
+
+/* Ends the program where something is not as it must be. */
+static void must(bool holds, const char *what) {
+    if (!holds) {
+        fprintf(stderr, "demo: %s\n", what);
+        exit(1);
+    }
+}
+
+typedef struct {
+    uint8_t *bytes;
+    size_t len;
+} buffer;
+
+static buffer buffer_of(size_t len) {
+    buffer made = {malloc(len > 0 ? len : 1), len};
+    must(made.bytes != NULL, "out of memory");
+    return made;
+}
+
+static buffer read_file(const char *path) {
+    FILE *file = fopen(path, "rb");
+    must(file != NULL, "cannot open the file");
+    must(fseek(file, 0, SEEK_END) == 0, "cannot read the file");
+    long len = ftell(file);
+    must(len >= 0, "cannot read the file");
+    rewind(file);
+    buffer day = buffer_of((size_t)len);
+    must(fread(day.bytes, 1, day.len, file) == day.len, "cannot read the file");
+    fclose(file);
+    return day;
+}
+
+static void write_file(const char *path, buffer snapshot) {
+    FILE *file = fopen(path, "wb");
+    must(file != NULL, "cannot open the output");
+    must(fwrite(snapshot.bytes, 1, snapshot.len, file) == snapshot.len, "cannot write the output");
+    must(fclose(file) == 0, "cannot write the output");
+}
+
+/* A payload of a file of blocks, and how many bytes its block takes; none at the end, or before an empty block. */
+typedef struct {
+    const uint8_t *bytes;
+    size_t len;
+} payload;
+
+static bool next_payload(buffer file, size_t *at, payload *found) {
+    if (file.len - *at < 2) {
+        return false;
+    }
+    size_t len = (size_t)file.bytes[*at] << 8 | file.bytes[*at + 1];
+    if (len == 0 || file.len - *at - 2 < len) {
+        return false;
+    }
+    found->bytes = file.bytes + *at + 2;
+    found->len = len;
+    *at += 2 + len;
+    return true;
+}
+
+/* Applies all messages of a day file, and returns how many there are. */
+static uint64_t apply_all(itchsnap_handle *market, buffer day) {
+    uint64_t count = 0;
+    size_t at = 0;
+    payload message;
+    while (next_payload(day, &at, &message)) {
+        must(itchsnap_decode_fault(message.bytes, message.len).code == ITCHSNAP_OK, "a payload is no message");
+        itchsnap_answer answer = itchsnap_market_apply(market, message.bytes, message.len);
+        if (answer.code != ITCHSNAP_OK) {
+            printf("message %" PRIu64 ": code %" PRIu32 ", detail %" PRIu64 "\n", count + 1, answer.code, answer.detail);
+            exit(1);
+        }
+        count++;
+    }
+    return count;
+}
+
+/* The snapshot of the market of a handle: the length first, and then the bytes. */
+static buffer snapshot_of(itchsnap_handle *handle, uint64_t next) {
+    uint8_t none;
+    itchsnap_written written = itchsnap_snapshot(handle, next, &none, 0);
+    must(written.code == ITCHSNAP_NO_ROOM, "the length of the snapshot");
+    buffer made = buffer_of(written.len);
+    written = itchsnap_snapshot(handle, next, made.bytes, made.len);
+    must(written.code == ITCHSNAP_OK && written.len == made.len, "the snapshot");
+    return made;
+}
+
+static bool same(buffer one, buffer other) {
+    return one.len == other.len && memcmp(one.bytes, other.bytes, one.len) == 0;
+}
+
+/* Prints the price levels and the best order of each side of a locate. */
+static void print_book(itchsnap_handle *market, uint16_t locate) {
+    for (int side = 0; side < 2; side++) {
+        bool buy = side == 0;
+        itchsnap_price price = itchsnap_next_price(market, locate, buy, false, 0);
+        while (price.code == ITCHSNAP_OK) {
+            itchsnap_level_total total = itchsnap_level(market, locate, buy, price.price);
+            printf("%u %c %" PRIu32 ".%04" PRIu32 " %" PRIu64 " %" PRIu64 "\n", (unsigned)locate, buy ? 'B' : 'S', price.price / 10000,
+                   price.price % 10000, total.shares_low, total.orders);
+            price = itchsnap_next_price(market, locate, buy, true, price.price);
+        }
+        itchsnap_order best = itchsnap_best(market, locate, buy);
+        if (best.code == ITCHSNAP_OK) {
+            itchsnap_order again = itchsnap_order_by(market, best.reference);
+            must(again.code == ITCHSNAP_OK && again.price == best.price && again.shares == best.shares, "the order with a reference");
+            printf("%u %c best %" PRIu64 "\n", (unsigned)locate, buy ? 'B' : 'S', best.reference);
+        }
+    }
+}
+
+/* The whole file at once: the same count, the same snapshot, and the same market as itself. */
+static void whole_file(buffer day, uint64_t count, buffer snapshot) {
+    itchsnap_outcome checked = itchsnap_check(day.bytes, day.len);
+    must(checked.code == ITCHSNAP_OK && checked.count == count, "check");
+    buffer whole = buffer_of(snapshot.len);
+    itchsnap_outcome snapped = itchsnap_snap(day.bytes, day.len, ITCHSNAP_ALL, whole.bytes, whole.len);
+    must(snapped.code == ITCHSNAP_OK && snapped.count == count && snapped.len == snapshot.len, "snap");
+    must(same(whole, snapshot), "the snapshot of the whole file");
+    must(itchsnap_snap(day.bytes, day.len, count + 1, whole.bytes, whole.len).code == ITCHSNAP_SHORT, "snap of too many");
+    itchsnap_comparison compared = itchsnap_compare(day.bytes, day.len, day.bytes, day.len);
+    must(compared.code == ITCHSNAP_OK && compared.place == 0, "compare");
+    free(whole.bytes);
+}
+
+/* Two parts by locates, of a market and of a file, are the same bytes. */
+static void parts(itchsnap_handle *market, buffer day, uint64_t next, size_t most) {
+    uint16_t locates[] = {1, 7};
+    buffer one = buffer_of(most);
+    buffer other = buffer_of(most);
+    itchsnap_written written = itchsnap_snapshot_only(market, next, locates, 2, one.bytes, one.len);
+    itchsnap_outcome snapped = itchsnap_snap_only(day.bytes, day.len, ITCHSNAP_ALL, locates, 2, other.bytes, other.len);
+    must(written.code == ITCHSNAP_OK && snapped.code == ITCHSNAP_OK && written.len == snapped.len, "a snapshot of some locates");
+    must(memcmp(one.bytes, other.bytes, written.len) == 0, "the bytes of a snapshot of some locates");
+    free(one.bytes);
+    free(other.bytes);
+}
+
+/* A snapshot loaded is the same snapshot again. */
+static void load(buffer snapshot, uint64_t next) {
+    itchsnap_handle market = ITCHSNAP_NONE;
+    itchsnap_loaded loaded = itchsnap_market_load(&market, snapshot.bytes, snapshot.len);
+    must(loaded.code == ITCHSNAP_OK && loaded.next == next, "load");
+    buffer again = snapshot_of(&market, next);
+    must(same(again, snapshot), "the snapshot of a snapshot");
+    free(again.bytes);
+    itchsnap_free(&market);
+}
+
+/* A joiner that gets the feed from its last message to its first, and in between the snapshot of no message, is where the
+ * market is. */
+static void join(buffer day, uint64_t count, buffer snapshot) {
+    itchsnap_handle empty = ITCHSNAP_NONE;
+    itchsnap_handle joiner = ITCHSNAP_NONE;
+    must(itchsnap_market_new(&empty).code == ITCHSNAP_OK, "a new market");
+    must(itchsnap_joiner_new(&joiner, (size_t)count).code == ITCHSNAP_OK, "a new joiner");
+    must(itchsnap_joiner_next(&joiner).code == ITCHSNAP_NOT_JOINED, "a joiner that has not joined");
+    for (uint64_t number = count; number > 0; number--) {
+        size_t at = 0;
+        payload message = {NULL, 0};
+        for (uint64_t k = 0; k < number; k++) {
+            must(next_payload(day, &at, &message), "the message of a number");
+        }
+        must(itchsnap_joiner_live(&joiner, number, message.bytes, message.len).code == ITCHSNAP_KEPT, "a message that waits");
+    }
+    must(itchsnap_joiner_waiting(&joiner).count == count, "the messages that wait");
+    buffer start = snapshot_of(&empty, 1);
+    size_t at = 0;
+    payload message;
+    must(next_payload(start, &at, &message), "the End of Snapshot");
+    itchsnap_joined joined = itchsnap_joiner_snapshot(&joiner, message.bytes, message.len);
+    must(joined.code == ITCHSNAP_JOINED && joined.number == count + 1, "joined");
+    must(itchsnap_joiner_resume(&joiner).number == count + 1, "resume");
+    must(itchsnap_joiner_restart(&joiner).code == ITCHSNAP_OK, "restart");
+    buffer again = snapshot_of(&joiner, count + 1);
+    must(same(again, snapshot), "the snapshot of a joiner");
+    free(start.bytes);
+    free(again.bytes);
+    itchsnap_free(&joiner);
+    itchsnap_free(&empty);
+}
+
+/* A client and a server, each fed the other's packets, without a socket. */
+static void talk(buffer day) {
+    itchsnap_login login;
+    memcpy(&login, "desk  secret              ", sizeof login);
+    itchsnap_handle client = ITCHSNAP_NONE;
+    itchsnap_handle server = ITCHSNAP_NONE;
+    must(itchsnap_client_new(&client, &login, 1, 0).code == ITCHSNAP_OK, "a new client");
+    must(itchsnap_server_new(&server, &login, 1, 0).code == ITCHSNAP_OK, "a new server");
+    itchsnap_login_packet request = itchsnap_client_login(&client);
+    itchsnap_act act = itchsnap_server_packet(&server, request.bytes, sizeof request.bytes, 10);
+    must(request.code == ITCHSNAP_OK && act.code == ITCHSNAP_ACCEPTED && act.number == 1, "a login");
+    itchsnap_acceptance_packet accepted = itchsnap_server_accepted(&server, act.number);
+    must(itchsnap_session_sent(&server, 10).code == ITCHSNAP_OK, "sent");
+    act = itchsnap_client_packet(&client, accepted.bytes, sizeof accepted.bytes, 20);
+    must(act.code == ITCHSNAP_ACCEPTED && act.number == 1, "an acceptance");
+    size_t at = 0;
+    payload message;
+    must(next_payload(day, &at, &message), "a message to send");
+    buffer data = buffer_of(1 + message.len);
+    data.bytes[0] = 'S';
+    memcpy(data.bytes + 1, message.bytes, message.len);
+    act = itchsnap_client_packet(&client, data.bytes, data.len, 30);
+    must(act.code == ITCHSNAP_DATA && act.number == 1, "a message");
+    must(itchsnap_session_tick(&server, 500).code == ITCHSNAP_OK, "nothing is due");
+    must(itchsnap_session_tick(&server, 2000).code == ITCHSNAP_HEARTBEAT, "a heartbeat");
+    must(itchsnap_session_tick(&client, 20000).code == ITCHSNAP_LOST, "a lost server");
+    must(itchsnap_client_packet(&client, data.bytes, data.len, 20000).code == ITCHSNAP_CLOSED, "a closed session");
+    free(data.bytes);
+    itchsnap_free(&client);
+    itchsnap_free(&server);
+}
+
+/* Calls in the wrong order, and on the wrong handles, are refused. */
+static void misuse(void) {
+    itchsnap_handle handle = ITCHSNAP_NONE;
+    uint8_t byte = 'S';
+    itchsnap_free(&handle);
+    must(itchsnap_market_apply(&handle, &byte, 1).code == ITCHSNAP_WRONG_HANDLE, "an empty handle");
+    must(itchsnap_market_new(&handle).code == ITCHSNAP_OK, "a new market");
+    must(itchsnap_market_new(&handle).code == ITCHSNAP_IN_USE, "a market in place of another");
+    must(itchsnap_joiner_live(&handle, 1, &byte, 1).code == ITCHSNAP_WRONG_HANDLE, "a market as a joiner");
+    must(itchsnap_session_tick(&handle, 0).code == ITCHSNAP_WRONG_HANDLE, "a market as a session");
+    itchsnap_free(&handle);
+    itchsnap_free(&handle);
+    must(itchsnap_order_count(&handle).code == ITCHSNAP_WRONG_HANDLE, "a freed handle");
+}
+
+int main(int argc, char **argv) {
+    must(argc == 3, "usage: demo DAY SNAPSHOT");
+    must(itchsnap_version() == ITCHSNAP_VERSION, "another version of the library");
+    buffer day = read_file(argv[1]);
+    itchsnap_handle market = ITCHSNAP_NONE;
+    must(itchsnap_market_new(&market).code == ITCHSNAP_OK, "a new market");
+    uint64_t count = apply_all(&market, day);
+    printf("%" PRIu64 " messages, %" PRIu64 " orders\n", count, itchsnap_order_count(&market).count);
+    for (uint16_t locate = 0; locate < 100; locate++) {
+        print_book(&market, locate);
+    }
+    buffer snapshot = snapshot_of(&market, count + 1);
+    whole_file(day, count, snapshot);
+    parts(&market, day, count + 1, snapshot.len);
+    load(snapshot, count + 1);
+    join(day, count, snapshot);
+    talk(day);
+    misuse();
+    write_file(argv[2], snapshot);
+    itchsnap_free(&market);
+    free(snapshot.bytes);
+    free(day.bytes);
+    return 0;
+}

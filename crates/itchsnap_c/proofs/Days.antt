@@ -1,0 +1,173 @@
+-- What was read of a day file, written as a snapshot and compared.
+use mathlib.Core.Path.{fun_ext}
+use Rattle.std.proofs.Common.{◌≡◌, ◌≢◌, ℕ, ◌+◌, ◌≤◌, ◌⊎◌, inl, inr, Bool, not, List, ◌++◌, map, length, Option, None, Some, IsSome, IfSome, Err, sym, ap, ◌∙◌, subst, refl, arith}
+use Rattle.std.specs.List.{AllByRecursion}
+use Rattle.std.proofs.lemmas.List.Filters.{length-filter_both}
+use Rattle.itch_codec.specs.Messages.{spelling}
+use Rattle.itch_codec.specs.declared.message.Message.{Message}
+use Rattle.itch_frame.specs.Blocks.{blocks}
+use Rattle.itch_frame.specs.Counting.{failed}
+use Rattle.itch_frame.specs.declared.fault.FrameFault.{FrameFault}
+use Rattle.itch_frame.specs.declared.fault.FrameFault.TheVariants.{Read, Truncated, Write, TooLong}
+use Rattle.itch_frame.specs.declared.tally.Failures.{Failures}
+use Rattle.std.specs.declared.io.Error.{Error}
+use Rattle.itch_market.specs.Content.{Content, empty, laid}
+use Rattle.itch_market.specs.declared.refusal.Refusal.{Refusal}
+use Rattle.itch_market.specs.declared.refusal.Refusal.TheVariants.{UnknownLocate, StockMismatch, ZeroShares, DuplicateRef, UnknownRef, LocateMismatch, TooManyShares, UnexpectedEnd, OutOfMemory}
+use Rattle.itch_market.specs.Partial.{skips, kept, only}
+use Rattle.itch_market.specs.Replays.{Fits, IsDecided, Counts}
+use Rattle.itch_market.specs.Stops.{Stops}
+use Rattle.itch_market.specs.declared.stop.Stop.{Stop}
+use Rattle.itch_market.specs.declared.stop.Stop.TheVariants.{End, Frame, Codec, Rule, TooManyMessages}
+use Rattle.itch_market.specs.Wanted.{Wanted, has}
+use Rattle.itch_market.proofs.Decided.{replays_stop}
+use Rattle.itch_snapshot.specs.Bytes.{canon, closing}
+use Rattle.itch_snapshot.specs.Files.{IsFaultOf}
+use Rattle.itch_snapshot.specs.Reads.{IsDecidedFault, CountsFault, FailsHere, ReadsSnapshot}
+use Rattle.itch_snapshot.specs.Snapshot.{snap}
+use Rattle.itch_snapshot.specs.declared.fault.SnapFault.{SnapFault}
+use Rattle.itch_snapshot.specs.declared.fault.SnapFault.TheVariants as snap_fault
+use Rattle.itchsnap_c.specs.Markets.{IsRefusedFor}
+use Rattle.itch_snapshot.proofs.Cut.{snap_only}
+use Rattle.itch_snapshot.proofs.OneSnapshot.{snap-laid}
+use Rattle.itch_snapshot.proofs.Wires.{canon-laid}
+use Rattle.itch_commands.specs.Readings.{AreTaken, IsShort, HaltsPart, ReadsMarket, CountsRead}
+use Rattle.itch_commands.specs.declared.fault.Source.TheVariants.{Only}
+use Rattle.itch_commands.specs.declared.fault.ToolFault.{ToolFault}
+use Rattle.itch_commands.specs.declared.fault.ToolFault.TheVariants as tool
+use Rattle.itch_commands.proofs.Comparisons.{taken_good, taken_few}
+use Rattle.itchsnap_c.specs.declared.answers.Written.{Written}
+use Rattle.itchsnap_c.specs.Files.{market_of, outcome, RefusesDay, refused_day}
+use Rattle.itchsnap_c.specs.Codes.{stop_answer}
+use Rattle.itchsnap_c.specs.Snapshots.{is_listed, unwritten, Copies, Puts}
+
+-- where a day file stops a replay of it, or of its part
+pub halts_at : (after : Option ℕ) (m n : Content) (day : List ℕ) (bytes new : Option (List ℕ)) (count : ℕ) (stop : Stop) → m ≡ empty → bytes ≡ Some day
+    → HaltsPart after m bytes new count stop n → IsDecided stop → Stops empty day count stop
+halts_at after m n day bytes new count stop first known halts =
+    by_part after (subst (λ b. HaltsPart after empty b new count stop n) known (subst (λ x. HaltsPart after x bytes new count stop n) first halts)) where
+      by_part : (part : Option ℕ) → HaltsPart part empty (Some day) new count stop n → IsDecided stop → Stops empty day count stop
+      by_part None h = replays_stop empty n (Some day) new count stop h
+      by_part (Some most) h = replays_stop empty n (Some day) new count stop h.1
+
+-- it has fewer messages than are wanted
+pub short_part : (after : Option ℕ) (m n : Content) (bytes new : Option (List ℕ)) (count : ℕ) → IsSome after → HaltsPart after m bytes new count End n → IsShort after count
+short_part None m n bytes new count some halts = cc
+short_part (Some most) m n bytes new count some halts = halts.0
+
+-- memory gives its bytes: what stops a replay is of the file, or memory is refused
+abbrev pub no_failures : Failures
+no_failures = record { count = 0; last = None }
+
+uncounted : (error : Error) → no_failures ≡ failed error no_failures → ⊥
+uncounted error same = let h : None ≡ Some error = ap (λ f. f.last) same in cc
+
+stop_decided : (stop : Stop) → Counts stop no_failures no_failures → IsDecided stop ⊎ (stop ≡ Rule OutOfMemory)
+stop_decided End counts = inl tt
+stop_decided (Frame (Truncated held)) counts = inl tt
+stop_decided (Frame (Read error)) counts = absurd (uncounted error counts)
+stop_decided (Frame (Write sent error)) counts = absurd counts
+stop_decided (Frame TooLong) counts = absurd counts
+stop_decided (Codec f) counts = inl tt
+stop_decided (Rule UnknownLocate) counts = inl tt
+stop_decided (Rule StockMismatch) counts = inl tt
+stop_decided (Rule ZeroShares) counts = inl tt
+stop_decided (Rule DuplicateRef) counts = inl tt
+stop_decided (Rule UnknownRef) counts = inl tt
+stop_decided (Rule LocateMismatch) counts = inl tt
+stop_decided (Rule (TooManyShares remain)) counts = inl tt
+stop_decided (Rule UnexpectedEnd) counts = inl tt
+stop_decided (Rule OutOfMemory) counts = inr refl
+stop_decided TooManyMessages counts = inl tt
+
+refused_at_stop : (after : Option ℕ) (day : List ℕ) (count : ℕ) (stop : Stop) → stop ≢ End → (IsDecided stop → Stops empty day count stop)
+    → IsDecided stop ⊎ (stop ≡ Rule OutOfMemory) → RefusesDay day after (outcome count 0 (stop_answer stop).detail (stop_answer stop).code)
+refused_at_stop after day count stop going stops (inl decided) = inl (count, stop, refl, going, stops decided)
+refused_at_stop after day count stop going stops (inr memory) = inr (inr (count, ap (λ s. outcome count 0 (stop_answer s).detail (stop_answer s).code) memory))
+
+-- why a day file is refused
+pub day_refused : (after : Option ℕ) (m n : Content) (day : List ℕ) (bytes new : Option (List ℕ)) (fault : ToolFault) → m ≡ empty → bytes ≡ Some day
+    → ReadsMarket Only after m bytes new (Err fault) n → CountsRead {X = ℕ} (Err fault) no_failures no_failures → RefusesDay day after (refused_day fault)
+day_refused after m n day bytes new (tool.Stopped at end) first known (same, going, halts) counts =
+    refused_at_stop after day end.count end.stop going (halts_at after m n day bytes new end.count end.stop first known halts) (stop_decided end.stop counts)
+day_refused after m n day bytes new (tool.Short count) first known (some, halts) counts =
+    inr (inl (count, refl, short_part after m n bytes new count some halts, halts_at after m n day bytes new count End first known halts tt))
+day_refused after m n day bytes new (tool.Snap at fault) first known reads counts = absurd reads
+day_refused after m n day bytes new tool.UnknownLocate first known reads counts = absurd reads
+day_refused after m n day bytes new (tool.Write error) first known reads counts = absurd reads
+day_refused after m n day bytes new tool.OutOfMemory first known reads counts = absurd reads
+day_refused after m n day bytes new tool.Open first known reads counts = absurd reads
+day_refused after m n day bytes new tool.BadUser first known reads counts = absurd reads
+day_refused after m n day bytes new tool.BadPassword first known reads counts = absurd reads
+day_refused after m n day bytes new tool.BadLocates first known reads counts = absurd reads
+day_refused after m n day bytes new tool.TooMany first known reads counts = absurd reads
+day_refused after m n day bytes new (tool.Soup fault) first known reads counts = absurd reads
+day_refused after m n day bytes new tool.Socket first known reads counts = absurd reads
+
+-- a market cut down has no more messages
+module _ (wanted : ℕ → Bool) (m : Content) where
+  abbrev passes : Message → Bool
+  passes x = not (skips wanted x)
+
+  pub cut_shorter : length (snap (only wanted m)) ≤ length (snap m)
+  cut_shorter = omega (arith, ap length (snap_only wanted m), length-filter_both passes (λ x. not (passes x)) (λ x. refl) (snap m))
+
+-- sets with the same locates cut a market down to the same bytes
+pub same_cut : (set : Wanted) (locates : List ℕ) (m : Content) (next : ℕ) → ((locate : ℕ) → has set locate ≡ is_listed locates locate)
+    → canon (only (has set) m) ++ closing next ≡ canon (only (is_listed locates) m) ++ closing next
+same_cut set locates m next same = ap (λ wanted. canon (only wanted m) ++ closing next) (fun_ext same)
+
+module _ (after : Option ℕ) (ps : List (List ℕ)) (m : Content) (taken : AreTaken after ps) (fits : AllByRecursion Fits ps) (left : m ≡ laid (market_of ps)) where
+  -- the market that was read has the bytes of its messages' market
+  pub canon_read : canon m ≡ canon (market_of ps)
+  canon_read = ap canon left ∙ canon-laid (market_of ps) (taken_good after ps fits taken)
+
+  -- cut down to some locates, too
+  pub canon_only_read : (wanted : ℕ → Bool) → canon (only wanted m) ≡ canon (only wanted (market_of ps))
+  canon_only_read wanted =
+      ap (λ xs. blocks (map spelling xs))
+      (snap_only wanted m ∙ ap (kept wanted) (ap snap left ∙ snap-laid (market_of ps) (taken_good after ps fits taken)) ∙ sym (snap_only wanted (market_of ps)))
+
+  -- and is written with the number after them, unless memory is refused
+  pub written_read : (cut : Content → Content) (count : ℕ) (old new : List ℕ) (written : Written) → length ps ≡ count → canon (cut m) ≡ canon (cut (market_of ps))
+      → Puts m (cut m) (count + 1) old written new
+      → Copies (canon (cut (market_of ps)) ++ closing (length ps + 1)) old written new ⊎ ((written ≡ unwritten 48) × (new ≡ old))
+  written_read cut count old new written counted same (inl (number, few, copies)) = inl (subst (λ bytes. Copies bytes old written new)
+      (ap (λ bytes. bytes ++ closing (count + 1)) same ∙ ap (λ k. canon (cut (market_of ps)) ++ closing (k + 1)) (sym counted)) copies)
+  written_read cut count old new written counted same (inr (inl (code, none, stays))) = absurd (none (omega arith, omega (arith, counted, taken.few)))
+  written_read cut count old new written counted same (inr (inr (inl (code, many, stays)))) = absurd (omega (arith, many, taken_few after ps m fits taken left))
+  written_read cut count old new written counted same (inr (inr (inr refused))) = inr refused
+
+-- what is read of a snapshot fails as reading does
+fails_here : (old new : Option (List ℕ)) (fault : FrameFault) → ReadsSnapshot old new (Err (snap_fault.Frame fault)) → (mid : Option (List ℕ)) × FailsHere fault mid new
+fails_here old new fault (inl (n, (ps, mid, takes, few, (same, fails)))) = (mid, fails)
+fails_here old new fault (inr (mid, next, n, all, fails)) = (mid, fails)
+
+-- why a snapshot file is refused
+pub snapshot_refused : (day : List ℕ) (old new : Option (List ℕ)) (fault : SnapFault) → old ≡ Some day → ReadsSnapshot old new (Err fault)
+    → IfSome old (λ b. IsDecidedFault fault → IsFaultOf b fault) → CountsFault fault no_failures no_failures → IsRefusedFor day fault
+snapshot_refused day old new fault known reads decided counts =
+    by_fault fault reads (subst (λ o. IfSome o (λ b. IsDecidedFault fault → IsFaultOf b fault)) known decided) counts where
+      by_rule : (place : ℕ) (why : Refusal) → (IsDecided (Rule why) → IsFaultOf day (snap_fault.Rule place why)) → IsDecided (Rule why) ⊎ (Rule why ≡ Rule OutOfMemory)
+          → IsRefusedFor day (snap_fault.Rule place why)
+      by_rule place why is (inl sure) = inl (is sure)
+      by_rule place UnknownLocate is (inr memory) = inl (is tt)
+      by_rule place StockMismatch is (inr memory) = inl (is tt)
+      by_rule place ZeroShares is (inr memory) = inl (is tt)
+      by_rule place DuplicateRef is (inr memory) = inl (is tt)
+      by_rule place UnknownRef is (inr memory) = inl (is tt)
+      by_rule place LocateMismatch is (inr memory) = inl (is tt)
+      by_rule place (TooManyShares remain) is (inr memory) = inl (is tt)
+      by_rule place UnexpectedEnd is (inr memory) = inl (is tt)
+      by_rule place OutOfMemory is (inr memory) = inr (place, refl)
+
+      by_fault : (f : SnapFault) → ReadsSnapshot old new (Err f) → (IsDecidedFault f → IsFaultOf day f) → CountsFault f no_failures no_failures → IsRefusedFor day f
+      by_fault snap_fault.NoEnd reads is counts = inl (is tt)
+      by_fault (snap_fault.Frame (Truncated held)) reads is counts = inl (is tt)
+      by_fault (snap_fault.Frame (Read error)) reads is counts = absurd (uncounted error counts)
+      by_fault (snap_fault.Frame (Write sent error)) reads is counts = absurd ((fails_here old new (Write sent error) reads).1)
+      by_fault (snap_fault.Frame TooLong) reads is counts = absurd ((fails_here old new TooLong reads).1)
+      by_fault (snap_fault.Codec place f) reads is counts = inl (is tt)
+      by_fault (snap_fault.Rule place why) reads is counts = by_rule place why is (stop_decided (Rule why) refl)
+      by_fault snap_fault.AfterEnd reads is counts = inl (is tt)
+      by_fault snap_fault.TooManyMessages reads is counts = inl (is tt)

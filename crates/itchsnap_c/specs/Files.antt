@@ -1,0 +1,83 @@
+-- What the calls over whole files return and leave.
+use Rattle.std.specs.Prelude.{◌≡◌, ◌≢◌, ◌⊎◌, ◌==◌, ◌-◌, ◌+◌, ◌^◌, ℕ, List, ◌++◌, map, length, Option, Some, None, if◌then◌else◌}
+use Rattle.std.specs.List.{AllByRecursion}
+use Rattle.itch_codec.specs.Messages.{message_of}
+use Rattle.itch_commands.specs.declared.fault.ToolFault.{ToolFault}
+use Rattle.itch_commands.specs.declared.fault.ToolFault.TheVariants as tool
+use Rattle.itch_commands.specs.Comparing.{IsPartPlace}
+use Rattle.itch_commands.specs.Readings.{AreTaken, IsPart, IsShort}
+use Rattle.itch_market.specs.Content.{Content, empty, laid}
+use Rattle.itch_market.specs.Replays.{Fits}
+use Rattle.itch_market.specs.Runs.{run}
+use Rattle.itch_market.specs.Stops.{Stops}
+use Rattle.itch_market.specs.declared.stop.Stop.{Stop}
+use Rattle.itch_market.specs.declared.stop.Stop.TheVariants.{End}
+use Rattle.itch_snapshot.specs.Bytes.{canon, closing}
+use Rattle.itchsnap_c.specs.declared.answers.Comparison.{Comparison}
+use Rattle.itchsnap_c.specs.declared.answers.Outcome.{Outcome}
+use Rattle.itchsnap_c.specs.declared.answers.Written.{Written}
+use Rattle.itchsnap_c.specs.Codes.{stop_answer}
+use Rattle.itchsnap_c.specs.Snapshots.{unwritten, Copies}
+
+-- the messages that are wanted of a file: all, where 2^64 - 1 are
+abbrev pub part_of : ℕ → Option ℕ
+part_of after = if after == (2 ^ 64 - 1) then None else Some after
+
+abbrev pub outcome : ℕ → ℕ → ℕ → ℕ → Outcome
+outcome count len detail code = record { count = count; len = len; detail = detail; code = code }
+
+-- how a call over a day file ends that is refused for this fault; no other comes of reading one
+abbrev pub refused_day : ToolFault → Outcome
+refused_day (tool.Stopped at end) = outcome end.count 0 (stop_answer end.stop).detail (stop_answer end.stop).code
+refused_day (tool.Short count) = outcome count 0 0 37
+refused_day fault = outcome 0 0 0 34
+
+-- a day file, or the part of it that is wanted, has been read: these are its messages, which leave this market
+abbrev pub Reads : List ℕ → Option ℕ → List (List ℕ) → Type 0
+Reads day after payloads = AreTaken after payloads × IsPart after day payloads × AllByRecursion Fits payloads
+
+-- the market that a day file, or its part, leaves, and its number of messages
+abbrev pub ReadsDay : List ℕ → Option ℕ → Content → ℕ → Type 0
+ReadsDay day after m count =
+    (payloads : List (List ℕ)) × Reads day after payloads × (m ≡ laid (run (map message_of payloads))) × (length payloads ≡ count)
+
+-- Why a day file is refused: at its first bad place, after so many messages; or it ends before as many as are wanted; or memory
+-- is refused.
+abbrev pub RefusesDay : List ℕ → Option ℕ → Outcome → Type 0
+RefusesDay day after o =
+    ((count : ℕ) × (stop : Stop) × (o ≡ outcome count 0 (stop_answer stop).detail (stop_answer stop).code) × (stop ≢ End) × Stops empty day count stop)
+    ⊎ ((count : ℕ) × (o ≡ outcome count 0 0 37) × IsShort after count × Stops empty day count End)
+    ⊎ ((count : ℕ) × (o ≡ outcome count 0 0 48))
+
+-- a day file follows the order rules, and this is its number of messages; or it is refused
+abbrev pub Checks : List ℕ → Outcome → Type 0
+Checks day o =
+    ((payloads : List (List ℕ)) × Reads day None payloads × (o ≡ outcome (length payloads) 0 0 0))
+    ⊎ RefusesDay day None o
+
+-- the market of these messages
+abbrev pub market_of : List (List ℕ) → Content
+market_of payloads = run (map message_of payloads)
+
+-- The snapshot of what the messages leave, or of what it is cut down to, stands at the front of the memory, or there is no room for it, or memory is refused; or the file is.
+abbrev pub Snaps : (Content → Content) → List ℕ → Option ℕ → List ℕ → Outcome → List ℕ → Type 0
+Snaps cut day after old o new =
+    ((payloads : List (List ℕ)) × (written : Written) × Reads day after payloads × (o ≡ outcome (length payloads) written.len 0 written.code)
+    × (Copies (canon (cut (market_of payloads)) ++ closing (length payloads + 1)) old written new ⊎ ((written ≡ unwritten 48) × (new ≡ old))))
+    ⊎ (RefusesDay day after o × (new ≡ old))
+
+-- the markets are the same, or part at this place
+abbrev pub parted : Option ℕ → Comparison
+parted (Some place) = record { place = place; count = 0; detail = 0; code = 0; file = 0 }
+parted None = record { place = 0; count = 0; detail = 0; code = 0; file = 0 }
+
+abbrev pub refused_in : ℕ → Outcome → Comparison
+refused_in file o = record { place = 0; count = o.count; detail = o.detail; code = o.code; file = file }
+
+-- Both files are read, the first wholly before the second, and what they leave is the same or parts at a place; or one is refused.
+abbrev pub Compares : List ℕ → List ℕ → Comparison → Type 0
+Compares first second answer =
+    ((ps : List (List ℕ)) × (qs : List (List ℕ)) × (place : Option ℕ) × Reads first None ps × Reads second None qs
+    × IsPartPlace (market_of ps) (market_of qs) place × (answer ≡ parted place))
+    ⊎ ((o : Outcome) × RefusesDay first None o × (answer ≡ refused_in 1 o))
+    ⊎ ((ps : List (List ℕ)) × (o : Outcome) × Reads first None ps × RefusesDay second None o × (answer ≡ refused_in 2 o))

@@ -1,0 +1,80 @@
+-- What the calls on a joiner return and leave.
+use Rattle.std.specs.Prelude.{◌≡◌, ◌⊎◌, ℕ, true, List, Option, Some, None, option_and_then, Result}
+use Rattle.std.specs.FinMap as map
+use Rattle.itch_join.specs.Rules.{rules_of}
+use Rattle.itch_join.specs.States as states
+use Rattle.itch_join.specs.States.{Joining}
+use Rattle.itch_join.specs.Positions.{Position}
+use Rattle.itch_join.specs.Steps.{Call, CallLive, CallSnapshot, CallRestart, CallResume, Step}
+use Rattle.itch_join.specs.declared.fault.JoinFault.{JoinFault}
+use Rattle.itch_join.specs.declared.outcome.Live.{Live}
+use Rattle.itch_join.specs.declared.outcome.Snap.{Snap}
+use Rattle.itch_market.specs.Wanted.{Wanted, has}
+use Rattle.itchsnap_c.specs.declared.answers.Answer.{Answer}
+use Rattle.itchsnap_c.specs.declared.answers.Count.{Count}
+use Rattle.itchsnap_c.specs.declared.answers.Joined.{Joined}
+use Rattle.itchsnap_c.specs.declared.object.Object.{Object}
+use Rattle.itchsnap_c.specs.declared.object.Object.TheVariants.{Market, Joiner, Client, Server}
+use Rattle.itchsnap_c.specs.Codes.{done, no_memory}
+use Rattle.itchsnap_c.specs.JoinCodes.{told_number, live_answer, snap_answer, resumed_answer}
+use Rattle.itchsnap_c.specs.Objects.{Fills}
+use Rattle.itchsnap_c.specs.Snapshots.{is_listed}
+
+-- the handle holds no joiner
+abbrev pub wrong_joined : Joined
+wrong_joined = told_number 50 0
+
+-- a new joiner
+abbrev pub new_joiner : ℕ → Wanted → Object
+new_joiner cap set = Joiner (record { cap = cap; set = set; state = states.new })
+
+-- the handle is filled with a new joiner for all locates
+abbrev pub FillsAll : ℕ → Option Object → Answer → Option Object → Type 0
+FillsAll cap old answer new = (set : Wanted) × ((locate : ℕ) → has set locate ≡ true) × Fills old (new_joiner cap set) answer new
+
+-- the same for those of a list, for which memory may be refused
+abbrev pub FillsListed : ℕ → List ℕ → Option Object → Answer → Option Object → Type 0
+FillsListed cap locates old answer new =
+    ((set : Wanted) × ((locate : ℕ) → has set locate ≡ is_listed locates locate) × Fills old (new_joiner cap set) answer new)
+    ⊎ ((answer ≡ no_memory) × (new ≡ old))
+
+-- a call and what it returns take a joiner from one state to another
+abbrev pub Steps : Joining → Call → Joining → Type 0
+Steps j call k = Step (rules_of (has j.set)) j.cap j.state call k.state × (k.cap ≡ j.cap) × (k.set ≡ j.set)
+
+-- a message of the live feed is delivered
+abbrev pub Delivers : ℕ → List ℕ → Joining → Joined → Joining → Type 0
+Delivers number payload j answer k = (taken : Result Live JoinFault) × (answer ≡ live_answer taken) × Steps j (CallLive number payload taken) k
+
+-- a message of the snapshot is
+abbrev pub TakesSnapshot : List ℕ → Joining → Joined → Joining → Type 0
+TakesSnapshot payload j answer k = (taken : Result Snap JoinFault) × (answer ≡ snap_answer taken) × Steps j (CallSnapshot payload taken) k
+
+abbrev pub Restarts : Joining → Answer → Joining → Type 0
+Restarts j answer k = (answer ≡ done) × Steps j CallRestart k
+
+abbrev pub Resumes : Joining → Joined → Joining → Type 0
+Resumes j answer k = (taken : Result (Option ℕ) JoinFault) × (answer ≡ resumed_answer taken) × Steps j (CallResume taken) k
+
+abbrev pub joiner_of : Object → Option Joining
+joiner_of (Market m) = None
+joiner_of (Joiner j) = Some j
+joiner_of (Client c) = None
+joiner_of (Server s) = None
+
+abbrev pub held_joiner : Option Object → Option Joining
+held_joiner held = option_and_then joiner_of held
+
+abbrev pub next_at : Option Position → Count
+next_at (Some at) = record { count = at.next; code = 0 }
+next_at None = record { count = 0; code = 53 }
+
+-- the number of the next message, once joined
+abbrev pub next_in : Option Joining → Count
+next_in (Some j) = next_at j.state.joined
+next_in None = record { count = 0; code = 50 }
+
+-- the number of messages that wait
+abbrev pub waiting_in : Option Joining → Count
+waiting_in (Some j) = record { count = map.len j.state.wait; code = 0 }
+waiting_in None = record { count = 0; code = 50 }

@@ -1,0 +1,11 @@
+pub mod Codes
+pub mod JoinCodes
+pub mod Files
+pub mod Joiners
+pub mod Lookups
+pub mod Markets
+pub mod Objects
+pub mod Owned
+pub mod Sessions
+pub mod Snapshots
+pub mod SoupCodes

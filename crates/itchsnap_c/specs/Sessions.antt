@@ -1,0 +1,111 @@
+-- What the calls on sessions return and leave.
+use Rattle.std.specs.Prelude.{◌≡◌, ◌⊎◌, ◌<◌, ◌≤◌, ◌^◌, ℕ, List, replicate, Option, Some, None, option_and_then}
+use Rattle.itch_codec.specs.Text.{IsPrintable}
+use Rattle.itch_soup.specs.Clients as soup
+use Rattle.itch_soup.specs.Connections.{tick_answer as due}
+use Rattle.itch_soup.specs.Packets.{PacketSpells, packet_fault, packet_spelling}
+use Rattle.itch_soup.specs.Servers as soup_server
+use Rattle.itch_soup.specs.declared.fault.SoupFault.{SoupFault}
+use Rattle.itch_soup.specs.declared.login.Credentials.{Credentials}
+use Rattle.itch_soup.specs.declared.login.ServerConfig.{ServerConfig}
+use Rattle.itch_soup.specs.declared.origin.Origin.TheVariants as from
+use Rattle.itch_soup.specs.declared.packet.Packet.{Packet}
+use Rattle.itch_soup.specs.declared.packet.Packet.TheVariants as is
+use Rattle.itchsnap_c.specs.declared.answers.AcceptancePacket.{AcceptancePacket}
+use Rattle.itchsnap_c.specs.declared.answers.Act.{Act}
+use Rattle.itchsnap_c.specs.declared.answers.Answer.{Answer}
+use Rattle.itchsnap_c.specs.declared.answers.Login.{Login}
+use Rattle.itchsnap_c.specs.declared.answers.LoginPacket.{LoginPacket}
+use Rattle.itchsnap_c.specs.declared.object.Object.{Object}
+use Rattle.itchsnap_c.specs.declared.object.Object.TheVariants.{Market, Joiner, Client, Server}
+use Rattle.itchsnap_c.specs.Codes.{told, done, wrong}
+use Rattle.itchsnap_c.specs.Objects.{Fills}
+use Rattle.itchsnap_c.specs.Snapshots.{IsNumber}
+use Rattle.itchsnap_c.specs.SoupCodes.{act, client_act, server_act, soup_fault_act, tick_answer}
+
+-- the handle holds no such session
+abbrev pub wrong_act : Act
+wrong_act = act 50 0 0
+
+-- each text is printable
+abbrev pub AreTexts : Login → Type 0
+AreTexts login = IsPrintable login.username × IsPrintable login.password × IsPrintable login.session
+
+abbrev pub credentials_of : Login → Credentials
+credentials_of login = record { username = login.username; password = login.password; session = login.session }
+
+abbrev pub config_of : Login → ServerConfig
+config_of login = record { username = login.username; password = login.password; session = login.session }
+
+-- a handle is filled with a new client's session, unless a text or the number is none
+abbrev pub FillsClient : Login → ℕ → ℕ → Option Object → Answer → Option Object → Type 0
+FillsClient login number now old answer new =
+    (AreTexts login × (number ≤ 10 ^ 19) × Fills old (Client (soup.new_client (credentials_of login) number now)) answer new)
+    ⊎ ((¬ AreTexts login) × (answer ≡ told 3 0) × (new ≡ old))
+    ⊎ ((10 ^ 19 < number) × (answer ≡ told 54 0) × (new ≡ old))
+
+-- a handle is filled with a new server's session, unless a text is none or there are too many messages
+abbrev pub FillsServer : Login → ℕ → ℕ → Option Object → Answer → Option Object → Type 0
+FillsServer config total now old answer new =
+    (AreTexts config × (total < 10 ^ 19) × Fills old (Server (soup_server.new_server (config_of config) total now)) answer new)
+    ⊎ ((¬ AreTexts config) × (answer ≡ told 3 0) × (new ≡ old))
+    ⊎ ((10 ^ 19 ≤ total) × (answer ≡ told 33 0) × (new ≡ old))
+
+-- a block is a server's packet, and is answered so; or it is none, and leaves the session
+abbrev pub ClientHears : List ℕ → ℕ → soup.Client → Act → soup.Client → Type 0
+ClientHears block now c answer d =
+    ((packet : Packet) × PacketSpells packet block from.Server × (answer ≡ client_act (soup.client_answer c packet)) × (d ≡ soup.client_after_packet c packet now))
+    ⊎ ((fault : SoupFault) × (packet_fault block from.Server ≡ Some fault) × (answer ≡ soup_fault_act fault) × (d ≡ c))
+
+-- a block is a client's packet, and is answered so; or it is none, and leaves the session
+abbrev pub ServerHears : List ℕ → ℕ → soup_server.Server → Act → soup_server.Server → Type 0
+ServerHears block now s answer t =
+    ((packet : Packet) × PacketSpells packet block from.Client × (answer ≡ server_act (soup_server.server_answer s packet)) × (t ≡ soup_server.server_after_packet s packet now))
+    ⊎ ((fault : SoupFault) × (packet_fault block from.Client ≡ Some fault) × (answer ≡ soup_fault_act fault) × (t ≡ s))
+
+-- a session is asked what is due at a moment
+abbrev pub Ticks : ℕ → Object → Answer → Object → Type 0
+Ticks now (Market m) answer new = (answer ≡ wrong) × (new ≡ Market m)
+Ticks now (Joiner j) answer new = (answer ≡ wrong) × (new ≡ Joiner j)
+Ticks now (Client c) answer new = (answer ≡ tick_answer (due c.connection now)) × (new ≡ Client (soup.client_after_tick c now))
+Ticks now (Server s) answer new = (answer ≡ tick_answer (due s.connection now)) × (new ≡ Server (soup_server.server_after_tick s now))
+
+-- a session notes that something was sent at a moment
+abbrev pub Notes : ℕ → Object → Answer → Object → Type 0
+Notes now (Market m) answer new = (answer ≡ wrong) × (new ≡ Market m)
+Notes now (Joiner j) answer new = (answer ≡ wrong) × (new ≡ Joiner j)
+Notes now (Client c) answer new = (answer ≡ done) × (new ≡ Client (soup.client_after_sent c now))
+Notes now (Server s) answer new = (answer ≡ done) × (new ≡ Server (soup_server.server_after_sent s now))
+
+abbrev pub client_of : Object → Option soup.Client
+client_of (Market m) = None
+client_of (Joiner j) = None
+client_of (Client c) = Some c
+client_of (Server s) = None
+
+abbrev pub held_client : Option Object → Option soup.Client
+held_client held = option_and_then client_of held
+
+abbrev pub server_of : Object → Option soup_server.Server
+server_of (Market m) = None
+server_of (Joiner j) = None
+server_of (Client c) = None
+server_of (Server s) = Some s
+
+abbrev pub held_server : Option Object → Option soup_server.Server
+held_server held = option_and_then server_of held
+
+-- the login request of a session, or zeros where there is none
+abbrev pub login_in : Option soup.Client → LoginPacket
+login_in (Some c) = record { bytes = packet_spelling (is.LoginRequest (soup.login_of c)); code = 0 }
+login_in None = record { bytes = replicate 47 0; code = 50 }
+
+abbrev pub no_acceptance : ℕ → AcceptancePacket
+no_acceptance code = record { bytes = replicate 31 0; code = code }
+
+-- the acceptance of a session from a number on, which is one that messages have
+abbrev pub Accepts : Option soup_server.Server → ℕ → AcceptancePacket → Type 0
+Accepts (Some s) next answer =
+    (IsNumber next × (answer ≡ record { bytes = packet_spelling (is.LoginAccepted (soup_server.acceptance s.config next)); code = 0 }))
+    ⊎ ((¬ IsNumber next) × (answer ≡ no_acceptance 54))
+Accepts None next answer = answer ≡ no_acceptance 50

@@ -1,0 +1,39 @@
+-- What a snapshot into C's memory leaves.
+use Rattle.std.specs.Prelude.{◌≡◌, ℕ, ◌<◌, ◌≤◌, ◌^◌, ◌⊎◌, Bool, nat_eq, List, ◌++◌, length, drop, Option, Some, None}
+use Rattle.std.specs.List.{list_any}
+use Rattle.itch_market.specs.Content.{Content}
+use Rattle.itch_snapshot.specs.Bytes.{canon, closing}
+use Rattle.itch_snapshot.specs.Snapshot.{snap}
+use Rattle.itchsnap_c.specs.declared.answers.Written.{Written}
+
+-- the number of a message that follows: 1 to 10^19
+abbrev pub IsNumber : ℕ → Type 0
+IsNumber number = (1 ≤ number) × (number ≤ 10 ^ 19)
+
+-- the locate is in the list
+abbrev pub is_listed : List ℕ → ℕ → Bool
+is_listed locates locate = list_any (nat_eq locate) locates
+
+-- nothing was written, for this reason
+abbrev pub unwritten : ℕ → Written
+unwritten code = record { len = 0; code = code }
+
+-- the bytes stand at the front of the memory, or it is too short and as it was
+abbrev pub Copies : List ℕ → List ℕ → Written → List ℕ → Type 0
+Copies bytes old written new =
+    ((written ≡ record { len = length bytes; code = 0 }) × (length bytes ≤ length old) × (new ≡ bytes ++ drop (length bytes) old))
+    ⊎ ((written ≡ record { len = length bytes; code = 49 }) × (length old < length bytes) × (new ≡ old))
+
+-- What a snapshot of a market, or of what it was cut down to, closed with a number, leaves. It is refused exactly where the
+-- number is none, or where the market has too many messages, unless memory is refused.
+abbrev pub Puts : Content → Content → ℕ → List ℕ → Written → List ℕ → Type 0
+Puts m cut next old written new =
+    (IsNumber next × (length (snap m) < 10 ^ 19) × Copies (canon cut ++ closing next) old written new)
+    ⊎ ((written ≡ unwritten 54) × (¬ IsNumber next) × (new ≡ old))
+    ⊎ ((written ≡ unwritten 33) × (10 ^ 19 ≤ length (snap m)) × (new ≡ old))
+    ⊎ ((written ≡ unwritten 48) × (new ≡ old))
+
+-- the same of a handle's market
+abbrev pub PutsHeld : (Content → Content) → Option Content → ℕ → List ℕ → Written → List ℕ → Type 0
+PutsHeld cut (Some m) next old written new = Puts m (cut m) next old written new
+PutsHeld cut None next old written new = (written ≡ unwritten 50) × (new ≡ old)

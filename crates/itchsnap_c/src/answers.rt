@@ -1,0 +1,161 @@
+//! What C is told: small structs, each with a code.
+//!
+//! A code is 0 where the call did what it says, and else the number of its refusal, as the table in [`codes`](crate::codes) has it.
+
+/// What became of a call.
+#[repr(C)]
+#[derive(Clone, Copy, Drop)]
+pub struct Answer {
+    /// What the refusal adds, 0 where it adds nothing: the offset of a bad byte, the length that is wanted, the shares that
+    /// remain, or the bytes of an unfinished block.
+    pub detail: u64,
+    pub code: u32,
+}
+
+/// A live order.
+#[repr(C)]
+#[derive(Clone, Copy, Drop)]
+pub struct BookOrder {
+    pub reference: u64,
+    /// The price with four implied decimals.
+    pub price: u32,
+    pub shares: u32,
+    pub locate: u16,
+    /// Whether it is an order to buy.
+    pub buy: bool,
+    /// Whether it came with a market participant.
+    pub attributed: bool,
+    /// The market participant, padded with spaces; zeros where there is none.
+    pub mpid: [u8; 4],
+    pub code: u32,
+}
+
+/// The total of a price level.
+#[repr(C)]
+#[derive(Clone, Copy, Drop)]
+pub struct Level {
+    /// The sum of the shares, of which these are the lower 64 bits.
+    pub shares_low: u64,
+    /// The upper 64 bits of the sum.
+    pub shares_high: u64,
+    /// How many orders there are.
+    pub orders: u64,
+    pub code: u32,
+}
+
+/// A price.
+#[repr(C)]
+#[derive(Clone, Copy, Drop)]
+pub struct Price {
+    /// With four implied decimals.
+    pub price: u32,
+    pub code: u32,
+}
+
+/// A number.
+#[repr(C)]
+#[derive(Clone, Copy, Drop)]
+pub struct Count {
+    pub count: u64,
+    pub code: u32,
+}
+
+/// What was written into a caller's memory.
+#[repr(C)]
+#[derive(Clone, Copy, Drop)]
+pub struct Written {
+    /// How many bytes the snapshot has, where it was written or there is no room for it.
+    pub len: usize,
+    pub code: u32,
+}
+
+/// What became of a snapshot that was read.
+#[repr(C)]
+#[derive(Clone, Copy, Drop)]
+pub struct Loaded {
+    /// The number of the first message that the snapshot does not contain.
+    pub next: u64,
+    /// The place of the message that is refused, counted from 1; 0 where none is.
+    pub place: u64,
+    /// As in `Answer`.
+    pub detail: u64,
+    pub code: u32,
+}
+
+/// What a joiner did.
+#[repr(C)]
+#[derive(Clone, Copy, Drop)]
+pub struct Joined {
+    /// The number of the next message, of the message that is refused, or of the place in the snapshot; the number of
+    /// messages that may wait, where as many do.
+    pub number: u64,
+    /// As in `Answer`, of the cause.
+    pub detail: u64,
+    pub code: u32,
+    /// The code of why a message is refused; 0 where none is.
+    pub cause: u32,
+}
+
+/// What a session does after a packet.
+#[repr(C)]
+#[derive(Clone, Copy, Drop)]
+pub struct Act {
+    /// The number of the message, or of the first one that will come.
+    pub number: u64,
+    /// The code of a rejection; else as in `Answer`, or the type byte of a packet that is out of place.
+    pub detail: u64,
+    pub code: u32,
+}
+
+/// What a client logs in with, or whom a server lets in and the session that it serves. Each text is padded with spaces.
+#[repr(C)]
+#[derive(Clone, Copy, Drop)]
+pub struct Login {
+    pub username: [u8; 6],
+    pub password: [u8; 10],
+    pub session: [u8; 10],
+}
+
+/// A login request, without the length in front.
+#[repr(C)]
+#[derive(Clone, Copy, Drop)]
+pub struct LoginPacket {
+    pub bytes: [u8; 47],
+    pub code: u32,
+}
+
+/// The acceptance of a login, without the length in front.
+#[repr(C)]
+#[derive(Clone, Copy, Drop)]
+pub struct AcceptancePacket {
+    pub bytes: [u8; 31],
+    pub code: u32,
+}
+
+/// How a call over a day file ended.
+#[repr(C)]
+#[derive(Clone, Copy, Drop)]
+pub struct Outcome {
+    /// How many messages were taken. The place of the one that is refused, counted from 1, is one more.
+    pub count: u64,
+    /// How many bytes the snapshot has, where it was written or there is no room for it.
+    pub len: usize,
+    /// As in `Answer`.
+    pub detail: u64,
+    pub code: u32,
+}
+
+/// How two day files compare.
+#[repr(C)]
+#[derive(Clone, Copy, Drop)]
+pub struct Comparison {
+    /// 0 where the markets are the same, else the place of the first message, counted from 1, in which their snapshots differ.
+    pub place: u64,
+    /// How many messages of the file that is refused were taken.
+    pub count: u64,
+    /// As in `Answer`.
+    pub detail: u64,
+    pub code: u32,
+    /// The file that is refused: 1 or 2, and 0 where none is.
+    pub file: u32,
+}

@@ -1,0 +1,169 @@
+//! Whole files in C's memory.
+ghost use Rattle.std.specs.Prelude.{◌≡◌, IfOk, IfErr};
+ghost use Rattle.itchsnap_c.specs.Files.{part_of, Checks, Snaps, Compares, ReadsDay, RefusesDay, refused_day, parted, refused_in};
+ghost use Rattle.itchsnap_c.specs.Snapshots.{is_listed};
+ghost use Rattle.itch_market.specs.Partial.{only};
+
+use crate::answers::{Comparison, Outcome, Written};
+use crate::codes::{OUT_OF_MEMORY, UNREAD, stop_answer};
+use crate::object::Book;
+use crate::slice::SliceReader;
+use crate::snapshots::{put_partial, put_whole};
+use itch_commands::{Source, ToolFault, read_market};
+use itch_frame::BlockReader;
+use itch_market::Market;
+use itch_snapshot::part_place;
+use std::alloc::Global;
+
+/// A file has fewer messages than are wanted.
+const SHORT: u32 = 37;
+
+/// As many messages as are wanted of a file, where all are.
+const ALL: u64 = u64::MAX;
+
+/// Whether a day file follows the order rules: its number of messages, or where and why the first is refused.
+#[unsafe(no_mangle)]
+pub extern "C" fn itchsnap_check(alloc: Global, day: &[u8]) -> Outcome
+    ensures { Checks day.now result }
+{
+    match read_day(alloc, day, None) {
+        Ok((_market, count)) => outcome(count, 0, 0, 0),
+        Err(outcome) => outcome,
+    }
+}
+
+/// Writes the canonical snapshot after a day file's messages, or after its first `after`, to the front of `out`.
+#[unsafe(no_mangle)]
+pub extern "C" fn itchsnap_snap(alloc: Global, day: &[u8], after: u64, out: &mut [u8]) -> Outcome
+    ensures { Snaps (λ m. m) day.now (part_of after) out.old result out.new }
+{
+    match read_day(alloc, day, part_of(after)) {
+        Ok((market, count)) => written(count, put_whole(alloc, &market, count + 1, out)),
+        Err(outcome) => outcome,
+    }
+}
+
+/// The same of the market cut down to the locates of a list. Every message follows the order rules all the same.
+#[unsafe(no_mangle)]
+pub extern "C" fn itchsnap_snap_only(
+    alloc: Global,
+    day: &[u8],
+    after: u64,
+    locates: &[u16],
+    out: &mut [u8],
+) -> Outcome
+    ensures { Snaps (only (is_listed locates.now)) day.now (part_of after) out.old result out.new }
+{
+    match read_day(alloc, day, part_of(after)) {
+        Ok((market, count)) => {
+            written(count, put_partial(alloc, &market, count + 1, locates, out))
+        }
+        Err(outcome) => outcome,
+    }
+}
+
+/// Whether two day files leave the same market: 0, or the place of the first message, counted from 1, in which the snapshots
+/// of the two markets differ.
+#[unsafe(no_mangle)]
+pub extern "C" fn itchsnap_compare(alloc: Global, first: &[u8], second: &[u8]) -> Comparison
+    ensures { Compares first.now second.now result }
+{
+    let one = match read_day(alloc, first, None) {
+        Ok((market, _count)) => market,
+        Err(outcome) => return refused(1, outcome),
+    };
+    match read_day(alloc, second, None) {
+        Ok((other, _count)) => same_or_not(part_place(&one, &other)),
+        Err(outcome) => refused(2, outcome),
+    }
+}
+
+// The market of the messages of a day file, or of its first ones, and how many there are.
+fn read_day(alloc: Global, day: &[u8], after: Option<u64>) -> Result<(Market<Book>, u64), Outcome>
+    ensures read { IfOk result (λ done. ReadsDay day.now after done.0 done.1) }
+    ensures refused { IfErr result (λ outcome. RefusesDay day.now after outcome) }
+{
+    let Ok(mut reader) = BlockReader::new(alloc, SliceReader { rest: day }) else {
+        return Err(outcome(0, 0, 0, OUT_OF_MEMORY));
+    };
+    let mut market = Market::new(alloc);
+    match read_market(&mut reader, &mut market, after, Source::Only) {
+        Ok(count) => Ok((market, count)),
+        Err(fault) => Err(refused_day(&fault)),
+    }
+}
+
+// How a call over a day file ends that is refused. No other faults come of reading one.
+fn refused_day(fault: &ToolFault) -> Outcome
+    ensures { result ≡ refused_day fault.now }
+{
+    match fault {
+        ToolFault::Stopped { end, .. } => {
+            let answer = stop_answer(&end.stop);
+            outcome(end.count, 0, answer.detail, answer.code)
+        }
+        ToolFault::Short { count } => outcome(*count, 0, 0, SHORT),
+        ToolFault::Snap { .. }
+        | ToolFault::UnknownLocate
+        | ToolFault::Write(_)
+        | ToolFault::OutOfMemory
+        | ToolFault::Open
+        | ToolFault::BadUser
+        | ToolFault::BadPassword
+        | ToolFault::BadLocates
+        | ToolFault::TooMany
+        | ToolFault::Soup(_)
+        | ToolFault::Socket => outcome(0, 0, 0, UNREAD),
+    }
+}
+
+fn part_of(after: u64) -> Option<u64>
+    ensures { result ≡ part_of after }
+{
+    if after == ALL { None } else { Some(after) }
+}
+
+fn written(count: u64, written: Written) -> Outcome
+    ensures { result ≡ record { count = count; len = written.len; detail = 0; code = written.code } }
+{
+    outcome(count, written.len, 0, written.code)
+}
+
+fn same_or_not(place: Option<u64>) -> Comparison
+    ensures { result ≡ parted place }
+{
+    let place = match place {
+        Some(place) => place,
+        None => 0,
+    };
+    Comparison {
+        place,
+        count: 0,
+        detail: 0,
+        code: 0,
+        file: 0,
+    }
+}
+
+fn refused(file: u32, outcome: Outcome) -> Comparison
+    ensures { result ≡ refused_in file outcome }
+{
+    Comparison {
+        place: 0,
+        count: outcome.count,
+        detail: outcome.detail,
+        code: outcome.code,
+        file,
+    }
+}
+
+fn outcome(count: u64, len: usize, detail: u64, code: u32) -> Outcome
+    ensures { result ≡ record { count = count; len = len; detail = detail; code = code } }
+{
+    Outcome {
+        count,
+        len,
+        detail,
+        code,
+    }
+}

@@ -1,0 +1,201 @@
+//! Joiners that C keeps: a snapshot and the live feed, joined into one market.
+ghost use Rattle.std.specs.Prelude.{◌≡◌};
+ghost use Rattle.itchsnap_c.specs.Codes.{wrong};
+ghost use Rattle.itchsnap_c.specs.Objects.{OnHandle, AtJoiner};
+ghost use Rattle.itchsnap_c.specs.Joiners.{FillsAll, FillsListed, Delivers, TakesSnapshot, Restarts, Resumes, wrong_joined, held_joiner, joiner_of, next_in, waiting_in};
+
+use crate::answers::{Answer, Count, Joined};
+use crate::codes::{DONE, NO_MEMORY, NOT_JOINED, WRONG, WRONG_HANDLE};
+use crate::handle::Handle;
+use crate::join_codes::{WRONG_JOINED, live_answer, resumed_answer, snap_answer};
+use crate::object::Object;
+use crate::snapshots::set_of;
+use itch_join::Joiner;
+use itch_market::LocateSet;
+use std::alloc::Global;
+
+/// Puts a new joiner, in which at most `cap` messages will wait, into a handle that holds nothing.
+#[unsafe(no_mangle)]
+pub extern "C" fn itchsnap_joiner_new(alloc: Global, handle: &mut Handle, cap: usize) -> Answer
+    ensures { FillsAll cap handle.old.kept.object result handle.new.kept.object }
+{
+    let joiner = Joiner::only(alloc, cap, LocateSet::all(alloc));
+    handle.fill(alloc, Object::Joiner(joiner))
+}
+
+/// The same for the locates of a list: messages at all others are decoded and counted, and change nothing else.
+#[unsafe(no_mangle)]
+pub extern "C" fn itchsnap_joiner_new_only(
+    alloc: Global,
+    handle: &mut Handle,
+    cap: usize,
+    locates: &[u16],
+) -> Answer
+    ensures { FillsListed cap locates.now handle.old.kept.object result handle.new.kept.object }
+{
+    let Some(set) = set_of(alloc, locates) else {
+        return NO_MEMORY;
+    };
+    handle.fill(alloc, Object::Joiner(Joiner::only(alloc, cap, set)))
+}
+
+/// Takes the message with this number of the live feed.
+#[unsafe(no_mangle)]
+pub extern "C" fn itchsnap_joiner_live(
+    alloc: Global,
+    handle: &mut Handle,
+    number: u64,
+    payload: &[u8],
+) -> Joined
+    ensures { OnHandle wrong_joined (AtJoiner wrong_joined (Delivers number payload.now)) handle.old.kept.object result handle.new.kept.object }
+{
+    let Some(mut object) = handle.take(alloc) else {
+        return WRONG_JOINED;
+    };
+    let answer = live(&mut object, number, payload);
+    handle.put(object);
+    answer
+}
+
+/// Takes a message of the snapshot; they come in their order, End of Snapshot last.
+#[unsafe(no_mangle)]
+pub extern "C" fn itchsnap_joiner_snapshot(
+    alloc: Global,
+    handle: &mut Handle,
+    payload: &[u8],
+) -> Joined
+    ensures { OnHandle wrong_joined (AtJoiner wrong_joined (TakesSnapshot payload.now)) handle.old.kept.object result handle.new.kept.object }
+{
+    let Some(mut object) = handle.take(alloc) else {
+        return WRONG_JOINED;
+    };
+    let answer = snapshot(&mut object, payload);
+    handle.put(object);
+    answer
+}
+
+/// Drops an unfinished or broken snapshot, and keeps what waits. Once joined it changes nothing.
+#[unsafe(no_mangle)]
+pub extern "C" fn itchsnap_joiner_restart(alloc: Global, handle: &mut Handle) -> Answer
+    ensures { OnHandle wrong (AtJoiner wrong Restarts) handle.old.kept.object result handle.new.kept.object }
+{
+    let Some(mut object) = handle.take(alloc) else {
+        return WRONG;
+    };
+    let answer = restart(&mut object);
+    handle.put(object);
+    answer
+}
+
+/// Applies what waits, as far as the numbers go on, as after a refusal of memory.
+#[unsafe(no_mangle)]
+pub extern "C" fn itchsnap_joiner_resume(alloc: Global, handle: &mut Handle) -> Joined
+    ensures { OnHandle wrong_joined (AtJoiner wrong_joined Resumes) handle.old.kept.object result handle.new.kept.object }
+{
+    let Some(mut object) = handle.take(alloc) else {
+        return WRONG_JOINED;
+    };
+    let answer = resume(&mut object);
+    handle.put(object);
+    answer
+}
+
+/// The number of the next message of the feed, once joined.
+#[unsafe(no_mangle)]
+pub extern "C" fn itchsnap_joiner_next(alloc: Global, handle: &mut Handle) -> Count
+    ensures next { result ≡ next_in (held_joiner handle.old.kept.object) }
+    ensures same { handle.new.kept.object ≡ handle.old.kept.object }
+{
+    let Some(object) = handle.take(alloc) else {
+        return no_count(WRONG_HANDLE);
+    };
+    let answer = next(&object);
+    handle.put(object);
+    answer
+}
+
+/// The number of messages that wait.
+#[unsafe(no_mangle)]
+pub extern "C" fn itchsnap_joiner_waiting(alloc: Global, handle: &mut Handle) -> Count
+    ensures waiting { result ≡ waiting_in (held_joiner handle.old.kept.object) }
+    ensures same { handle.new.kept.object ≡ handle.old.kept.object }
+{
+    let Some(object) = handle.take(alloc) else {
+        return no_count(WRONG_HANDLE);
+    };
+    let answer = waiting(&object);
+    handle.put(object);
+    answer
+}
+
+fn live(object: &mut Object, number: u64, payload: &[u8]) -> Joined
+    ensures { AtJoiner wrong_joined (Delivers number payload.now) object.old result object.new }
+{
+    match object {
+        Object::Joiner(joiner) => live_answer(&joiner.live(number, payload)),
+        Object::Market(_) | Object::Client(_) | Object::Server(_) => WRONG_JOINED,
+    }
+}
+
+fn snapshot(object: &mut Object, payload: &[u8]) -> Joined
+    ensures { AtJoiner wrong_joined (TakesSnapshot payload.now) object.old result object.new }
+{
+    match object {
+        Object::Joiner(joiner) => snap_answer(&joiner.snapshot(payload)),
+        Object::Market(_) | Object::Client(_) | Object::Server(_) => WRONG_JOINED,
+    }
+}
+
+fn restart(object: &mut Object) -> Answer
+    ensures { AtJoiner wrong Restarts object.old result object.new }
+{
+    match object {
+        Object::Joiner(joiner) => {
+            joiner.restart();
+            DONE
+        }
+        Object::Market(_) | Object::Client(_) | Object::Server(_) => WRONG,
+    }
+}
+
+fn resume(object: &mut Object) -> Joined
+    ensures { AtJoiner wrong_joined Resumes object.old result object.new }
+{
+    match object {
+        Object::Joiner(joiner) => resumed_answer(&joiner.resume()),
+        Object::Market(_) | Object::Client(_) | Object::Server(_) => WRONG_JOINED,
+    }
+}
+
+fn next(object: &Object) -> Count
+    ensures { result ≡ next_in (joiner_of object.now) }
+{
+    match object {
+        Object::Joiner(joiner) => match joiner.next() {
+            Some(next) => Count {
+                count: next,
+                code: 0,
+            },
+            None => no_count(NOT_JOINED),
+        },
+        Object::Market(_) | Object::Client(_) | Object::Server(_) => no_count(WRONG_HANDLE),
+    }
+}
+
+fn waiting(object: &Object) -> Count
+    ensures { result ≡ waiting_in (joiner_of object.now) }
+{
+    match object {
+        Object::Joiner(joiner) => Count {
+            count: joiner.waiting() as u64,
+            code: 0,
+        },
+        Object::Market(_) | Object::Client(_) | Object::Server(_) => no_count(WRONG_HANDLE),
+    }
+}
+
+fn no_count(code: u32) -> Count
+    ensures { result ≡ record { count = 0; code = code } }
+{
+    Count { count: 0, code }
+}

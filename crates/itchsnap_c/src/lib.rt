@@ -1,0 +1,37 @@
+//! The toolkit for programs in C, C++, Python and Rust: each export calls one function of the libraries.
+//!
+//! C keeps its objects behind a [`Handle`](handle::Handle): all zero at first, filled by a call with `new` or `load` in its name,
+//! and emptied by [`itchsnap_free`](handle::itchsnap_free). Every export returns for every handle: one that does not hold what
+//! the call is about is refused with a code, and is left as it was.
+#![tactic(auto)]
+
+ghost use Rattle.std.specs.Prelude.{◌≡◌};
+
+pub mod answers;
+pub mod client;
+mod codes;
+pub mod files;
+pub mod handle;
+mod join_codes;
+pub mod joiner;
+mod kept;
+pub mod lookups;
+mod loose;
+pub mod market;
+pub mod message;
+mod object;
+pub mod server;
+pub mod session;
+mod slice;
+pub mod snapshots;
+mod soup_codes;
+
+const VERSION: u32 = 1;
+
+/// The version of this interface, as the header has it in `ITCHSNAP_VERSION`.
+#[unsafe(no_mangle)]
+pub extern "C" fn itchsnap_version() -> u32
+    ensures { result ≡ VERSION }
+{
+    VERSION
+}

@@ -1,0 +1,122 @@
+//! Markets that C keeps.
+ghost use Rattle.std.specs.Prelude.{◌≡◌, None, IfOk, IfErr};
+ghost use Rattle.itch_market.specs.Content as content;
+ghost use Rattle.itch_market.specs.Replays.{TakesOne};
+ghost use Rattle.itchsnap_c.specs.Codes.{wrong};
+ghost use Rattle.itchsnap_c.specs.Objects.{OnHandle, AtMarket, Fills};
+ghost use Rattle.itchsnap_c.specs.Markets.{Applies, Loads, LoadsNew, HasMarketOf, IsRefusedFor};
+
+use crate::answers::{Answer, Loaded};
+use crate::codes::{IN_USE, WRONG, not_loaded, outcome_answer, snapshot_answer};
+use crate::handle::Handle;
+use crate::object::{Book, Object};
+use crate::slice::SliceReader;
+use itch_codec::{Seq, decode};
+use itch_frame::BlockReader;
+use itch_market::{Market, Refusal, Stop};
+use itch_snapshot::{SnapFault, read_snapshot};
+use std::alloc::Global;
+
+/// Puts a new market, which no message has reached, into a handle that holds nothing.
+#[unsafe(no_mangle)]
+pub extern "C" fn itchsnap_market_new(alloc: Global, handle: &mut Handle) -> Answer
+    ensures { Fills handle.old.kept.object (Object.Market content.empty) result handle.new.kept.object }
+{
+    handle.fill(alloc, Object::Market(Market::new(alloc)))
+}
+
+/// Puts the market of a snapshot file into a handle that holds nothing. The messages of the file stand in any order that
+/// follows the order rules.
+#[unsafe(no_mangle)]
+pub extern "C" fn itchsnap_market_load(
+    alloc: Global,
+    handle: &mut Handle,
+    snapshot: &[u8],
+) -> Loaded
+    ensures { Loads snapshot.now handle.old.kept.object result handle.new.kept.object }
+{
+    if handle.is_live() {
+        return not_loaded(IN_USE);
+    }
+    load(alloc, handle, snapshot)
+}
+
+/// Applies the message of a payload to a market, or says why not; then the market is as it was.
+#[unsafe(no_mangle)]
+pub extern "C" fn itchsnap_market_apply(
+    alloc: Global,
+    handle: &mut Handle,
+    payload: &[u8],
+) -> Answer
+    ensures { OnHandle wrong (AtMarket wrong (Applies payload.now)) handle.old.kept.object result handle.new.kept.object }
+{
+    let Some(mut object) = handle.take(alloc) else {
+        return WRONG;
+    };
+    let answer = apply(&mut object, payload);
+    handle.put(object);
+    answer
+}
+
+fn apply(object: &mut Object, payload: &[u8]) -> Answer
+    ensures { AtMarket wrong (Applies payload.now) object.old result object.new }
+{
+    match object {
+        Object::Market(market) => outcome_answer(&take(market, payload)),
+        Object::Joiner(_) | Object::Client(_) | Object::Server(_) => WRONG,
+    }
+}
+
+// Applies the message of a payload.
+fn take(market: &mut Market<Book>, payload: &[u8]) -> Result<(), Stop>
+    ensures { TakesOne market.old payload.now result market.new }
+{
+    let message = match decode(payload) {
+        Ok(message) => message,
+        Err(fault) => return Err(Stop::Codec(fault)),
+    };
+    match market.apply(&message) {
+        Ok(()) => Ok(()),
+        Err(why) => Err(Stop::Rule(why)),
+    }
+}
+
+// Fills an empty handle with the market of a snapshot file.
+fn load(alloc: Global, handle: &mut Handle, snapshot: &[u8]) -> Loaded
+    requires { handle.old.kept.object ≡ None }
+    ensures { LoadsNew snapshot.now result handle.new.kept.object }
+{
+    match read(alloc, snapshot) {
+        Ok((object, next)) => {
+            handle.put(object);
+            Loaded {
+                next: next.value(),
+                place: 0,
+                detail: 0,
+                code: 0,
+            }
+        }
+        Err(fault) => snapshot_answer(&fault),
+    }
+}
+
+// The market of a snapshot file, boxed, and the number of the next message.
+fn read(alloc: Global, snapshot: &[u8]) -> Result<(Box<Object>, Seq), SnapFault>
+    ensures market { IfOk result (λ done. HasMarketOf snapshot.now done.0.value done.1) }
+    ensures fault { IfErr result (λ fault. IsRefusedFor snapshot.now fault) }
+{
+    let Ok(mut reader) = BlockReader::new(alloc, SliceReader { rest: snapshot }) else {
+        return Err(OUT_OF_MEMORY);
+    };
+    let (market, next) = read_snapshot(alloc, &mut reader)?;
+    match Box::new(alloc, Object::Market(market)) {
+        Ok(object) => Ok((object, next)),
+        Err(_) => Err(OUT_OF_MEMORY),
+    }
+}
+
+// The fault where memory is refused before the first message, or after the last.
+const OUT_OF_MEMORY: SnapFault = SnapFault::Rule {
+    place: 0,
+    reason: Refusal::OutOfMemory,
+};

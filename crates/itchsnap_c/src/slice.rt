@@ -1,0 +1,24 @@
+//! Bytes in memory, which no read fails to give.
+ghost use Rattle.std.specs.Prelude.{Some, None};
+
+use itch_frame::CountedRead;
+use std::io;
+
+/// Bytes in memory.
+#[derive(Drop)]
+pub(crate) struct SliceReader<'a> {
+    pub(crate) rest: &'a [u8],
+}
+
+impl CountedRead for SliceReader<'_> {
+    ghost remaining = { λ s. Some s.rest.now };
+
+    ghost failures = { λ s. record { count = 0; last = None } };
+
+    fn read_some(&mut self, buf: &mut [u8]) -> io::Result<usize> {
+        let count = buf.len().min(self.rest.len());
+        buf[..count].copy_from_slice(&self.rest[..count]);
+        self.rest = &self.rest[count..];
+        Ok(count)
+    }
+}
