@@ -7,6 +7,7 @@ import pty
 import re
 import shutil
 import signal
+import struct
 import subprocess
 import tempfile
 from pathlib import Path
@@ -107,45 +108,50 @@ def both_files_may_not_be_standard_input(program):
             yield f"{command}: {done}"
 
 
-TRADE = large.block(b"P", 1, bytes(8) + b"B" + (1).to_bytes(4) + large.stock(1) + (1).to_bytes(4) + bytes(8))
+TRADE = large.block(b"P", 1, struct.pack(">QcI8sIQ", 0, b"B", 1, large.stock(1), 1, 0))
+TOLD = rb"\r(\d+) bytes, (\d+) messages, +\d+ MB/s"
 
 
 def what_was_read_is_told_every_64_mib(program):
     count = 3_000_000
     day = large.entry(1) + TRADE * count
-    line = rb"\r(\d+) bytes, (\d+) messages, +\d+ MB/s"
     checked = b"ok %d messages\n" % (1 + count)
-    twice = rb"(%s){2}\n" % line
+    once, twice = rb"%s\n" % TOLD, rb"(%s){2}\n" % TOLD
     with tempfile.NamedTemporaryFile(suffix=".itch") as file:
         file.write(day)
         file.flush()
         for words, data, output, told in (
                 (["check", file.name], b"", checked, twice),
                 (["check", "-"], day, checked, twice),
-                (["snap", "--after", "1600000", file.name], b"", large.entry(1) + large.closing(1_600_001), rb"%s\n" % line),
+                (["snap", "--after", "1600000", file.name], b"", large.entry(1) + large.closing(1_600_001), once),
                 (["compare", file.name, "-"], day, b"same\n", twice * 2)):
-            plain, done = (subprocess.run([program, *words, *flag], input=data, capture_output=True, timeout=120) for flag in ([], ["--progress"]))
-            if (plain.returncode, plain.stdout, plain.stderr) != (0, output, b""):
-                yield f"{words[0]} without: status {plain.returncode}, {plain.stdout[:80]!r}, {plain.stderr!r}"
-            if (done.returncode, done.stdout) != (0, output) or not re.fullmatch(told, done.stderr):
-                yield f"{words[0]}: status {done.returncode}, {done.stdout[:80]!r}, {done.stderr!r}"
-            for place, (bytes_read, messages) in enumerate(re.findall(line, done.stderr), 1):
-                if not place * 2**26 <= int(bytes_read) < place * 2**26 + 2**16:
-                    yield f"{words[0]}: line {place} is of byte {bytes_read}"
-                if int(messages) != whole_messages(int(bytes_read), len(day)):
-                    yield f"{words[0]}: {messages} messages at byte {bytes_read}"
+            plain, done = (subprocess.run([program, *words, *flag], input=data, capture_output=True, timeout=120)
+                           for flag in ([], ["--progress"]))
+            for name, ran, error in (("without", plain, b""), ("with", done, told)):
+                if (ran.returncode, ran.stdout) != (0, output) or not re.fullmatch(error, ran.stderr):
+                    yield f"{words[0]} {name}: status {ran.returncode}, {ran.stdout[:80]!r}, {ran.stderr!r}"
+            yield from what_is_wrongly_told(done.stderr, len(day))
+        with open("/dev/full", "wb") as full:
+            untold = subprocess.run([program, "check", "--progress", file.name], stdout=subprocess.PIPE, stderr=full, timeout=120)
+        if (untold.returncode, untold.stdout) != (0, checked):
+            yield f"to a full device: status {untold.returncode}, {untold.stdout!r}"
 
 
-def whole_messages(bytes_read, length):
-    """How many messages are whole at so many bytes of a file of an entry and then trades, and of that file again."""
-    files, more = divmod(bytes_read, length)
+def what_is_wrongly_told(error, length):
+    """The lines that do not fit a file of an entry and then trades, of this length, and that file again."""
     entry = len(large.entry(1))
-    return files * (1 + (length - entry) // len(TRADE)) + (1 + (more - entry) // len(TRADE) if more else 0)
+    for place, (so_far, messages) in enumerate(re.findall(TOLD, error), 1):
+        if not place * 2**26 <= int(so_far) < place * 2**26 + 2**16:
+            yield f"line {place} is of byte {so_far}"
+        wanted = sum(1 + (size - entry) // len(TRADE) for size in (min(int(so_far), length), int(so_far) - length) if size > 0)
+        if int(messages) != wanted:
+            yield f"{messages} messages at byte {so_far}, not {wanted}"
 
 
 def nothing_is_told_of_a_small_file(program):
-    for words, output in ((["check", OPENING], b"ok 5 messages\n"), (["snap", OPENING], SNAPSHOT.read_bytes()), (["compare", OPENING, OPENING], b"same\n"),
-                          (["canon", SNAPSHOT], SNAPSHOT.read_bytes()), (["join", SNAPSHOT, OPENING], SNAPSHOT.read_bytes())):
+    written = SNAPSHOT.read_bytes()
+    for words, output in ((["check", OPENING], b"ok 5 messages\n"), (["snap", OPENING], written), (["canon", SNAPSHOT], written),
+                          (["compare", OPENING, OPENING], b"same\n"), (["join", SNAPSHOT, OPENING], written)):
         done = subprocess.run([program, *words, "--progress"], capture_output=True, timeout=60)
         if (done.returncode, done.stdout, done.stderr) != (0, output, b""):
             yield f"{words[0]}: {done}"

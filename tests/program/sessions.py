@@ -45,9 +45,9 @@ def connect(port):
 class Server:
     """`serve` of a file to `count` connections."""
 
-    def __init__(self, program, file, count):
+    def __init__(self, program, file, count, *options):
         self.port = free_port()
-        words = ["serve", file, "--port", str(self.port), "--user", "user", "--pass", "secret", "--count", str(count)]
+        words = ["serve", file, "--port", str(self.port), "--user", "user", "--pass", "secret", "--count", str(count), *options]
         self.process = subprocess.Popen([program, *words], stdout=subprocess.PIPE, stderr=subprocess.PIPE)
 
     def __enter__(self):
@@ -91,6 +91,13 @@ def what_is_served_is_fetched(program):
             for _ in range(2):
                 yield from fetched_differs(fetch(program, server.port), wanted)
             yield from server.differences(*[f"accepted from 1, {messages(wanted)} packets"] * 2)
+
+
+def a_small_file_is_served_with_progress_as_without(program):
+    wanted = snapshot(program, EXAMPLES / "opening.itch")
+    with Server(program, EXAMPLES / "opening.itch", 1, "--progress") as server:
+        yield from fetched_differs(fetch(program, server.port), wanted)
+        yield from server.differences(f"accepted from 1, {messages(wanted)} packets")
 
 
 def a_large_snapshot_is_fetched(program):
@@ -245,6 +252,7 @@ def a_slow_peer_holds_the_server_for_15_seconds(program):
 
 RUNS = [
     what_is_served_is_fetched,
+    a_small_file_is_served_with_progress_as_without,
     a_large_snapshot_is_fetched,
     a_login_in_pieces_of_one_byte_is_answered,
     ten_thousand_debug_packets_are_passed_over,

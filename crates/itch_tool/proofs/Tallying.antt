@@ -1,5 +1,5 @@
 -- A tally, one byte further.
-use Rattle.std.proofs.Common.{◌≡◌, ℕ, ◌+◌, ◌*◌, ◌-◌, ◌/◌, ◌%◌, ◌^◌, ◌<◌, min, List, [], ◌∷◌, ◌++◌, length, take, get_or, replicate, refl, sym, ap, subst, ◌∙◌, append_assoc, append-nil, arith, length-append}
+use Rattle.std.proofs.Common.{◌≡◌, ℕ, ◌+◌, ◌-◌, ◌^◌, ◌<◌, min, List, [], ◌∷◌, ◌++◌, length, take, get_or, replicate, refl, sym, ap, subst, ◌∙◌, append_assoc, append-nil, arith, length-append}
 use Rattle.std.proofs.Math.Numerals.{add-one}
 use Rattle.std.proofs.Math.Seq.{take-suc}
 use Rattle.std.proofs.lemmas.List.{length-replicate}
@@ -30,20 +30,7 @@ at_open Border bytes is = subst HasNoBlock (sym is) (nothing_left IsPayload)
 at_open (Length high) bytes is = subst HasNoBlock (sym is.0) (byte_open high)
 at_open (Payload count) bytes is = unfinished_open count bytes is.0 is.1
 
--- after the first length byte
-pub first_byte : (bytes : List ℕ) (byte : ℕ) → byte < 256 → bytes ≡ [] → IsAt (Length byte) (bytes ++ byte ∷ [])
-first_byte bytes byte fits is = (ap (λ b. b ++ byte ∷ []) is, fits)
-
--- after both length bytes
-pub both_bytes : (bytes : List ℕ) (high low count : ℕ) → high < 256 → low < 256 → count ≡ high * 256 + low → bytes ≡ high ∷ []
-    → IsWholeAfter count (bytes ++ low ∷ [])
-both_bytes bytes high low count high_fits low_fits is front more long =
-    let first : high ≡ length more / 256 % 256 = omega (arith, long, is) in
-    let second : low ≡ length more % 256 = omega (arith, long, is) in
-    let fits : length more < 65536 = omega (arith, long, is) in
-    (more, (fits, ap (λ b. (b ++ low ∷ []) ++ more) front ∙ (λ i. first i ∷ second i ∷ more)))
-
--- after a byte of the payload
+-- a byte of a payload
 pub payload_byte : (bytes : List ℕ) (byte count : ℕ) → 0 < count → IsWholeAfter count bytes → IsWholeAfter (count - 1) (bytes ++ byte ∷ [])
 payload_byte bytes byte count some whole more long =
     subst IsBlock (sym (append_assoc bytes (byte ∷ []) more)) (whole (byte ∷ more) (omega (arith, long)))
@@ -56,7 +43,7 @@ lacks_nothing bytes whole = subst IsBlock (append-nil bytes) (whole [] refl)
 pub on_nothing : (tally : Tally) → CountsOn tally [] tally
 on_nothing tally bytes counts = subst (Counts tally) (sym (append-nil bytes)) counts
 
-pub on_both : (old mid new : Tally) (first second : List ℕ) → CountsOn old first mid → CountsOn mid second new → CountsOn old (first ++ second) new
+on_both : (old mid new : Tally) (first second : List ℕ) → CountsOn old first mid → CountsOn mid second new → CountsOn old (first ++ second) new
 on_both old mid new first second one two bytes counts = subst (Counts new) (append_assoc bytes first second) (two (bytes ++ first) (one bytes counts))
 
 -- the next byte of a piece
@@ -67,7 +54,7 @@ on_next old mid new piece i inside so_far one =
     (on_both old mid new (take i piece) (get_or piece i 0 ∷ []) so_far one))
 
 -- one byte more, and the next block is not whole
-pub within_block : (old new : Tally) (bytes : List ℕ) (byte : ℕ) (so_far : Counts old bytes)
+within_block : (old new : Tally) (bytes : List ℕ) (byte : ℕ) (so_far : Counts old bytes)
     → IsAt new.place (so_far.rest ++ byte ∷ []) → new.messages ≡ old.messages → Counts new (bytes ++ byte ∷ [])
 within_block old new bytes byte so_far at same = record {
   payloads = so_far.payloads;
@@ -82,7 +69,7 @@ within_block old new bytes byte so_far at same = record {
 }
 
 -- one byte more, and the next block is whole
-pub after_block : (old new : Tally) (bytes : List ℕ) (byte : ℕ) (so_far : Counts old bytes)
+after_block : (old new : Tally) (bytes : List ℕ) (byte : ℕ) (so_far : Counts old bytes)
     → IsBlock (so_far.rest ++ byte ∷ []) → new.place ≡ Border → new.messages ≡ min (old.messages + 1) (2 ^ 64 - 1) → Counts new (bytes ++ byte ∷ [])
 after_block old new bytes byte so_far (payload, is) at more = record {
   payloads = so_far.payloads ++ payload ∷ [];
@@ -108,13 +95,3 @@ one_on old new byte moves more same bytes so_far = by_place new.place refl (move
       within_block old new bytes byte so_far (subst (λ place. IsAt place (so_far.rest ++ byte ∷ [])) (sym is) reached) (same (λ border. let no_one : ⊥ = cc in no_one))
   by_place (Payload count) is reached =
       within_block old new bytes byte so_far (subst (λ place. IsAt place (so_far.rest ++ byte ∷ [])) (sym is) reached) (same (λ border. let no_one : ⊥ = cc in no_one))
-
--- nothing was counted of nothing
-pub counts_nothing : (tally : Tally) → tally.place ≡ Border → tally.messages ≡ 0 → Counts tally []
-counts_nothing tally at none = record {
-  payloads = [];
-  rest = [];
-  reading = record { whole = refl; each = tt; no_more = nothing_left IsPayload };
-  counted = none;
-  place = subst (λ place. IsAt place []) (sym at) refl;
-}

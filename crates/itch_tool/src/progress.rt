@@ -13,8 +13,8 @@ const STEP: u64 = 1 << 26;
 
 /// What a command has read of all its files, and since when.
 ///
-/// Each 64 MiB renew a line on standard error, which ends with a file that is read to its end, or with the command. What
-/// standard error does not take is left out.
+/// A line on standard error is renewed with each 64 MiB, and ends where a file has been read to its end, or with the command.
+/// What standard error does not take is left out.
 pub struct Progress<'a, R: Eprint> {
     rt: &'a R,
     begun: Instant,
@@ -113,13 +113,9 @@ impl<T: Read, R: Eprint + Clock> Read for Watched<'_, T, R> {
     ghost remaining = { λ w. T.remaining w.inner };
 
     fn read(&mut self, buf: &mut [u8]) -> io::Result<usize> {
-        match self.inner.read(buf) {
-            Ok(count) => {
-                self.note(&buf[..count]);
-                Ok(count)
-            }
-            Err(error) => Err(error),
-        }
+        let count = self.inner.read(buf)?;
+        self.note(&buf[..count]);
+        Ok(count)
     }
 }
 
