@@ -17,7 +17,7 @@ static double now(void) {
     return (double)moment.tv_sec + (double)moment.tv_nsec * 1e-9;
 }
 
-static void told(const char *what, double seconds, uint64_t calls) {
+static void report(const char *what, double seconds, uint64_t calls) {
     printf("%-28s %12" PRIu64 " calls %10.3f s %10.1f ns each\n", what, calls, seconds, seconds * 1e9 / (double)(calls > 0 ? calls : 1));
 }
 
@@ -43,7 +43,7 @@ static uint64_t apply_all(itchsnap_handle *market, const uint8_t *day, size_t le
 static void round_of(const uint8_t *day, size_t len) {
     double begun = now();
     itchsnap_outcome checked = itchsnap_check(day, len);
-    told("itchsnap_check, a message", now() - begun, checked.count);
+    report("itchsnap_check, a message", now() - begun, checked.count);
 
     itchsnap_handle market = ITCHSNAP_NONE;
     if (itchsnap_market_new(&market).code != ITCHSNAP_OK) {
@@ -51,7 +51,7 @@ static void round_of(const uint8_t *day, size_t len) {
     }
     begun = now();
     uint64_t count = apply_all(&market, day, len);
-    told("itchsnap_market_apply", now() - begun, count);
+    report("itchsnap_market_apply", now() - begun, count);
 
     uint64_t found = 0;
     begun = now();
@@ -59,7 +59,7 @@ static void round_of(const uint8_t *day, size_t len) {
         found += itchsnap_best(&market, (uint16_t)locate, true).code == ITCHSNAP_OK;
         found += itchsnap_best(&market, (uint16_t)locate, false).code == ITCHSNAP_OK;
     }
-    told("itchsnap_best", now() - begun, LOOKUPS);
+    report("itchsnap_best", now() - begun, LOOKUPS);
 
     uint8_t byte = 0;
     uint64_t codes = 0;
@@ -67,17 +67,17 @@ static void round_of(const uint8_t *day, size_t len) {
     for (int k = 0; k < REFUSALS; k++) {
         codes += itchsnap_market_apply(&market, &byte, 0).code;
     }
-    told("apply of an empty payload", now() - begun, REFUSALS);
+    report("apply of an empty payload", now() - begun, REFUSALS);
 
     begun = now();
     for (int k = 0; k < REFUSALS; k++) {
         codes += itchsnap_decode_fault(&byte, 0).code;
     }
-    told("decode_fault of one", now() - begun, REFUSALS);
+    report("decode_fault of one", now() - begun, REFUSALS);
 
     begun = now();
     itchsnap_written written = itchsnap_snapshot(&market, count + 1, &byte, 0);
-    told("itchsnap_snapshot, a byte", now() - begun, written.len);
+    report("itchsnap_snapshot, a byte", now() - begun, written.len);
     printf("%" PRIu64 " locates and sides with orders, codes %" PRIu64 "\n", found, codes);
     itchsnap_free(&market);
 }

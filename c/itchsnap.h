@@ -201,7 +201,7 @@ typedef struct {
 } itchsnap_written;
 
 /* Writes the canonical snapshot to the front of out, closed with next as the number of the first message that it does not
- * contain. A call with length 0 tells the length. Codes: OK, NO_ROOM, NO_NUMBER, OUT_OF_MEMORY, TOO_MANY_MESSAGES. */
+ * contain. A call with length 0 returns the length. Codes: OK, NO_ROOM, NO_NUMBER, OUT_OF_MEMORY, TOO_MANY_MESSAGES. */
 itchsnap_written itchsnap_snapshot(itchsnap_handle *handle, uint64_t next, uint8_t *out, size_t len);
 
 /* The same of the market cut down to the locates of a list. */

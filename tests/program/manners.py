@@ -45,7 +45,7 @@ def ended(words, ignored):
     with os.fdopen(write, "wb") as output:
         done = subprocess.run(words, stdout=output, stderr=subprocess.PIPE, stdin=subprocess.DEVNULL, timeout=60,
                               preexec_fn=(lambda: signal.signal(signal.SIGPIPE, signal.SIG_IGN)) if ignored else None)
-    # As a shell tells a signal.
+    # As a shell shows a signal.
     return done.returncode if done.returncode >= 0 else 128 - done.returncode, done.stderr
 
 
@@ -109,38 +109,38 @@ def both_files_may_not_be_standard_input(program):
 
 
 TRADE = large.block(b"P", 1, struct.pack(">QcI8sIQ", 0, b"B", 1, large.stock(1), 1, 0))
-TOLD = rb"\r(\d+) bytes, (\d+) messages, +\d+ MB/s"
+SHOWN = rb"\r(\d+) bytes, (\d+) messages, +\d+ MB/s"
 
 
-def what_was_read_is_told_every_64_mib(program):
+def progress_is_shown_every_64_mib(program):
     count = 3_000_000
     day = large.entry(1) + TRADE * count
     checked = b"ok %d messages\n" % (1 + count)
-    once, twice = rb"%s\n" % TOLD, rb"(%s){2}\n" % TOLD
+    once, twice = rb"%s\n" % SHOWN, rb"(%s){2}\n" % SHOWN
     with tempfile.NamedTemporaryFile(suffix=".itch") as file:
         file.write(day)
         file.flush()
-        for words, data, output, told in (
+        for words, data, output, shown in (
                 (["check", file.name], b"", checked, twice),
                 (["check", "-"], day, checked, twice),
                 (["snap", "--after", "1600000", file.name], b"", large.entry(1) + large.closing(1_600_001), once),
                 (["compare", file.name, "-"], day, b"same\n", twice * 2)):
             plain, done = (subprocess.run([program, *words, *flag], input=data, capture_output=True, timeout=120)
                            for flag in ([], ["--progress"]))
-            for name, ran, error in (("without", plain, b""), ("with", done, told)):
+            for name, ran, error in (("without", plain, b""), ("with", done, shown)):
                 if (ran.returncode, ran.stdout) != (0, output) or not re.fullmatch(error, ran.stderr):
                     yield f"{words[0]} {name}: status {ran.returncode}, {ran.stdout[:80]!r}, {ran.stderr!r}"
-            yield from what_is_wrongly_told(done.stderr, len(day))
+            yield from what_is_wrongly_shown(done.stderr, len(day))
         with open("/dev/full", "wb") as full:
-            untold = subprocess.run([program, "check", "--progress", file.name], stdout=subprocess.PIPE, stderr=full, timeout=120)
-        if (untold.returncode, untold.stdout) != (0, checked):
-            yield f"to a full device: status {untold.returncode}, {untold.stdout!r}"
+            unseen = subprocess.run([program, "check", "--progress", file.name], stdout=subprocess.PIPE, stderr=full, timeout=120)
+        if (unseen.returncode, unseen.stdout) != (0, checked):
+            yield f"to a full device: status {unseen.returncode}, {unseen.stdout!r}"
 
 
-def what_is_wrongly_told(error, length):
+def what_is_wrongly_shown(error, length):
     """The lines that do not fit a file of an entry and then trades, of this length, and that file again."""
     entry = len(large.entry(1))
-    for place, (so_far, messages) in enumerate(re.findall(TOLD, error), 1):
+    for place, (so_far, messages) in enumerate(re.findall(SHOWN, error), 1):
         if not place * 2**26 <= int(so_far) < place * 2**26 + 2**16:
             yield f"line {place} is of byte {so_far}"
         wanted = sum(1 + (size - entry) // len(TRADE) for size in (min(int(so_far), length), int(so_far) - length) if size > 0)
@@ -148,7 +148,7 @@ def what_is_wrongly_told(error, length):
             yield f"{messages} messages at byte {so_far}, not {wanted}"
 
 
-def nothing_is_told_of_a_small_file(program):
+def no_progress_is_shown_of_a_small_file(program):
     written = SNAPSHOT.read_bytes()
     for words, output in ((["check", OPENING], b"ok 5 messages\n"), (["snap", OPENING], written), (["canon", SNAPSHOT], written),
                           (["compare", OPENING, OPENING], b"same\n"), (["join", SNAPSHOT, OPENING], written)):
@@ -204,7 +204,7 @@ FAKE_RT = """#!/bin/sh
 """
 
 
-def the_first_start_tells_what_is_proved(program):
+def the_first_start_says_what_is_proved(program):
     with tempfile.TemporaryDirectory() as folder:
         top = Path(folder)
         for name in ("itchsnap", "crates.txt"):
@@ -214,7 +214,8 @@ def the_first_start_tells_what_is_proved(program):
         (top / "crates/itch_tool/out").mkdir()
         (top / "rt").write_text(FAKE_RT)
         (top / "rt").chmod(0o755)
-        names = "refusing itch_frame itch_codec itch_book itch_market itch_snapshot itch_soup itch_join itch_commands itch_tool".split()
+        names = ("itch_frame itch_codec itch_book itch_market itch_snapshot itch_soup itch_join itch_commands itch_progress itch_sessions "
+                 "itch_tool").split()
         crates = "".join(f"itchsnap: proving {name} ({number} of {len(names)}) ..\n" for number, name in enumerate(names, 1))
 
         def start(**more):
@@ -244,10 +245,10 @@ RUNS = [
     a_snapshot_is_kept_from_a_terminal,
     lines_are_shown_on_a_terminal,
     both_files_may_not_be_standard_input,
-    what_was_read_is_told_every_64_mib,
-    nothing_is_told_of_a_small_file,
+    progress_is_shown_every_64_mib,
+    no_progress_is_shown_of_a_small_file,
     the_program_is_installed_with_its_page,
     what_cannot_be_installed_is_one_line,
     the_page_has_each_command_and_option,
-    the_first_start_tells_what_is_proved,
+    the_first_start_says_what_is_proved,
 ]

@@ -127,11 +127,11 @@ fn only<'a>(alloc: Global) -> Arg<'a> {
         .help("Keep only these locates, as 1,2,40")
 }
 
-/// The flag that has the progress told.
+/// The flag that has the progress shown.
 pub fn progress<'a>(alloc: Global) -> Arg<'a> {
     Arg::new(alloc, "progress")
         .long("progress")
-        .help("Tell on standard error what was read so far, each 64 MiB")
+        .help("Show on standard error how much was read so far, every 64 MiB")
         .action(ArgAction::SetTrue)
 }
 

@@ -8,7 +8,7 @@ use clap::{Arg, ArgMatches, Command, Error};
 use std::alloc::{AllocError, Global};
 use std::fmt::{self, Debug, Formatter};
 
-/// What the words of the command line ask for; with `progress` what was read so far is told on standard error.
+/// What the words of the command line ask for; with `progress` standard error shows how much was read so far.
 #[derive(Clone, Copy, Debug, PartialEq, Eq)]
 pub enum Job<'a> {
     /// A request over files and standard streams.

@@ -6,19 +6,11 @@
 
 mod closed_pipe;
 mod commands;
-mod connection;
-mod ending;
-mod fetch;
 mod job;
-mod login;
 mod opened;
-mod patient;
-mod progress;
 mod request;
 mod run;
-mod serve;
 mod sockets;
-mod tally;
 #[cfg(test)]
 mod tests;
 

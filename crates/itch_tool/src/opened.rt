@@ -1,8 +1,8 @@
 //! What a command reads: a file, or standard input.
 ghost use Rattle.itch_tool.specs.Opening.{opened_remaining};
 
-use crate::progress::{Progress, Watched};
 use itch_commands::{ToolFault, system_fault};
+use itch_progress::{Progress, Watched};
 use std::fs;
 use std::io::{self, Read};
 use std::rt::Files;
@@ -25,7 +25,7 @@ impl<F: Read, I: Read> Read for Opened<F, I> {
     }
 }
 
-/// Opens the file of a path, or standard input where there is none. What is read of it is told to `progress`.
+/// Opens the file of a path, or standard input where there is none. `progress` counts what is read of it.
 ///
 /// An error is `Open`, or `OutOfMemory` where the system has no memory for it.
 pub fn open<'a, R: Files + Input + Eprint>(

@@ -4,7 +4,6 @@ ghost use Rattle.itch_tool.specs.Requests.{IsOverOne, Performs};
 
 use crate::job::Job;
 use crate::opened::open;
-use crate::progress::Progress;
 use crate::request::Request;
 use crate::sockets::{run_fetch, run_serve};
 use itch_commands::canon::canon_blocks;
@@ -17,13 +16,12 @@ use itch_commands::snap::snap_blocks;
 use itch_commands::{ToolFault, read_locates};
 use itch_frame::{BlockReader, Buffered, Counted, CountedRead, CountedWrite};
 use itch_market::LocateSet;
+use itch_progress::Progress;
+use itch_sessions::PIECE;
 use std::alloc::{Allocator, Global};
 use std::io::{self, BufReader, BufWriter, Read, Write};
 use std::net::{Net, TcpListener, TcpStream};
 use std::rt::{Clock, Files};
-
-/// Files, streams and sockets are read and written in pieces of this many bytes.
-pub const PIECE: usize = 1 << 16;
 
 /// Does what is asked for, with its output on standard output. True is status 0, and false status 1 with the output written.
 pub fn run<R>(rt: &R, job: Job<'_>) -> Result<bool, ToolFault>

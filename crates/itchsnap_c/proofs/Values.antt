@@ -26,25 +26,25 @@ use Rattle.std.specs.Box.Ownership.{box_owns}
 use Rattle.std.proofs.ResultValues.{and_tt}
 use Rattle.itchsnap_c.specs.contracts.loose.Loose as loose
 
-abbrev behind : Body → Body
-behind skip = skip
-behind (seq x₀ x₁) = x₁
-behind (assign x₀ x₁) = skip
-behind (block x₀) = skip
-behind (loop x₀) = skip
-behind (cond x₀ x₁ x₂) = skip
-behind (switch x₀ x₁) = skip
-behind (exit x₀) = skip
-behind return = skip
-behind (call x₀ x₁ x₂) = skip
-behind (call_v x₀ x₁ x₂ x₃) = skip
-behind unreachable = skip
-behind (lend_static x₀ x₁ x₂) = skip
+abbrev following : Body → Body
+following skip = skip
+following (seq x₀ x₁) = x₁
+following (assign x₀ x₁) = skip
+following (block x₀) = skip
+following (loop x₀) = skip
+following (cond x₀ x₁ x₂) = skip
+following (switch x₀ x₁) = skip
+following (exit x₀) = skip
+following return = skip
+following (call x₀ x₁ x₂) = skip
+following (call_v x₀ x₁ x₂ x₃) = skip
+following unreachable = skip
+following (lend_static x₀ x₁ x₂) = skip
 
--- the statements behind the first n
+-- the statements after the first n
 abbrev pub after : ℕ → Body → Body
 after zero b = b
-after (suc n) b = after n (behind b)
+after (suc n) b = after n (following b)
 
 abbrev pub both : Val → Val → Val
 both v w = vstruct (vcons v (vcons w vnil))

@@ -1,4 +1,4 @@
--- The numbers that C is told for refusals.
+-- The numbers that stand for refusals in C.
 use Rattle.std.specs.Prelude.{ℕ, Option, None, Some, Result, Ok, Err}
 use Rattle.itch_codec.specs.declared.fault.CodecFault.{CodecFault}
 use Rattle.itch_codec.specs.declared.fault.CodecFault.TheVariants.{Empty, WrongLength, BadText, BadSide, BadNumber}
@@ -13,59 +13,59 @@ use Rattle.itchsnap_c.specs.declared.answers.Answer.{Answer}
 use Rattle.itchsnap_c.specs.declared.answers.Loaded.{Loaded}
 
 -- a code, and what it adds
-abbrev pub told : ℕ → ℕ → Answer
-told code detail = record { detail = detail; code = code }
+abbrev pub coded : ℕ → ℕ → Answer
+coded code detail = record { detail = detail; code = code }
 
 -- the call did what it says
 abbrev pub done : Answer
-done = told 0 0
+done = coded 0 0
 
 -- memory was refused
 abbrev pub no_memory : Answer
-no_memory = told 48 0
+no_memory = coded 48 0
 
 -- the handle does not hold what the call is about
 abbrev pub wrong : Answer
-wrong = told 50 0
+wrong = coded 50 0
 
 -- the handle holds something already
 abbrev pub in_use : Answer
-in_use = told 51 0
+in_use = coded 51 0
 
 abbrev pub codec_answer : CodecFault → Answer
-codec_answer Empty = told 1 0
-codec_answer (WrongLength kind want got) = told 2 want
-codec_answer (BadText offset) = told 3 offset
-codec_answer (BadSide offset) = told 4 offset
-codec_answer BadNumber = told 5 0
+codec_answer Empty = coded 1 0
+codec_answer (WrongLength kind want got) = coded 2 want
+codec_answer (BadText offset) = coded 3 offset
+codec_answer (BadSide offset) = coded 4 offset
+codec_answer BadNumber = coded 5 0
 
--- what is told of a payload with this fault, or with none
+-- what is returned for a payload with this fault, or with none
 abbrev pub fault_answer : Option CodecFault → Answer
 fault_answer None = done
 fault_answer (Some f) = codec_answer f
 
 abbrev pub refusal_answer : Refusal → Answer
-refusal_answer UnknownLocate = told 16 0
-refusal_answer StockMismatch = told 17 0
-refusal_answer ZeroShares = told 18 0
-refusal_answer DuplicateRef = told 19 0
-refusal_answer UnknownRef = told 20 0
-refusal_answer LocateMismatch = told 21 0
-refusal_answer (TooManyShares remain) = told 22 remain
-refusal_answer UnexpectedEnd = told 23 0
+refusal_answer UnknownLocate = coded 16 0
+refusal_answer StockMismatch = coded 17 0
+refusal_answer ZeroShares = coded 18 0
+refusal_answer DuplicateRef = coded 19 0
+refusal_answer UnknownRef = coded 20 0
+refusal_answer LocateMismatch = coded 21 0
+refusal_answer (TooManyShares remain) = coded 22 remain
+refusal_answer UnexpectedEnd = coded 23 0
 refusal_answer OutOfMemory = no_memory
 
 abbrev pub stop_answer : Stop → Answer
 stop_answer End = done
-stop_answer (Frame (Truncated held)) = told 32 held
-stop_answer (Frame (Read error)) = told 34 0
-stop_answer (Frame (Write sent error)) = told 34 0
-stop_answer (Frame TooLong) = told 34 0
+stop_answer (Frame (Truncated held)) = coded 32 held
+stop_answer (Frame (Read error)) = coded 34 0
+stop_answer (Frame (Write sent error)) = coded 34 0
+stop_answer (Frame TooLong) = coded 34 0
 stop_answer (Codec fault) = codec_answer fault
 stop_answer (Rule why) = refusal_answer why
-stop_answer TooManyMessages = told 33 0
+stop_answer TooManyMessages = coded 33 0
 
--- what is told of a message that was taken, or not
+-- what is returned for a message that was taken, or not
 abbrev pub outcome_answer : Result (Unit {0}) Stop → Answer
 outcome_answer (Ok taken) = done
 outcome_answer (Err stop) = stop_answer stop

@@ -16,13 +16,13 @@ use Rattle.itchsnap_c.specs.declared.answers.Joined.{Joined}
 use Rattle.itchsnap_c.specs.declared.object.Object.{Object}
 use Rattle.itchsnap_c.specs.declared.object.Object.TheVariants.{Market, Joiner, Client, Server}
 use Rattle.itchsnap_c.specs.Codes.{done, no_memory}
-use Rattle.itchsnap_c.specs.JoinCodes.{told_number, live_answer, snap_answer, resumed_answer}
+use Rattle.itchsnap_c.specs.JoinCodes.{coded_number, live_answer, snap_answer, resumed_answer}
 use Rattle.itchsnap_c.specs.Objects.{Fills}
 use Rattle.itchsnap_c.specs.Snapshots.{is_listed}
 
 -- the handle holds no joiner
 abbrev pub wrong_joined : Joined
-wrong_joined = told_number 50 0
+wrong_joined = coded_number 50 0
 
 -- a new joiner
 abbrev pub new_joiner : ℕ → Wanted → Object

@@ -18,7 +18,7 @@ use Rattle.itchsnap_c.specs.declared.answers.Login.{Login}
 use Rattle.itchsnap_c.specs.declared.answers.LoginPacket.{LoginPacket}
 use Rattle.itchsnap_c.specs.declared.object.Object.{Object}
 use Rattle.itchsnap_c.specs.declared.object.Object.TheVariants.{Market, Joiner, Client, Server}
-use Rattle.itchsnap_c.specs.Codes.{told, done, wrong}
+use Rattle.itchsnap_c.specs.Codes.{coded, done, wrong}
 use Rattle.itchsnap_c.specs.Objects.{Fills}
 use Rattle.itchsnap_c.specs.Snapshots.{IsNumber}
 use Rattle.itchsnap_c.specs.SoupCodes.{act, client_act, server_act, soup_fault_act, tick_answer}
@@ -41,15 +41,15 @@ config_of login = record { username = login.username; password = login.password;
 abbrev pub FillsClient : Login → ℕ → ℕ → Option Object → Answer → Option Object → Type 0
 FillsClient login number now old answer new =
     (AreTexts login × (number ≤ 10 ^ 19) × Fills old (Client (soup.new_client (credentials_of login) number now)) answer new)
-    ⊎ ((¬ AreTexts login) × (answer ≡ told 3 0) × (new ≡ old))
-    ⊎ ((10 ^ 19 < number) × (answer ≡ told 54 0) × (new ≡ old))
+    ⊎ ((¬ AreTexts login) × (answer ≡ coded 3 0) × (new ≡ old))
+    ⊎ ((10 ^ 19 < number) × (answer ≡ coded 54 0) × (new ≡ old))
 
 -- a handle is filled with a new server's session, unless a text is none or there are too many messages
 abbrev pub FillsServer : Login → ℕ → ℕ → Option Object → Answer → Option Object → Type 0
 FillsServer config total now old answer new =
     (AreTexts config × (total < 10 ^ 19) × Fills old (Server (soup_server.new_server (config_of config) total now)) answer new)
-    ⊎ ((¬ AreTexts config) × (answer ≡ told 3 0) × (new ≡ old))
-    ⊎ ((10 ^ 19 ≤ total) × (answer ≡ told 33 0) × (new ≡ old))
+    ⊎ ((¬ AreTexts config) × (answer ≡ coded 3 0) × (new ≡ old))
+    ⊎ ((10 ^ 19 ≤ total) × (answer ≡ coded 33 0) × (new ≡ old))
 
 -- a block is a server's packet, and is answered so; or it is none, and leaves the session
 abbrev pub ClientHears : List ℕ → ℕ → soup.Client → Act → soup.Client → Type 0

@@ -10,7 +10,7 @@ use Rattle.itch_soup.specs.declared.server.ServerAct.{ServerAct}
 use Rattle.itch_soup.specs.declared.server.ServerAct.TheVariants as server
 use Rattle.itchsnap_c.specs.declared.answers.Act.{Act}
 use Rattle.itchsnap_c.specs.declared.answers.Answer.{Answer}
-use Rattle.itchsnap_c.specs.Codes.{told, done}
+use Rattle.itchsnap_c.specs.Codes.{coded, done}
 
 -- a code, and the number and the detail that it adds
 abbrev pub act : ℕ → ℕ → ℕ → Act
@@ -53,5 +53,5 @@ server_act (server.Fault f) = soup_fault_act f
 -- what is due
 abbrev pub tick_answer : Tick → Answer
 tick_answer tick.Nothing = done
-tick_answer tick.Heartbeat = told 85 0
-tick_answer tick.Lost = told 86 0
+tick_answer tick.Heartbeat = coded 85 0
+tick_answer tick.Lost = coded 86 0

@@ -1,4 +1,4 @@
-//! What C is told: small structs, each with a code.
+//! What C gets: small structs, each with a code.
 //!
 //! A code is 0 where the call did what it says, and else the number of its refusal, as the table in [`codes`](crate::codes) has it.
 

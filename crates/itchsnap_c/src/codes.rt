@@ -66,7 +66,7 @@ pub(crate) fn plain(code: u32) -> Answer
     Answer { detail: 0, code }
 }
 
-/// What is told of a message that was taken or not.
+/// What is returned for a message that was taken or not.
 pub(crate) fn outcome_answer(outcome: &Result<(), Stop>) -> Answer
     ensures { result ≡ outcome_answer outcome.now }
 {
@@ -76,7 +76,7 @@ pub(crate) fn outcome_answer(outcome: &Result<(), Stop>) -> Answer
     }
 }
 
-/// What is told of a payload that spells no message.
+/// What is returned for a payload that spells no message.
 pub(crate) fn codec_answer(fault: &CodecFault) -> Answer
     ensures { result ≡ codec_answer fault.now }
 {
@@ -98,7 +98,7 @@ pub(crate) fn codec_answer(fault: &CodecFault) -> Answer
     }
 }
 
-/// What is told of the end of a replay.
+/// What is returned for the end of a replay.
 pub(crate) fn stop_answer(stop: &Stop) -> Answer
     ensures { result ≡ stop_answer stop.now }
 {
@@ -115,7 +115,7 @@ pub(crate) fn stop_answer(stop: &Stop) -> Answer
     }
 }
 
-/// What is told of a message that a market refuses.
+/// What is returned for a message that a market refuses.
 pub(crate) fn refusal_answer(why: &Refusal) -> Answer
     ensures { result ≡ refusal_answer why.now }
 {
@@ -135,7 +135,7 @@ pub(crate) fn refusal_answer(why: &Refusal) -> Answer
     }
 }
 
-/// What is told where no snapshot was read.
+/// What is returned where no snapshot was read.
 pub(crate) fn not_loaded(code: u32) -> Loaded
     ensures { result ≡ not_loaded code }
 {
@@ -147,7 +147,7 @@ pub(crate) fn not_loaded(code: u32) -> Loaded
     }
 }
 
-// What is told of a message of a snapshot that is refused.
+// What is returned for a message of a snapshot that is refused.
 fn refused_at(place: u64, answer: Answer) -> Loaded
     ensures { result ≡ record { next = 0; place = place; detail = answer.detail; code = answer.code } }
 {
@@ -159,7 +159,7 @@ fn refused_at(place: u64, answer: Answer) -> Loaded
     }
 }
 
-/// What is told of a snapshot file that is refused.
+/// What is returned for a snapshot file that is refused.
 pub(crate) fn snapshot_answer(fault: &SnapFault) -> Loaded
     ensures { result ≡ snapshot_answer fault.now }
 {

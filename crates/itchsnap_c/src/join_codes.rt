@@ -1,6 +1,6 @@
 //! The numbers of what a joiner returns.
 ghost use Rattle.std.specs.Prelude.{◌≡◌};
-ghost use Rattle.itchsnap_c.specs.JoinCodes.{told_number, cause_answer, caused, join_fault_answer, live_answer, snap_answer, resumed_answer};
+ghost use Rattle.itchsnap_c.specs.JoinCodes.{coded_number, cause_answer, caused, join_fault_answer, live_answer, snap_answer, resumed_answer};
 
 use crate::answers::{Answer, Joined};
 use crate::codes::{
@@ -16,7 +16,7 @@ pub(crate) const WRONG_JOINED: Joined = Joined {
     cause: 0,
 };
 
-/// What is told of a message of the live feed.
+/// What is returned for a message of the live feed.
 pub(crate) fn live_answer(taken: &Result<Live, JoinFault>) -> Joined
     ensures { result ≡ live_answer taken.now }
 {
@@ -28,7 +28,7 @@ pub(crate) fn live_answer(taken: &Result<Live, JoinFault>) -> Joined
     }
 }
 
-/// What is told of a message of the snapshot.
+/// What is returned for a message of the snapshot.
 pub(crate) fn snap_answer(taken: &Result<Snap, JoinFault>) -> Joined
     ensures { result ≡ snap_answer taken.now }
 {
@@ -39,7 +39,7 @@ pub(crate) fn snap_answer(taken: &Result<Snap, JoinFault>) -> Joined
     }
 }
 
-/// What is told of a joiner that went on.
+/// What is returned for a joiner that went on.
 pub(crate) fn resumed_answer(taken: &Result<Option<u64>, JoinFault>) -> Joined
     ensures { result ≡ resumed_answer taken.now }
 {
@@ -66,7 +66,7 @@ fn join_fault_answer(fault: &JoinFault) -> Joined
 }
 
 fn numbered(code: u32, number: u64) -> Joined
-    ensures { result ≡ told_number code number }
+    ensures { result ≡ coded_number code number }
 {
     Joined {
         number,

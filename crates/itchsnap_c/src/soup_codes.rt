@@ -13,7 +13,7 @@ pub(crate) const WRONG_ACT: Act = Act {
     code: WRONG_HANDLE,
 };
 
-/// What is told of what a client learns.
+/// What a client learns.
 pub(crate) fn client_act(learned: &ClientAct<'_>) -> Act
     ensures { result ≡ client_act learned.now }
 {
@@ -27,7 +27,7 @@ pub(crate) fn client_act(learned: &ClientAct<'_>) -> Act
     }
 }
 
-/// What is told of what a server does.
+/// What a server does.
 pub(crate) fn server_act(done: &ServerAct) -> Act
     ensures { result ≡ server_act done.now }
 {
@@ -40,7 +40,7 @@ pub(crate) fn server_act(done: &ServerAct) -> Act
     }
 }
 
-/// What is told of a packet that breaks the protocol.
+/// What is returned for a packet that breaks the protocol.
 pub(crate) fn soup_fault_act(fault: &SoupFault) -> Act
     ensures { result ≡ soup_fault_act fault.now }
 {
@@ -63,7 +63,7 @@ pub(crate) fn soup_fault_act(fault: &SoupFault) -> Act
     }
 }
 
-/// What is told of what is due.
+/// What is due.
 pub(crate) fn tick_answer(tick: Tick) -> Answer
     ensures { result ≡ tick_answer tick }
 {

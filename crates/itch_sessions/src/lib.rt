@@ -1,0 +1,20 @@
+//! The two ends of a SoupBinTCP 3.00 session on this machine: a market served over sockets, and a snapshot fetched.
+//!
+//! [`serve_blocks`] reads a day file and serves the snapshot of its market to one connection after another, with a line for each:
+//! the clauses say what is served, and no peer keeps the others waiting for long. [`fetch`] logs in, receives a snapshot and
+//! writes it in canonical form. A [`Login`] is the user name and the password of both.
+#![tactic(auto)]
+
+mod connection;
+mod ending;
+mod fetching;
+mod login;
+mod patient;
+mod serve;
+
+pub use connection::{PIECE, serve_stream};
+pub use ending::{Ending, write_ending};
+pub use fetching::fetch;
+pub use login::Login;
+pub use patient::{Patient, hang_up};
+pub use serve::{serve_blocks, serve_on};

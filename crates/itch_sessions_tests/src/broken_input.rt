@@ -1,0 +1,21 @@
+//! A client that says what no client may: its connection alone ends.
+use crate::sessions::{LOGIN_3, lines};
+use std::io::Write;
+use std::net::{TcpListener, TcpStream};
+use std::test::Fail;
+
+#[test]
+fn a_fault_ends_one_connection_alone(rt: HostRuntime) -> Result<(), Fail> {
+    let listener = TcpListener::bind(&rt, "127.0.0.1:0")?;
+    let address = listener.local_addr()?;
+    let mut first = TcpStream::connect(&rt, address)?;
+    first.write_all(b"\0\0")?;
+    let mut second = TcpStream::connect(&rt, address)?;
+    second.write_all(LOGIN_3)?;
+    let written = lines(&rt, &listener, 2)?;
+    assert_eq!(rt;
+        written.as_slice(),
+        b"connection 1: fault\nconnection 2: accepted from 3, 3 packets\n".as_slice()
+    );
+    Ok(())
+}

@@ -1,0 +1,75 @@
+//! Each read and each write of `fetch` failing in turn: the status is 3. A failed read leaves nothing on the output; a failed write
+//! leaves a beginning of it.
+use crate::sessions::{FROM_1, LOGIN_1, SNAPSHOT};
+use itch_commands::status;
+use itch_frame::BlockReader;
+use itch_frame::testing::{FuseWriter, PieceReader};
+use itch_sessions::{Login, fetch};
+use itch_soup::Credentials;
+use std::alloc::Global;
+use std::process::Abort;
+use std::test::Fail;
+
+fn credentials(rt: &impl Abort) -> Credentials {
+    let Ok(login) = Login::new("user", "secret") else {
+        panic!(rt; "a login");
+    };
+    login.credentials()
+}
+
+// A fetch over these devices fails with status 3.
+fn fetch_fails(
+    rt: &impl Abort,
+    alloc: Global,
+    reader: &mut BlockReader<PieceReader<'_>, Global>,
+    writer: &mut FuseWriter,
+    credentials: &Credentials,
+    out: &mut FuseWriter,
+) {
+    let answer = fetch(alloc, reader, writer, credentials, out);
+    assert_eq!(rt; status(&answer), 3);
+}
+
+// The last 3 bytes are the end of the session, which is not read.
+#[test]
+fn reads_of_a_fetch(rt: HostRuntime) -> Result<(), Fail> {
+    let alloc = rt.alloc();
+    let credentials = credentials(&rt);
+    for read in 1..=FROM_1.len() as u64 - 3 {
+        let mut reader = BlockReader::new(alloc, PieceReader::new(FROM_1, 1, Some(read)))?;
+        let mut writer = FuseWriter::new(alloc, 64, None);
+        let mut out = FuseWriter::new(alloc, 64, None);
+        fetch_fails(&rt, alloc, &mut reader, &mut writer, &credentials, &mut out);
+        assert!(rt; out.written().is_empty(), "read {read}");
+    }
+    Ok(())
+}
+
+#[test]
+fn writes_of_a_login(rt: HostRuntime) -> Result<(), Fail> {
+    let alloc = rt.alloc();
+    let credentials = credentials(&rt);
+    for at in 0..LOGIN_1.len() {
+        let mut reader = BlockReader::new(alloc, PieceReader::new(FROM_1, 64, None))?;
+        let mut writer = FuseWriter::new(alloc, 1, Some(at as u64 + 1));
+        let mut out = FuseWriter::new(alloc, 64, None);
+        fetch_fails(&rt, alloc, &mut reader, &mut writer, &credentials, &mut out);
+        assert_eq!(rt; Some(writer.written()), LOGIN_1.get(..at), "write {at}");
+        assert!(rt; out.written().is_empty(), "write {at}");
+    }
+    Ok(())
+}
+
+#[test]
+fn writes_of_a_fetched_snapshot(rt: HostRuntime) -> Result<(), Fail> {
+    let alloc = rt.alloc();
+    let credentials = credentials(&rt);
+    for at in 0..SNAPSHOT.len() {
+        let mut reader = BlockReader::new(alloc, PieceReader::new(FROM_1, 64, None))?;
+        let mut writer = FuseWriter::new(alloc, 64, None);
+        let mut out = FuseWriter::new(alloc, 1, Some((at as u64).saturating_add(1)));
+        fetch_fails(&rt, alloc, &mut reader, &mut writer, &credentials, &mut out);
+        assert_eq!(rt; Some(out.written()), SNAPSHOT.get(..at), "write {at}");
+    }
+    Ok(())
+}

@@ -1,3 +1,0 @@
-pub mod Fetched
-pub mod Lines
-pub mod Tallying
