@@ -6,7 +6,7 @@
 //! - `broken_input`: each beginning of a file or of a session, and each of its bytes at each value;
 //! - `failing_devices`: each read and each write failing in turn.
 //!
-//! `itch_commands_tests` and the tests of `itch_tool` have the same three of the program's commands.
+//! `itch_commands_tests` and `itch_sessions_tests` have the same three of the program's commands.
 #![tactic(auto)]
 
 #[cfg(test)]

@@ -2,7 +2,7 @@
 //! run meets no refusal. A run ends with the ordinary result or with want of memory; then all is as it was before the call, or
 //! as its page says, and the same call succeeds once there is memory.
 //!
-//! A joiner is in the tests of `itch_join`, the program's commands in those of `itch_commands` and `itch_tool`.
+//! A joiner is in the tests of `itch_join`, the program's commands in those of `itch_commands` and `itch_sessions`.
 mod books;
 mod markets;
 mod sessions;

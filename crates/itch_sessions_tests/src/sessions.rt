@@ -268,3 +268,12 @@ fn faults_of_sessions_have_their_line_and_status(rt: HostRuntime) -> Result<(), 
     }
     Ok(())
 }
+
+#[test]
+fn a_password_is_not_shown(rt: HostRuntime) -> Result<(), Fail> {
+    let login = Login::new("user", "secret")?;
+    let shown = format!(in rt.alloc(); "{login:?}")?;
+    assert!(rt; shown.contains("user"));
+    assert!(rt; !shown.contains("secret"));
+    Ok(())
+}

@@ -1,4 +1,3 @@
-pub mod Requests
-pub mod Jobs
+pub mod Performing
 pub mod Opening
 pub mod Endings

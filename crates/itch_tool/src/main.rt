@@ -1,26 +1,20 @@
 //! `itchsnap`: market snapshots from day files of TotalView-ITCH 5.0 messages.
 //!
-//! The commands over files are those of `itch_commands`; `run` opens files and standard streams for them. `serve` and `fetch` are
-//! the two ends of a SoupBinTCP 3.00 session, over sockets of this machine.
+//! `itch_words` reads the command line. The commands over files are those of `itch_commands`; `run` opens files and standard streams
+//! for them. `serve` and `fetch` are those of `itch_sessions`, over sockets of this machine.
 #![tactic(auto)]
 
 mod closed_pipe;
-mod commands;
-mod job;
 mod opened;
-mod request;
 mod run;
 mod sockets;
-#[cfg(test)]
-mod tests;
 
 use crate::closed_pipe::{ends_by_closed_pipe, final_status};
-use crate::commands::usage_fault;
-use crate::job::read_job;
 use crate::run::run;
 use clap::Error;
 use clap::error::ErrorKind;
 use itch_commands::{ToolFault, system_fault};
+use itch_words::{read_job, usage_fault};
 use std::alloc::{AllocError, Global};
 use std::env::{self, Args};
 use std::io::{self, IsTerminal};

@@ -1,10 +1,9 @@
 //! The commands over files and standard streams.
 ghost use Rattle.std.specs.Option.{option_copied};
-ghost use Rattle.itch_tool.specs.Requests.{IsOverOne, Performs};
+ghost use Rattle.itch_tool.specs.Performing.{Performs};
+ghost use Rattle.itch_words.specs.Requests.{IsOverOne};
 
-use crate::job::Job;
 use crate::opened::open;
-use crate::request::Request;
 use crate::sockets::{run_fetch, run_serve};
 use itch_commands::canon::canon_blocks;
 use itch_commands::check::check_blocks;
@@ -18,6 +17,7 @@ use itch_frame::{BlockReader, Buffered, Counted, CountedRead, CountedWrite};
 use itch_market::LocateSet;
 use itch_progress::Progress;
 use itch_sessions::PIECE;
+use itch_words::{Job, Request};
 use std::alloc::{Allocator, Global};
 use std::io::{self, BufReader, BufWriter, Read, Write};
 use std::net::{Net, TcpListener, TcpStream};

@@ -1,11 +1,11 @@
 //! The two ends of a session on this machine.
 
-use crate::job::Peer;
 use crate::opened::open;
 use itch_commands::{ToolFault, system_fault};
 use itch_frame::{BlockReader, Buffered, Counted};
 use itch_progress::Progress;
 use itch_sessions::{Login, PIECE, fetch, serve_blocks};
+use itch_words::Peer;
 use std::io::{self, BufReader, BufWriter, Write};
 use std::net::{Ipv4Addr, Net, TcpListener, TcpStream};
 use std::rt::{Clock, Files};

@@ -1,8 +1,8 @@
 -- What the program is asked to do.
 use Rattle.std.specs.Prelude.{Bool, true, false}
-use Rattle.itch_tool.specs.declared.job.Job.{Job}
-use Rattle.itch_tool.specs.declared.job.Job.TheVariants.{Files, Serve, Fetch}
-use Rattle.itch_tool.specs.Requests.{is_binary}
+use Rattle.itch_words.specs.declared.job.Job.{Job}
+use Rattle.itch_words.specs.declared.job.Job.TheVariants.{Files, Serve, Fetch}
+use Rattle.itch_words.specs.Requests.{is_binary}
 
 -- the jobs whose output is a snapshot, which is no text
 abbrev pub writes_snapshot : Job → Bool

@@ -1,6 +1,6 @@
 //! What the program is asked to do: a request over files, or a session with a peer on this machine.
 ghost use Rattle.std.specs.Prelude.{◌≡◌};
-ghost use Rattle.itch_tool.specs.Jobs.{writes_snapshot};
+ghost use Rattle.itch_words.specs.Jobs.{writes_snapshot};
 
 use crate::commands::{command, progress, usage_fault};
 use crate::request::{Request, read_path, read_request};

@@ -2,7 +2,6 @@
 
 use crate::job::{Job, Peer, read_job};
 use crate::request::Request;
-use itch_sessions::Login;
 use std::test::Fail;
 
 #[test]
@@ -290,22 +289,14 @@ fn words_of_sessions_are_read(rt: HostRuntime) -> Result<(), Fail> {
     Ok(())
 }
 
-fn login() -> Option<Login> {
-    match Login::new("user", "secret") {
-        Ok(login) => Some(login),
-        Err(_) => None,
-    }
-}
-
 #[test]
-fn passwords_are_not_shown(rt: HostRuntime) -> Result<(), Fail> {
+fn a_password_is_not_shown(rt: HostRuntime) -> Result<(), Fail> {
     let peer = Peer {
         port: 1,
         user: "user",
         password: "secret",
     };
-    let login = login().ok_or("a login")?;
-    let shown = format!(in rt.alloc(); "{peer:?} {login:?}")?;
+    let shown = format!(in rt.alloc(); "{peer:?}")?;
     assert!(rt; shown.contains("user"));
     assert!(rt; !shown.contains("secret"));
     Ok(())

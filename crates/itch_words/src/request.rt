@@ -1,6 +1,6 @@
 //! What the words of the command line ask for.
 ghost use Rattle.std.specs.Prelude.{◌≡◌, ◌↔◌, Some, IsNone, IfSome, codes};
-ghost use Rattle.itch_tool.specs.Requests.{is_binary};
+ghost use Rattle.itch_words.specs.Requests.{is_binary};
 
 use crate::commands::usage_fault;
 use clap::{ArgMatches, Error};
