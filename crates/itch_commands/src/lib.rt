@@ -4,6 +4,13 @@
 //! which it wants memory; the other, with `_blocks` in its name, takes the readers of blocks. Both return true, or false where
 //! `compare` finds two markets that differ and `canon` a file that is not canonical. A [`ToolFault`] says why a command failed,
 //! and has its line and the status that a program ends with.
+//!
+//! ```
+//! let file = b"\0\x0cS\0\0\0\0\0\0\0\0\0\0O";
+//! let mut out = FuseWriter::new(alloc, 64, None);
+//! assert!(check(alloc, Counted::new(&file[..]), &mut out)?);
+//! assert_eq!(out.written(), b"ok 1 messages\n");
+//! ```
 #![tactic(auto)]
 
 mod book;

@@ -3,6 +3,12 @@
 //! [`serve_blocks`] reads a day file and serves the snapshot of its market to one connection after another, with a line for each:
 //! the clauses say what is served, and no peer keeps the others waiting for long. [`fetch`] logs in, receives a snapshot and
 //! writes it in canonical form. A [`Login`] is the user name and the password of both.
+//!
+//! ```
+//! let login = Login::new("desk", "secret")?;
+//! assert_eq!(login.config().session.text(), "ITCHSNAP");
+//! assert_eq!(login.credentials().username.text(), "desk");
+//! ```
 #![tactic(auto)]
 
 mod connection;

@@ -2,13 +2,18 @@
 //!
 //! [`read_job`] makes a [`Job`] of them: a [`Request`] over files, or a session with a [`Peer`] on this machine. Anything else is a
 //! usage fault, or a request for help or the version.
+//!
+//! ```
+//! // of `itchsnap check day.itch`
+//! let job = read_job(alloc, words.as_slice(), false)?;
+//! let request = Request::Check { file: Some("day.itch") };
+//! assert_eq!(job, Job::Files { request, progress: false });
+//! ```
 #![tactic(auto)]
 
 mod commands;
 mod job;
 mod request;
-#[cfg(test)]
-mod tests;
 
 pub use commands::usage_fault;
 pub use job::{Job, Peer, read_job};

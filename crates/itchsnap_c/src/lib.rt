@@ -3,6 +3,16 @@
 //! C keeps its objects behind a [`Handle`](handle::Handle): all zero at first, filled by a call with `new` or `load` in its name,
 //! and emptied by [`itchsnap_free`](handle::itchsnap_free). Every export returns for every handle: one that does not hold what
 //! the call is about is refused with a code, and is left as it was.
+//!
+//! ```c
+//! itchsnap_handle market = ITCHSNAP_NONE;
+//! itchsnap_market_new(&market);
+//! itchsnap_answer answer = itchsnap_market_apply(&market, payload, len);
+//! itchsnap_order best = itchsnap_best(&market, 1, true);
+//! itchsnap_free(&market);
+//! ```
+//!
+//! `c/demo.c` calls every export so.
 #![tactic(auto)]
 
 ghost use Rattle.std.specs.Prelude.{◌≡◌};

@@ -1,7 +1,6 @@
 //! What the words of the command line ask for.
 
-use crate::job::{Job, Peer, read_job};
-use crate::request::Request;
+use itch_words::{Job, Peer, Request, read_job};
 use std::test::Fail;
 
 #[test]
@@ -285,6 +284,27 @@ fn words_of_sessions_are_read(rt: HostRuntime) -> Result<(), Fail> {
             (Err(error), Err(status)) => assert_eq!(rt; error.exit_code(), status, "{line}"),
             _ => assert!(rt; false, "{line}"),
         }
+    }
+    Ok(())
+}
+
+// The example of the crate's page.
+#[test]
+fn a_check_is_asked_for(rt: HostRuntime) -> Result<(), Fail> {
+    let alloc = rt.alloc();
+    let mut words: Vec<String> = vec![in alloc; String::from_str(alloc, "itchsnap")?]?;
+    words.push(String::from_str(alloc, "check")?)?;
+    words.push(String::from_str(alloc, "day.itch")?)?;
+    let request = Request::Check {
+        file: Some("day.itch"),
+    };
+    let wanted = Job::Files {
+        request,
+        progress: false,
+    };
+    match read_job(alloc, words.as_slice(), false) {
+        Ok(job) => assert!(rt; job == wanted),
+        Err(_) => panic!(rt; "a usage fault"),
     }
     Ok(())
 }

@@ -1,0 +1,15 @@
+//! The example of the page of `itch_commands`, run.
+
+use itch_commands::check::check;
+use itch_frame::Counted;
+use itch_frame::testing::FuseWriter;
+use std::test::Fail;
+
+#[test]
+fn a_file_is_checked(rt: HostRuntime) -> Result<(), Fail> {
+    let file = b"\0\x0cS\0\0\0\0\0\0\0\0\0\0O";
+    let mut out = FuseWriter::new(rt.alloc(), 64, None);
+    assert!(rt; check(rt.alloc(), Counted::new(&file[..]), &mut out)?);
+    assert_eq!(rt; out.written(), b"ok 1 messages\n".as_slice());
+    Ok(())
+}

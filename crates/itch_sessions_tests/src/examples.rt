@@ -1,0 +1,22 @@
+//! The examples of the crates' pages, run.
+
+use itch_progress::Tally;
+use itch_sessions::Login;
+use std::test::Fail;
+
+#[test]
+fn whole_messages_are_counted(rt: HostRuntime) -> Result<(), Fail> {
+    let mut tally = Tally::new();
+    tally.pass(b"\0\x02hi\0\x02");
+    tally.pass(b"ho");
+    assert_eq!(rt; tally.messages(), 2);
+    Ok(())
+}
+
+#[test]
+fn a_login_is_for_both_ends(rt: HostRuntime) -> Result<(), Fail> {
+    let login = Login::new("desk", "secret")?;
+    assert_eq!(rt; login.config().session.text(), "ITCHSNAP");
+    assert_eq!(rt; login.credentials().username.text(), "desk");
+    Ok(())
+}
