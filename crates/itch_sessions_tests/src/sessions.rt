@@ -271,7 +271,9 @@ fn faults_of_sessions_have_their_line_and_status(rt: HostRuntime) -> Result<(), 
 
 #[test]
 fn a_password_is_not_shown(rt: HostRuntime) -> Result<(), Fail> {
-    let login = Login::new("user", "secret")?;
+    let Ok(login) = Login::new("user", "secret") else {
+        panic!(rt; "a login");
+    };
     let shown = format!(in rt.alloc(); "{login:?}")?;
     assert!(rt; shown.contains("user"));
     assert!(rt; !shown.contains("secret"));
