@@ -1,5 +1,5 @@
 -- The orders at a price are those of its queue.
-use Rattle.std.proofs.Common.{◌≡◌, ℕ, true, false, List, [], ◌∷◌, ◌++◌, filter, Option, Some, None, refl, sym, ap, ◌∙◌, subst, arith}
+use Rattle.std.proofs.Common.{◌≡◌, ℕ, true, false, List, [], ◌∷◌, ◌++◌, filter, Option, Some, None, refl, sym, ap, ◌∙◌, subst, arith, append-nil}
 use Rattle.std.specs.declared.cmp.Ordering.{Ordering}
 use Rattle.std.specs.Ordering.{nat_cmp, ordering_then, is_eq}
 use Rattle.std.specs.declared.cmp.Ordering.TheVariants.{Less, Equal, Greater}
@@ -99,12 +99,8 @@ module _ (v : Seen) where
       (λ h. let is : e.0 ≡ (l, p) = sym (place_is (l, p) e.0 h) in
       let all : AllByRecursion (λ x. is_level l s p x ≡ true) (line v e.1) = subst (λ (a : Place). AllByRecursion (λ x. is_level a.0 s a.1 x ≡ true) (line v e.1)) is at.0 in
       let rest = none_left l s p es (subst (λ (a : Place). AllByRecursion (λ (k : Place). place_cmp a k ≡ Less) (keys_of es)) is (sorted_head place_cmp e.0 (keys_of es) sorted)) at.1 in
-      simp h (ap (λ t. filter (is_level l s p) (line v e.1) ++ t) rest ∙ append_nil (filter (is_level l s p) (line v e.1)) ∙ filter_all (is_level l s p) (line v e.1) all))
+      simp h (ap (λ t. filter (is_level l s p) (line v e.1) ++ t) rest ∙ append-nil (filter (is_level l s p) (line v e.1)) ∙ filter_all (is_level l s p) (line v e.1) all))
       (λ h. simp h (ap (λ t. t ++ filter (is_level l s p) (joined v es)) (none_here l s p e h at.0) ∙ level_joined l s p es (sorted_tail place_cmp e.0 (keys_of es) sorted) at.1))
-    where
-      append_nil : (xs : List Order) → xs ++ [] ≡ xs
-      append_nil [] = refl
-      append_nil (x ∷ xs) = ap (λ t. x ∷ t) (append_nil xs)
 
   -- and none of them is on the other side
   pub level_other : (l : ℕ) (s t : Side) (p : ℕ) (es : List (Place × ℕ)) → same_side s t ≡ false → AllByRecursion (IsAt v t) es → filter (is_level l s p) (joined v es) ≡ []
@@ -137,11 +133,7 @@ module _ (v : Seen) where
       → level (joined v bids ++ joined v asks) l s p ≡ line_at v (queue_of_side s bids asks l p)
   level_both l Buy p bids asks b a at =
       filter-append (is_level l Buy p) (joined v bids) (joined v asks) ∙ ap (λ t. filter (is_level l Buy p) (joined v bids) ++ t) (level_other l Buy Sell p asks refl (by_entries (IsAt v Sell) asks a (at Sell)))
-      ∙ append_nil (filter (is_level l Buy p) (joined v bids)) ∙ level_joined l Buy p bids b (by_entries (IsAt v Buy) bids b (at Buy))
-    where
-      append_nil : (xs : List Order) → xs ++ [] ≡ xs
-      append_nil [] = refl
-      append_nil (x ∷ xs) = ap (λ t. x ∷ t) (append_nil xs)
+      ∙ append-nil (filter (is_level l Buy p) (joined v bids)) ∙ level_joined l Buy p bids b (by_entries (IsAt v Buy) bids b (at Buy))
   level_both l Sell p bids asks b a at =
       filter-append (is_level l Sell p) (joined v bids) (joined v asks) ∙ ap (λ t. t ++ filter (is_level l Sell p) (joined v asks)) (level_other l Sell Buy p bids refl (by_entries (IsAt v Buy) bids b (at Buy)))
       ∙ level_joined l Sell p asks a (by_entries (IsAt v Sell) asks a (at Sell))

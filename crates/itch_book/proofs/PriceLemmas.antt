@@ -2,19 +2,14 @@
 use Rattle.std.proofs.Common.{◌≡◌, ℕ, true, false, List, [], ◌∷◌, Option, Some, None, IfSome, IfNone, Contains, refl, sym, ◌∙◌, subst, arith}
 use Rattle.std.specs.List.{AllByRecursion}
 use Rattle.std.proofs.lemmas.Bool.{and_parts, false≢true}
-use Rattle.std.proofs.lemmas.Bool.Decides.{nat_tests}
 use Rattle.std.proofs.lemmas.List.Elements.{Contains-append_right}
 use Rattle.itch_codec.specs.declared.orders.Side.{Side}
-use Rattle.itch_codec.specs.declared.orders.Side.TheVariants.{Buy, Sell}
 use Rattle.itch_book.specs.declared.order.Order.{Order}
 use Rattle.itch_book.specs.StableLists.{IsInOrder}
 use Rattle.itch_book.specs.Orders.{is_better, is_of, is_worse, is_next, next_price, stands_before, IsBook}
 use Rattle.itch_book.proofs.Lists.{by_test, All-weaker_rec}
 use Rattle.itch_book.proofs.OrderLemmas.{stands_of}
-
-not_itself : (s : Side) (p : ℕ) → is_better s p p ≡ false
-not_itself Buy p = grind (arith, nat_tests)
-not_itself Sell p = grind (arith, nat_tests)
+use Rattle.itch_book.proofs.QueueLemmas.{not_itself}
 
 module _ (l : ℕ) (s : Side) (last : Option ℕ) where
   found_here : (y : Order) (ys : List Order) → is_next l s last y ≡ true → next_price (y ∷ ys) l s last ≡ Some y.price

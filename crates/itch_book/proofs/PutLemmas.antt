@@ -1,5 +1,5 @@
 -- An order put last in the queue of its price.
-use Rattle.std.proofs.Common.{◌≡◌, ℕ, ◌+◌, ◌^◌, ◌<◌, true, false, eqb, List, [], ◌∷◌, ◌++◌, length, filter, Option, Some, None, IsSome, refl, sym, ap, ◌∙◌, subst, arith, length-append}
+use Rattle.std.proofs.Common.{◌≡◌, ℕ, ◌+◌, ◌^◌, ◌<◌, true, false, eqb, List, [], ◌∷◌, ◌++◌, length, filter, Option, Some, None, IsSome, refl, sym, ap, ◌∙◌, subst, arith, length-append, append-nil}
 use Rattle.std.specs.List.{AllByRecursion, list_any}
 use Rattle.std.proofs.lemmas.Bool.{false≢true}
 use Rattle.std.proofs.lemmas.Bool.Decides.{nat_tests}
@@ -96,11 +96,7 @@ module _ (references references' : List (ℕ × ℕ)) (bids asks : List (Place �
       ∙ sym (filter-append (is_level l s p) (indexed w bids asks) (x ∷ []))
     where
       elsewhere : (t : List Order) → is_level l s p x ≡ false → t ≡ t ++ filter (is_level l s p) (x ∷ [])
-      elsewhere t n = sym (simp n (append_nil t))
-        where
-          append_nil : (xs : List Order) → xs ++ [] ≡ xs
-          append_nil [] = refl
-          append_nil (y ∷ ys) = ap (λ t. y ∷ t) (append_nil ys)
+      elsewhere t n = sym (simp n (append-nil t))
 
       own_queue : is_level l s p x ≡ true → queue_of_side s bids asks l p ≡ Some q
       own_queue h =

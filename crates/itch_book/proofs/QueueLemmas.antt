@@ -15,9 +15,10 @@ use Rattle.itch_book.proofs.Distinct.{has_own, head_distinct, tail_distinct, IsD
 use Rattle.itch_book.proofs.OrderLemmas.{better_order, filter_alike}
 use Rattle.itch_book.proofs.Rises.{Rises, Rises-weaker, Rises-filter, Rises-from_places, places_exactly, Rises-same, Stably, Rises-in_order, IsPermutation-in_order, short_same}
 
-better_than_none : (s : Side) (p : ℕ) → is_better s p p ≡ false
-better_than_none Buy p = grind (arith, nat_tests)
-better_than_none Sell p = grind (arith, nat_tests)
+-- no price is better than itself
+pub not_itself : (s : Side) (p : ℕ) → is_better s p p ≡ false
+not_itself Buy p = grind (arith, nat_tests)
+not_itself Sell p = grind (arith, nat_tests)
 
 -- of two prices of which none is better, both are one
 price_is : (s : Side) (p q : ℕ) → is_better s p q ≡ false → is_better s q p ≡ false → p ≡ q
@@ -75,8 +76,8 @@ arrival_rises (x ∷ xs) d =
 -- priority goes one way
 pub priority_one_way : (orders : List Order) (s : Side) (x y : Order) → HasPriority orders s x y → HasPriority orders s y x → ⊥
 priority_one_way orders s x y (inl h) (inl k) = false≢true (sym ((better_order s).one_way x y h) ∙ k)
-priority_one_way orders s x y (inl h) (inr k) = false≢true (sym (better_than_none s x.price) ∙ subst (λ p. is_better s x.price p ≡ true) k.0 h)
-priority_one_way orders s x y (inr h) (inl k) = false≢true (sym (better_than_none s y.price) ∙ subst (λ p. is_better s y.price p ≡ true) h.0 k)
+priority_one_way orders s x y (inl h) (inr k) = false≢true (sym (not_itself s x.price) ∙ subst (λ p. is_better s x.price p ≡ true) k.0 h)
+priority_one_way orders s x y (inr h) (inl k) = false≢true (sym (not_itself s y.price) ∙ subst (λ p. is_better s y.price p ≡ true) h.0 k)
 priority_one_way orders s x y (inr h) (inr k) = let one = h.1 in let other = k.1 in omega arith
 
 pub queue_rises : (orders : List Order) (l : ℕ) (s : Side) → IsDistinct orders → Rises (HasPriority orders s) (queue orders l s)

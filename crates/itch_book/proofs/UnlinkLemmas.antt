@@ -1,5 +1,5 @@
 -- A node taken out of its queue, and one put last.
-use Rattle.std.proofs.Common.{◌≡◌, ℕ, true, false, eqb, List, [], ◌∷◌, ◌++◌, Option, Some, None, refl, sym, ap, ◌∙◌, subst}
+use Rattle.std.proofs.Common.{◌≡◌, ℕ, true, false, eqb, List, [], ◌∷◌, ◌++◌, Option, Some, None, refl, sym, ap, ◌∙◌, subst, append-nil}
 use Rattle.std.specs.List.{AllByRecursion, IsDistinct, list_any}
 use Rattle.std.proofs.lemmas.Bool.{false≢true}
 use Rattle.itch_book.specs.declared.queues.Node.{Node}
@@ -130,7 +130,7 @@ pub pushed_linked : (f : Nodes) (q : ℕ) (ks : List ℕ) (k : ℕ) (x : Node) �
     → x.queue ≡ q → x.before ≡ last_or None ks → x.after ≡ None → NotIn k ks → IsLinked (pushed k x f) q None (ks ++ k ∷ []) None
 pushed_linked f q ks k x d h vacant queue before after out =
     let f1 : Nodes = at_key k (Some x) f in
-    let d' : IsDistinct eqb (ks ++ []) = subst (IsDistinct eqb) (sym (append_nil ks)) d in
+    let d' : IsDistinct eqb (ks ++ []) = subst (IsDistinct eqb) (sym (append-nil ks)) d in
     let ks1 = frame_at f q None ks None k (Some x) out h in
     let ks2 : IsLinked (with_after (last_or None ks) (Some k) f1) q None ks (Some k) = bridge_after f1 q ks [] None (Some k) d' ks1 in
     let e = eqb_itself k in
@@ -140,10 +140,6 @@ pushed_linked f q ks k x d h vacant queue before after out =
     subst (λ b. IsLinked (with_after b (Some k) f1) q None (ks ++ k ∷ []) None) (sym before)
     (linked_joined (with_after (last_or None ks) (Some k) f1) q None ks (k ∷ []) None ks2 new2)
   where
-    append_nil : (ks : List ℕ) → ks ++ [] ≡ ks
-    append_nil [] = refl
-    append_nil (k ∷ ks) = ap (λ t. k ∷ t) (append_nil ks)
-
     kept_last : (zs : List ℕ) → NotIn k zs → IsLinked (at_key k (Some x) f) q (last_or None ks) (k ∷ []) None → IsLinked (with_after (last_or None zs) (Some k) (at_key k (Some x) f)) q (last_or None ks) (k ∷ []) None
     kept_last [] n h = h
     kept_last (z ∷ zs) n h =

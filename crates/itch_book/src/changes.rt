@@ -1,5 +1,5 @@
 //! Changes of a list in snapshot order: orders put in, lessened and taken out.
-ghost use Rattle.std.specs.Prelude.{◌≡◌, ◌-◌, ◌<◌, ◌≤◌, List, None, Some, IsOk, IsSome, IsSomeAnd, IfSome, OnOk, OnErr, vec_len, vec_capacity};
+ghost use Rattle.std.specs.Prelude.{◌≡◌, ◌-◌, ◌<◌, ◌≤◌, None, Some, IsOk, IsSome, IsSomeAnd, IfSome, OnOk, OnErr, vec_len, vec_capacity};
 ghost use Rattle.itch_book.specs.Orders.{IsBook, get, lay, added, taken, without, replaced};
 ghost use Rattle.itch_book.specs.TakenShares.{IsLeft};
 

@@ -1,18 +1,14 @@
 //! An index of orders: hashed references, and queues under ordered prices.
-ghost use Rattle.std.specs.Prelude.{◌≡◌, ℕ, ◌<◌, ◌≤◌, ◌-◌, List, [], length, Some, None, cond, option_map, eqb, true, find, OnOk, OnErr, IfOk, IsSome, IsSomeAnd, IfSome};
+ghost use Rattle.std.specs.Prelude.{◌≡◌, ℕ, ◌<◌, ◌≤◌, ◌-◌, List, [], length, Some, None, eqb, true, find, OnOk, OnErr, IfOk, IsSome, IsSomeAnd, IfSome};
 ghost use Rattle.std.specs.HashMap.{spare};
-ghost use Rattle.std.specs.List.Sorted.{IsStrictlySortedBy};
-ghost use Rattle.std.specs.Map.{keys_of};
 ghost use Rattle.std.specs.List.{list_any};
-ghost use Rattle.std.specs.BTreeMap.{is_at};
-ghost use Rattle.std.specs.Map.Iter.{deref_pair};
 ghost use Rattle.itch_codec.specs.declared.orders.Side.{Side};
 ghost use Rattle.itch_codec.specs.declared.orders.Side.TheVariants.{Buy, Sell};
 ghost use Rattle.itch_book.specs.Queued.{seen, keys_at, order_at, found};
 ghost use Rattle.std.specs.Option.{option_copied};
 ghost use Rattle.itch_book.specs.Orders.{get, is_in, is_of, first, after, next_price, level_total, lay, added, taken, without, replaced, IsBook};
 ghost use Rattle.itch_book.specs.TakenShares.{IsLeft};
-ghost use Rattle.itch_book.specs.Indexed.{node_of, queue_at as on_side, queue_of_side, is_there, place_cmp, Place, indexed, IsIndexed, IsBusy, IsBusyBut, IsWhole, IsNextOr, level_entry};
+ghost use Rattle.itch_book.specs.Indexed.{node_of, queue_of_side, Place, indexed, IsIndexed, IsBusy, IsBusyBut, IsWhole};
 
 use crate::order::{Order, Taken};
 use crate::prices::Prices;

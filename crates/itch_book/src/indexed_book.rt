@@ -1,5 +1,4 @@
 //! A book with an index: hashed references, and queues of orders under ordered prices.
-ghost use Rattle.std.specs.Prelude.{List};
 ghost use Rattle.itch_book.specs.Orders.{IsBook};
 ghost use Rattle.itch_book.specs.BookLists.{IsBook-prop};
 

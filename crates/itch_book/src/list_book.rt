@@ -1,5 +1,4 @@
 //! A book that is one list.
-ghost use Rattle.std.specs.Prelude.{List};
 ghost use Rattle.itch_book.specs.Orders.{IsBook};
 ghost use Rattle.itch_book.specs.BookLists.{IsBook-prop};
 

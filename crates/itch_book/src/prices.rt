@@ -1,5 +1,5 @@
 //! The queues of price levels, for each side in order of locate and price.
-ghost use Rattle.std.specs.Prelude.{◌≡◌, ℕ, [], Some, None, cond, option_map, OnOk, OnErr, IfOk, Ok, ◌<◌};
+ghost use Rattle.std.specs.Prelude.{◌≡◌, ℕ, [], Some, None, cond, option_map, OnErr, IfOk, Ok, ◌<◌};
 ghost use Rattle.std.specs.List.Sorted.{IsStrictlySortedBy};
 ghost use Rattle.std.specs.Map.{keys_of};
 ghost use Rattle.std.specs.BTreeMap.{is_at};

@@ -1,5 +1,5 @@
 //! Queues of orders: nodes linked both ways, and for each queue its ends and totals.
-ghost use Rattle.std.specs.Prelude.{◌≡◌, ℕ, ◌+◌, ◌-◌, ◌<◌, ◌≤◌, ◌^◌, List, [], ◌∷◌, ◌++◌, IsSome, Some, None, Option, option_map, OnOk, OnErr, length, eqb, true, IsSomeAnd};
+ghost use Rattle.std.specs.Prelude.{◌≡◌, ℕ, ◌+◌, ◌-◌, ◌<◌, ◌≤◌, ◌^◌, List, [], ◌∷◌, ◌++◌, IsSome, Some, None, Option, option_map, OnOk, eqb, true, IsSomeAnd};
 ghost use Rattle.std.specs.List.{list_any};
 ghost use Rattle.slab.specs.Slab.{get, slab_len, ContainsKey};
 ghost use Rattle.itch_book.specs.Links.{at_key, with_after, with_before, unlinked_head, pushed_head, cond_none, first_or};

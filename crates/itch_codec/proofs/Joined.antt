@@ -1,5 +1,6 @@
 -- Fields that stand one after the other: what stands in their joined bytes, and that those are the payload.
 use Rattle.std.proofs.Common.{◌≡◌, ℕ, ◌+◌, ◌-◌, ◌<◌, ◌≤◌, ◌^◌, ◌==◌, ◌&&◌, Bool, true, false, not, List, [], ◌∷◌, ◌++◌, length, drop, refl, sym, ap, ◌∙◌, subst, arith}
+use Rattle.std.proofs.lemmas.Bool.{and_parts}
 use Rattle.std.proofs.lemmas.Bool.Decides.{nat_tests}
 use Rattle.std.proofs.lemmas.List.{append-nil, append_assoc, take_at, drop_at, length-append, get_or_at, drop_all, take-append-drop, drop-drop, drop_more}
 use Rattle.byteorder.specs.Endian.{big_number, big_bytes}
@@ -40,11 +41,6 @@ record IsNext (at end : ℕ) (c : Column) (cs : List Column) : Type 0 where
 
 same : (m n : ℕ) → (m == n) ≡ true → m ≡ n
 same m n h = grind (arith, nat_tests)
-
-both_true : (a b : Bool) → (a && b) ≡ true → (a ≡ true) × (b ≡ true)
-both_true true true h = (refl, refl)
-both_true true false h = absurd (cc)
-both_true false b h = absurd (cc)
 
 three_true : (a b c : Bool) → (a && (b && c)) ≡ true → (a ≡ true) × (b ≡ true) × (c ≡ true)
 three_true true true true h = (refl, refl, refl)
@@ -158,7 +154,7 @@ has_no_digits [] = true
 has_no_digits (c ∷ cs) = not (is_digits c.class) && has_no_digits cs
 
 no_digits : (c : Column) (cs : List Column) → has_no_digits (c ∷ cs) ≡ true → (not (is_digits c.class) ≡ true) × (has_no_digits cs ≡ true)
-no_digits c cs h = both_true _ _ h
+no_digits c cs h = and_parts _ _ h
 
 -- a number's bytes are those of its field
 number_bytes : (offset width n : ℕ) (payload : List ℕ) → AreBytes payload → offset + width ≤ length payload → n ≡ number_at offset width payload

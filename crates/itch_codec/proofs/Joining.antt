@@ -1,4 +1,4 @@
 -- Fields' bytes, one after the other.
-use Rattle.std.proofs.lemmas.List.{append_assoc, append-nil, length-append}
+use Rattle.std.proofs.lemmas.List.{append_assoc, append-nil}
 
 pub ruleset joining = (append_assoc, append-nil)

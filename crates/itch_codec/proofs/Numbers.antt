@@ -1,5 +1,5 @@
 -- Numbers in twenty digits: what is written spells the number, and reading finds what is spelled.
-use Rattle.std.proofs.Common.{◌≡◌, ℕ, zero, suc, ◌+◌, ◌-◌, ◌*◌, ◌<◌, ◌≤◌, ◌^◌, ◌==◌, ◌&&◌, Bool, true, false, cond, leb, List, [], ◌∷◌, ◌++◌, length, take, drop, replicate, get_or, Option, None, Some, refl, sym, ap, ◌∙◌, arith, rules}
+use Rattle.std.proofs.Common.{◌≡◌, ℕ, zero, suc, ◌+◌, ◌-◌, ◌*◌, ◌<◌, ◌≤◌, ◌^◌, ◌&&◌, Bool, true, false, cond, leb, List, [], ◌∷◌, ◌++◌, length, take, drop, replicate, get_or, Some, refl, sym, ap, ◌∙◌, arith}
 use Rattle.std.specs.Prelude.{decimal}
 use Rattle.std.specs.Char.{is_ascii_digit, digit_value}
 use Rattle.std.specs.List.{prefix_len, list_all}
@@ -8,6 +8,7 @@ use Rattle.std.specs.Str.Parse.{digits_value}
 use Rattle.std.proofs.Math.Numerals.{one-add}
 use Rattle.std.proofs.lemmas.List.{append-nil, take_at, drop_at, take-append-drop, length-append, length-replicate, length-take, length-drop, take-replicate}
 use Rattle.std.proofs.lemmas.List.Sums.{prefix_len-le-length, take_while-cons}
+use Rattle.std.proofs.lemmas.Bool.{and_parts}
 use Rattle.std.proofs.lemmas.Bool.Decides.{nat_tests}
 use Rattle.std.proofs.lemmas.Int.Digits.{digits_value_more}
 use Rattle.std.proofs.lemmas.Str.Parse.{IsNumeralModel, numerals_by_value, tells_all_ascii_digits, digits_value_short, digits_value-take-le, digit_at}
@@ -59,11 +60,6 @@ value_small ds i all short =
 pub ruleset counting = (digit_low, value_more, value_small)
 
 -- tests of the front of a list
-and_true : (a b : Bool) → (a && b) ≡ true → (a ≡ true) × (b ≡ true)
-and_true true true h = (refl, refl)
-and_true true false h = absurd (cc)
-and_true false b h = absurd (cc)
-
 front_step : (p : ℕ → Bool) (x : ℕ) (xs : List ℕ) (b : Bool) → p x ≡ b → list_all p xs ≡ true → list_all p (cond b (x ∷ xs) []) ≡ true
 front_step p x xs true e h = rw (e, h) refl
 front_step p x xs false e h = refl
@@ -83,7 +79,7 @@ digits_pass text = all_ascii-list_all (take (prefix_len is_ascii_digit text) tex
 prefix_len-split : (p : ℕ → Bool) (xs ys : List ℕ) → list_all p xs ≡ true → prefix_len p ys ≡ 0 → prefix_len p (xs ++ ys) ≡ length xs
 prefix_len-split p [] ys h none = none
 prefix_len-split p (x ∷ xs) ys h none =
-    let both = and_true (p x) (list_all p xs) h in rw (both.0, prefix_len-split p xs ys both.1 none, one-add) refl
+    let both = and_parts (p x) (list_all p xs) h in rw (both.0, prefix_len-split p xs ys both.1 none, one-add) refl
 
 digit_no_space : (d : ℕ) → is_ascii_digit d ≡ true → is_space d ≡ false
 digit_no_space d h = grind (arith, nat_tests)
@@ -93,11 +89,11 @@ space_no_digit b h = grind (arith, nat_tests)
 
 no_space_in_front : (ds right : List ℕ) → all_ascii_digits ds ≡ true → 0 < length ds → prefix_len is_space (ds ++ right) ≡ 0
 no_space_in_front [] right all some = absurd (omega arith)
-no_space_in_front (d ∷ ds) right all some = rw (digit_no_space d (and_true _ _ all).0) refl
+no_space_in_front (d ∷ ds) right all some = rw (digit_no_space d (and_parts _ _ all).0) refl
 
 no_digit_in_front : (right : List ℕ) → list_all is_space right ≡ true → prefix_len is_ascii_digit right ≡ 0
 no_digit_in_front [] h = refl
-no_digit_in_front (b ∷ right) h = rw (space_no_digit b (and_true _ _ h).0) refl
+no_digit_in_front (b ∷ right) h = rw (space_no_digit b (and_parts _ _ h).0) refl
 
 -- what the parts of a field say of its number
 pub record ArePartsOf (n : ℕ) (digits right : List ℕ) : Type 0 where

@@ -1,5 +1,5 @@
 //! Messages out of payloads.
-ghost use Rattle.std.specs.Prelude.{◌≡◌, List, length, Some, None, Ok, IfOk, IfErr, OnOk};
+ghost use Rattle.std.specs.Prelude.{◌≡◌, Some, None, Ok, IfOk, IfErr, OnOk};
 ghost use Rattle.itch_codec.specs.declared.message.Message.{Message as MessageValue};
 ghost use Rattle.itch_codec.specs.Fields.{Reads};
 ghost use Rattle.itch_codec.specs.Widths.{IsMessage};

@@ -1,7 +1,7 @@
 //! Fields of a payload: one reader and one writer for each class of field.
-ghost use Rattle.std.specs.Prelude.{◌≡◌, ℕ, ◌+◌, ◌<◌, ◌≤◌, ◌^◌, [], ◌∷◌, ◌++◌, length};
+ghost use Rattle.std.specs.Prelude.{◌≡◌, ◌+◌, ◌<◌, ◌≤◌, ◌^◌, [], ◌∷◌, ◌++◌, length};
 ghost use Rattle.arrayvec.specs.ArrayVec.{array_vec_len};
-ghost use Rattle.itch_codec.specs.Numbers.{slice_at, number_at, byte_at, be};
+ghost use Rattle.itch_codec.specs.Numbers.{slice_at, number_at, be};
 ghost use Rattle.itch_codec.specs.Layouts.{column, Text, OneSide};
 ghost use Rattle.itch_codec.specs.Fields.{Bytes, TheSide, Has, field_fault, Reads, AreBytes, IsBytes, IsAlpha, side_byte};
 

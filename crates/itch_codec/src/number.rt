@@ -1,9 +1,9 @@
 //! Sequence numbers, and numbers in twenty decimal digits.
-ghost use Rattle.std.specs.Prelude.{◌≡◌, ℕ, ◌≤◌, ◌<◌, ◌^◌, ◌↔◌, IsTrue, IsSome, IfSome, length, replicate, Option, Some, None};
+ghost use Rattle.std.specs.Prelude.{◌≡◌, ℕ, ◌≤◌, ◌<◌, ◌^◌, ◌↔◌, IsTrue, IsSome, IfSome, length, Option, Some, None};
 ghost use Rattle.std.specs.Char.{is_ascii_digit};
 ghost use Rattle.std.specs.List.{prefix_len};
 ghost use Rattle.std.specs.Str.{all_ascii_digits};
-ghost use Rattle.itch_codec.specs.Numbers.{dec20, SpellsNumber, read20, digits_in_front, after_digits, number_of_digits, number_of_parts};
+ghost use Rattle.itch_codec.specs.Numbers.{dec20, SpellsNumber, read20, digits_in_front, after_digits, number_of_digits};
 
 use crate::fault::CodecFault;
 use crate::fields::{Buffer, codes_at, put_codes};

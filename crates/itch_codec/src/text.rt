@@ -1,7 +1,7 @@
 //! Texts of a fixed width.
 ghost use Rattle.std.specs.Prelude.{◌≡◌, ℕ, ◌-◌, ◌<◌, ◌≤◌, ◌↔◌, List, length, Option, None, Some, IfOk, IfErr, IfSome, IsOk, OnOk, slice_index, ◌≢◌};
 ghost use Rattle.std.specs.Str.{IsUtf8};
-ghost use Rattle.itch_codec.specs.Text.{IsPrintable, IsTextOf, before_spaces, first_unprintable, is_unprintable, padded_to};
+ghost use Rattle.itch_codec.specs.Text.{IsPrintable, IsTextOf, before_spaces, first_unprintable, padded_to};
 
 use std::marker::Model;
 use std::str;

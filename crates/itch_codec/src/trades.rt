@@ -1,7 +1,6 @@
 //! The messages about trades, which change no order.
-ghost use Rattle.std.specs.Prelude.{◌≡◌, ◌≤◌, [], ◌∷◌, ◌++◌, length};
+ghost use Rattle.std.specs.Prelude.{◌≡◌, ◌≤◌, ◌∷◌, ◌++◌, length};
 ghost use Rattle.arrayvec.specs.ArrayString.{array_string_len};
-ghost use Rattle.arrayvec.specs.ArrayVec.{array_vec_len};
 ghost use Rattle.itch_codec.specs.Layouts.{trade, cross_trade, broken_trade};
 ghost use Rattle.itch_codec.specs.Fields.{HasAll, joined, first_fault, Reads};
 ghost use Rattle.itch_codec.specs.Lines.{words};

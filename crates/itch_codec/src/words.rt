@@ -1,5 +1,5 @@
 //! Words of a line that shows a message: one writer for each class of field, which puts a space before it.
-ghost use Rattle.std.specs.Prelude.{◌≡◌, ℕ, ◌+◌, ◌*◌, ◌/◌, ◌%◌, ◌<◌, ◌≤◌, [], ◌∷◌, ◌++◌, codes, decimal, length};
+ghost use Rattle.std.specs.Prelude.{◌≡◌, ◌+◌, ◌*◌, ◌/◌, ◌%◌, ◌<◌, ◌≤◌, [], ◌∷◌, ◌++◌, decimal, length};
 ghost use Rattle.arrayvec.specs.ArrayString.{array_string_len};
 ghost use Rattle.itch_codec.specs.Fields.{Number, Bytes, TheSide};
 ghost use Rattle.itch_codec.specs.Lines.{word, hex_digit};

@@ -1,15 +1,13 @@
 -- Payloads as they are read where only some locates are wanted.
 use mathlib.Core.Path.{fun_ext}
-use Rattle.std.proofs.Common.{◌≡◌, ℕ, ◌<◌, ◌^◌, Bool, true, false, cond, List, length, map, Option, None, Some, refl, sym, ap, ◌∙◌, subst, arith}
+use Rattle.std.proofs.Common.{◌≡◌, ℕ, Bool, true, false, cond, List, map, None, sym, ap, ◌∙◌, subst, arith}
 use Rattle.std.specs.List.{AllByRecursion}
 use Rattle.itch_book.proofs.Lists.{by_test, All-weaker_rec, All-map_rec}
-use Rattle.itch_codec.specs.declared.fault.CodecFault.{CodecFault}
 use Rattle.itch_codec.specs.Messages.{fault, message_of, spelling}
 use Rattle.itch_codec.specs.Widths.{IsMessage}
 use Rattle.itch_codec.proofs.Spelling.{message_of-spelling, fault-spelling, spelling_size}
 use Rattle.itch_frame.specs.Blocks.{IsFull}
 use Rattle.itch_market.specs.Replays.{Fits}
-use Rattle.itch_market.specs.Wanted.{Wanted, has}
 use Rattle.itch_snapshot.specs.TakenMessages.{number_in, number_by, closing_number, is_skipped}
 use Rattle.itch_join.proofs.Skipping.{skipped_number, none_skipped}
 use Rattle.itch_commands.specs.AsRead.{idle, as_read, read_by}

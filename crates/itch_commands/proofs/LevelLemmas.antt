@@ -9,7 +9,7 @@ use Rattle.itch_book.specs.StableLists.{IsInOrder}
 use Rattle.itch_book.specs.Orders.{is_better, is_of, is_worse, is_at_price, next_price, level, queue, IsBook, IsQueue}
 use Rattle.itch_book.proofs.Lists.{by_test, All-weaker_rec, All-filter_rec, All-both_rec, All-right_rec, passes_filter, filter_all, filter_within}
 use Rattle.itch_book.proofs.BookLemmas.{queue-book}
-use Rattle.itch_book.proofs.QueueLemmas.{IsQueue-queue}
+use Rattle.itch_book.proofs.QueueLemmas.{IsQueue-queue, not_itself}
 use Rattle.itch_commands.specs.Books.{prices}
 
 -- the first of these prices, if there is one
@@ -74,10 +74,6 @@ one_better Sell p q differ not_better = grind (arith, nat_tests)
 not_both : (s : Side) (p q : ℕ) → is_better s p q ≡ true → is_better s q p ≡ false
 not_both Buy p q better = grind (arith, nat_tests)
 not_both Sell p q better = grind (arith, nat_tests)
-
-not_itself : (s : Side) (p : ℕ) → is_better s p p ≡ false
-not_itself Buy p = grind (arith, nat_tests)
-not_itself Sell p = grind (arith, nat_tests)
 
 Worsen-filter : (s : Side) (test : ℕ → Bool) (ps : List ℕ) → Worsen s ps → Worsen s (filter test ps)
 Worsen-filter s test [] h = tt

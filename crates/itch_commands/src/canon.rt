@@ -1,5 +1,5 @@
 //! `canon`: a snapshot in canonical form.
-ghost use Rattle.std.specs.Prelude.{◌≡◌, Bool, true, false};
+ghost use Rattle.std.specs.Prelude.{◌≡◌, true, false};
 ghost use Rattle.itch_commands.specs.Canons.{ChecksSnap, canonical_line};
 ghost use Rattle.itch_commands.specs.Outputs.{Outputs, WritesOutput, closed_bytes};
 ghost use Rattle.itch_commands.specs.Readings.{ReadsSnap, FromReader};

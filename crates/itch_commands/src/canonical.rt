@@ -1,5 +1,5 @@
 //! Whether bytes are those of a market's snapshot.
-ghost use Rattle.std.specs.Prelude.{◌≡◌, ◌≢◌, ◌↔◌, ◌<◌, ◌++◌, List, length, MatchOption, true};
+ghost use Rattle.std.specs.Prelude.{◌≡◌, ◌↔◌, ◌<◌, ◌++◌, length, MatchOption, true};
 ghost use Rattle.std.specs.Int.{bytes_high_first};
 ghost use Rattle.itch_codec.specs.Messages.{spelling};
 ghost use Rattle.itch_codec.specs.Widths.{IsMessage};

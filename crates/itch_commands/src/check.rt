@@ -1,5 +1,5 @@
 //! `check`: whether a file follows the order rules.
-ghost use Rattle.std.specs.Prelude.{◌≡◌, ◌<◌, ◌≤◌, ◌^◌, None, true};
+ghost use Rattle.std.specs.Prelude.{◌≡◌, ◌<◌, ◌≤◌, None, true};
 ghost use Rattle.arrayvec.specs.ArrayVec.{array_vec_len};
 ghost use Rattle.itch_commands.specs.Outputs.{Outputs, WritesOutput, ok_line, ok_line_of};
 ghost use Rattle.itch_commands.specs.Readings.{ReadsDay, FromReader};

@@ -2,10 +2,10 @@
 //!
 //! Contracts see the bytes that a reader has left or a writer took, where they are known, how many calls failed, and the
 //! error of the last one that did.
-ghost use Rattle.std.specs.Prelude.{◌≡◌, ℕ, ◌+◌, ◌-◌, ◌^◌, min, List, Option};
+ghost use Rattle.std.specs.Prelude.{◌≡◌, ℕ, ◌-◌, List, Option};
 ghost use Rattle.std.specs.Io.{ReadsAtMost, WritesAtMost};
 ghost use Rattle.std.specs.Io.KnownBytes.{ReadConsumes};
-ghost use Rattle.itch_frame.specs.Counting.{failed, CountsErr, Takes};
+ghost use Rattle.itch_frame.specs.Counting.{CountsErr, Takes};
 
 mod buffered;
 

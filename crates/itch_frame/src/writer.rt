@@ -1,5 +1,5 @@
 //! Blocks to a writer.
-ghost use Rattle.std.specs.Prelude.{◌<◌, ◌≤◌, ◌+◌, length};
+ghost use Rattle.std.specs.Prelude.{◌<◌, ◌+◌, length};
 ghost use Rattle.itch_frame.specs.Writing.{WriteBlock, WritePart};
 
 use crate::counted::CountedWrite;

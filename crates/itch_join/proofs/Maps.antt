@@ -1,6 +1,5 @@
 -- Finite maps with numbers as keys: what is left where keys are dropped.
-use Rattle.std.proofs.Common.{T, ◌&&◌, is_lt, Ordering, Less, Equal, Greater, Bool, true, false, ◌≡◌, ℕ, ◌-◌, ◌<◌, ◌≤◌, nat_lt, not, cond, List, [], ◌∷◌, length, Some, None, is_some, refl, sym, ap, ◌∙◌, nat_cmp, eqb, arith, map}
-use Rattle.std.specs.Ordering.{eq_by_cmp}
+use Rattle.std.proofs.Common.{T, is_lt, Less, true, ◌≡◌, ℕ, ◌-◌, ◌<◌, ◌≤◌, nat_lt, not, cond, List, [], ◌∷◌, length, Some, None, is_some, refl, sym, ap, ◌∙◌, nat_cmp, eqb, arith, map}
 use Rattle.std.specs.Cmp.{nat_cmp_total, eq_by_cmp_equiv}
 use Rattle.std.specs.FinMap as finite
 use Rattle.std.specs.FinMap.{nat_cmp-IsAntisymmetric}
@@ -10,23 +9,12 @@ use Rattle.std.specs.List.{AllByRecursion}
 use Rattle.std.specs.List.Sorted.{IsStrictlySortedBy}
 use Rattle.std.proofs.lemmas.Map.Made.{length-le_from_is_member}
 use Rattle.std.proofs.lemmas.Map.Keys.{IsDistinct-from_sorted}
-use Rattle.std.proofs.lemmas.Bool.Decides.{nat_tests}
-
-pub key_tests : (q k : ℕ) → eq_by_cmp nat_cmp q k ≡ eqb q k
-key_tests q k = grind (arith, nat_tests)
+use Rattle.itch_market.proofs.Maps.{key_tests}
+use Rattle.itch_market.proofs.Trees.{both, less}
 
 length-map : {A B : Type 0} (f : A → B) (xs : List A) → length (map f xs) ≡ length xs
 length-map f [] = refl
 length-map f (x ∷ xs) = omega (arith, length-map f xs)
-
-both : (a b : Bool) → T (a && b) → T a × T b
-both true b holds = (tt, holds)
-both false b holds = absurd holds
-
-less : (o : Ordering) → T (is_lt o) → o ≡ Less
-less Less holds = refl
-less Equal holds = absurd holds
-less Greater holds = absurd holds
 
 module _ {X : Type 0} where
   below_rise : (k : ℕ) (es : List (ℕ × X)) → T (below_all nat_cmp k es) → AllByRecursion (λ q. nat_cmp k q ≡ Less) (keys_of es)

@@ -9,7 +9,6 @@ use Rattle.itch_market.specs.Content.{Content}
 use Rattle.itch_market.specs.Partial.{locate_of, skips}
 use Rattle.itch_market.proofs.Partials.{none_out}
 use Rattle.itch_snapshot.specs.TakenMessages.{number_in, number_by, closing_number, skipped_by, is_skipped}
-use Rattle.itch_join.specs.declared.fault.Cause.{Cause}
 use Rattle.itch_join.specs.Rules.{Rules, market_rules, rules_of}
 
 -- End of Snapshot is not skipped

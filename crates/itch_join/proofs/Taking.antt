@@ -16,7 +16,7 @@ use Rattle.itch_snapshot.specs.declared.fault.SnapFault.TheVariants.{NoEnd, Fram
 use Rattle.itch_snapshot.specs.declared.reader.Stage.{Stage}
 use Rattle.itch_snapshot.specs.declared.reader.Stage.TheVariants as stage
 use Rattle.itch_book.proofs.Lists.{by_test}
-use Rattle.itch_snapshot.specs.TakenMessages.{Load, LoadsOnly, TakesAtOnly, TakesNextOnly, AppliesUnless, closing_number, number_by, number_in, is_full, is_skipped}
+use Rattle.itch_snapshot.specs.TakenMessages.{Load, LoadsOnly, TakesAtOnly, TakesNextOnly, AppliesUnless, closing_number, number_by, is_full, is_skipped}
 use Rattle.itch_snapshot.specs.TakenMessages as loads
 use Rattle.itch_join.specs.declared.fault.Cause.{Cause}
 use Rattle.itch_join.specs.declared.fault.Cause.TheVariants as cause
@@ -25,7 +25,7 @@ use Rattle.itch_join.specs.declared.fault.JoinFault.TheVariants as join
 use Rattle.itch_join.specs.declared.outcome.Snap.{Snap}
 use Rattle.itch_join.specs.declared.outcome.Snap.TheVariants as snap
 use Rattle.itch_join.specs.Positions.{Position}
-use Rattle.itch_join.specs.Rules.{Rules, refused_by, market_rules, rules_of}
+use Rattle.itch_join.specs.Rules.{Rules, refused_by, rules_of}
 use Rattle.itch_join.proofs.Skipping.{faulty_stays, skipped_number, refused_here, effect_here, memory_here, refused_skipped, effect_skipped}
 use Rattle.itch_join.specs.States.{HalfRead, Reading, Broken, State}
 use Rattle.itch_join.specs.Steps.{SnapshotCase, SnapTakes, SnapFails, SnapBroken, payload_case, half_case, unjoined_case, unhalted_case, snapshot_case, SnapshotBy}

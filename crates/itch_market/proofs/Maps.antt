@@ -9,7 +9,7 @@ use Rattle.std.specs.List.Sorted.{IsStrictlySortedBy}
 use Rattle.std.proofs.lemmas.Bool.Decides.{nat_tests}
 use Rattle.itch_market.proofs.Trees as any
 
-key_tests : (q k : ℕ) → eq_by_cmp nat_cmp q k ≡ eqb q k
+pub key_tests : (q k : ℕ) → eq_by_cmp nat_cmp q k ≡ eqb q k
 key_tests q k = grind (arith, nat_tests)
 
 module _ {X : Type 0} where

@@ -1,10 +1,9 @@
 -- The messages that are not skipped follow the order rules where all do, and leave the market that all leave, cut down to the wanted locates.
-use Rattle.std.proofs.Common.{◌≡◌, ℕ, ◌≤◌, ◌<◌, ◌-◌, Bool, true, false, cond, not, ◌==◌, List, [], ◌∷◌, ◌++◌, map, filter, length, find, Option, Some, None, IsSome, is_some, is_eq, Ordering, Less, Equal, Greater, refl, sym, ap, ap₂, ◌∙◌, subst, arith, append-nil, eqb}
+use Rattle.std.proofs.Common.{◌≡◌, ℕ, ◌≤◌, ◌<◌, ◌-◌, Bool, true, false, cond, not, ◌==◌, List, [], ◌∷◌, ◌++◌, map, filter, length, Option, Some, None, IsSome, is_some, refl, sym, ap, ap₂, ◌∙◌, subst, arith, append-nil, eqb}
 use Rattle.std.specs.List.{AllByRecursion}
-use Rattle.std.specs.Ordering.{nat_cmp, eq_by_cmp}
-use Rattle.std.specs.Cmp.{nat_cmp_total}
+use Rattle.std.specs.Ordering.{nat_cmp}
 use Rattle.std.specs.FinMap as finite
-use Rattle.std.specs.FinMap.{FinMap, nat_cmp-IsAntisymmetric}
+use Rattle.std.specs.FinMap.{nat_cmp-IsAntisymmetric}
 use Rattle.std.proofs.lemmas.Bool.Decides.{nat_tests}
 use Rattle.std.proofs.lemmas.List.Elements.{filter-append}
 use Rattle.itch_codec.specs.declared.message.Message.{Message}
@@ -15,14 +14,14 @@ use Rattle.itch_book.specs.declared.order.Order.{Order}
 use Rattle.itch_book.specs.Orders as book
 use Rattle.itch_book.proofs.Lists.{by_test, filter_swap, filter-map, absent_in_filter, All-filter_rec, length_filter_le}
 use Rattle.itch_market.specs.declared.refusal.Refusal.{Refusal}
-use Rattle.itch_market.specs.declared.refusal.Refusal.TheVariants.{UnknownLocate, StockMismatch, ZeroShares, DuplicateRef, UnknownRef, LocateMismatch, TooManyShares, UnexpectedEnd}
+use Rattle.itch_market.specs.declared.refusal.Refusal.TheVariants.{ZeroShares, DuplicateRef, LocateMismatch}
 use Rattle.itch_market.specs.Content.{Content, Listing, Securities, empty}
 use Rattle.itch_market.specs.Reasons.{reason, refuse, is_live, order_reason, security_reason, directory_reason, add_reason}
 use Rattle.itch_market.specs.Effects.{effect, entered, changed, changed_at, with_action, with_sho, with_halt, with_position, action_of, position_of, order_of}
 use Rattle.itch_market.specs.GoodMarkets.{IsGood, IsListed}
 use Rattle.itch_market.specs.Runs.{AreMessages, after, run, FollowsFrom, Follows}
 use Rattle.itch_market.specs.Widths.{IsMaybe, IsSecurity, IsOrder}
-use Rattle.itch_market.specs.Partial.{locate_of, is_out, skips, kept, only}
+use Rattle.itch_market.specs.Partial.{is_out, skips, kept, only}
 use Rattle.itch_market.proofs.Allowed.{passed, allowed_add, allowed_replace}
 use Rattle.itch_market.proofs.GoodMarkets.{effect_good, empty_good}
 use Rattle.itch_market.proofs.Maps.{get-insert, same_map}

@@ -17,7 +17,8 @@ no_entries : {A : Type 0} (es : List A) → length es ≡ 0 → es ≡ []
 no_entries [] none = refl
 no_entries (e ∷ es) none = absurd (omega arith)
 
-both : (a b : Bool) → T (a && b) → T a × T b
+-- two tests of which both hold
+pub both : (a b : Bool) → T (a && b) → T a × T b
 both true b holds = (tt, holds)
 both false b holds = absurd holds
 
@@ -25,7 +26,7 @@ joined_tests : (a b : Bool) → T a → T b → T (a && b)
 joined_tests true b first second = second
 joined_tests false b first second = first
 
-less : (o : Ordering) → T (is_lt o) → o ≡ Less
+pub less : (o : Ordering) → T (is_lt o) → o ≡ Less
 less Less holds = refl
 less Equal holds = absurd holds
 less Greater holds = absurd holds

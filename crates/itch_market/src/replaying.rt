@@ -1,5 +1,5 @@
 //! Day files applied to a market, message by message.
-ghost use Rattle.std.specs.Prelude.{◌≡◌, ℕ, List, map, take, Option, Some, None, IfSome, MatchResult, true, false};
+ghost use Rattle.std.specs.Prelude.{◌≡◌, ℕ, List, map, take, Option, Some, None, IfSome, MatchResult};
 ghost use Rattle.itch_codec.specs.Messages.{message_of};
 ghost use Rattle.itch_frame.specs.Blocks.{Day};
 ghost use Rattle.itch_frame.specs.Reading.{bytes_left};

@@ -1,5 +1,5 @@
 //! `serve`: a market served to one connection after another.
-ghost use Rattle.std.specs.Prelude.{◌≡◌, ◌<◌, ◌-◌, ◌+◌, ◌^◌, length, None, IfErr};
+ghost use Rattle.std.specs.Prelude.{◌<◌, ◌-◌, ◌+◌, ◌^◌, length, None, IfErr};
 ghost use Rattle.itch_snapshot.specs.Snapshot.{snap};
 ghost use Rattle.itch_commands.specs.declared.fault.Source.TheVariants.{Only};
 ghost use Rattle.itch_sessions.specs.Sessions.{IsUnserved, ServesNext, ServesOn, ServesMarket, ServesDay};

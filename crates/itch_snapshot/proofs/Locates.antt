@@ -1,5 +1,5 @@
 -- The locates of a directory rise, and the orders of one after the other are the orders in snapshot order.
-use Rattle.std.proofs.Common.{◌≡◌, ℕ, ◌<◌, ◌==◌, Bool, true, false, cond, T, ◌&&◌, ◌||◌, List, [], ◌∷◌, ◌++◌, filter, flat_map, Option, Some, None, IsSome, is_some, refl, sym, ap, ap₂, ◌∙◌, subst, arith}
+use Rattle.std.proofs.Common.{◌≡◌, ℕ, ◌<◌, ◌==◌, Bool, true, false, cond, T, ◌||◌, List, [], ◌∷◌, ◌++◌, filter, flat_map, Option, Some, None, IsSome, is_some, refl, sym, ap, ap₂, ◌∙◌, subst, arith}
 use Rattle.std.specs.List.{AllByRecursion}
 use Rattle.std.specs.Ordering.{nat_cmp, is_lt, eq_by_cmp}
 use Rattle.std.specs.FinMap as finite
@@ -13,15 +13,12 @@ use Rattle.itch_book.proofs.Lists.{by_test, All-weaker_rec, All-both_rec, filter
 use Rattle.itch_book.proofs.StableLemmas.{in_order-parts}
 use Rattle.itch_book.proofs.OrderLemmas.{both_queues, stands_order, lower_stands, in_is}
 use Rattle.itch_market.proofs.Maps.{get-insert, get_elsewhere, same_map}
+use Rattle.itch_market.proofs.Trees.{both}
 
 -- each number stands below those after it
 abbrev pub Rise : {X : Type 0} → List (ℕ × X) → Type 0
 Rise [] = Unit {0}
 Rise (e ∷ es) = AllByRecursion (λ f. e.0 < f.0) es × Rise es
-
-both_true : (a b : Bool) → T (a && b) → T a × T b
-both_true true b h = (tt, h)
-both_true false b h = absurd h
 
 T_true : (a : Bool) → T a → a ≡ true
 T_true true h = refl
@@ -38,13 +35,13 @@ module _ {X : Type 0} where
   below_rise : (k : ℕ) (es : List (ℕ × X)) → T (below_all nat_cmp k es) → AllByRecursion (λ f. k < f.0) es
   below_rise k [] h = tt
   below_rise k (e ∷ es) h =
-      let parts = both_true (is_lt (nat_cmp k e.0)) (below_all nat_cmp k es) h in
+      let parts = both (is_lt (nat_cmp k e.0)) (below_all nat_cmp k es) h in
       (less_key k e.0 (T_true _ parts.0), below_rise k es parts.1)
 
   sorted_rise : (es : List (ℕ × X)) → T (is_sorted nat_cmp es) → Rise es
   sorted_rise [] h = tt
   sorted_rise (e ∷ es) h =
-      let parts = both_true (below_all nat_cmp e.0 es) (is_sorted nat_cmp es) h in
+      let parts = both (below_all nat_cmp e.0 es) (is_sorted nat_cmp es) h in
       (below_rise e.0 es parts.0, sorted_rise es parts.1)
 
   -- the entries of a map rise

@@ -1,5 +1,5 @@
 //! Snapshots message by message.
-ghost use Rattle.std.specs.Prelude.{◌≡◌, ◌<◌, ◌≤◌, ◌-◌, ◌^◌, IfOk, IfNone, true};
+ghost use Rattle.std.specs.Prelude.{◌≡◌, ◌<◌, ◌≤◌, ◌-◌, ◌^◌, IfOk, IfNone};
 ghost use Rattle.itch_market.specs.Wanted.{has};
 ghost use Rattle.itch_snapshot.specs.TakenMessages.{IsNext, AppliesAt, TakesNext, TakesNextOnly};
 ghost use Rattle.itch_snapshot.specs.Stages.{opened};

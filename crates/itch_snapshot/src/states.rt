@@ -1,6 +1,5 @@
 //! What a snapshot says of a security between its directory entry and its orders.
 ghost use Rattle.std.specs.Prelude.{◌≡◌, List, [], ◌∷◌, MatchOption, ⊤};
-ghost use Rattle.itch_codec.specs.declared.message.Message.{Message as MessageValue};
 ghost use Rattle.itch_snapshot.specs.Snapshot.{states_part};
 ghost use Rattle.itch_snapshot.specs.Cursor.{listed};
 

@@ -1,9 +1,10 @@
 -- The bytes of a login and of its acceptance, and that they spell them.
-use Rattle.std.proofs.Common.{◌≡◌, ℕ, ◌+◌, ◌-◌, ◌<◌, ◌≤◌, ◌^◌, ◌&&◌, Bool, true, false, MatchBool, List, [], ◌∷◌, ◌++◌, length, take, refl, sym, ap, ◌∙◌, subst, arith, rules}
+use Rattle.std.proofs.Common.{◌≡◌, ℕ, ◌+◌, ◌-◌, ◌<◌, ◌≤◌, ◌^◌, Bool, true, false, MatchBool, List, [], ◌∷◌, ◌++◌, length, take, refl, sym, ap, ◌∙◌, subst, arith, rules}
 use Rattle.std.specs.Prelude.{slice_range}
 use Rattle.std.specs.List.{list_all}
 use Rattle.std.specs.Char.{is_ascii_digit}
 use Rattle.std.specs.Str.{all_ascii_digits}
+use Rattle.std.proofs.lemmas.Bool.{and_parts}
 use Rattle.std.proofs.lemmas.Bool.Decides.{nat_tests}
 use Rattle.std.proofs.lemmas.List.{append_assoc, append-nil, take_at, drop_at, take_all, length-append}
 use Rattle.std.proofs.lemmas.List.Folds.{list_all-append}
@@ -37,24 +38,19 @@ field_at offset width front field rest block start long whole =
     ∙ ap (λ bytes. take ((offset + width) - offset) bytes) (drop_at front (field ++ rest) offset start)
     ∙ take_at field rest ((offset + width) - offset) (long ∙ sym size))
 
-and_true : (a b : Bool) → (a && b) ≡ true → (a ≡ true) × (b ≡ true)
-and_true true true h = (refl, refl)
-and_true true false h = absurd (cc)
-and_true false b h = absurd (cc)
-
 digit_no_space : (d : ℕ) → is_ascii_digit d ≡ true → is_space d ≡ true → ⊥
 digit_no_space d h k = grind (arith, nat_tests)
 
 digits_no_spaces : (digits : List ℕ) → 0 < length digits → all_ascii_digits digits ≡ true → list_all is_space digits ≡ true → ⊥
 digits_no_spaces [] some digits spaces = omega (arith, some)
-digits_no_spaces (d ∷ ds) some digits spaces = digit_no_space d (and_true _ _ digits).0 (and_true _ _ spaces).0
+digits_no_spaces (d ∷ ds) some digits spaces = digit_no_space d (and_parts _ _ digits).0 (and_parts _ _ spaces).0
 
 not_blank : (field left digits right : List ℕ) (n : ℕ) (b : Bool) → IsNumber field n left digits right → list_all is_space field ≡ b → b ≡ false
 not_blank field left digits right n false h e = refl
 not_blank field left digits right n true h e =
     let whole = sym (ap (λ bytes. list_all is_space bytes) h.whole) ∙ e in
-    let parts = and_true (list_all is_space left) _ (sym (list_all-append is_space left (digits ++ right)) ∙ whole) in
-    let rest = and_true (list_all is_space digits) _ (sym (list_all-append is_space digits right) ∙ parts.1) in
+    let parts = and_parts (list_all is_space left) _ (sym (list_all-append is_space left (digits ++ right)) ∙ whole) in
+    let rest = and_parts (list_all is_space digits) _ (sym (list_all-append is_space digits right) ∙ parts.1) in
     absurd (digits_no_spaces digits h.some_digit (search rules) rest.0)
 
 -- a field that spells a number is not blank

@@ -8,7 +8,7 @@ use crate::login::Credentials;
 use crate::origin::Origin;
 use crate::packet::{LoginRequest, Packet};
 use crate::payload::Payload;
-use itch_codec::Seq;
+use itch_codec::{MOST_MESSAGES, Seq};
 use std::marker::Model;
 
 /// What a client learns from a packet.
@@ -132,8 +132,6 @@ impl ClientSession {
     }
 }
 
-const GREATEST: u64 = 9_999_999_999_999_999_999;
-
 // The answer to a packet, the next stage, and the number of the next message.
 fn turn<'a>(next: u64, stage: Stage, packet: &Packet<'a>) -> (ClientAct<'a>, Stage, u64)
     ensures { result ≡ client_turn next stage packet.now }
@@ -172,7 +170,7 @@ fn closing<'a>(fault: SoupFault, next: u64) -> (ClientAct<'a>, Stage, u64)
 fn data<'a>(number: u64, payload: &Payload<'a>) -> (ClientAct<'a>, Stage, u64)
     ensures { result ≡ client_turn number Stage.Accepted (Packet.SequencedData payload.now) }
 {
-    if number > GREATEST {
+    if number > MOST_MESSAGES {
         return closing(SoupFault::TooManyMessages, number);
     }
     let payload = Payload::new(payload.bytes());

@@ -9,16 +9,13 @@ use crate::connection::Stage;
 use crate::fault::SoupFault;
 use crate::login::Credentials;
 use crate::origin::Origin;
-use crate::parsing::parse_packet;
+use crate::parsing::{MOST_PACKETS, parse_packet};
 use itch_book::OrderBook;
 use itch_codec::Seq;
 use itch_frame::{BlockReader, CountedRead, CountedWrite, write_block};
 use itch_market::Market;
 use itch_snapshot::SnapshotReader;
 use std::alloc::Allocator;
-
-/// No more packets than these are read: 10^19.
-const MOST: u64 = 10_000_000_000_000_000_000;
 
 /// Fetches a snapshot: writes a login that asks for all messages, and reads up to the End of Snapshot, no further.
 ///
@@ -55,7 +52,7 @@ fn receive<R: CountedRead, A: Allocator, B: OrderBook>(
     let mut snapshot = SnapshotReader::new(alloc);
     snapshot.market().recall_invariant();
     for count in 0..u64::MAX {
-        if hear(reader, &mut session, &mut snapshot, count == MOST)? {
+        if hear(reader, &mut session, &mut snapshot, count == MOST_PACKETS)? {
             let Ok(done) = snapshot.finish() else {
                 unreachable!()
             };

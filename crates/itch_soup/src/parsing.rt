@@ -9,6 +9,10 @@ use crate::origin::Origin;
 use crate::packet::{LoginAccepted, LoginRequest, Packet};
 use crate::packet_types::{sender_of_type, size_of_type};
 use crate::payload::Payload;
+use itch_codec::GREATEST_SEQ;
+
+/// A session has no more packets than these: 10^19.
+pub(crate) const MOST_PACKETS: u64 = GREATEST_SEQ;
 
 /// Reads a packet that came from that side: the type byte and what stands after it, without the length in front.
 ///

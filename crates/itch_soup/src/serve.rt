@@ -8,7 +8,7 @@ use crate::fault::SoupFault;
 use crate::login::ServerConfig;
 use crate::origin::Origin;
 use crate::packet::{LoginRequest, Packet};
-use crate::parsing::parse_packet;
+use crate::parsing::{MOST_PACKETS, parse_packet};
 use crate::sending::{messages_before_end, write_session};
 use crate::server::{ServerAct, ServerSession, judge};
 use itch_book::OrderBook;
@@ -34,9 +34,6 @@ pub(crate) enum Opening {
     Login(LoginRequest),
     Leave,
 }
-
-/// No more packets than these are read before a login: 10^19.
-const MOST: u64 = 10_000_000_000_000_000_000;
 
 /// Serves one connection: reads packets up to a login, writes its answer, and reads no more. It takes no memory.
 ///
@@ -103,7 +100,7 @@ fn read_login<R: CountedRead, A: Allocator>(
     ensures failures { CountsWait result (R.failures reader.old.reader) (R.failures reader.new.reader) }
 {
     for count in 0..u64::MAX {
-        if let Some(opening) = read_packet(reader, count == MOST)? {
+        if let Some(opening) = read_packet(reader, count == MOST_PACKETS)? {
             return Ok(opening);
         }
     }

@@ -1,7 +1,7 @@
 -- What the words of the command line ask for, over files.
 use Rattle.std.specs.Prelude.{Bool, true, false, ⊤}
 use Rattle.itch_words.specs.declared.request.Request.{Request}
-use Rattle.itch_words.specs.declared.request.Request.TheVariants.{Snap, Check, Show, Canon, Compare, Book, Join}
+use Rattle.itch_words.specs.declared.request.Request.TheVariants.{Snap, Canon, Compare, Join}
 
 -- the requests whose output is a snapshot, which is no text
 abbrev pub is_binary : Request → Bool

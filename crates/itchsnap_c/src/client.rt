@@ -8,11 +8,9 @@ use crate::codes::{BAD_TEXT, NO_NUMBER, WRONG_HANDLE, plain};
 use crate::handle::Handle;
 use crate::object::Object;
 use crate::soup_codes::{WRONG_ACT, client_act, soup_fault_act};
-use itch_codec::{Alpha, AlphaFault};
+use itch_codec::{Alpha, AlphaFault, GREATEST_SEQ};
 use itch_soup::{ClientSession, Credentials, Origin, parse_packet};
 use std::alloc::Global;
-
-const GREATEST: u64 = 10_000_000_000_000_000_000;
 
 /// Puts a client's session into a handle that holds nothing. It begins at this moment, in milliseconds, and asks for the
 /// messages from number `from` on; 0 asks for all of them.
@@ -29,7 +27,7 @@ pub extern "C" fn itchsnap_client_new(
     let Ok(credentials) = credentials(login) else {
         return plain(BAD_TEXT);
     };
-    if from > GREATEST {
+    if from > GREATEST_SEQ {
         return plain(NO_NUMBER);
     }
     handle.fill(

@@ -8,12 +8,9 @@ use crate::codes::{BAD_TEXT, NO_NUMBER, TOO_MANY_MESSAGES, WRONG_HANDLE, plain};
 use crate::handle::Handle;
 use crate::object::Object;
 use crate::soup_codes::{WRONG_ACT, server_act, soup_fault_act};
-use itch_codec::{Alpha, AlphaFault, Seq};
+use itch_codec::{Alpha, AlphaFault, MOST_MESSAGES, Seq};
 use itch_soup::{Origin, ServerConfig, ServerSession, parse_packet};
 use std::alloc::Global;
-
-/// One more messages than a session may have.
-const TOO_MANY: u64 = 10_000_000_000_000_000_000;
 
 /// Puts a server's session of `total` messages, which begins at this moment, in milliseconds, into a handle that holds nothing.
 #[unsafe(no_mangle)]
@@ -29,7 +26,7 @@ pub extern "C" fn itchsnap_server_new(
     let Ok(config) = config_of(config) else {
         return plain(BAD_TEXT);
     };
-    if total >= TOO_MANY {
+    if total > MOST_MESSAGES {
         return plain(TOO_MANY_MESSAGES);
     }
     handle.fill(

@@ -11,14 +11,11 @@ use crate::answers::Written;
 use crate::codes::{NO_NUMBER, NO_ROOM, OUT_OF_MEMORY, TOO_MANY_MESSAGES, WRONG_HANDLE};
 use crate::handle::Handle;
 use crate::object::Book;
-use itch_codec::Seq;
+use itch_codec::{MOST_MESSAGES, Seq};
 use itch_frame::Counted;
 use itch_market::{LocateSet, Market};
 use itch_snapshot::{snapshot_len, write_partial, write_snapshot};
 use std::alloc::Global;
-
-/// As many messages as a snapshot may have before its End of Snapshot, and one more: 10^19.
-const TOO_MANY: u128 = 10_000_000_000_000_000_000;
 
 /// Writes the canonical snapshot of a market to the front of `out`, closed with this number of the next message. Where there
 /// is no room for it, `out` stays as it was.
@@ -73,7 +70,7 @@ pub(crate) fn put_whole(alloc: Global, market: &Market<Book>, next: u64, out: &m
     let Some(next) = Seq::new(next) else {
         return unwritten(NO_NUMBER);
     };
-    if snapshot_len(market) >= TOO_MANY {
+    if snapshot_len(market) > u128::from(MOST_MESSAGES) {
         return unwritten(TOO_MANY_MESSAGES);
     }
     match whole_bytes(alloc, market, next) {
@@ -95,7 +92,7 @@ pub(crate) fn put_partial(
     let Some(next) = Seq::new(next) else {
         return unwritten(NO_NUMBER);
     };
-    if snapshot_len(market) >= TOO_MANY {
+    if snapshot_len(market) > u128::from(MOST_MESSAGES) {
         return unwritten(TOO_MANY_MESSAGES);
     }
     let Some(set) = set_of(alloc, locates) else {

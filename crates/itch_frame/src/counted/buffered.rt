@@ -1,5 +1,5 @@
 //! Counted reading through a standard buffer, cheap for many short reads.
-ghost use Rattle.std.specs.Prelude.{◌≡◌, ℕ, List, Option, None, length, take, min};
+ghost use Rattle.std.specs.Prelude.{◌≡◌, None, length, take, min};
 ghost use Rattle.std.specs.Io.Buffered.{reader_remaining};
 
 use crate::counted::{Counted, CountedRead};

@@ -1,4 +1,4 @@
-use Rattle.std.proofs.Common.{◌≡◌, ℕ, ◌+◌, ◌^◌, ◌<◌, ◌++◌, ◌∷◌, true, List, [], length, Option, Some, None, IsSome, is_some, option_map, cond, rules, refl, sym, ap, ◌∙◌, subst}
+use Rattle.std.proofs.Common.{◌≡◌, ℕ, ◌+◌, ◌^◌, ◌<◌, ◌++◌, ◌∷◌, true, List, [], length, Option, Some, None, is_some, option_map, cond, rules, sym, ap, ◌∙◌, subst}
 use Rattle.itch_book.specs.Links.{at_key}
 use Rattle.itch_book.specs.Orders.{fits, IsLive}
 use Rattle.itch_book.specs.Queued.{Seen, seen, keys_at}

@@ -1,4 +1,3 @@
-use Rattle.itch_join.specs.Rules.{market_rules, rules_of}
 use Rattle.itch_join.proofs.Premises.{meets, meets_all}
 use Rattle.itch_join.proofs.laws.snapshot_of_feed.Goals as goal
 

@@ -1,5 +1,5 @@
 -- The walk of `unseal`, by hand for the reasons that `seal` has.
-use Rattle.std.proofs.Common.{◌≡◌, List, [], ◌∷◌, ◌++◌, Some, None, IsSome, refl, sym, ap, subst, lit<}
+use Rattle.std.proofs.Common.{◌≡◌, List, [], ◌∷◌, ◌++◌, Some, IsSome, refl, sym, subst, lit<}
 use mir.Raw.{raw as bare}
 use mir.Val.{Val, vptr}
 use base.Logic.{SProp, ent, emp, never, id⊢, fst∗}

@@ -1,4 +1,4 @@
-use Rattle.std.proofs.Common.{◌≡◌, ℕ, List, find, Option, Some, None, IsSome, refl, sym, ap, ◌∙◌}
+use Rattle.std.proofs.Common.{List, find, None, sym, ap, ◌∙◌}
 use Rattle.itch_book.specs.declared.order.Order.{Order}
 use Rattle.itch_book.specs.Orders.{is_of}
 use Rattle.itch_book.specs.Queued.{keys_at}

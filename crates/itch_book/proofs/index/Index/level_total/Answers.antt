@@ -1,4 +1,4 @@
-use Rattle.std.proofs.Common.{◌≡◌, ℕ, List, Option, Some, None, IsSome, refl, sym, ap, ◌∙◌}
+use Rattle.std.proofs.Common.{sym, ap, ◌∙◌}
 use Rattle.itch_book.specs.Orders.{level_total}
 use Rattle.itch_book.specs.Queued.{keys_at}
 use Rattle.itch_book.proofs.IndexSteps.{level_none, level_some}

@@ -1,4 +1,4 @@
-use Rattle.std.proofs.Common.{◌≡◌, ℕ, List, Option, Some, None, IsSome, option_map, refl, sym, ap, ◌∙◌}
+use Rattle.std.proofs.Common.{List, option_map, sym, ap, ◌∙◌}
 use Rattle.itch_book.specs.declared.order.Order.{Order}
 use Rattle.itch_book.specs.Orders.{next_price}
 use Rattle.itch_book.specs.Queued.{keys_at}

@@ -1,5 +1,4 @@
-use Rattle.std.proofs.Common.{◌≡◌, None, false, is_some, refl, sym, ap, ◌∙◌, subst, rules}
-use Rattle.itch_market.specs.Content.{laid}
+use Rattle.std.proofs.Common.{◌≡◌, None, false, is_some, refl, rules}
 use Rattle.itch_market.specs.Wanted.{has}
 use Rattle.itch_join.specs.States.{State}
 use Rattle.itch_join.specs.HalfReads.{half_of}
