@@ -1,5 +1,5 @@
 -- How two files are compared.
-use Rattle.std.specs.Prelude.{ℕ, ◌-◌, ◌<◌, ◌⊎◌, ◌↔◌, List, ◌++◌, map, codes, decimal, Option, None, Some, IsNone, IfSome, Result, Ok, Err}
+use Rattle.std.specs.Prelude.{ℕ, ◌-◌, ◌<◌, ◌↔◌, List, ◌++◌, map, codes, decimal, Option, None, Some, IsNone, IfSome, Result, Ok, Err}
 use Rattle.itch_codec.specs.Messages.{message_of}
 use Rattle.itch_market.specs.Content.{Content}
 use Rattle.itch_market.specs.Runs.{run}
@@ -7,11 +7,11 @@ use Rattle.itch_market.specs.SameMarkets.{Same}
 use Rattle.itch_snapshot.specs.Parting.{IsParting}
 use Rattle.itch_snapshot.specs.Snapshot.{snap}
 use Rattle.itch_commands.specs.declared.fault.ToolFault.{ToolFault}
+use Rattle.itch_commands.specs.Readings.{Then}
 
 -- What is read of two files, the first wholly before the second. Where the first is refused, the second is left as it was.
 abbrev pub ReadsBoth : {X Y : Type 0} → (Result X ToolFault → Type 0) → Type 0 → (Result Y ToolFault → Type 0) → Result (X × Y) ToolFault → Type 0
-ReadsBoth first untouched second (Ok both) = first (Ok both.0) × second (Ok both.1)
-ReadsBoth {X} first untouched second (Err fault) = (first (Err fault) × untouched) ⊎ ((x : X) × first (Ok x) × second (Err fault))
+ReadsBoth first untouched second = Then first untouched (λ _. second)
 
 -- the place, counted from 1, of the first message in which the snapshots of two markets differ, or the shorter length and 1;
 -- none exactly where the markets are the same

@@ -102,11 +102,6 @@ module _ (read : List ℕ → List ℕ) {R : Type 0} (remaining : R → Option (
       × Counts end.stop (failures old.reader) (failures new.reader) × LeavesDay (Err (tool.Stopped at end)) None old new
   ReadsFeed old new start (Err fault) = ⊥
 
--- One reading, and then another that depends on it. Where the first is refused, what the second reads is left as it was.
-abbrev pub Then : {X Y : Type 0} → (Result X ToolFault → Type 0) → Type 0 → (X → Result Y ToolFault → Type 0) → Result (X × Y) ToolFault → Type 0
-Then first untouched second (Ok both) = first (Ok both.0) × second both.0 (Ok both.1)
-Then {X} first untouched second (Err fault) = (first (Err fault) × untouched) ⊎ ((x : X) × first (Ok x) × second x (Err fault))
-
 -- what was read leaves a market whose snapshot has room for its End of Snapshot, or has too many messages
 abbrev pub HasRoom : (Result (Start × List (List ℕ)) ToolFault → Type 0) → Result (Start × List (List ℕ)) ToolFault → Type 0
 HasRoom reads (Ok both) = reads (Ok both) × (length (snap (joined_market both.0 both.1)) < 10 ^ 19)

@@ -123,3 +123,8 @@ abbrev pub FromReader : {R X : Type 0} → R → (Reading R → Reading R → Re
 FromReader reader reads result =
     (result ≡ Err tool.OutOfMemory)
     ⊎ ((old : Reading _) × (new : Reading _) × (old.reader ≡ reader) × (old.held ≡ []) × (old.stage ≡ Going) × reads old new result)
+
+-- One reading, and then another that depends on it. Where the first is refused, what the second reads is left as it was.
+abbrev pub Then : {X Y : Type 0} → (Result X ToolFault → Type 0) → Type 0 → (X → Result Y ToolFault → Type 0) → Result (X × Y) ToolFault → Type 0
+Then first untouched second (Ok both) = first (Ok both.0) × second both.0 (Ok both.1)
+Then {X} first untouched second (Err fault) = (first (Err fault) × untouched) ⊎ ((x : X) × first (Ok x) × second x (Err fault))

@@ -6,9 +6,9 @@ ghost use Rattle.itch_join.specs.Positions.{Position};
 ghost use Rattle.itch_join.specs.States.{new as fresh};
 ghost use Rattle.itch_commands.specs.AsRead.{as_read, read_by};
 ghost use Rattle.itch_commands.specs.Joiners.{IsJoined, WritesRoom, position_of};
-ghost use Rattle.itch_commands.specs.Joining.{ReadsStart, ReadsFeed, Then, HasRoom, joined};
+ghost use Rattle.itch_commands.specs.Joining.{ReadsStart, ReadsFeed, HasRoom, joined};
 ghost use Rattle.itch_commands.specs.Outputs.{Outputs, closed_bytes};
-ghost use Rattle.itch_commands.specs.Readings.{FromReader};
+ghost use Rattle.itch_commands.specs.Readings.{FromReader, Then};
 
 use crate::book::Book;
 use crate::fault::ToolFault;

@@ -1,8 +1,8 @@
 use Rattle.std.proofs.Common.{◌≡◌, true, inr}
 use Rattle.itch_commands.specs.AsRead.{read_by}
-use Rattle.itch_commands.specs.Joining.{ReadsStart, ReadsFeed, Then, HasRoom, joined}
+use Rattle.itch_commands.specs.Joining.{ReadsStart, ReadsFeed, HasRoom, joined}
 use Rattle.itch_commands.specs.Outputs.{closed_bytes}
-use Rattle.itch_commands.specs.Readings.{FromReader}
+use Rattle.itch_commands.specs.Readings.{FromReader, Then}
 use Rattle.itch_commands.proofs.Parts.{Outputs-weaker}
 use Rattle.itch_commands.proofs.join.join.Goals as goal
 

@@ -1,5 +1,6 @@
 use Rattle.std.proofs.Common.{◌≡◌, true, List, ℕ, subst}
-use Rattle.itch_commands.specs.Joining.{ReadsStart, ReadsFeed, Then, HasRoom, joined}
+use Rattle.itch_commands.specs.Joining.{ReadsStart, ReadsFeed, HasRoom, joined}
+use Rattle.itch_commands.specs.Readings.{Then}
 use Rattle.itch_commands.specs.Outputs.{Outputs, closed_bytes}
 use Rattle.itch_commands.proofs.join.join_blocks.Goals as goal
 
