@@ -214,7 +214,7 @@ def the_first_start_says_what_is_proved(program):
         (top / "crates/itch_tool/out").mkdir()
         (top / "rt").write_text(FAKE_RT)
         (top / "rt").chmod(0o755)
-        names = ("itch_frame itch_codec itch_book itch_market itch_snapshot itch_soup itch_join itch_commands itch_progress itch_sessions itch_words "
+        names = ("itch_frame itch_codec itch_book itch_market itch_snapshot itch_soup itch_join itch_commands itch_input itch_sessions itch_words "
                  "itch_tool").split()
         crates = "".join(f"itchsnap: proving {name} ({number} of {len(names)}) ..\n" for number, name in enumerate(names, 1))
 

@@ -9,3 +9,5 @@ pub mod AsRead
 pub mod Joining
 pub mod Joiners
 pub mod Locates
+pub mod Requests
+pub mod Endings

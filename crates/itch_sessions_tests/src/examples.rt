@@ -1,6 +1,6 @@
 //! The examples of the crates' pages, run.
 
-use itch_progress::Tally;
+use itch_input::Tally;
 use itch_sessions::Login;
 use std::test::Fail;
 

@@ -1,6 +1,6 @@
 //! What passes through a reader that is watched.
 
-use itch_progress::{Progress, Tally, Watched};
+use itch_input::{Progress, Tally, Watched};
 use std::io::Read;
 use std::test::Fail;
 

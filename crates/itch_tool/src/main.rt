@@ -4,16 +4,14 @@
 //! for them. `serve` and `fetch` are those of `itch_sessions`, over sockets of this machine.
 #![tactic(auto)]
 
-mod closed_pipe;
 mod opened;
 mod run;
 mod sockets;
 
-use crate::closed_pipe::{ends_by_closed_pipe, final_status};
 use crate::run::run;
 use clap::Error;
 use clap::error::ErrorKind;
-use itch_commands::{ToolFault, system_fault};
+use itch_commands::{ToolFault, ends_by_closed_pipe, final_status, system_fault};
 use itch_words::{read_job, usage_fault};
 use std::alloc::{AllocError, Global};
 use std::env::{self, Args};

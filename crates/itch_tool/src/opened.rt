@@ -1,29 +1,9 @@
-//! What a command reads: a file, or standard input.
-ghost use Rattle.itch_tool.specs.Opening.{opened_remaining};
+//! What a command reads, opened.
 
 use itch_commands::{ToolFault, system_fault};
-use itch_progress::{Progress, Watched};
+use itch_input::{Opened, Progress, Watched};
 use std::fs;
-use std::io::{self, Read};
 use std::rt::Files;
-
-/// A file that was opened, or standard input. It gives the bytes of the one that it is.
-#[derive(Drop)]
-pub enum Opened<F, I> {
-    File(F),
-    Standard(I),
-}
-
-impl<F: Read, I: Read> Read for Opened<F, I> {
-    ghost remaining = { opened_remaining F.remaining I.remaining };
-
-    fn read(&mut self, buf: &mut [u8]) -> io::Result<usize> {
-        match self {
-            Opened::File(file) => file.read(buf),
-            Opened::Standard(input) => input.read(buf),
-        }
-    }
-}
 
 /// Opens the file of a path, or standard input where there is none. `progress` counts what is read of it.
 ///

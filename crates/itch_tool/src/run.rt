@@ -1,23 +1,16 @@
 //! The commands over files and standard streams.
-ghost use Rattle.std.specs.Option.{option_copied};
-ghost use Rattle.itch_tool.specs.Performing.{Performs};
-ghost use Rattle.itch_words.specs.Requests.{IsOverOne};
+ghost use Rattle.itch_commands.specs.Requests.{IsOverOne};
 
 use crate::opened::open;
 use crate::sockets::{run_fetch, run_serve};
-use itch_commands::canon::canon_blocks;
-use itch_commands::check::check_blocks;
 use itch_commands::compare::compare_blocks;
 use itch_commands::join::join_blocks;
-use itch_commands::levels::book_blocks;
-use itch_commands::show::show_blocks;
-use itch_commands::snap::snap_blocks;
-use itch_commands::{ToolFault, read_locates};
-use itch_frame::{BlockReader, Buffered, Counted, CountedRead, CountedWrite};
+use itch_commands::{Request, ToolFault, perform, read_locates};
+use itch_frame::{BlockReader, Buffered, Counted, CountedWrite};
+use itch_input::Progress;
 use itch_market::LocateSet;
-use itch_progress::Progress;
 use itch_sessions::PIECE;
-use itch_words::{Job, Request};
+use itch_words::Job;
 use std::alloc::{Allocator, Global};
 use std::io::{self, BufReader, BufWriter, Read, Write};
 use std::net::{Net, TcpListener, TcpStream};
@@ -138,25 +131,4 @@ fn perform_over<A: Allocator + Copy, R: Read + Drop, W: CountedWrite>(
 {
     let mut reader = blocks(alloc, reader)?;
     perform(alloc, request, only, &mut reader, out)
-}
-
-/// Performs a request over the blocks of its file.
-fn perform<R: CountedRead, B: Allocator, A: Allocator + Copy, W: CountedWrite>(
-    alloc: A,
-    request: Request<'_>,
-    only: Option<&LocateSet<A>>,
-    reader: &mut BlockReader<R, B>,
-    out: &mut W,
-) -> Result<bool, ToolFault>
-    requires { IsOverOne request }
-    ensures { Performs R.remaining R.failures W.contents W.failures request.entry (option_copied only.entry) reader.old reader.new out.old result out.new }
-{
-    match request {
-        Request::Snap { after, .. } => snap_blocks(alloc, reader, after, only, out),
-        Request::Check { .. } => check_blocks(alloc, reader, out),
-        Request::Show { .. } => show_blocks(reader, out),
-        Request::Canon { check, .. } => canon_blocks(alloc, reader, check, out),
-        Request::Book { locate, .. } => book_blocks(alloc, locate, reader, out),
-        Request::Compare { .. } | Request::Join { .. } => unreachable!(),
-    }
 }

@@ -3,7 +3,7 @@
 use crate::opened::open;
 use itch_commands::{ToolFault, system_fault};
 use itch_frame::{BlockReader, Buffered, Counted};
-use itch_progress::Progress;
+use itch_input::Progress;
 use itch_sessions::{Login, PIECE, fetch, serve_blocks};
 use itch_words::Peer;
 use std::io::{self, BufReader, BufWriter, Write};

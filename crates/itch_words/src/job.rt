@@ -3,8 +3,9 @@ ghost use Rattle.std.specs.Prelude.{◌≡◌};
 ghost use Rattle.itch_words.specs.Jobs.{writes_snapshot};
 
 use crate::commands::{command, progress, usage_fault};
-use crate::request::{Request, read_path, read_request};
+use crate::request::{read_path, read_request};
 use clap::{Arg, ArgMatches, Command, Error};
+use itch_commands::Request;
 use std::alloc::{AllocError, Global};
 use std::fmt::{self, Debug, Formatter};
 
@@ -27,16 +28,14 @@ pub enum Job<'a> {
     Fetch(Peer<'a>),
 }
 
-impl Job<'_> {
-    /// Whether the output is a snapshot, which is no text.
-    pub fn writes_snapshot(&self) -> bool
-        ensures { result ≡ writes_snapshot self.now }
-    {
-        match self {
-            Job::Files { request, .. } => request.is_binary(),
-            Job::Serve { .. } => false,
-            Job::Fetch(_) => true,
-        }
+// Whether the output is a snapshot, which is no text.
+fn writes_snapshot(job: &Job<'_>) -> bool
+    ensures { result ≡ writes_snapshot job.now }
+{
+    match job {
+        Job::Files { request, .. } => request.is_binary(),
+        Job::Serve { .. } => false,
+        Job::Fetch(_) => true,
     }
 }
 
@@ -76,7 +75,7 @@ pub fn read_job<'a>(alloc: Global, words: &'a [String], terminal: bool) -> Resul
         },
         None => return Err(usage_fault(alloc, "a command is missing")?),
     };
-    if terminal && job.writes_snapshot() {
+    if terminal && writes_snapshot(&job) {
         return Err(usage_fault(
             alloc,
             "a snapshot is not written to a terminal: redirect it",

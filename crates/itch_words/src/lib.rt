@@ -1,6 +1,6 @@
 //! The words of the command line of `itchsnap`, and what they ask for.
 //!
-//! [`read_job`] makes a [`Job`] of them: a [`Request`] over files, or a session with a [`Peer`] on this machine. Anything else is a
+//! [`read_job`] makes a [`Job`] of them: a request over files, or a session with a [`Peer`] on this machine. Anything else is a
 //! usage fault, or a request for help or the version.
 //!
 //! ```
@@ -17,4 +17,3 @@ mod request;
 
 pub use commands::usage_fault;
 pub use job::{Job, Peer, read_job};
-pub use request::Request;

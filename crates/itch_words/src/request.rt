@@ -1,83 +1,9 @@
-//! What the words of the command line ask for.
-ghost use Rattle.std.specs.Prelude.{◌≡◌, ◌↔◌, Some, IsNone, IfSome, codes};
-ghost use Rattle.itch_words.specs.Requests.{is_binary};
+//! Requests over files, out of what was matched of the words.
 
 use crate::commands::usage_fault;
 use clap::{ArgMatches, Error};
+use itch_commands::{Request, path_of};
 use std::alloc::Global;
-
-/// What the program is asked to do. A file is the path of one, or none for standard input.
-#[derive(Clone, Copy, Debug, PartialEq, Eq)]
-pub enum Request<'a> {
-    /// Write the snapshot after the whole file, or after its first messages; or of it what a list of locates wants.
-    Snap {
-        file: Option<&'a str>,
-        after: Option<u64>,
-        only: Option<&'a str>,
-    },
-    /// Count the messages of a file that follows the order rules.
-    Check {
-        file: Option<&'a str>,
-    },
-    /// Show each message of a file as a line.
-    Show {
-        file: Option<&'a str>,
-    },
-    /// Write a snapshot in canonical form, or only check whether it is so.
-    Canon {
-        file: Option<&'a str>,
-        check: bool,
-    },
-    /// Say whether two files leave the same market.
-    Compare {
-        first: Option<&'a str>,
-        second: Option<&'a str>,
-    },
-    /// Write the prices of a locate.
-    Book {
-        locate: u16,
-        file: Option<&'a str>,
-    },
-    /// Join a feed to a snapshot, and write the snapshot after both; or do so for a list of locates.
-    Join {
-        snapshot: Option<&'a str>,
-        feed: Option<&'a str>,
-        only: Option<&'a str>,
-    },
-}
-
-impl<'a> Request<'a> {
-    /// The file that is read; of two the first.
-    pub fn file(&self) -> Option<&'a str> {
-        match *self {
-            Request::Snap { file, .. }
-            | Request::Check { file }
-            | Request::Show { file }
-            | Request::Canon { file, .. }
-            | Request::Book { file, .. } => file,
-            Request::Compare { first, .. } => first,
-            Request::Join { snapshot, .. } => snapshot,
-        }
-    }
-
-    /// Whether the output is a snapshot, which is no text.
-    pub fn is_binary(&self) -> bool
-        ensures { result ≡ is_binary self.now }
-    {
-        matches!(
-            self,
-            Request::Snap { .. } | Request::Join { .. } | Request::Canon { check: false, .. }
-        )
-    }
-
-    /// The list of the locates that are wanted, where not all are.
-    pub fn only(&self) -> Option<&'a str> {
-        match *self {
-            Request::Snap { only, .. } | Request::Join { only, .. } => only,
-            _ => None,
-        }
-    }
-}
 
 /// Reads what was matched of a request over files.
 ///
@@ -141,15 +67,6 @@ fn read_two<'a>(
 /// The path of a file among the words, or none where it is standard input.
 pub fn read_path<'a>(options: &ArgMatches<'a>, name: &str) -> Option<&'a str> {
     path_of(options.get_str(name))
-}
-
-/// The path of a file that is named so, or none where that is standard input: it is `-`, or no name is there.
-pub fn path_of<'a>(name: Option<&'a str>) -> Option<&'a str>
-    ensures standard { IsNone result ↔ IfSome name.entry (λ path. path.now ≡ codes "-") }
-    ensures path { IfSome result (λ path. name.entry ≡ Some path) }
-{
-    let path = name?;
-    if path == "-" { None } else { Some(path) }
 }
 
 fn read_book<'a>(alloc: Global, options: &ArgMatches<'a>) -> Result<Request<'a>, Error> {

@@ -1,6 +1,7 @@
 //! What the words of the command line ask for.
 
-use itch_words::{Job, Peer, Request, read_job};
+use itch_commands::Request;
+use itch_words::{Job, Peer, read_job};
 use std::test::Fail;
 
 #[test]

@@ -1,0 +1,40 @@
+-- What the program is asked to do over files, and what it does for each request over one file.
+use Rattle.std.specs.Prelude.{ℕ, Bool, true, false, List, Option, None, Result, ⊤}
+use Rattle.itch_frame.specs.Reading.{Reading}
+use Rattle.itch_frame.specs.declared.tally.Failures.{Failures}
+use Rattle.itch_market.specs.Wanted.{Wanted}
+use Rattle.itch_commands.specs.declared.fault.ToolFault.{ToolFault}
+use Rattle.itch_commands.specs.declared.fault.Source.TheVariants.{Only}
+use Rattle.itch_commands.specs.declared.request.Request.{Request}
+use Rattle.itch_commands.specs.declared.request.Request.TheVariants.{Snap, Check, Show, Canon, Compare, Book, Join}
+use Rattle.itch_commands.specs.Readings.{ReadsDay, ReadsSnap}
+use Rattle.itch_commands.specs.Canons.{ChecksSnap, canonical_line}
+use Rattle.itch_commands.specs.Showing.{Shows}
+use Rattle.itch_commands.specs.Outputs.{Outputs, ok_line_of, snapshot_in, closed_bytes}
+use Rattle.itch_commands.specs.Books.{ReadsListed, book_of}
+
+-- the requests whose output is a snapshot, which is no text
+abbrev pub is_binary : Request → Bool
+is_binary (Snap file after only) = true
+is_binary (Canon file false) = true
+is_binary (Join snapshot feed only) = true
+is_binary request = false
+
+-- a request over one file
+abbrev pub IsOverOne : Request → Type 0
+IsOverOne (Compare first second) = ⊥
+IsOverOne (Join snapshot feed only) = ⊥
+IsOverOne request = ⊤
+
+module _ {R W : Type 0} (remaining : R → Option (List ℕ)) (failed_reads : R → Failures) (contents : W → Option (List ℕ)) (failed_writes : W → Failures) where
+  -- what a request over the blocks of one file reads, writes and returns, with the set of the locates that are wanted, if not all are
+  abbrev pub Performs : Request → Option Wanted → Reading R → Reading R → W → Result Bool ToolFault → W → Type 0
+  Performs (Snap file after only) set old new = Outputs contents failed_writes (ReadsDay remaining failed_reads Only after old new) (snapshot_in set) (λ _. true)
+  Performs (Check file) set old new = Outputs contents failed_writes (ReadsDay remaining failed_reads Only None old new) ok_line_of (λ _. true)
+  Performs (Show file) set old new = Shows contents failed_writes remaining failed_reads old new
+  Performs (Canon file false) set old new = Outputs contents failed_writes (ReadsSnap remaining failed_reads Only old new) closed_bytes (λ _. true)
+  Performs (Canon file true) set old new = Outputs contents failed_writes (ChecksSnap remaining failed_reads old new) canonical_line (λ canonical. canonical)
+  Performs (Book locate file) set old new =
+      Outputs contents failed_writes (ReadsListed locate (ReadsDay remaining failed_reads Only None old new)) (book_of locate) (λ _. true)
+  Performs (Compare first second) set old new = λ out result written. ⊥
+  Performs (Join snapshot feed only) set old new = λ out result written. ⊥

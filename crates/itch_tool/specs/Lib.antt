@@ -1,3 +1,0 @@
-pub mod Performing
-pub mod Opening
-pub mod Endings
