@@ -2,322 +2,219 @@
 
 use itch_commands::Request;
 use itch_words::{Job, Peer, read_job};
+use std::alloc::{AllocError, Global};
 use std::test::Fail;
 
+// The program's name, and these words after it.
+fn words(alloc: Global, line: &str) -> Result<Vec<String>, AllocError> {
+    let mut words: Vec<String> = vec![in alloc; String::from_str(alloc, "itchsnap")?]?;
+    for word in line.split_whitespace() {
+        words.push(String::from_str(alloc, word)?)?;
+    }
+    Ok(words)
+}
+
+fn snap(
+    file: Option<&'static str>,
+    after: Option<u64>,
+    only: Option<&'static str>,
+) -> Request<'static> {
+    Request::Snap { file, after, only }
+}
+
+fn canon(file: Option<&'static str>, check: bool) -> Request<'static> {
+    Request::Canon { file, check }
+}
+
+fn compare(first: Option<&'static str>, second: Option<&'static str>) -> Request<'static> {
+    Request::Compare { first, second }
+}
+
+fn join(feed: Option<&'static str>, only: Option<&'static str>) -> Request<'static> {
+    let snapshot = Some("a.snap");
+    Request::Join {
+        snapshot,
+        feed,
+        only,
+    }
+}
+
+fn book(locate: u16, file: Option<&'static str>) -> Request<'static> {
+    Request::Book { locate, file }
+}
+
 #[test]
-fn words_are_read(rt: HostRuntime) -> Result<(), Fail> {
-    let alloc = rt.alloc();
-    let cases: [(&str, Result<Request<'static>, i32>); 49] = [
-        (
-            "snap",
-            Ok(Request::Snap {
-                file: None,
-                after: None,
-                only: None,
-            }),
-        ),
-        (
-            "snap day.itch",
-            Ok(Request::Snap {
-                file: Some("day.itch"),
-                after: None,
-                only: None,
-            }),
-        ),
-        (
-            "snap day.itch --after 0",
-            Ok(Request::Snap {
-                file: Some("day.itch"),
-                after: Some(0),
-                only: None,
-            }),
-        ),
-        (
-            "snap --after 007 day.itch",
-            Ok(Request::Snap {
-                file: Some("day.itch"),
-                after: Some(7),
-                only: None,
-            }),
-        ),
+fn requests_are_read(rt: HostRuntime) -> Result<(), Fail> {
+    let day = Some("day.itch");
+    let cases: [(&str, Request<'static>); 20] = [
+        ("snap", snap(None, None, None)),
+        ("snap day.itch", snap(day, None, None)),
+        ("snap day.itch --after 0", snap(day, Some(0), None)),
+        ("snap --after 007 day.itch", snap(day, Some(7), None)),
         (
             "snap --after 999999999999",
-            Ok(Request::Snap {
-                file: None,
-                after: Some(999_999_999_999),
-                only: None,
-            }),
-        ),
-        (
-            "check day.itch",
-            Ok(Request::Check {
-                file: Some("day.itch"),
-            }),
+            snap(None, Some(999_999_999_999), None),
         ),
         (
             "snap day.itch --only 1,2 --after 3",
-            Ok(Request::Snap {
-                file: Some("day.itch"),
-                after: Some(3),
-                only: Some("1,2"),
-            }),
+            snap(day, Some(3), Some("1,2")),
         ),
-        ("snap --help", Err(0)),
-        ("snap --only", Err(2)),
-        ("snap --only 1 --only 2", Err(2)),
-        ("snap --after 1000000000000", Err(2)),
-        ("snap --after +5", Err(2)),
-        ("snap --after -5", Err(2)),
-        ("snap --after", Err(2)),
-        ("snap --after 1 --after 2", Err(2)),
-        ("snap one two", Err(2)),
-        (
-            "canon",
-            Ok(Request::Canon {
-                file: None,
-                check: false,
-            }),
-        ),
-        (
-            "canon a.snap",
-            Ok(Request::Canon {
-                file: Some("a.snap"),
-                check: false,
-            }),
-        ),
-        (
-            "canon --check",
-            Ok(Request::Canon {
-                file: None,
-                check: true,
-            }),
-        ),
-        (
-            "canon a.snap --check",
-            Ok(Request::Canon {
-                file: Some("a.snap"),
-                check: true,
-            }),
-        ),
-        (
-            "canon --check a.snap",
-            Ok(Request::Canon {
-                file: Some("a.snap"),
-                check: true,
-            }),
-        ),
-        ("canon --check --check", Err(2)),
-        ("canon --check=1", Err(2)),
-        ("canon a.snap b.snap", Err(2)),
-        (
-            "compare a.itch b.itch",
-            Ok(Request::Compare {
-                first: Some("a.itch"),
-                second: Some("b.itch"),
-            }),
-        ),
-        (
-            "compare - b.itch",
-            Ok(Request::Compare {
-                first: None,
-                second: Some("b.itch"),
-            }),
-        ),
-        ("compare - -", Err(2)),
-        ("compare a.itch", Err(2)),
-        ("compare", Err(2)),
-        ("compare a.itch b.itch c.itch", Err(2)),
-        (
-            "join a.snap b.itch",
-            Ok(Request::Join {
-                snapshot: Some("a.snap"),
-                feed: Some("b.itch"),
-                only: None,
-            }),
-        ),
-        (
-            "join --only=40 a.snap b.itch",
-            Ok(Request::Join {
-                snapshot: Some("a.snap"),
-                feed: Some("b.itch"),
-                only: Some("40"),
-            }),
-        ),
-        (
-            "join a.snap -",
-            Ok(Request::Join {
-                snapshot: Some("a.snap"),
-                feed: None,
-                only: None,
-            }),
-        ),
-        ("join - -", Err(2)),
-        ("join a.snap", Err(2)),
-        ("check -", Ok(Request::Check { file: None })),
-        ("show --progress", Err(2)),
-        ("check --only 1", Err(2)),
-        ("join a.snap b.itch c.itch", Err(2)),
-        (
-            "book 1",
-            Ok(Request::Book {
-                locate: 1,
-                file: None,
-            }),
-        ),
-        (
-            "book 0065535 day.itch",
-            Ok(Request::Book {
-                locate: 65_535,
-                file: Some("day.itch"),
-            }),
-        ),
-        (
-            "book 0",
-            Ok(Request::Book {
-                locate: 0,
-                file: None,
-            }),
-        ),
-        ("book 65536", Err(2)),
-        ("book +1", Err(2)),
-        ("book -1", Err(2)),
-        ("book one", Err(2)),
-        ("book", Err(2)),
-        ("unknown 1", Err(2)),
-        ("", Err(2)),
+        ("check -", Request::Check { file: None }),
+        ("check day.itch", Request::Check { file: day }),
+        ("canon", canon(None, false)),
+        ("canon day.itch", canon(day, false)),
+        ("canon --check", canon(None, true)),
+        ("canon day.itch --check", canon(day, true)),
+        ("canon --check day.itch", canon(day, true)),
+        ("compare a.itch day.itch", compare(Some("a.itch"), day)),
+        ("compare - day.itch", compare(None, day)),
+        ("join a.snap day.itch", join(day, None)),
+        ("join --only=40 a.snap -", join(None, Some("40"))),
+        ("book 0", book(0, None)),
+        ("book 1", book(1, None)),
+        ("book 0065535 day.itch", book(65_535, day)),
     ];
     for (line, wanted) in cases {
-        let mut words: Vec<String> = vec![in alloc; String::from_str(alloc, "itchsnap")?]?;
-        for word in line.split_whitespace() {
-            words.push(String::from_str(alloc, word)?)?;
-        }
-        match (read_job(alloc, words.as_slice(), false), wanted) {
-            (Ok(Job::Files { request, .. }), Ok(wanted)) => assert!(rt;
-                request == wanted,
-                "{line}"
-            ),
-            (Err(error), Err(status)) => assert_eq!(rt; error.exit_code(), status, "{line}"),
+        let words = words(rt.alloc(), line)?;
+        match read_job(rt.alloc(), words.as_slice(), false) {
+            Ok(Job::Files { request, .. }) => assert!(rt; request == wanted, "{line}"),
             _ => assert!(rt; false, "{line}"),
         }
     }
     Ok(())
 }
 
+// What asks for no request ends with this status.
+const OTHER_WORDS: &[(&str, i32)] = &[
+    ("snap --help", 0),
+    ("snap --only", 2),
+    ("snap --only 1 --only 2", 2),
+    ("snap --after 1000000000000", 2),
+    ("snap --after +5", 2),
+    ("snap --after -5", 2),
+    ("snap --after", 2),
+    ("snap --after 1 --after 2", 2),
+    ("snap one two", 2),
+    ("canon --check --check", 2),
+    ("canon --check=1", 2),
+    ("canon a.snap b.snap", 2),
+    ("compare - -", 2),
+    ("compare a.itch", 2),
+    ("compare", 2),
+    ("compare a.itch b.itch c.itch", 2),
+    ("join - -", 2),
+    ("join a.snap", 2),
+    ("join a.snap b.itch c.itch", 2),
+    ("show --progress", 2),
+    ("check --only 1", 2),
+    ("book 65536", 2),
+    ("book +1", 2),
+    ("book -1", 2),
+    ("book one", 2),
+    ("book", 2),
+    ("unknown 1", 2),
+    ("", 2),
+    ("--version", 0),
+    ("fetch --help", 0),
+    ("fetch --port 0 --user user --pass secret", 2),
+    ("fetch --port 65536 --user user --pass secret", 2),
+    ("fetch --port +1 --user user --pass secret", 2),
+    ("fetch --port 1 --port 1 --user user --pass secret", 2),
+    ("fetch --user user --pass secret", 2),
+    ("fetch --port 1 --pass secret", 2),
+    ("fetch --port 1 --user user", 2),
+    ("fetch day.itch --port 1 --user user --pass secret", 2),
+    ("serve --port 1 --user user --pass secret --count 1", 2),
+    ("serve day.itch --port 1 --user user --pass secret", 2),
+    ("serve - --port 1 --user user --pass secret --count 0", 2),
+    (
+        "serve - --port 1 --user user --pass secret --count 1000001",
+        2,
+    ),
+    ("serve - --port 1 --user user --pass secret --count +1", 2),
+];
+
+#[test]
+fn other_words_end_with_a_status(rt: HostRuntime) -> Result<(), Fail> {
+    for (line, status) in OTHER_WORDS {
+        let words = words(rt.alloc(), line)?;
+        match read_job(rt.alloc(), words.as_slice(), false) {
+            Ok(_) => assert!(rt; false, "{line}"),
+            Err(error) => assert_eq!(rt; error.exit_code(), *status, "{line}"),
+        }
+    }
+    Ok(())
+}
+
+const PEER: Peer<'static> = Peer {
+    port: 65_535,
+    user: "user",
+    password: "secret",
+};
+
+fn serve(file: Option<&'static str>, progress: bool) -> Job<'static> {
+    Job::Serve {
+        file,
+        peer: PEER,
+        count: 1_000_000,
+        progress,
+    }
+}
+
+// `PEER` is put after the words of a session.
 #[test]
 fn words_of_sessions_are_read(rt: HostRuntime) -> Result<(), Fail> {
-    let alloc = rt.alloc();
-    let peer = Peer {
-        port: 65_535,
-        user: "user",
-        password: "secret",
-    };
-    let serve = Job::Serve {
-        file: Some("day.itch"),
-        peer,
-        count: 1_000_000,
-        progress: false,
-    };
-    let cases: [(&str, Result<Job<'static>, i32>); 21] = [
+    let day = Some("day.itch");
+    let cases: [(&str, Job<'static>); 5] = [
         (
-            "serve day.itch --port 65535 --user user --pass secret --count 1000000",
-            Ok(serve),
+            "serve day.itch --count 1000000 --port 65535",
+            serve(day, false),
         ),
         (
-            "serve --count 01000000 --pass secret --user user --port 065535 day.itch",
-            Ok(serve),
+            "serve --count 01000000 day.itch --port 065535",
+            serve(day, false),
         ),
         (
-            "fetch --port 65535 --user user --pass secret",
-            Ok(Job::Fetch(peer)),
+            "serve - --progress --count=1000000 --port 65535",
+            serve(None, true),
         ),
-        (
-            "fetch --port=65535 --user=user --pass=secret",
-            Ok(Job::Fetch(peer)),
-        ),
-        (
-            "serve - --progress --port 65535 --user user --pass secret --count 1000000",
-            Ok(Job::Serve {
-                file: None,
-                peer,
-                count: 1_000_000,
-                progress: true,
-            }),
-        ),
-        (
-            "check --progress",
-            Ok(Job::Files {
-                request: Request::Check { file: None },
-                progress: true,
-            }),
-        ),
-        ("fetch --help", Err(0)),
-        ("--version", Err(0)),
-        ("fetch --port 0 --user user --pass secret", Err(2)),
-        ("fetch --port 65536 --user user --pass secret", Err(2)),
-        ("fetch --port +1 --user user --pass secret", Err(2)),
-        ("fetch --port 1 --port 1 --user user --pass secret", Err(2)),
-        ("fetch --user user --pass secret", Err(2)),
-        ("fetch --port 1 --pass secret", Err(2)),
-        ("fetch --port 1 --user user", Err(2)),
-        ("fetch day.itch --port 1 --user user --pass secret", Err(2)),
-        ("serve --port 1 --user user --pass secret --count 1", Err(2)),
-        ("serve day.itch --port 1 --user user --pass secret", Err(2)),
-        (
-            "serve day.itch --port 1 --user user --pass secret --count 0",
-            Err(2),
-        ),
-        (
-            "serve day.itch --port 1 --user user --pass secret --count 1000001",
-            Err(2),
-        ),
-        (
-            "serve day.itch --port 1 --user user --pass secret --count +1",
-            Err(2),
-        ),
+        ("fetch --port 65535", Job::Fetch(PEER)),
+        ("fetch --port=65535", Job::Fetch(PEER)),
     ];
     for (line, wanted) in cases {
-        let mut words: Vec<String> = vec![in alloc; String::from_str(alloc, "itchsnap")?]?;
-        for word in line.split_whitespace() {
-            words.push(String::from_str(alloc, word)?)?;
+        let mut words = words(rt.alloc(), line)?;
+        for word in ["--user", "user", "--pass=secret"] {
+            words.push(String::from_str(rt.alloc(), word)?)?;
         }
-        match (read_job(alloc, words.as_slice(), false), wanted) {
-            (Ok(job), Ok(wanted)) => assert!(rt; job == wanted, "{line}"),
-            (Err(error), Err(status)) => assert_eq!(rt; error.exit_code(), status, "{line}"),
-            _ => assert!(rt; false, "{line}"),
+        match read_job(rt.alloc(), words.as_slice(), false) {
+            Ok(job) => assert!(rt; job == wanted, "{line}"),
+            Err(_) => assert!(rt; false, "{line}"),
         }
     }
     Ok(())
 }
 
-// The example of the crate's page.
+// The example of the crate's page, without and with `--progress`.
 #[test]
 fn a_check_is_asked_for(rt: HostRuntime) -> Result<(), Fail> {
-    let alloc = rt.alloc();
-    let mut words: Vec<String> = vec![in alloc; String::from_str(alloc, "itchsnap")?]?;
-    words.push(String::from_str(alloc, "check")?)?;
-    words.push(String::from_str(alloc, "day.itch")?)?;
-    let request = Request::Check {
-        file: Some("day.itch"),
-    };
-    let wanted = Job::Files {
-        request,
-        progress: false,
-    };
-    match read_job(alloc, words.as_slice(), false) {
-        Ok(job) => assert!(rt; job == wanted),
-        Err(_) => panic!(rt; "a usage fault"),
+    let file = Some("day.itch");
+    for (line, progress) in [
+        ("check day.itch", false),
+        ("check --progress day.itch", true),
+    ] {
+        let words = words(rt.alloc(), line)?;
+        let request = Request::Check { file };
+        match read_job(rt.alloc(), words.as_slice(), false) {
+            Ok(job) => assert!(rt; job == Job::Files { request, progress }),
+            Err(_) => assert!(rt; false, "{line}"),
+        }
     }
     Ok(())
 }
 
 #[test]
 fn a_password_is_not_shown(rt: HostRuntime) -> Result<(), Fail> {
-    let peer = Peer {
-        port: 1,
-        user: "user",
-        password: "secret",
-    };
-    let shown = format!(in rt.alloc(); "{peer:?}")?;
+    let shown = format!(in rt.alloc(); "{PEER:?}")?;
     assert!(rt; shown.contains("user"));
     assert!(rt; !shown.contains("secret"));
     Ok(())
@@ -325,7 +222,6 @@ fn a_password_is_not_shown(rt: HostRuntime) -> Result<(), Fail> {
 
 #[test]
 fn snapshots_are_kept_from_a_terminal(rt: HostRuntime) -> Result<(), Fail> {
-    let alloc = rt.alloc();
     let cases: [(&str, Option<i32>); 8] = [
         ("snap", Some(2)),
         ("join a.snap b.itch", Some(2)),
@@ -337,11 +233,8 @@ fn snapshots_are_kept_from_a_terminal(rt: HostRuntime) -> Result<(), Fail> {
         ("snap --help", Some(0)),
     ];
     for (line, wanted) in cases {
-        let mut words: Vec<String> = vec![in alloc; String::from_str(alloc, "itchsnap")?]?;
-        for word in line.split_whitespace() {
-            words.push(String::from_str(alloc, word)?)?;
-        }
-        match read_job(alloc, words.as_slice(), true) {
+        let words = words(rt.alloc(), line)?;
+        match read_job(rt.alloc(), words.as_slice(), true) {
             Ok(_) => assert!(rt; wanted.is_none(), "{line}"),
             Err(error) => assert_eq!(rt; Some(error.exit_code()), wanted, "{line}"),
         }
