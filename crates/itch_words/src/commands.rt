@@ -47,15 +47,10 @@ fn with_views<'a>(alloc: Global, command: Command<'a>) -> Result<Command<'a>, Al
 }
 
 fn snap<'a>(alloc: Global) -> Result<Command<'a>, AllocError> {
-    let after = Arg::new(alloc, "after")
-        .long("after")
-        .value_name("N")
-        .help("Stop after the first N messages")
-        .value_parser(clap::value_parser!(u64).range(0..=MOST_AFTER));
     Command::new(alloc, "snap")
         .about("Write the snapshot of a file of messages")
         .arg(file(alloc))?
-        .arg(after)?
+        .arg(after(alloc))?
         .arg(only(alloc))?
         .arg(progress(alloc))
 }
@@ -76,17 +71,10 @@ fn compare<'a>(alloc: Global) -> Result<Command<'a>, AllocError> {
 }
 
 fn canon<'a>(alloc: Global) -> Result<Command<'a>, AllocError> {
-    let snapshot = Arg::new(alloc, "SNAP").help(
-        "The snapshot to read: standard input where it is `-` or left out",
-    );
-    let check = Arg::new(alloc, "check")
-        .long("check")
-        .help("Only say whether the snapshot is in canonical form")
-        .action(ArgAction::SetTrue);
     Command::new(alloc, "canon")
         .about("Write a snapshot in canonical form")
-        .arg(snapshot)?
-        .arg(check)?
+        .arg(snapshot(alloc))?
+        .arg(only_check(alloc))?
         .arg(progress(alloc))
 }
 
@@ -110,14 +98,36 @@ fn show<'a>(alloc: Global) -> Result<Command<'a>, AllocError> {
 }
 
 fn book<'a>(alloc: Global) -> Result<Command<'a>, AllocError> {
-    let locate = Arg::new(alloc, "LOCATE")
-        .help("The locate, 0 to 65535")
-        .required(true)
-        .value_parser(clap::value_parser!(u16));
     Command::new(alloc, "book")
         .about("Write the prices of a locate")
-        .arg(locate)?
+        .arg(locate(alloc))?
         .arg(file(alloc))
+}
+
+fn after<'a>(alloc: Global) -> Arg<'a> {
+    Arg::new(alloc, "after")
+        .long("after")
+        .value_name("N")
+        .help("Stop after the first N messages")
+        .value_parser(clap::value_parser!(u64).range(0..=MOST_AFTER))
+}
+
+fn snapshot<'a>(alloc: Global) -> Arg<'a> {
+    Arg::new(alloc, "SNAP").help("The snapshot to read: standard input where it is `-` or left out")
+}
+
+fn only_check<'a>(alloc: Global) -> Arg<'a> {
+    Arg::new(alloc, "check")
+        .long("check")
+        .help("Only say whether the snapshot is in canonical form")
+        .action(ArgAction::SetTrue)
+}
+
+fn locate<'a>(alloc: Global) -> Arg<'a> {
+    Arg::new(alloc, "LOCATE")
+        .help("The locate, 0 to 65535")
+        .required(true)
+        .value_parser(clap::value_parser!(u16))
 }
 
 fn only<'a>(alloc: Global) -> Arg<'a> {

@@ -116,19 +116,10 @@ fn read_number<'a>(alloc: Global, options: &ArgMatches<'a>, name: &str) -> Resul
 }
 
 fn serve<'a>(alloc: Global) -> Result<Command<'a>, AllocError> {
-    let file = Arg::new(alloc, "FILE").required(true).help(
-        "The file of messages whose market is served, `-` for standard input",
-    );
-    let count = Arg::new(alloc, "count")
-        .long("count")
-        .value_name("N")
-        .required(true)
-        .help("Serve N connections, one after the other")
-        .value_parser(clap::value_parser!(u64).range(1..=1_000_000));
     let command = Command::new(alloc, "serve")
         .about("Serve the snapshot of a file over SoupBinTCP on 127.0.0.1")
-        .arg(file)?
-        .arg(count)?
+        .arg(served(alloc))?
+        .arg(count(alloc))?
         .arg(progress(alloc))?;
     with_peer(alloc, command)
 }
@@ -142,21 +133,48 @@ fn fetch<'a>(alloc: Global) -> Result<Command<'a>, AllocError> {
 
 // A command with the port of a server, and a login to it.
 fn with_peer<'a>(alloc: Global, command: Command<'a>) -> Result<Command<'a>, AllocError> {
-    let port = Arg::new(alloc, "port")
+    command
+        .arg(port(alloc))?
+        .arg(user(alloc))?
+        .arg(password(alloc))
+}
+
+fn served<'a>(alloc: Global) -> Arg<'a> {
+    Arg::new(alloc, "FILE").required(true).help(
+        "The file of messages whose market is served, `-` for standard input",
+    )
+}
+
+fn count<'a>(alloc: Global) -> Arg<'a> {
+    Arg::new(alloc, "count")
+        .long("count")
+        .value_name("N")
+        .required(true)
+        .help("Serve N connections, one after the other")
+        .value_parser(clap::value_parser!(u64).range(1..=1_000_000))
+}
+
+fn port<'a>(alloc: Global) -> Arg<'a> {
+    Arg::new(alloc, "port")
         .long("port")
         .value_name("P")
         .required(true)
         .help("The port of the server")
-        .value_parser(clap::value_parser!(u64).range(1..=65_535));
-    let user = Arg::new(alloc, "user")
+        .value_parser(clap::value_parser!(u64).range(1..=65_535))
+}
+
+fn user<'a>(alloc: Global) -> Arg<'a> {
+    Arg::new(alloc, "user")
         .long("user")
         .value_name("U")
         .required(true)
-        .help("The user name: 1 to 6 printable characters");
-    let pass = Arg::new(alloc, "pass")
+        .help("The user name: 1 to 6 printable characters")
+}
+
+fn password<'a>(alloc: Global) -> Arg<'a> {
+    Arg::new(alloc, "pass")
         .long("pass")
         .value_name("W")
         .required(true)
-        .help("The password: 1 to 10 printable characters");
-    command.arg(port)?.arg(user)?.arg(pass)
+        .help("The password: 1 to 10 printable characters")
 }
