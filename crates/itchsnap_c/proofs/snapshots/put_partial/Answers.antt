@@ -12,7 +12,7 @@ returns-in-Some-partial_bytes c =
     let set = c.in-Some-set_of.set in
     inl (
       c.in-Some.ensures.accepts.0 refl,
-      omega (arith, c.if-snapshot_len-ge-TOO_MANY.false, c.snapshot_len.ensures),
+      omega (arith, c.if-snapshot_len-from.false, c.from.ensures, c.snapshot_len.ensures),
       subst (λ bytes. Copies bytes c.args.out.now c.copy.result c.copy.new.out)
           (c.as_slice.ensures.value ∙ c.in-Some-partial_bytes.ensures ∙ ap (λ k. canon (only (has set) m) ++ closing k) c.in-Some.ensures.number
           ∙ same_cut set c.args.locates.now m c.args.next c.in-Some-set_of.ensures) c.copy.ensures,
