@@ -167,14 +167,17 @@ static void join(buffer day, uint64_t count, buffer snapshot) {
     must(itchsnap_market_new(&empty).code == ITCHSNAP_OK, "a new market");
     must(itchsnap_joiner_new(&joiner, (size_t)count).code == ITCHSNAP_OK, "a new joiner");
     must(itchsnap_joiner_next(&joiner).code == ITCHSNAP_NOT_JOINED, "a joiner that has not joined");
-    for (uint64_t number = count; number > 0; number--) {
-        size_t at = 0;
-        payload message = {NULL, 0};
-        for (uint64_t k = 0; k < number; k++) {
-            must(next_payload(day, &at, &message), "the message of a number");
-        }
-        must(itchsnap_joiner_live(&joiner, number, message.bytes, message.len).code == ITCHSNAP_KEPT, "a message that waits");
+    payload *feed = malloc((size_t)(count > 0 ? count : 1) * sizeof *feed);
+    must(feed != NULL, "out of memory");
+    size_t place = 0;
+    for (uint64_t k = 0; k < count; k++) {
+        must(next_payload(day, &place, &feed[k]), "the message of a number");
     }
+    for (uint64_t number = count; number > 0; number--) {
+        payload last = feed[number - 1];
+        must(itchsnap_joiner_live(&joiner, number, last.bytes, last.len).code == ITCHSNAP_KEPT, "a message that waits");
+    }
+    free(feed);
     must(itchsnap_joiner_waiting(&joiner).count == count, "the messages that wait");
     buffer start = snapshot_of(&empty, 1);
     size_t at = 0;
