@@ -1,5 +1,5 @@
 -- What the program is asked to do over files, and what it does for each request over one file.
-use Rattle.std.specs.Prelude.{ℕ, Bool, true, false, List, Option, None, Result, ⊤}
+use Rattle.std.specs.Prelude.{ℕ, Bool, true, false, List, Option, None, option_map, Result, ⊤}
 use Rattle.itch_frame.specs.Reading.{Reading}
 use Rattle.itch_frame.specs.declared.tally.Failures.{Failures}
 use Rattle.itch_market.specs.Wanted.{Wanted}
@@ -12,6 +12,22 @@ use Rattle.itch_commands.specs.Canons.{ChecksSnap, canonical_line}
 use Rattle.itch_commands.specs.Showing.{Shows}
 use Rattle.itch_commands.specs.Outputs.{Outputs, ok_line_of, snapshot_in, closed_bytes}
 use Rattle.itch_commands.specs.Books.{ReadsListed, book_of}
+
+-- the path of the file that a request reads, and of two that of the first; none where it is standard input
+abbrev pub file_of : Request → Option (List ℕ)
+file_of (Snap file after only) = option_map (λ path. path.now) file
+file_of (Check file) = option_map (λ path. path.now) file
+file_of (Show file) = option_map (λ path. path.now) file
+file_of (Canon file check) = option_map (λ path. path.now) file
+file_of (Book locate file) = option_map (λ path. path.now) file
+file_of (Compare first second) = option_map (λ path. path.now) first
+file_of (Join snapshot feed only) = option_map (λ path. path.now) snapshot
+
+-- the list of the locates that a request wants, where it is not all of them
+abbrev pub only_of : Request → Option (List ℕ)
+only_of (Snap file after only) = option_map (λ list. list.now) only
+only_of (Join snapshot feed only) = option_map (λ list. list.now) only
+only_of request = None
 
 -- the requests whose output is a snapshot, which is no text
 abbrev pub is_binary : Request → Bool

@@ -1,6 +1,6 @@
 //! What the program is asked to do over files.
-ghost use Rattle.std.specs.Prelude.{◌≡◌, ◌↔◌, Some, IsNone, IfSome, codes};
-ghost use Rattle.itch_commands.specs.Requests.{is_binary};
+ghost use Rattle.std.specs.Prelude.{◌≡◌, ◌↔◌, Some, IsNone, IfSome, option_map, codes};
+ghost use Rattle.itch_commands.specs.Requests.{file_of, is_binary, only_of};
 
 /// What the program is asked to do. A file is the path of one, or none for standard input.
 #[derive(Clone, Copy, Debug, PartialEq, Eq)]
@@ -44,7 +44,9 @@ pub enum Request<'a> {
 
 impl<'a> Request<'a> {
     /// The file that is read; of two the first.
-    pub fn file(&self) -> Option<&'a str> {
+    pub fn file(&self) -> Option<&'a str>
+        ensures { option_map (λ path. path.now) result ≡ file_of self.now }
+    {
         match *self {
             Request::Snap { file, .. }
             | Request::Check { file }
@@ -67,7 +69,9 @@ impl<'a> Request<'a> {
     }
 
     /// The list of the locates that are wanted, where not all are.
-    pub fn only(&self) -> Option<&'a str> {
+    pub fn only(&self) -> Option<&'a str>
+        ensures { option_map (λ list. list.now) result ≡ only_of self.now }
+    {
         match *self {
             Request::Snap { only, .. } | Request::Join { only, .. } => only,
             _ => None,
