@@ -41,8 +41,8 @@ abbrev pub ReadsDay : List ℕ → Option ℕ → Content → ℕ → Type 0
 ReadsDay day after m count =
     (payloads : List (List ℕ)) × Reads day after payloads × (m ≡ laid (run (map message_of payloads))) × (length payloads ≡ count)
 
--- Why a day file is refused: at its first bad place, after so many messages; or it ends before as many as are wanted; or memory
--- is refused.
+-- Why a day file is refused: at its first bad place, with the number of messages before it; or it has fewer messages than are
+-- wanted; or memory is refused.
 abbrev pub RefusesDay : List ℕ → Option ℕ → Outcome → Type 0
 RefusesDay day after o =
     ((count : ℕ) × (stop : Stop) × (o ≡ outcome count 0 (stop_answer stop).detail (stop_answer stop).code) × (stop ≢ End) × Stops empty day count stop)

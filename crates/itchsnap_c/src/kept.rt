@@ -1,4 +1,4 @@
-//! An object behind a pointer that C keeps.
+//! An object to which C keeps a pointer.
 ghost use Rattle.std.specs.Prelude.{◌≡◌, IsSome, Some, None, Option};
 ghost use Rattle.std.specs.Coded.{codes};
 ghost use Rattle.std.specs.FinMap as map;

@@ -1,6 +1,6 @@
 //! The toolkit for programs in C, C++, Python and Rust: each export calls one function of the libraries.
 //!
-//! C keeps its objects behind a [`Handle`](handle::Handle): all zero at first, filled by a call with `new` or `load` in its name,
+//! C keeps each object in a [`Handle`](handle::Handle): all zero at first, filled by a call with `new` or `load` in its name,
 //! and emptied by [`itchsnap_free`](handle::itchsnap_free). Every export returns for every handle: one that does not hold what
 //! the call is about is refused with a code, and is left as it was.
 //!
