@@ -2,7 +2,6 @@
 
 use super::blocks::*;
 use super::files::file;
-use crate::equal::same;
 use itch_commands::join::join;
 use itch_frame::testing::{FuseWriter, PieceReader};
 use itch_market::LocateSet;
@@ -28,7 +27,7 @@ fn joined_for(
         &mut out,
     );
     assert!(rt; matches!(answer, Ok(true)));
-    same(rt, out.written(), wanted);
+    assert_eq!(rt; out.written(), wanted);
 }
 
 // The feed is joined to the snapshot so, and also for the set of all locates.
@@ -62,7 +61,7 @@ fn refused(
         &mut out,
     );
     let fault = answer.err().ok_or("a refusal")?;
-    same(rt, format!(in alloc; "{fault}")?.as_str(), line);
+    assert_eq!(rt; format!(in alloc; "{fault}")?.as_str(), line);
     assert_eq!(rt; fault.status(), 1, "{line}");
     assert!(rt; out.written().is_empty(), "{line}");
     Ok(())

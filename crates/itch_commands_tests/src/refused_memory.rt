@@ -2,7 +2,6 @@
 use super::blocks::*;
 use super::cases::{Case, Command};
 use super::files::file;
-use crate::equal::same;
 use itch_commands::{ToolFault, status};
 use itch_frame::testing::{FuseWriter, PieceReader};
 use refusing::Refusing;
@@ -21,11 +20,11 @@ fn is_refused(
 ) -> bool {
     if refusing.has_refused() {
         assert!(rt; answer.is_err());
-        same(rt, status(answer), 4);
+        assert_eq!(rt; status(answer), 4);
         assert!(rt; written.is_empty());
     } else {
         assert!(rt; matches!(answer, Ok(verdict) if *verdict == is_true));
-        same(rt, written, wanted);
+        assert_eq!(rt; written, wanted);
     }
     refusing.has_refused()
 }

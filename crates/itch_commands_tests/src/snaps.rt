@@ -1,7 +1,6 @@
 //! Snapshots of files, and their messages counted.
 use super::blocks::*;
 use super::files::{file, snapshot};
-use crate::equal::same;
 use itch_commands::ToolFault;
 use itch_commands::check::check;
 use itch_commands::snap::snap;
@@ -143,7 +142,7 @@ fn check_counts_the_messages(rt: HostRuntime) -> Result<(), Fail> {
         let mut out = FuseWriter::new(alloc, 3, None);
         let answer = check(alloc, PieceReader::new(input.as_slice(), 2, None), &mut out);
         assert!(rt; matches!(answer, Ok(true)), "{wanted}");
-        same(&rt, out.written(), wanted.as_bytes());
+        assert_eq!(rt; out.written(), wanted.as_bytes());
     }
     Ok(())
 }

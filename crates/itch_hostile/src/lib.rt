@@ -12,8 +12,6 @@
 #[cfg(test)]
 mod broken_input;
 #[cfg(test)]
-mod equal;
-#[cfg(test)]
 mod failing_devices;
 #[cfg(test)]
 mod files;

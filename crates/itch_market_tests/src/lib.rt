@@ -13,8 +13,6 @@ mod book;
 #[cfg(test)]
 mod codec;
 #[cfg(test)]
-mod equal;
-#[cfg(test)]
 mod frame;
 #[cfg(test)]
 mod market;

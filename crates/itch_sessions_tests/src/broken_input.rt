@@ -1,5 +1,4 @@
 //! A client that says what no client may: its connection alone ends.
-use crate::equal::same;
 use crate::sessions::{LOGIN_3, lines};
 use std::io::Write;
 use std::net::{TcpListener, TcpStream};
@@ -14,10 +13,9 @@ fn a_fault_ends_one_connection_alone(rt: HostRuntime) -> Result<(), Fail> {
     let mut second = TcpStream::connect(&rt, address)?;
     second.write_all(LOGIN_3)?;
     let written = lines(&rt, &listener, 2)?;
-    same(
-        &rt,
+    assert_eq!(rt;
         written.as_slice(),
-        b"connection 1: fault\nconnection 2: accepted from 3, 3 packets\n".as_slice(),
+        b"connection 1: fault\nconnection 2: accepted from 3, 3 packets\n".as_slice()
     );
     Ok(())
 }

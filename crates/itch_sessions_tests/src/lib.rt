@@ -4,8 +4,6 @@
 #[cfg(test)]
 mod broken_input;
 #[cfg(test)]
-mod equal;
-#[cfg(test)]
 mod examples;
 #[cfg(test)]
 mod failing_devices;

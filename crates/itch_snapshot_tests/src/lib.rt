@@ -9,8 +9,6 @@
 #![tactic(auto)]
 
 #[cfg(test)]
-mod equal;
-#[cfg(test)]
 mod examples;
 #[cfg(test)]
 mod join;

@@ -1,5 +1,4 @@
 //! A day file replayed.
-use crate::equal::same;
 use crate::files::{REPLACED, blocks};
 use itch_book::{IndexedBook, ListBook, OrderBook};
 use itch_frame::testing::PieceReader;
@@ -33,7 +32,7 @@ fn fails_and_goes_on<B: OrderBook>(
     let second = replay(&mut reader, &mut market);
     assert!(rt; matches!(second.stop, Stop::End), "byte {at}");
     assert_eq!(rt; first.count.saturating_add(second.count), 4, "byte {at}");
-    same(rt, market.book().len(), 2);
+    assert_eq!(rt; market.book().len(), 2);
     Ok(())
 }
 

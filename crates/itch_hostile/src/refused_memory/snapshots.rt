@@ -1,5 +1,4 @@
 //! The messages of a snapshot taken one by one, a snapshot file read, and what takes no memory.
-use crate::equal::same;
 use crate::files::{REPLACED, REPLACED_SNAPSHOT, blocks, market, seq};
 use itch_book::{IndexedBook, ListBook, OrderBook};
 use itch_frame::testing::PieceReader;
@@ -38,7 +37,7 @@ fn refuse_to_take<B: OrderBook>(
             Err(fault) => {
                 assert!(rt; refusing.has_refused());
                 assert!(rt; wants_memory(&fault, taken.saturating_add(1)));
-                same(rt, reader.taken(), taken);
+                assert_eq!(rt; reader.taken(), taken);
             }
         }
     }
@@ -62,7 +61,7 @@ fn refuse_each<B: OrderBook>(
     match reader.finish() {
         Ok((market, next)) => {
             assert!(rt; same_market(&want, &market));
-            same(rt, next.value(), 5);
+            assert_eq!(rt; next.value(), 5);
         }
         Err(_) => panic!(rt; "the End of Snapshot was taken"),
     }
@@ -96,7 +95,7 @@ fn refuse_to_read<B: OrderBook>(
         Ok((market, next)) => {
             assert!(rt; !refusing.has_refused());
             assert!(rt; snapshot_len(&market) < 10);
-            same(rt, next.value(), 5);
+            assert_eq!(rt; next.value(), 5);
             Ok(false)
         }
         Err(fault) => {
@@ -141,9 +140,9 @@ fn writing_and_comparing_take_no_memory(rt: HostRuntime) -> Result<(), Fail> {
     let mut memory = [0; 144];
     let mut writer = Counted::new(memory.as_mut_slice());
     refusing.arm(0);
-    same(&rt, write_snapshot(&market, seq(&rt, 5), &mut writer)?, 4);
-    same(&rt, part_place(&market, &market), None);
+    assert_eq!(rt; write_snapshot(&market, seq(&rt, 5), &mut writer)?, 4);
+    assert_eq!(rt; part_place(&market, &market), None);
     assert!(rt; !refusing.has_refused());
-    same(&rt, memory.as_slice(), want.written());
+    assert_eq!(rt; memory.as_slice(), want.written());
     Ok(())
 }

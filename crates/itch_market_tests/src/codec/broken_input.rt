@@ -1,6 +1,5 @@
 //! Each byte of each vector at each value.
 use super::vectors::*;
-use crate::equal::same;
 use itch_codec::{CodecFault, Message, decode, encode};
 use std::process::Abort;
 
@@ -27,7 +26,7 @@ fn faults_of_bytes(rt: &impl Abort, vector: &[u8]) -> u32 {
             let spelled = &payload[..vector.len()];
             match decode(spelled) {
                 Ok(Message::End { .. }) => {}
-                Ok(message) => same(rt, encode(&message).bytes(), spelled),
+                Ok(message) => assert_eq!(rt; encode(&message).bytes(), spelled),
                 Err(fault) => {
                     assert!(rt; is_fault_at(fault, at, byte), "{fault} for {byte} at {at}");
                     faults = faults.wrapping_add(1);
@@ -64,7 +63,7 @@ fn each_byte_at_each_value(rt: HostRuntime) {
         (UNDECODED, 0),
     ];
     for (vector, faults) in rows {
-        same(&rt, faults_of_bytes(&rt, vector), faults);
+        assert_eq!(rt; faults_of_bytes(&rt, vector), faults);
     }
 }
 
@@ -76,7 +75,7 @@ fn each_type(rt: HostRuntime) {
         match decode(&payload) {
             Ok(message) => {
                 assert!(rt; !b"SRHYhLAFECXDUPQBG".contains(&byte));
-                same(&rt, encode(&message).bytes(), payload.as_slice());
+                assert_eq!(rt; encode(&message).bytes(), payload.as_slice());
             }
             Err(fault) => assert!(rt; is_fault_at(fault, 0, byte), "{fault} for {byte}"),
         }

@@ -1,5 +1,4 @@
 //! What a market holds, by its calls.
-use crate::equal::same;
 use itch_book::{Order, OrderBook};
 use itch_codec::{Alpha, Directory};
 use itch_market::{Action, Market, Security};
@@ -72,7 +71,7 @@ pub(super) fn content_of<B: OrderBook>(
         }
         push_orders(rt, market.book(), locate, &mut orders)?;
     }
-    same(rt, orders.len(), market.book().len());
+    assert_eq!(rt; orders.len(), market.book().len());
     Ok(Content {
         phase: market.phase(),
         securities,

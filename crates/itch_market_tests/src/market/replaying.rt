@@ -1,5 +1,4 @@
 //! Replays that fail in the middle, and go on.
-use crate::equal::same;
 use itch_book::{ListBook, OrderBook};
 use itch_frame::testing::PieceReader;
 use itch_frame::{BlockReader, CountedRead};
@@ -31,7 +30,7 @@ fn replayed<R: CountedRead, A: Allocator, B: OrderBook>(
     want: u64,
 ) -> Stop {
     let end = replay(reader, market);
-    same(rt, end.count, want);
+    assert_eq!(rt; end.count, want);
     end.stop
 }
 
@@ -61,7 +60,7 @@ fn check_first<B: OrderBook>(
     let mut reader = BlockReader::new(alloc, PieceReader::new(bytes, 64, None))?;
     let mut market: Market<B> = Market::new(memory);
     let (count, stop) = replay_first(&mut reader, &mut market, 2);
-    same(rt, count, 2);
+    assert_eq!(rt; count, 2);
     assert!(rt; stop.is_none());
     Ok(())
 }
