@@ -1,6 +1,7 @@
 //! Each beginning of a day file and of a snapshot: the fault says how many bytes of the block at hand are held.
 use super::blocks::*;
 use super::files::file;
+use crate::equal::same;
 use itch_commands::ToolFault;
 use itch_commands::canon::canon;
 use itch_commands::check::check;
@@ -32,8 +33,8 @@ fn is_refused(
     line: &str,
 ) -> Result<(), Fail> {
     let fault = answer.err().ok_or("a refusal")?;
-    assert_eq!(rt; format!(in alloc; "{fault}")?.as_str(), line);
-    assert_eq!(rt; fault.status(), 1);
+    same(rt, format!(in alloc; "{fault}")?.as_str(), line);
+    same(rt, fault.status(), 1);
     assert!(rt; out.written().is_empty());
     Ok(())
 }
@@ -46,7 +47,7 @@ fn check_beginning(rt: &impl Abort, alloc: Global, bytes: &[u8]) -> Result<(), F
         let whole = block.saturating_sub(1);
         let line = format!(in alloc; "ok {whole} messages\n")?;
         assert!(rt; matches!(answer, Ok(true)));
-        assert_eq!(rt; out.written(), line.as_str().as_bytes());
+        same(rt, out.written(), line.as_str().as_bytes());
         return Ok(());
     }
     let line = format!(in alloc; "itchsnap: message {block}: truncated, {held} bytes held")?;
@@ -56,7 +57,7 @@ fn check_beginning(rt: &impl Abort, alloc: Global, bytes: &[u8]) -> Result<(), F
 #[test]
 fn each_beginning_of_a_day_file(rt: HostRuntime) -> Result<(), Fail> {
     let day = file(rt.alloc(), &[START, AAPL, BUY_1])?;
-    assert_eq!(rt; day.len(), 93);
+    same(&rt, day.len(), 93);
     for len in 0..=93 {
         let bytes = day.get(..len).ok_or("a beginning")?;
         check_beginning(&rt, rt.alloc(), bytes)?;
@@ -78,7 +79,7 @@ fn canon_beginning(rt: &impl Abort, alloc: Global, bytes: &[u8], check: bool) ->
 #[test]
 fn each_beginning_of_a_snapshot(rt: HostRuntime) -> Result<(), Fail> {
     let snapshot = file(rt.alloc(), &[START, AAPL, BUY_1, END_4])?;
-    assert_eq!(rt; snapshot.len(), 116);
+    same(&rt, snapshot.len(), 116);
     for len in 0..116 {
         let bytes = snapshot.get(..len).ok_or("a beginning")?;
         canon_beginning(&rt, rt.alloc(), bytes, false)?;

@@ -1,6 +1,7 @@
 //! Snapshots that are canonical, and others: what `canon --check` writes of them.
 use super::blocks::*;
 use super::files::file;
+use crate::equal::same;
 use itch_commands::canon::canon;
 use itch_commands::status;
 use itch_frame::testing::{FuseWriter, PieceReader};
@@ -20,8 +21,8 @@ fn checks(
     let mut out = FuseWriter::new(alloc, 3, None);
     let reader = PieceReader::new(input.as_slice(), 7, None);
     let answer = canon(alloc, reader, true, &mut out);
-    assert_eq!(rt; status(&answer), code);
-    assert_eq!(rt; out.written(), wanted.as_bytes());
+    same(rt, status(&answer), code);
+    same(rt, out.written(), wanted.as_bytes());
     Ok(())
 }
 
@@ -41,8 +42,8 @@ fn refuses(rt: &impl Abort, alloc: Global, blocks: &[&str], reason: &str) -> Res
     let answer = canon(alloc, reader, true, &mut out);
     let fault = answer.err().ok_or("a refusal")?;
     let line = format!(in alloc; "itchsnap: {reason}")?;
-    assert_eq!(rt; format!(in alloc; "{fault}")?.as_str(), line.as_str());
-    assert_eq!(rt; fault.status(), 1);
+    same(rt, format!(in alloc; "{fault}")?.as_str(), line.as_str());
+    same(rt, fault.status(), 1);
     assert!(rt; out.written().is_empty());
     Ok(())
 }

@@ -2,6 +2,7 @@
 
 use super::blocks::*;
 use super::files::file;
+use crate::equal::same;
 use itch_codec::CodecFault;
 use itch_commands::canon::canon;
 use itch_commands::compare::compare;
@@ -38,7 +39,7 @@ fn compared(
         PieceReader::new(other.as_slice(), 1, None),
         &mut out,
     );
-    assert_eq!(rt; out.written(), wanted.as_bytes());
+    same(rt, out.written(), wanted.as_bytes());
     let same = wanted == "same\n";
     assert!(rt; matches!(answer, Ok(verdict) if verdict == same));
     Ok(())
@@ -113,7 +114,7 @@ fn compare_names_the_refused_file(rt: HostRuntime) -> Result<(), Fail> {
             &mut out,
         );
         let fault = answer.err().ok_or("a refusal")?;
-        assert_eq!(rt; format!(in alloc; "{fault}")?.as_str(), line);
+        same(&rt, format!(in alloc; "{fault}")?.as_str(), line);
         assert_eq!(rt; fault.status(), 1, "{line}");
         assert!(rt; out.written().is_empty(), "{line}");
     }
@@ -174,7 +175,7 @@ fn a_refused_snapshot_has_its_line_and_status(rt: HostRuntime) -> Result<(), Fai
         let line = format!(in alloc; "itchsnap: {reason}")?;
         let (answer, written) = canonical(alloc, input.as_slice())?;
         let fault = answer.err().ok_or("a refusal")?;
-        assert_eq!(rt; format!(in alloc; "{fault}")?.as_str(), line.as_str());
+        same(&rt, format!(in alloc; "{fault}")?.as_str(), line.as_str());
         assert_eq!(rt; fault.status(), 1, "{reason}");
         assert!(rt; written.is_empty(), "{reason}");
     }
@@ -239,8 +240,8 @@ fn book_refuses_an_unknown_locate(rt: HostRuntime) -> Result<(), Fail> {
         let reader = PieceReader::new(input.as_slice(), 64, None);
         let answer = book(alloc, locate, reader, &mut out);
         let fault = answer.err().ok_or("a refusal")?;
-        assert_eq!(rt; format!(in alloc; "{fault}")?.as_str(), line);
-        assert_eq!(rt; fault.status(), 1);
+        same(&rt, format!(in alloc; "{fault}")?.as_str(), line);
+        same(&rt, fault.status(), 1);
         assert!(rt; out.written().is_empty());
     }
     Ok(())
@@ -274,7 +275,7 @@ fn faults_of_snapshots_have_their_lines_and_statuses(rt: HostRuntime) -> Result<
         for (file, words) in [(Source::Only, ""), (Source::Snapshot, "snapshot: ")] {
             let fault = ToolFault::Snap { file, fault };
             let line = format!(in alloc; "itchsnap: {words}{reason}")?;
-            assert_eq!(rt; format!(in alloc; "{fault}")?.as_str(), line.as_str());
+            same(&rt, format!(in alloc; "{fault}")?.as_str(), line.as_str());
             assert_eq!(rt; fault.status(), status, "{reason}");
         }
     }

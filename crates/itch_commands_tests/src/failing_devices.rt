@@ -3,6 +3,7 @@
 use super::blocks::*;
 use super::cases::{Case, Command, DAY_ENDS, OTHER_ENDS};
 use super::files::file;
+use crate::equal::same;
 use itch_commands::snap::snap;
 use itch_commands::{Source, ToolFault, status};
 use itch_frame::testing::{FuseWriter, PieceReader};
@@ -64,7 +65,7 @@ fn failed_read(
         .perform(alloc, None, one, other, &mut out)
         .err()
         .ok_or("a fault")?;
-    assert_eq!(rt; fault.status(), 3);
+    same(rt, fault.status(), 3);
     if case.command == Command::Show {
         assert!(rt; case.wanted.starts_with(out.written()));
     } else {

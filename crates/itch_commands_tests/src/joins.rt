@@ -2,6 +2,7 @@
 
 use super::blocks::*;
 use super::files::file;
+use crate::equal::same;
 use itch_commands::join::join;
 use itch_frame::testing::{FuseWriter, PieceReader};
 use itch_market::LocateSet;
@@ -27,7 +28,7 @@ fn joined_for(
         &mut out,
     );
     assert!(rt; matches!(answer, Ok(true)));
-    assert_eq!(rt; out.written(), wanted);
+    same(rt, out.written(), wanted);
 }
 
 // The feed is joined to the snapshot so, and also for the set of all locates.
@@ -61,7 +62,7 @@ fn refused(
         &mut out,
     );
     let fault = answer.err().ok_or("a refusal")?;
-    assert_eq!(rt; format!(in alloc; "{fault}")?.as_str(), line);
+    same(rt, format!(in alloc; "{fault}")?.as_str(), line);
     assert_eq!(rt; fault.status(), 1, "{line}");
     assert!(rt; out.written().is_empty(), "{line}");
     Ok(())

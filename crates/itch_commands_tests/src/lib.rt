@@ -12,6 +12,8 @@ mod cases;
 #[cfg(test)]
 mod desk;
 #[cfg(test)]
+mod equal;
+#[cfg(test)]
 mod examples;
 #[cfg(test)]
 mod failing_devices;

@@ -2,6 +2,7 @@
 
 use super::blocks::*;
 use super::files::{file, snapshot};
+use crate::equal::same;
 use itch_commands::check::check;
 use itch_commands::{Source, ToolFault, status, system_fault};
 use itch_frame::testing::{FuseWriter, PieceReader};
@@ -85,8 +86,8 @@ fn a_refused_file_has_its_line_and_status(rt: HostRuntime) -> Result<(), Fail> {
         let line = format!(in alloc; "itchsnap: {reason}")?;
         let (answer, written) = snapshot(alloc, input.as_slice(), 5, None)?;
         let fault = answer.err().ok_or("a refusal by snap")?;
-        assert_eq!(rt; format!(in alloc; "{fault}")?.as_str(), line.as_str());
-        assert_eq!(rt; fault.status(), 1);
+        same(&rt, format!(in alloc; "{fault}")?.as_str(), line.as_str());
+        same(&rt, fault.status(), 1);
         assert!(rt; written.is_empty(), "{reason}");
         let mut out = FuseWriter::new(alloc, 64, None);
         let answer = check(
@@ -95,7 +96,7 @@ fn a_refused_file_has_its_line_and_status(rt: HostRuntime) -> Result<(), Fail> {
             &mut out,
         );
         let fault = answer.err().ok_or("a refusal by check")?;
-        assert_eq!(rt; format!(in alloc; "{fault}")?.as_str(), line.as_str());
+        same(&rt, format!(in alloc; "{fault}")?.as_str(), line.as_str());
         assert!(rt; out.written().is_empty(), "{reason}");
     }
     Ok(())
@@ -137,12 +138,12 @@ fn every_fault_has_its_line_and_status(rt: HostRuntime) -> Result<(), Fail> {
     ];
     for (fault, reason, wanted) in cases.iter() {
         let line = format!(in alloc; "itchsnap: {reason}")?;
-        assert_eq!(rt; format!(in alloc; "{fault}")?.as_str(), line.as_str());
+        same(&rt, format!(in alloc; "{fault}")?.as_str(), line.as_str());
         assert_eq!(rt; fault.status(), *wanted, "{reason}");
     }
-    assert_eq!(rt; status(&Err(ToolFault::Open)), 3);
-    assert_eq!(rt; status(&Ok(true)), 0);
-    assert_eq!(rt; status(&Ok(false)), 1);
+    same(&rt, status(&Err(ToolFault::Open)), 3);
+    same(&rt, status(&Ok(true)), 0);
+    same(&rt, status(&Ok(false)), 1);
     Ok(())
 }
 

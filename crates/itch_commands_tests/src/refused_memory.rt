@@ -2,6 +2,7 @@
 use super::blocks::*;
 use super::cases::{Case, Command};
 use super::files::file;
+use crate::equal::same;
 use itch_commands::{ToolFault, status};
 use itch_frame::testing::{FuseWriter, PieceReader};
 use refusing::Refusing;
@@ -20,11 +21,11 @@ fn is_refused(
 ) -> bool {
     if refusing.has_refused() {
         assert!(rt; answer.is_err());
-        assert_eq!(rt; status(answer), 4);
+        same(rt, status(answer), 4);
         assert!(rt; written.is_empty());
     } else {
         assert!(rt; matches!(answer, Ok(verdict) if *verdict == is_true));
-        assert_eq!(rt; written, wanted);
+        same(rt, written, wanted);
     }
     refusing.has_refused()
 }

@@ -3,6 +3,7 @@
 use super::blocks::*;
 use super::files::file;
 use super::snaps::ROWS;
+use crate::equal::same;
 use itch_commands::join::join;
 use itch_commands::read_locates;
 use itch_commands::snap::snap;
@@ -58,7 +59,7 @@ fn snap_of_all_locates_is_the_whole(rt: HostRuntime) -> Result<(), Fail> {
         let reader = PieceReader::new(day.as_slice(), 7, None);
         let answer = snap(alloc, reader, None, Some(&all), &mut out);
         assert!(rt; matches!(answer, Ok(true)));
-        assert_eq!(rt; out.written(), file(alloc, wanted)?.as_slice());
+        same(&rt, out.written(), file(alloc, wanted)?.as_slice());
     }
     Ok(())
 }
@@ -76,9 +77,10 @@ fn snap_of_a_set_follows_every_rule(rt: HostRuntime) -> Result<(), Fail> {
     let reader = PieceReader::new(day.as_slice(), 64, None);
     let answer = snap(alloc, reader, None, Some(&set), &mut out);
     let fault = answer.err().ok_or("a refusal")?;
-    assert_eq!(rt;
+    same(
+        &rt,
         format!(in alloc; "{fault}")?.as_str(),
-        "itchsnap: message 3: unknown reference"
+        "itchsnap: message 3: unknown reference",
     );
     assert!(rt; out.written().is_empty());
     Ok(())
@@ -109,10 +111,10 @@ fn joined(
     match (answer, wanted) {
         (Ok(verdict), Ok(wanted)) => {
             assert!(rt; verdict);
-            assert_eq!(rt; out.written(), file(alloc, wanted)?.as_slice());
+            same(rt, out.written(), file(alloc, wanted)?.as_slice());
         }
         (Err(fault), Err(line)) => {
-            assert_eq!(rt; format!(in alloc; "{fault}")?.as_str(), line);
+            same(rt, format!(in alloc; "{fault}")?.as_str(), line);
             assert!(rt; out.written().is_empty());
         }
         _ => panic!(rt; "another outcome"),
@@ -217,9 +219,10 @@ fn other_texts_are_no_lists(rt: HostRuntime) -> Result<(), Fail> {
     for text in texts {
         let fault = read_locates(alloc, text).err().ok_or("a refusal")?;
         assert_eq!(rt; fault.status(), 2, "{text}");
-        assert_eq!(rt;
+        same(
+            &rt,
             format!(in alloc; "{fault}")?.as_str(),
-            "itchsnap: bad locate list"
+            "itchsnap: bad locate list",
         );
     }
     Ok(())
@@ -240,7 +243,7 @@ fn list_without_memory(rt: HostRuntime) -> Result<(), Fail> {
             return Ok(());
         }
         let fault = set.err().ok_or("a refusal")?;
-        assert_eq!(rt; fault.status(), 4);
+        same(&rt, fault.status(), 4);
     }
     Err(Fail::from("more than 64 allocations"))
 }

@@ -3,6 +3,7 @@ ghost use Rattle.std.specs.Prelude.{◌≤◌};
 
 use super::blocks::*;
 use super::files::file;
+use crate::equal::same;
 use itch_codec::CodecFault;
 use itch_commands::show::show;
 use itch_commands::{Source, ToolFault};
@@ -34,7 +35,7 @@ fn shown_as(rt: &impl Abort, alloc: Global, blocks: &[&str], expected: &str) -> 
     for piece in [1, 4096] {
         let (answer, text) = shown(alloc, alloc, bytes.as_slice(), piece)?;
         assert!(rt; matches!(answer, Ok(true)));
-        assert_eq!(rt; text.as_str(), expected);
+        same(rt, text.as_str(), expected);
     }
     Ok(())
 }
@@ -95,7 +96,7 @@ fn the_lines_before_a_fault_stand(rt: HostRuntime) -> Result<(), Fail> {
             },)
         )
     );
-    assert_eq!(rt; text.as_str(), "1 S 0 0 0 4f\n");
+    same(&rt, text.as_str(), "1 S 0 0 0 4f\n");
     let cut = file(alloc, &[START, START, "000c53"])?;
     let (answer, text) = shown(alloc, alloc, cut.as_slice(), 64)?;
     assert!(rt;
@@ -110,6 +111,6 @@ fn the_lines_before_a_fault_stand(rt: HostRuntime) -> Result<(), Fail> {
             },)
         )
     );
-    assert_eq!(rt; text.as_str(), "1 S 0 0 0 4f\n2 S 0 0 0 4f\n");
+    same(&rt, text.as_str(), "1 S 0 0 0 4f\n2 S 0 0 0 4f\n");
     Ok(())
 }

@@ -12,6 +12,8 @@
 #[cfg(test)]
 mod broken_input;
 #[cfg(test)]
+mod equal;
+#[cfg(test)]
 mod failing_devices;
 #[cfg(test)]
 mod files;

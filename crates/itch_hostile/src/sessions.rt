@@ -1,4 +1,5 @@
 //! A served session that the tables use: its login, its answers, and both of its ends over memory.
+use crate::equal::same;
 use crate::files::{AAPL, ADD_1, ADD_2, EVENT, market};
 use itch_book::ListBook;
 use itch_codec::{Alpha, Seq};
@@ -68,6 +69,6 @@ pub(crate) fn fetched<R: CountedRead + Drop>(
     let mut reader = BlockReader::new(alloc, reader)?;
     let mut writer = FuseWriter::new(alloc, 64, None);
     let result = fetch_one(alloc, &mut reader, &mut writer, &credentials(rt));
-    assert_eq!(rt; writer.written(), LOGIN_1);
+    same(rt, writer.written(), LOGIN_1);
     Ok(result)
 }

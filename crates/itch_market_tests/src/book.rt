@@ -1,4 +1,5 @@
 //! Books by what their calls return. The helpers take any book.
+use crate::equal::same;
 use itch_book::{IndexedBook, ListBook, Order, OrderBook, Taken};
 use itch_codec::Side;
 use std::alloc::AllocError;
@@ -78,7 +79,7 @@ pub(super) fn reference(order: Option<&Order>) -> u64 {
 
 // Adds two levels to buy, two to sell, and the greatest order of another locate.
 fn fill<B: OrderBook>(rt: &impl Abort, book: &mut B) -> Result<(), AllocError> {
-    assert_eq!(rt; book.len(), 0);
+    same(rt, book.len(), 0);
     for (number, side, shares, price) in [
         (1, Side::Buy, 100, 1500000),
         (2, Side::Buy, 200, 1500100),
@@ -94,13 +95,13 @@ fn fill<B: OrderBook>(rt: &impl Abort, book: &mut B) -> Result<(), AllocError> {
         ..order(u64::MAX, Side::Sell, u32::MAX, u32::MAX)
     };
     add(rt, book, last)?;
-    assert_eq!(rt; book.len(), 7);
+    same(rt, book.len(), 7);
     Ok(())
 }
 
 // Checks the order of the orders.
 fn check_order<B: OrderBook>(rt: &impl Abort, book: &B) {
-    assert_eq!(rt; reference(book.first(1)), 2);
+    same(rt, reference(book.first(1)), 2);
     for (number, want) in [
         (2, 4),
         (4, 1),
@@ -112,10 +113,10 @@ fn check_order<B: OrderBook>(rt: &impl Abort, book: &B) {
     ] {
         assert_eq!(rt; next(rt, book, number), want, "after {number}");
     }
-    assert_eq!(rt; reference(book.first(2)), 0);
-    assert_eq!(rt; reference(book.front(1, Side::Buy)), 2);
-    assert_eq!(rt; reference(book.front(1, Side::Sell)), 6);
-    assert_eq!(rt; reference(book.front(u16::MAX, Side::Buy)), 0);
+    same(rt, reference(book.first(2)), 0);
+    same(rt, reference(book.front(1, Side::Buy)), 2);
+    same(rt, reference(book.front(1, Side::Sell)), 6);
+    same(rt, reference(book.front(u16::MAX, Side::Buy)), 0);
 }
 
 // Checks the prices and the totals of the levels.
@@ -136,36 +137,37 @@ fn check_levels<B: OrderBook>(rt: &impl Abort, book: &B) {
         (1, Side::Sell, 1500000, (0, 0)),
         (u16::MAX, Side::Sell, u32::MAX, (4294967295, 1)),
     ] {
-        assert_eq!(rt; book.level_total(locate, side, price), want);
+        same(rt, book.level_total(locate, side, price), want);
     }
 }
 
 // Takes shares of the orders 1 and 3.
 fn check_takes<B: OrderBook>(rt: &impl Abort, book: &mut B) {
-    assert_eq!(rt; take(rt, book, 1, 40), Taken::Left(60));
-    assert_eq!(rt; book.level_total(1, Side::Buy, 1500000), (360, 2));
-    assert_eq!(rt; next(rt, book, 4), 1);
-    assert_eq!(rt; take(rt, book, 1, 60), Taken::Gone);
+    same(rt, take(rt, book, 1, 40), Taken::Left(60));
+    same(rt, book.level_total(1, Side::Buy, 1500000), (360, 2));
+    same(rt, next(rt, book, 4), 1);
+    same(rt, take(rt, book, 1, 60), Taken::Gone);
     assert!(rt; book.get(1).is_none());
-    assert_eq!(rt; take(rt, book, 3, 0), Taken::Left(300));
+    same(rt, take(rt, book, 3, 0), Taken::Left(300));
 }
 
 fn check_delete<B: OrderBook>(rt: &impl Abort, book: &mut B) {
-    assert_eq!(rt; delete(rt, book, 6), order(6, Side::Sell, 600, 1500200));
-    assert_eq!(rt; book.next_price(1, Side::Sell, None), Some(1500300));
+    same(rt, delete(rt, book, 6), order(6, Side::Sell, 600, 1500200));
+    same(rt, book.next_price(1, Side::Sell, None), Some(1500300));
 }
 
 // Replaces order 2 by order 7, after order 3.
 fn check_replace<B: OrderBook>(rt: &impl Abort, book: &mut B) -> Result<(), AllocError> {
     replace(rt, book, 2, 7, 50, 1500000)?;
     assert!(rt; book.get(2).is_none());
-    assert_eq!(rt;
+    same(
+        rt,
         book.get(7).copied(),
-        Some(order(7, Side::Buy, 50, 1500000))
+        Some(order(7, Side::Buy, 50, 1500000)),
     );
-    assert_eq!(rt; next(rt, book, 3), 7);
-    assert_eq!(rt; book.level_total(1, Side::Buy, 1500100), (400, 1));
-    assert_eq!(rt; book.len(), 5);
+    same(rt, next(rt, book, 3), 7);
+    same(rt, book.level_total(1, Side::Buy, 1500100), (400, 1));
+    same(rt, book.len(), 5);
     Ok(())
 }
 
@@ -191,12 +193,12 @@ fn fill_level<B: OrderBook>(rt: &impl Abort, book: &mut B) -> Result<(), AllocEr
 fn check_priority<B: OrderBook>(rt: &impl Abort, book: &mut B) -> Result<(), AllocError> {
     fill_level(rt, book)?;
     delete(rt, book, 500);
-    assert_eq!(rt; take(rt, book, 1, 10), Taken::Gone);
+    same(rt, take(rt, book, 1, 10), Taken::Gone);
     replace(rt, book, 1000, 2000, 5, 1500000)?;
-    assert_eq!(rt; book.level_total(1, Side::Buy, 1500000), (9975, 998));
-    assert_eq!(rt; reference(book.front(1, Side::Buy)), 2);
+    same(rt, book.level_total(1, Side::Buy, 1500000), (9975, 998));
+    same(rt, reference(book.front(1, Side::Buy)), 2);
     for (number, want) in [(499, 501), (999, 2000), (2000, 0)] {
-        assert_eq!(rt; next(rt, book, number), want);
+        same(rt, next(rt, book, number), want);
     }
     Ok(())
 }

@@ -1,4 +1,5 @@
 //! Vectors of the public standard's layouts, both ways, and what no contract says.
+use crate::equal::same;
 use itch_codec::{
     AddOrder, Alpha, AlphaFault, AttributedAddOrder, BrokenTrade, CodecFault, CrossTrade,
     Directory, Header, Message, OperationalHalt, OrderCancel, OrderDelete, OrderExecuted,
@@ -53,8 +54,8 @@ fn execution(rt: &impl Abort) -> OrderExecuted {
 // The message is spelled by these bytes, and read off them.
 fn agree(rt: &impl Abort, bytes: &[u8], message: Message<'_>) {
     let encoded = encode(&message);
-    assert_eq!(rt; encoded.bytes(), bytes);
-    assert_eq!(rt; decode(bytes), Ok(message));
+    same(rt, encoded.bytes(), bytes);
+    same(rt, &decode(bytes), &Ok(message));
 }
 
 #[test]
@@ -247,13 +248,17 @@ fn trades(rt: HostRuntime) {
 fn ends(rt: HostRuntime) {
     let next = Seq::new(4).expect(&rt, "a sequence number");
     agree(&rt, END, Message::End { next });
-    assert_eq!(rt; decode(b"G  0004              "), Ok(Message::End { next }));
+    same(
+        &rt,
+        &decode(b"G  0004              "),
+        &Ok(Message::End { next }),
+    );
 }
 
 #[test]
 fn undecoded(rt: HostRuntime) {
     let other = Undecoded::new(UNDECODED).expect(&rt, "a type that is not decoded");
-    assert_eq!(rt; (other.kind(), other.payload()), (b'N', UNDECODED));
+    same(&rt, (other.kind(), other.payload()), (b'N', UNDECODED));
     agree(&rt, UNDECODED, Message::Other(other));
     for kind in b"SRHYhLAFECXDUPQBG" {
         assert!(rt; Undecoded::new(&[*kind]).is_none(), "{kind} is decoded");
@@ -319,7 +324,7 @@ const FAULTS: [(&[u8], CodecFault); 12] = [
 #[test]
 fn faults(rt: HostRuntime) {
     for (bytes, fault) in FAULTS {
-        assert_eq!(rt; decode(bytes), Err(fault));
+        same(&rt, &decode(bytes), &Err(fault));
     }
 }
 
@@ -327,11 +332,11 @@ fn faults(rt: HostRuntime) {
 fn check_text(rt: &impl Abort, text: &str, want: Result<&[u8; 4], AlphaFault>) {
     match (Alpha::<4>::from_text(text), want) {
         (Ok(alpha), Ok(bytes)) => {
-            assert_eq!(rt; alpha.bytes(), bytes);
-            assert_eq!(rt; alpha.text(), text);
-            assert_eq!(rt; Alpha::from_bytes(bytes), Ok(alpha));
+            same(rt, alpha.bytes(), bytes);
+            same(rt, alpha.text(), text);
+            same(rt, Alpha::from_bytes(bytes), Ok(alpha));
         }
-        (Err(fault), Err(want)) => assert_eq!(rt; fault, want),
+        (Err(fault), Err(want)) => same(rt, fault, want),
         _ => assert!(rt; false, "{text} is answered the other way"),
     }
 }
@@ -350,7 +355,7 @@ fn texts(rt: HostRuntime) {
         check_text(&rt, text, want);
     }
     let bad = Alpha::from_bytes(b"AB\x1f\x80");
-    assert_eq!(rt; bad, Err(AlphaFault::NotPrintable { at: 2 }));
+    same(&rt, bad, Err(AlphaFault::NotPrintable { at: 2 }));
 }
 
 #[test]
@@ -362,7 +367,7 @@ fn numbers_are_written(rt: HostRuntime) {
         (u64::MAX, b"18446744073709551615"),
     ];
     for (number, field) in written {
-        assert_eq!(rt; number20(number), *field);
+        same(&rt, number20(number), *field);
     }
 }
 
@@ -380,22 +385,24 @@ fn numbers_are_read(rt: HostRuntime) {
         (b"                  +1", None),
     ];
     for (field, number) in read {
-        assert_eq!(rt; read_number20(field), number);
+        same(&rt, read_number20(field), number);
     }
 }
 
 #[test]
 fn sequence_numbers_and_timestamps_have_limits(rt: HostRuntime) {
-    assert_eq!(rt; Seq::new(0), None);
-    assert_eq!(rt; Seq::new(10_000_000_000_000_000_001), None);
-    assert_eq!(rt;
+    same(&rt, Seq::new(0), None);
+    same(&rt, Seq::new(10_000_000_000_000_000_001), None);
+    same(
+        &rt,
         Seq::new(10_000_000_000_000_000_000).map(Seq::value),
-        Some(10_000_000_000_000_000_000)
+        Some(10_000_000_000_000_000_000),
     );
-    assert_eq!(rt; Stamp::new(1 << 48), None);
-    assert_eq!(rt;
+    same(&rt, Stamp::new(1 << 48), None);
+    same(
+        &rt,
         Stamp::new((1 << 48) - 1).map(Stamp::value),
-        Some((1 << 48) - 1)
+        Some((1 << 48) - 1),
     );
 }
 
@@ -416,7 +423,7 @@ fn faults_of_messages_have_words(rt: HostRuntime) -> Result<(), Fail> {
         (CodecFault::BadNumber, "bad number"),
     ];
     for (fault, text) in rows {
-        assert_eq!(rt; format!(in rt.alloc(); "{fault}")?.as_str(), text);
+        same(&rt, format!(in rt.alloc(); "{fault}")?.as_str(), text);
     }
     Ok(())
 }
@@ -431,7 +438,7 @@ fn faults_of_texts_have_words(rt: HostRuntime) -> Result<(), Fail> {
         ),
     ];
     for (fault, text) in texts {
-        assert_eq!(rt; format!(in rt.alloc(); "{fault}")?.as_str(), text);
+        same(&rt, format!(in rt.alloc(); "{fault}")?.as_str(), text);
     }
     Ok(())
 }

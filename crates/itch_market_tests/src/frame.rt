@@ -1,6 +1,7 @@
 //! Worked cases, each failure in turn, and the calls that take no memory.
 ghost use Rattle.std.specs.Prelude.{None, IsErr};
 
+use crate::equal::same;
 use itch_frame::testing::{FuseWriter, PieceReader};
 use itch_frame::{
     BlockReader, Buffered, Counted, CountedRead, CountedWrite, FrameFault, Splitter, laws,
@@ -26,9 +27,9 @@ fn takes<A: Allocator>(
     (taken, held): (usize, usize),
     ready: Option<&[u8]>,
 ) {
-    assert_eq!(rt; splitter.take(bytes), taken);
-    assert_eq!(rt; splitter.ready(), ready);
-    assert_eq!(rt; splitter.held(), held);
+    same(rt, splitter.take(bytes), taken);
+    same(rt, splitter.ready(), ready);
+    same(rt, splitter.held(), held);
 }
 
 #[test]
@@ -77,7 +78,7 @@ fn cuts_a_stream_the_same_in_any_pieces(rt: HostRuntime) -> Result<(), Fail> {
             copy_piece(&mut splitter, &mut writer, piece)?;
         }
         assert_eq!(rt; writer.written(), STREAM, "in pieces of {size}");
-        assert_eq!(rt; splitter.held(), 0);
+        same(&rt, splitter.held(), 0);
     }
     Ok(())
 }
@@ -88,7 +89,7 @@ fn gives<R: CountedRead, A: Allocator>(
     reader: &mut BlockReader<R, A>,
     want: Option<&[u8]>,
 ) -> Result<(), FrameFault> {
-    assert_eq!(rt; reader.next_block()?, want);
+    same(rt, reader.next_block()?, want);
     Ok(())
 }
 
@@ -111,10 +112,10 @@ fn is_truncated<R: CountedRead, A: Allocator>(
 
 // A writer that has the block of the longest payload takes none that is longer.
 fn is_too_long(rt: &impl Abort, writer: &mut FuseWriter, payload: &[u8]) {
-    assert_eq!(rt; writer.written().len(), 65_537);
+    same(rt, writer.written().len(), 65_537);
     assert!(rt; writer.written().starts_with(&[0xff, 0xff, 0x7a]));
     assert!(rt; matches!(write_block(writer, payload), Err(FrameFault::TooLong)));
-    assert_eq!(rt; writer.written().len(), 65_537);
+    same(rt, writer.written().len(), 65_537);
 }
 
 #[test]
@@ -137,10 +138,10 @@ fn says_how_much_of_a_block_was_sent(rt: HostRuntime) -> Result<(), Fail> {
         let mut writer = FuseWriter::new(rt.alloc(), 1, Some(fail_at));
         let outcome = write_block(&mut writer, b"zzzzz");
         let sent = writer.written().len();
-        assert_eq!(rt; sent as u64, fail_at.min(8) - 1);
+        same(&rt, sent as u64, fail_at.min(8) - 1);
         assert!(rt; whole.starts_with(writer.written()));
         match outcome {
-            Ok(()) => assert_eq!(rt; fail_at, 8),
+            Ok(()) => same(&rt, fail_at, 8),
             Err(fault) => assert!(rt;
                 matches!(fault, FrameFault::Write { sent: count, .. } if count == sent)
             ),
@@ -234,9 +235,9 @@ fn a_failed_read_below_a_buffer_is_counted(rt: HostRuntime) -> Result<(), Fail> 
 fn fails_once<R: CountedRead>(rt: &impl Abort, reader: &mut R) -> Result<(), Fail> {
     let mut byte = [0];
     let error = reader.read_some(&mut byte).err().ok_or("an error")?;
-    assert_eq!(rt; error.kind(), ErrorKind::Other);
-    assert_eq!(rt; reader.read_some(&mut byte)?, 1);
-    assert_eq!(rt; byte, *b"z");
+    same(rt, error.kind(), ErrorKind::Other);
+    same(rt, reader.read_some(&mut byte)?, 1);
+    same(rt, byte, *b"z");
     Ok(())
 }
 
@@ -244,11 +245,11 @@ fn fails_once<R: CountedRead>(rt: &impl Abort, reader: &mut R) -> Result<(), Fai
 fn a_failed_read_is_returned_at_once(rt: HostRuntime) -> Result<(), Fail> {
     let mut reader = Counted::new(PieceReader::new(b"z", 1, Some(1)));
     fails_once(&rt, &mut reader)?;
-    assert_eq!(rt; reader.failures().count(), 1);
+    same(&rt, reader.failures().count(), 1);
     let source = BufReader::with_capacity(rt.alloc(), 8, PieceReader::new(b"z", 1, Some(1)))?;
     let mut reader = Buffered::new(source);
     fails_once(&rt, &mut reader)?;
-    assert_eq!(rt; reader.failures().count(), 1);
+    same(&rt, reader.failures().count(), 1);
     Ok(())
 }
 
@@ -296,11 +297,11 @@ fn the_very_error_of_a_device_is_kept(rt: HostRuntime) -> Result<(), Fail> {
     let mut reader = Counted::new(Broken { calls: 0 });
     assert!(rt; is_reset(reader.read_some(&mut [0]).err()));
     assert!(rt; is_reset(reader.failures().last()));
-    assert_eq!(rt; reader.get().calls, 1);
+    same(&rt, reader.get().calls, 1);
     let mut writer = Counted::new(Broken { calls: 0 });
     assert!(rt; is_reset(writer.write_some(b"z").err()));
     assert!(rt; is_reset(writer.failures().last()));
-    assert_eq!(rt; writer.get().calls, 1);
+    same(&rt, writer.get().calls, 1);
     let mut blocks = BlockReader::new(rt.alloc(), reader)?;
     assert!(rt;
         matches!(blocks.next_block(), Err(FrameFault::Read(error)) if is_reset(Some(error)))
@@ -309,7 +310,7 @@ fn the_very_error_of_a_device_is_kept(rt: HostRuntime) -> Result<(), Fail> {
     assert!(rt;
         matches!(written, Err(FrameFault::Write { sent: 0, error }) if is_reset(Some(error)))
     );
-    assert_eq!(rt; writer.failures().count(), 2);
+    same(&rt, writer.failures().count(), 2);
     Ok(())
 }
 
@@ -338,9 +339,9 @@ fn counts_the_failures_of_standard_writers(rt: HostRuntime) {
     let mut room = [0; 4];
     let mut writer = Counted::new(&mut room[..]);
     has_no_room(&rt, &mut writer, 4);
-    assert_eq!(rt; writer.get().len(), 0);
-    assert_eq!(rt; writer.into_inner().len(), 0);
-    assert_eq!(rt; room, *b"\x00\x03ab");
+    same(&rt, writer.get().len(), 0);
+    same(&rt, writer.into_inner().len(), 0);
+    same(&rt, room, *b"\x00\x03ab");
 }
 
 #[test]
@@ -356,14 +357,15 @@ fn counts_the_failures_of_standard_readers(rt: HostRuntime) -> Result<(), Fail> 
 // A splitter and a reader each make one allocation.
 fn takes_one_allocation<A: Allocator + Copy>(rt: &impl Abort, alloc: &Refusing<A>, nth: u64) {
     alloc.arm(nth);
-    assert_eq!(rt; Splitter::new(alloc).is_ok(), nth == 1);
-    assert_eq!(rt; alloc.has_refused(), nth == 0);
+    same(rt, Splitter::new(alloc).is_ok(), nth == 1);
+    same(rt, alloc.has_refused(), nth == 0);
     alloc.arm(nth);
-    assert_eq!(rt;
+    same(
+        rt,
         BlockReader::new(alloc, Counted::new(STREAM)).is_ok(),
-        nth == 1
+        nth == 1,
     );
-    assert_eq!(rt; alloc.has_refused(), nth == 0);
+    same(rt, alloc.has_refused(), nth == 0);
 }
 
 #[test]
@@ -381,7 +383,7 @@ fn a_writer_goes_on_after_want_of_memory(rt: HostRuntime) -> Result<(), Fail> {
     has_no_room(&rt, &mut writer, 0);
     assert!(rt; alloc.has_refused());
     write_block(&mut writer, b"z")?;
-    assert_eq!(rt; writer.written(), b"\x00\x01z".as_slice());
+    same(&rt, writer.written(), b"\x00\x01z".as_slice());
     Ok(())
 }
 
@@ -390,7 +392,7 @@ fn a_writer_goes_on_after_want_of_memory(rt: HostRuntime) -> Result<(), Fail> {
 fn a_splitter_takes_room_for_the_longest_block_alone(rt: HostRuntime) -> Result<(), Fail> {
     let heap = LocalHeap::new(rt.alloc(), 66_000)?;
     let splitter = Splitter::new(&heap)?;
-    assert_eq!(rt; splitter.held(), 0);
+    same(&rt, splitter.held(), 0);
     assert!(rt; Splitter::new(&heap).is_err());
     Ok(())
 }
@@ -402,10 +404,10 @@ fn blocks_take_no_memory(rt: HostRuntime) -> Result<(), Fail> {
     let mut reader = BlockReader::new(&alloc, PieceReader::new(STREAM, 3, Some(2)))?;
     let mut writer = FuseWriter::new(rt.alloc(), 2, None);
     alloc.arm(0);
-    assert_eq!(rt; copy_blocks(&mut reader, &mut writer)?, 1);
+    same(&rt, copy_blocks(&mut reader, &mut writer)?, 1);
     takes(&rt, &mut splitter, STREAM, (3, 3), Some(b"S"));
     splitter.clear();
-    assert_eq!(rt; splitter.held(), 0);
+    same(&rt, splitter.held(), 0);
     assert!(rt; !alloc.has_refused());
     Ok(())
 }
@@ -423,7 +425,7 @@ fn says_what_failed(rt: HostRuntime) -> Result<(), Fail> {
         (FrameFault::TooLong, "payload too long"),
     ] {
         let said = format!(in rt.alloc(); "{fault}")?;
-        assert_eq!(rt; said.as_str(), want);
+        same(&rt, said.as_str(), want);
     }
     Ok(())
 }

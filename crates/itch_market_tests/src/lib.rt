@@ -13,6 +13,8 @@ mod book;
 #[cfg(test)]
 mod codec;
 #[cfg(test)]
+mod equal;
+#[cfg(test)]
 mod frame;
 #[cfg(test)]
 mod market;

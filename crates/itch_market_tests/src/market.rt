@@ -9,6 +9,7 @@ use self::messages::{
     add, attributed, cancel, delete, directory, end, event, executed, executed_with_price, halt,
     position, reg_sho, replace, stock, trading_action,
 };
+use crate::equal::same;
 use itch_book::{ListBook, Order, OrderBook};
 use itch_codec::{Alpha, Message, Side};
 use itch_market::{Action, Market, Refusal, Security};
@@ -39,7 +40,7 @@ fn check_largest<B: OrderBook>(rt: &impl Abort, alloc: B::Alloc) -> Result<(), F
 
 fn check_last_security<B: OrderBook>(rt: &impl Abort, market: &Market<B>) -> Result<(), Fail> {
     let security = market.security(65535).ok_or("a security")?;
-    assert_eq!(rt; security.entry.stock, stock("MAX")?);
+    same(rt, security.entry.stock, stock("MAX")?);
     assert!(rt; market.security(0).is_none());
     Ok(())
 }
@@ -53,10 +54,10 @@ fn check_largest_order<B: OrderBook>(rt: &impl Abort, market: &Market<B>) {
         price: u32::MAX,
         mpid: None,
     };
-    assert_eq!(rt; market.best(65535, Side::Sell).copied(), Some(best));
+    same(rt, market.best(65535, Side::Sell).copied(), Some(best));
     assert!(rt; market.best(65535, Side::Buy).is_none());
     let total = market.book().level_total(65535, Side::Sell, u32::MAX);
-    assert_eq!(rt; total, (4294967295, 1));
+    same(rt, total, (4294967295, 1));
 }
 
 #[test]
@@ -82,7 +83,7 @@ fn check_references<B: OrderBook>(
     market: &Market<B>,
     want: &[u64],
 ) -> Result<(), Fail> {
-    assert_eq!(rt; references(rt, alloc, market)?.as_slice(), want);
+    same(rt, references(rt, alloc, market)?.as_slice(), want);
     Ok(())
 }
 
@@ -92,16 +93,16 @@ fn check_levels<B: OrderBook>(rt: &impl Abort, book: &B) {
         (Some(1500100), Some(1500000)),
         (Some(1500000), None),
     ] {
-        assert_eq!(rt; book.next_price(1, Side::Buy, last), want);
+        same(rt, book.next_price(1, Side::Buy, last), want);
     }
     for (price, want) in [(1500100, (600, 2)), (1500000, (400, 2))] {
-        assert_eq!(rt; book.level_total(1, Side::Buy, price), want);
+        same(rt, book.level_total(1, Side::Buy, price), want);
     }
 }
 
 fn check_best<B: OrderBook>(rt: &impl Abort, market: &Market<B>, want: u64) {
     let best = market.best(1, Side::Buy).map(|order| order.reference);
-    assert_eq!(rt; best, Some(want));
+    same(rt, best, Some(want));
 }
 
 #[test]
@@ -125,8 +126,8 @@ fn with_replacement<B: OrderBook>(alloc: B::Alloc) -> Result<Market<B>, Fail> {
 fn check_replacement<B: OrderBook>(rt: &impl Abort, book: &B) -> Result<(), Fail> {
     let replaced = book.get(3).ok_or("the replacement")?;
     let attribution: Alpha<4> = Alpha::from_text("ABCD")?;
-    assert_eq!(rt; replaced.mpid, Some(attribution));
-    assert_eq!(rt; replaced.shares, 100);
+    same(rt, replaced.mpid, Some(attribution));
+    same(rt, replaced.shares, 100);
     Ok(())
 }
 
@@ -159,9 +160,9 @@ fn check_states<A: Allocator>(rt: &impl Abort, security: &Security<A>) {
         state: b'T',
         reason: *b"    ",
     };
-    assert_eq!(rt; security.entry.round_lot_size, 200);
-    assert_eq!(rt; security.action, Some(action));
-    assert_eq!(rt; security.sho, Some(b'0'));
+    same(rt, security.entry.round_lot_size, 200);
+    same(rt, security.action, Some(action));
+    same(rt, security.sho, Some(b'0'));
 }
 
 fn check_locates<B: OrderBook>(
@@ -171,22 +172,22 @@ fn check_locates<B: OrderBook>(
     want: &[u16],
 ) -> Result<(), Fail> {
     let locates = locates_of(alloc, market)?;
-    assert_eq!(rt; locates.as_slice(), want);
+    same(rt, locates.as_slice(), want);
     Ok(())
 }
 
 #[test]
 fn an_empty_market_has_no_phase(rt: HostRuntime) {
     let empty: Market<ListBook> = Market::new(rt.alloc());
-    assert_eq!(rt; empty.phase(), None);
+    same(&rt, empty.phase(), None);
 }
 
 // A second directory message of a locate sets the entry alone.
 #[test]
 fn keeps_states_and_orders(rt: HostRuntime) -> Result<(), Fail> {
     let market: Market<ListBook> = with_states(rt.alloc())?;
-    assert_eq!(rt; market.phase(), Some(b'O'));
-    assert_eq!(rt; market.book().len(), 1);
+    same(&rt, market.phase(), Some(b'O'));
+    same(&rt, market.book().len(), 1);
     check_states(&rt, market.security(1).ok_or("a security")?);
     check_locates(&rt, rt.alloc(), &market, &[1, 2])
 }
@@ -224,9 +225,13 @@ fn check_halts<A: Allocator>(
     alloc: Global,
     security: &Security<A>,
 ) -> Result<(), Fail> {
-    assert_eq!(rt; security.halts_len(), 2);
+    same(rt, security.halts_len(), 2);
     let halts = halts_of(alloc, security)?;
-    assert_eq!(rt; halts.as_slice(), [(b'Q', b'H'), (b'X', b'T')].as_slice());
+    same(
+        rt,
+        halts.as_slice(),
+        [(b'Q', b'H'), (b'X', b'T')].as_slice(),
+    );
     Ok(())
 }
 
@@ -235,13 +240,14 @@ fn check_positions<A: Allocator>(
     alloc: Global,
     security: &Security<A>,
 ) -> Result<(), Fail> {
-    assert_eq!(rt; security.positions_len(), 2);
+    same(rt, security.positions_len(), 2);
     let first = Alpha::from_text("ABCD")?;
     let last = Alpha::from_text("ZZZZ")?;
     let positions = positions_of(alloc, security)?;
-    assert_eq!(rt;
+    same(
+        rt,
         positions.as_slice(),
-        [(first, *b"NNS"), (last, *b"NND")].as_slice()
+        [(first, *b"NNS"), (last, *b"NND")].as_slice(),
     );
     Ok(())
 }
@@ -275,8 +281,8 @@ fn check_refusal<B: OrderBook>(
     let mut market: Market<B> = begun(memory)?;
     let why = market.apply(message).err().ok_or("a refusal")?;
     let line = format!(in alloc; "{why}")?;
-    assert_eq!(rt; line.as_str(), want);
-    assert_eq!(rt; market.book().len(), 1);
+    same(rt, line.as_str(), want);
+    same(rt, market.book().len(), 1);
     Ok(())
 }
 
@@ -368,7 +374,7 @@ fn refuses_by_the_first_rule_of_orders(rt: HostRuntime) -> Result<(), Fail> {
 #[test]
 fn want_of_memory_has_words(rt: HostRuntime) -> Result<(), Fail> {
     let line = format!(in rt.alloc(); "{}", Refusal::OutOfMemory)?;
-    assert_eq!(rt; line.as_str(), "out of memory");
+    same(&rt, line.as_str(), "out of memory");
     Ok(())
 }
 
@@ -377,19 +383,23 @@ fn take_some<B: OrderBook>(rt: &impl Abort, market: &mut Market<B>) -> Result<()
     apply(market, executed(1, 1, 0))?;
     apply(market, cancel(1, 1, 40))?;
     let refused = market.apply(&executed_with_price(1, 1, 61, 1500100)?);
-    assert_eq!(rt; refused, Err(Refusal::TooManyShares { remain: 60 }));
+    same(rt, refused, Err(Refusal::TooManyShares { remain: 60 }));
     apply(market, executed_with_price(1, 1, 20, 1500100))?;
-    assert_eq!(rt; market.book().level_total(1, Side::Buy, 1500000), (40, 1));
+    same(
+        rt,
+        market.book().level_total(1, Side::Buy, 1500000),
+        (40, 1),
+    );
     Ok(())
 }
 
 // An order is gone with its last share.
 fn take_the_rest<B: OrderBook>(rt: &impl Abort, market: &mut Market<B>) -> Result<(), Fail> {
     apply(market, executed(1, 1, 40))?;
-    assert_eq!(rt; market.apply(&delete(1, 1)?), Err(Refusal::UnknownRef));
+    same(rt, market.apply(&delete(1, 1)?), Err(Refusal::UnknownRef));
     apply(market, add(1, 1, Side::Sell, 5, "AAPL", 1500000))?;
     apply(market, delete(1, 1))?;
-    assert_eq!(rt; market.book().len(), 0);
+    same(rt, market.book().len(), 0);
     Ok(())
 }
 

@@ -1,4 +1,5 @@
 //! A client that says what no client may: its connection alone ends.
+use crate::equal::same;
 use crate::sessions::{LOGIN_3, lines};
 use std::io::Write;
 use std::net::{TcpListener, TcpStream};
@@ -13,9 +14,10 @@ fn a_fault_ends_one_connection_alone(rt: HostRuntime) -> Result<(), Fail> {
     let mut second = TcpStream::connect(&rt, address)?;
     second.write_all(LOGIN_3)?;
     let written = lines(&rt, &listener, 2)?;
-    assert_eq!(rt;
+    same(
+        &rt,
         written.as_slice(),
-        b"connection 1: fault\nconnection 2: accepted from 3, 3 packets\n".as_slice()
+        b"connection 1: fault\nconnection 2: accepted from 3, 3 packets\n".as_slice(),
     );
     Ok(())
 }

@@ -1,5 +1,6 @@
 //! Each read and each write of `fetch` failing in turn: the status is 3. A failed read leaves nothing on the output; a failed write
 //! leaves a beginning of it.
+use crate::equal::same;
 use crate::sessions::{FROM_1, LOGIN_1, SNAPSHOT};
 use itch_commands::status;
 use itch_frame::BlockReader;
@@ -27,7 +28,7 @@ fn fetch_fails(
     out: &mut FuseWriter,
 ) {
     let answer = fetch(alloc, reader, writer, credentials, out);
-    assert_eq!(rt; status(&answer), 3);
+    same(rt, status(&answer), 3);
 }
 
 // The last 3 bytes are the end of the session, which is not read.

@@ -1,4 +1,5 @@
 //! Each allocation of `fetch` refused in turn, and of a served connection: the status is 4, and nothing is on the output.
+use crate::equal::same;
 use crate::sessions::{FROM_1, LOGIN_1, LOGIN_3, SNAPSHOT, serve_day};
 use itch_commands::{Book, ToolFault, status};
 use itch_frame::BlockReader;
@@ -19,13 +20,13 @@ fn refuse(rt: &impl Abort, alloc: Global, nth: u64) -> Result<bool, Fail> {
     let mut out = FuseWriter::new(alloc, 64, None);
     let credentials = Login::new("user", "secret")?.credentials();
     let answer = fetch(&refusing, &mut reader, &mut writer, &credentials, &mut out);
-    assert_eq!(rt; writer.written(), LOGIN_1);
+    same(rt, writer.written(), LOGIN_1);
     if refusing.has_refused() {
-        assert_eq!(rt; status(&answer), 4);
+        same(rt, status(&answer), 4);
         assert!(rt; out.written().is_empty());
     } else {
         assert!(rt; matches!(answer, Ok(true)));
-        assert_eq!(rt; out.written(), SNAPSHOT);
+        same(rt, out.written(), SNAPSHOT);
     }
     Ok(refusing.has_refused())
 }

@@ -1,5 +1,6 @@
 //! A market served over loopback, and a snapshot fetched over memory.
 
+use crate::equal::same;
 use itch_book::OrderBook;
 use itch_codec::Seq;
 use itch_commands::{Book, ToolFault};
@@ -94,16 +95,17 @@ fn connections_are_served_in_turn(rt: HostRuntime) -> Result<(), Fail> {
     let mut third = TcpStream::connect(&rt, address)?;
     third.write_all(b"\0\x01O")?;
     let written = lines(&rt, &listener, 3)?;
-    assert_eq!(rt;
+    same(
+        &rt,
         written.as_slice(),
-        b"connection 1: accepted from 3, 3 packets\nconnection 2: rejected A\nconnection 3: left\n".as_slice()
+        b"connection 1: accepted from 3, 3 packets\nconnection 2: rejected A\nconnection 3: left\n".as_slice(),
     );
     let mut answer = Vec::new(rt.alloc());
     first.read_to_end(&mut answer)?;
-    assert_eq!(rt; answer.as_slice(), FROM_3);
+    same(&rt, answer.as_slice(), FROM_3);
     answer.clear();
     second.read_to_end(&mut answer)?;
-    assert_eq!(rt; answer.as_slice(), b"\0\x02JA".as_slice());
+    same(&rt, answer.as_slice(), b"\0\x02JA".as_slice());
     answer.clear();
     third.read_to_end(&mut answer)?;
     assert!(rt; answer.is_empty());
@@ -118,13 +120,14 @@ fn a_client_that_says_more_has_its_answer(rt: HostRuntime) -> Result<(), Fail> {
     client.write_all(LOGIN_3)?;
     client.write_all(b"\0\x01R\0\x01R\0\0")?;
     let written = lines(&rt, &listener, 1)?;
-    assert_eq!(rt;
+    same(
+        &rt,
         written.as_slice(),
-        b"connection 1: accepted from 3, 3 packets\n".as_slice()
+        b"connection 1: accepted from 3, 3 packets\n".as_slice(),
     );
     let mut answer = Vec::new(rt.alloc());
     client.read_to_end(&mut answer)?;
-    assert_eq!(rt; answer.as_slice(), FROM_3);
+    same(&rt, answer.as_slice(), FROM_3);
     Ok(())
 }
 
@@ -155,7 +158,7 @@ fn patience_ends_for_all_reads_together(rt: HostRuntime) -> Result<(), Fail> {
     // The reads come after 4, 8, 12 and 16 seconds, and a byte is there for each.
     for _ in 0..3 {
         let mut byte = [0];
-        assert_eq!(rt; patient.read(&mut byte)?, 1);
+        same(&rt, patient.read(&mut byte)?, 1);
     }
     let late = patient.read(&mut [0]);
     assert!(rt;
@@ -188,8 +191,8 @@ fn fetched(
 fn fetch_writes_the_canonical_snapshot(rt: HostRuntime) -> Result<(), Fail> {
     let (answer, written, login) = fetched(rt.alloc(), FROM_1)?;
     assert!(rt; matches!(answer, Ok(true)));
-    assert_eq!(rt; written.as_slice(), SNAPSHOT);
-    assert_eq!(rt; login.as_slice(), LOGIN_1);
+    same(&rt, written.as_slice(), SNAPSHOT);
+    same(&rt, login.as_slice(), LOGIN_1);
     Ok(())
 }
 
@@ -210,7 +213,7 @@ fn fetch_without_a_snapshot_writes_nothing(rt: HostRuntime) -> Result<(), Fail> 
         let (answer, written, _) = fetched(alloc, bytes)?;
         let line = format!(in alloc; "itchsnap: {reason}")?;
         let fault = answer.err().ok_or("a fault")?;
-        assert_eq!(rt; format!(in alloc; "{fault}")?.as_str(), line.as_str());
+        same(&rt, format!(in alloc; "{fault}")?.as_str(), line.as_str());
         assert_eq!(rt; fault.status(), 1, "{reason}");
         assert!(rt; written.is_empty(), "{reason}");
     }
@@ -263,7 +266,7 @@ fn faults_of_sessions_have_their_line_and_status(rt: HostRuntime) -> Result<(), 
     ];
     for (fault, reason, wanted) in cases.iter() {
         let line = format!(in alloc; "itchsnap: {reason}")?;
-        assert_eq!(rt; format!(in alloc; "{fault}")?.as_str(), line.as_str());
+        same(&rt, format!(in alloc; "{fault}")?.as_str(), line.as_str());
         assert_eq!(rt; fault.status(), *wanted, "{reason}");
     }
     Ok(())

@@ -1,4 +1,5 @@
 //! Joins by what their calls return and the markets that they lead to. The helpers take a joiner over any book.
+use crate::equal::same;
 use itch_book::{IndexedBook, ListBook, OrderBook};
 use itch_codec::{CodecFault, Message, encode};
 use itch_join::{Cause, JoinFault, Joiner, Live, Snap, laws};
@@ -67,7 +68,7 @@ fn snapshot<B: OrderBook>(
     payload: &[u8],
     want: Result<Snap, JoinFault>,
 ) {
-    assert_eq!(rt; joiner.snapshot(payload), want);
+    same(rt, joiner.snapshot(payload), want);
 }
 
 fn resume<B: OrderBook>(
@@ -75,7 +76,7 @@ fn resume<B: OrderBook>(
     joiner: &mut Joiner<B>,
     want: Result<Option<u64>, JoinFault>,
 ) {
-    assert_eq!(rt; joiner.resume(), want);
+    same(rt, joiner.resume(), want);
 }
 
 fn restart<B: OrderBook>(joiner: &mut Joiner<B>) {
@@ -84,9 +85,9 @@ fn restart<B: OrderBook>(joiner: &mut Joiner<B>) {
 
 // The number that comes next, which there is once there is a market, and how many messages wait.
 fn stands<B: OrderBook>(rt: &impl Abort, joiner: &Joiner<B>, next: Option<u64>, waiting: usize) {
-    assert_eq!(rt; joiner.next(), next);
-    assert_eq!(rt; joiner.market().is_some(), next.is_some());
-    assert_eq!(rt; joiner.waiting(), waiting);
+    same(rt, joiner.next(), next);
+    same(rt, joiner.market().is_some(), next.is_some());
+    same(rt, joiner.waiting(), waiting);
 }
 
 // Takes messages of a snapshot, which none of them ends.
@@ -125,7 +126,11 @@ fn check_market<B: OrderBook>(
     joiner: &Joiner<B>,
     want: &[&[u8]],
 ) -> Result<(), Fail> {
-    assert_eq!(rt; spelled(alloc, joiner)?, joined_up(alloc, want)?);
+    same(
+        rt,
+        spelled(alloc, joiner)?.as_slice(),
+        joined_up(alloc, want)?.as_slice(),
+    );
     Ok(())
 }
 
@@ -158,7 +163,7 @@ fn take_step<B: OrderBook>(
         Step::Resume(want) => resume(rt, joiner, want),
         Step::Restart => restart(joiner),
         Step::Stands(next, waiting) => stands(rt, joiner, next, waiting),
-        Step::Waiting(want) => assert_eq!(rt; joiner.waiting(), want),
+        Step::Waiting(want) => same(rt, joiner.waiting(), want),
         Step::Market(want) => check_market(rt, alloc, joiner, want)?,
     }
     Ok(())
@@ -312,7 +317,7 @@ fn check_thousand<B: OrderBook>(rt: &impl Abort, memory: B::Alloc) {
         live(rt, &mut joiner, 1000 - back, BROKEN_TRADE, Ok(Live::Kept));
     }
     snapshot(rt, &mut joiner, END_1, Ok(Snap::Joined { next: 1001 }));
-    assert_eq!(rt; joiner.waiting(), 0);
+    same(rt, joiner.waiting(), 0);
 }
 
 #[test]
@@ -385,7 +390,7 @@ fn faults_have_words(rt: HostRuntime) -> Result<(), Fail> {
         ),
     ];
     for (fault, words) in rows {
-        assert_eq!(rt; format!(in rt.alloc(); "{fault}")?.as_str(), words);
+        same(&rt, format!(in rt.alloc(); "{fault}")?.as_str(), words);
     }
     Ok(())
 }

@@ -1,4 +1,5 @@
 //! Worked days and snapshots: what is written of each, what is read, and how each is refused.
+use crate::equal::same;
 use itch_book::{ListBook, OrderBook};
 use itch_codec::{CodecFault, Seq};
 use itch_frame::testing::{FuseWriter, PieceReader};
@@ -125,13 +126,14 @@ fn check_snapshot<B: OrderBook>(
     let next = Seq::new(next).expect(rt, "a sequence number");
     let len = snapshot_len(market);
     assert!(rt; len < 9);
-    assert_eq!(rt; len + 1, want.len() as u128);
-    assert_eq!(rt;
+    same(rt, len + 1, want.len() as u128);
+    same(
+        rt,
         write_snapshot(market, next, &mut writer)?,
-        want.len() as u64
+        want.len() as u64,
     );
     let want = blocks(alloc, want)?;
-    assert_eq!(rt; writer.written(), want.written());
+    same(rt, writer.written(), want.written());
     Ok(())
 }
 
@@ -170,10 +172,10 @@ fn check_counts<B: OrderBook>(rt: &impl Abort, market: &Market<B>, wants: &[u64]
     assert!(rt; snapshot_len(market) < 9);
     let mut messages = SnapshotIter::new(market);
     for want in wants {
-        assert_eq!(rt; messages.remaining(), *want);
+        same(rt, messages.remaining(), *want);
         assert!(rt; messages.next().is_some());
     }
-    assert_eq!(rt; messages.remaining(), 0);
+    same(rt, messages.remaining(), 0);
     assert!(rt; messages.next().is_none());
 }
 
@@ -201,8 +203,8 @@ fn check_parting<A: OrderBook, B: OrderBook>(
     want: Option<u64>,
 ) {
     assert!(rt; snapshot_len(one) < 9);
-    assert_eq!(rt; part_place(one, other), want);
-    assert_eq!(rt; same_market(one, other), want.is_none());
+    same(rt, part_place(one, other), want);
+    same(rt, same_market(one, other), want.is_none());
 }
 
 #[test]
@@ -263,8 +265,8 @@ fn reads_snapshots(rt: HostRuntime) -> Result<(), Fail> {
         let mut file = Vec::from_slice(rt.alloc(), front.written())?;
         file.extend_from_slice(rest)?;
         match (outcome(rt.alloc(), &file)?, want) {
-            (Ok(read), Ok(want)) => assert_eq!(rt; read, want),
-            (Err(said), Err(want)) => assert_eq!(rt; said.as_str(), want),
+            (Ok(read), Ok(want)) => same(&rt, read, want),
+            (Err(said), Err(want)) => same(&rt, said.as_str(), want),
             _ => assert!(rt; false, "read or refused by mistake"),
         }
     }
@@ -299,7 +301,7 @@ fn check_finish<A: OrderBook, B: OrderBook>(
     let Ok((handed_out, next)) = snapshot.finish() else {
         panic!(rt; "kept after its end");
     };
-    assert_eq!(rt; next.value(), 5);
+    same(rt, next.value(), 5);
     assert!(rt; are_same(rt, want, &handed_out));
 }
 
@@ -342,7 +344,7 @@ fn says_what_failed(rt: HostRuntime) -> Result<(), Fail> {
         (SnapFault::TooManyMessages, "too many messages"),
     ] {
         let said = format!(in rt.alloc(); "{fault}")?;
-        assert_eq!(rt; said.as_str(), want);
+        same(&rt, said.as_str(), want);
     }
     Ok(())
 }

@@ -1,4 +1,5 @@
 //! Packets byte by byte, and whole sessions.
+use crate::equal::same;
 use itch_codec::{Alpha, Seq};
 use itch_frame::FrameFault;
 use itch_snapshot::SnapFault;
@@ -74,9 +75,10 @@ fn server_answers(
     rows: &[(Packet<'_>, ServerAct)],
 ) -> Result<(), AllocError> {
     for (packet, act) in rows {
-        assert_eq!(rt;
-            shown(alloc, &session.on_packet(packet, 0))?,
-            shown(alloc, act)?
+        same(
+            rt,
+            shown(alloc, &session.on_packet(packet, 0))?.as_str(),
+            shown(alloc, act)?.as_str(),
         );
     }
     Ok(())
@@ -89,9 +91,10 @@ fn client_answers(
     rows: &[(Packet<'_>, ClientAct<'_>)],
 ) -> Result<(), AllocError> {
     for (packet, act) in rows {
-        assert_eq!(rt;
-            shown(alloc, &session.on_packet(packet, 0))?,
-            shown(alloc, act)?
+        same(
+            rt,
+            shown(alloc, &session.on_packet(packet, 0))?.as_str(),
+            shown(alloc, act)?.as_str(),
         );
     }
     Ok(())
@@ -138,7 +141,7 @@ fn packets(rt: HostRuntime) {
 #[test]
 fn payloads(rt: HostRuntime) {
     for bytes in [b"GG".as_slice(), b""] {
-        assert_eq!(rt; Payload::new(bytes).bytes(), bytes);
+        same(&rt, Payload::new(bytes).bytes(), bytes);
     }
 }
 
@@ -164,7 +167,7 @@ fn numbers_of_logins(rt: HostRuntime) {
 
 #[test]
 fn client_logs_in(rt: HostRuntime) {
-    assert_eq!(rt; client(&rt).login(), *LOGIN);
+    same(&rt, client(&rt).login(), *LOGIN);
 }
 
 #[test]
@@ -205,11 +208,11 @@ fn session_names_are_padded(rt: HostRuntime) {
 
 #[test]
 fn other_packets_of_a_session(rt: HostRuntime) {
-    assert_eq!(rt; ServerSession::rejected(b'S'), *b"JS");
-    assert_eq!(rt; ServerSession::heartbeat(), *b"H");
-    assert_eq!(rt; ServerSession::end(), *b"Z");
-    assert_eq!(rt; ClientSession::heartbeat(), *b"R");
-    assert_eq!(rt; ClientSession::logout(), *b"O");
+    same(&rt, ServerSession::rejected(b'S'), *b"JS");
+    same(&rt, ServerSession::heartbeat(), *b"H");
+    same(&rt, ServerSession::end(), *b"Z");
+    same(&rt, ClientSession::heartbeat(), *b"R");
+    same(&rt, ClientSession::logout(), *b"O");
 }
 
 #[test]
@@ -236,8 +239,8 @@ fn passwords_are_not_shown(rt: HostRuntime) -> Result<(), Fail> {
             "{login:?} {config:?} {credentials:?} {packet:?} {server:?} {client:?}"
         )
     };
-    assert_eq!(rt; shown("secret")?, shown("another")?);
-    assert_eq!(rt; shown("")?, shown("0123456789")?);
+    same(&rt, shown("secret")?.as_str(), shown("another")?.as_str());
+    same(&rt, shown("")?.as_str(), shown("0123456789")?.as_str());
     Ok(())
 }
 
@@ -456,7 +459,7 @@ fn texts(rt: HostRuntime) -> Result<(), Fail> {
         (SoupFault::Snapshot(SnapFault::NoEnd), "no end of snapshot"),
     ];
     for (fault, text) in rows {
-        assert_eq!(rt; fault.to_string(rt.alloc())?.as_str(), text);
+        same(&rt, fault.to_string(rt.alloc())?.as_str(), text);
     }
     Ok(())
 }

@@ -1,4 +1,5 @@
 //! Broken answers to a fetch: each beginning of a served session, and each of its bytes at each value.
+use crate::equal::same;
 use crate::sessions::{FROM_1, Fetched, fetched};
 use itch_book::ListBook;
 use itch_codec::Seq;
@@ -28,10 +29,10 @@ fn each_beginning_of_an_answer(rt: HostRuntime) -> Result<(), Fail> {
             .rfind(|start| **start <= len)
             .ok_or("a block")?;
         match fetch(&rt, rt.alloc(), &FROM_1[..len])? {
-            Err(SoupFault::EndedEarly) => assert_eq!(rt; *start, len),
+            Err(SoupFault::EndedEarly) => same(&rt, *start, len),
             Err(SoupFault::Frame(FrameFault::Truncated { held })) => {
                 assert!(rt; held > 0);
-                assert_eq!(rt; start.saturating_add(held), len);
+                same(&rt, start.saturating_add(held), len);
             }
             _ => panic!(rt; "{len} bytes are neither cut nor ended"),
         }
@@ -67,7 +68,7 @@ fn is_spelled(
     let (spelled, number): (Market<ListBook>, Seq) = read_snapshot(alloc, &mut reader)?;
     assert!(rt; snapshot_len(market) < 10);
     assert!(rt; same_market(market, &spelled));
-    assert_eq!(rt; next.value(), number.value());
+    same(rt, next.value(), number.value());
     Ok(())
 }
 

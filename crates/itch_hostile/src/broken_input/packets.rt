@@ -1,4 +1,5 @@
 //! Blocks that are no packets.
+use crate::equal::same;
 use itch_soup::{Origin, SoupFault, parse_packet};
 use std::alloc::Global;
 use std::process::Abort;
@@ -13,9 +14,10 @@ fn is_fault(
     want: SoupFault,
 ) -> Result<(), Fail> {
     let found = parse_packet(block, from).err().expect(rt, "a fault");
-    assert_eq!(rt;
-        format!(in alloc; "{found:?}")?,
-        format!(in alloc; "{want:?}")?
+    same(
+        rt,
+        format!(in alloc; "{found:?}")?.as_str(),
+        format!(in alloc; "{want:?}")?.as_str(),
     );
     Ok(())
 }

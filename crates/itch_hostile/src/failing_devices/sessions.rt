@@ -1,4 +1,5 @@
 //! One session served and fetched.
+use crate::equal::same;
 use crate::files::seq;
 use crate::sessions::{
     FROM_1, FROM_3, Fetched, LOGIN_1, LOGIN_3, config, credentials, fetched, served_market,
@@ -27,14 +28,14 @@ fn served_again(
     let mut reader = BlockReader::new(alloc, PieceReader::new(LOGIN_3, 7, Some(nth)))?;
     let mut writer = FuseWriter::new(alloc, 64, None);
     let mut served = serve_one(&mut reader, &mut writer, market, seq(rt, 5), &config(rt));
-    assert_eq!(rt; served.is_err(), nth <= LOGIN_READS);
+    same(rt, served.is_err(), nth <= LOGIN_READS);
     if served.is_err() {
         assert!(rt; matches!(served, Err(SoupFault::Frame(FrameFault::Read(_)))));
         assert!(rt; writer.written().is_empty());
         served = serve_one(&mut reader, &mut writer, market, seq(rt, 5), &config(rt));
     }
     assert!(rt; matches!(served, Ok(Served::Accepted { packets: 3, .. })));
-    assert_eq!(rt; writer.written(), FROM_3);
+    same(rt, writer.written(), FROM_3);
     Ok(())
 }
 
@@ -55,8 +56,8 @@ fn an_answer_is_not_read(rt: HostRuntime) -> Result<(), Fail> {
     for nth in 1..60 {
         let result = fetched(&rt, rt.alloc(), PieceReader::new(FROM_1, 7, Some(nth)))?;
         let has_failed = matches!(result, Err(SoupFault::Frame(FrameFault::Read(_))));
-        assert_eq!(rt; has_failed, nth <= ANSWER_READS);
-        assert_eq!(rt; result.is_err(), has_failed);
+        same(&rt, has_failed, nth <= ANSWER_READS);
+        same(&rt, result.is_err(), has_failed);
     }
     Ok(())
 }
@@ -80,9 +81,9 @@ fn served_in_part(
     let mut reader = BlockReader::new(alloc, PieceReader::new(LOGIN_3, 64, None))?;
     let mut writer = FuseWriter::new(alloc, 7, Some(nth));
     let served = serve_one(&mut reader, &mut writer, market, seq(rt, 5), &config(rt));
-    assert_eq!(rt; served.is_err(), nth <= ANSWER_WRITES);
+    same(rt, served.is_err(), nth <= ANSWER_WRITES);
     match served {
-        Ok(_) => assert_eq!(rt; writer.written(), FROM_3),
+        Ok(_) => same(rt, writer.written(), FROM_3),
         Err(fault) => {
             assert!(rt; matches!(fault, SoupFault::Frame(FrameFault::Write { .. })));
             is_cut(rt, writer.written(), FROM_3);
@@ -105,11 +106,11 @@ fn logged_in_in_part(rt: &impl Abort, alloc: Global, nth: u64) -> Result<(), Fai
     let mut reader = BlockReader::new(alloc, PieceReader::new(FROM_1, 64, None))?;
     let mut writer = FuseWriter::new(alloc, 7, Some(nth));
     let result: Fetched = fetch_one(alloc, &mut reader, &mut writer, &credentials(rt));
-    assert_eq!(rt; result.is_err(), nth <= LOGIN_READS);
+    same(rt, result.is_err(), nth <= LOGIN_READS);
     if result.is_err() {
         assert!(rt; matches!(result, Err(SoupFault::Frame(FrameFault::Write { .. }))));
         is_cut(rt, writer.written(), LOGIN_1);
-        assert_eq!(rt; reader.next_block()?.expect(rt, "a block").len(), 31);
+        same(rt, reader.next_block()?.expect(rt, "a block").len(), 31);
     }
     Ok(())
 }

@@ -1,4 +1,5 @@
 //! A snapshot written.
+use crate::equal::same;
 use crate::files::{ONE_ORDER, ONE_ORDER_SNAPSHOT, blocks, market, seq};
 use itch_book::IndexedBook;
 use itch_frame::FrameFault;
@@ -33,7 +34,7 @@ fn fails_at(
         .err()
         .expect(rt, "a failed write");
     let written = writer.written();
-    assert_eq!(rt; written.len() as u64, nth.saturating_sub(1));
+    same(rt, written.len() as u64, nth.saturating_sub(1));
     assert!(rt; whole.starts_with(written));
     assert!(rt; says_its_block(&fault, written.len()), "write {nth}");
 }
@@ -42,7 +43,7 @@ fn fails_at(
 fn a_beginning_is_written(rt: HostRuntime) -> Result<(), Fail> {
     let market: Market<IndexedBook> = market(rt.alloc(), rt.alloc(), ONE_ORDER)?;
     let whole = blocks(rt.alloc(), ONE_ORDER_SNAPSHOT)?;
-    assert_eq!(rt; whole.written().len(), 116);
+    same(&rt, whole.written().len(), 116);
     for nth in 1..=116u64 {
         let mut writer = FuseWriter::new(rt.alloc(), 1, Some(nth));
         fails_at(&rt, &market, &mut writer, nth, whole.written());
@@ -56,7 +57,7 @@ fn the_whole_is_written(rt: HostRuntime) -> Result<(), Fail> {
     let whole = blocks(rt.alloc(), ONE_ORDER_SNAPSHOT)?;
     let mut writer = FuseWriter::new(rt.alloc(), 1, Some(117));
     assert!(rt; snapshot_len(&market) < 10);
-    assert_eq!(rt; write_snapshot(&market, seq(&rt, 4), &mut writer)?, 4);
-    assert_eq!(rt; writer.written(), whole.written());
+    same(&rt, write_snapshot(&market, seq(&rt, 4), &mut writer)?, 4);
+    same(&rt, writer.written(), whole.written());
     Ok(())
 }

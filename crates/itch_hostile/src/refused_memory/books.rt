@@ -1,4 +1,5 @@
 //! Orders added and replaced.
+use crate::equal::same;
 use itch_book::{IndexedBook, ListBook, Order, OrderBook};
 use itch_codec::Side;
 use refusing::Refusing;
@@ -76,14 +77,14 @@ fn refuse_each<B: OrderBook>(
         let answer = growth.call(rt, book);
         if !refusing.has_refused() {
             answer?;
-            assert_eq!(rt; book.get(order.reference).copied(), Some(order));
+            same(rt, book.get(order.reference).copied(), Some(order));
             return Ok(nth);
         }
         assert!(rt; answer.is_err());
-        assert_eq!(rt; listed(rt, alloc, book)?, orders);
+        same(rt, listed(rt, alloc, book)?.as_slice(), orders.as_slice());
         assert!(rt; book.get(order.reference).is_none());
-        assert_eq!(rt; book.next_price(1, order.side, None), best);
-        assert_eq!(rt; book.level_total(1, order.side, order.price), total);
+        same(rt, book.next_price(1, order.side, None), best);
+        same(rt, book.level_total(1, order.side, order.price), total);
     }
     panic!(rt; "more than 16 allocations")
 }
@@ -119,7 +120,7 @@ fn grow<B: OrderBook>(
         )?);
         assert!(rt; book.get(number).is_none());
     }
-    assert_eq!(rt; book.len(), 40);
+    same(rt, book.len(), 40);
     Ok((additions, replacements))
 }
 
@@ -131,7 +132,7 @@ fn a_list_book_stays_as_it_was(rt: HostRuntime) -> Result<(), Fail> {
         let (additions, replacements) = grow(&rt, rt.alloc(), &refusing, &mut book, step, every)?;
         assert!(rt; additions > 1);
         // The order that is replaced leaves room.
-        assert_eq!(rt; replacements, 0);
+        same(&rt, replacements, 0);
     }
     Ok(())
 }

@@ -1,4 +1,5 @@
 //! Messages applied to a market, and a day file replayed.
+use crate::equal::same;
 use crate::files::{REPLACED, blocks, spelled};
 use itch_book::{IndexedBook, ListBook, OrderBook};
 use itch_codec::{Message, decode};
@@ -25,11 +26,11 @@ fn refuse_to_apply<B: OrderBook>(
         refusing.arm(nth);
         let result = market.apply(message);
         if !refusing.has_refused() {
-            assert_eq!(rt; result, Ok(()));
+            same(rt, result, Ok(()));
             return Ok(nth);
         }
-        assert_eq!(rt; result, Err(Refusal::OutOfMemory));
-        assert_eq!(rt; spelled(alloc, market)?, before);
+        same(rt, result, Err(Refusal::OutOfMemory));
+        same(rt, spelled(alloc, market)?.as_slice(), before.as_slice());
     }
     panic!(rt; "more than 16 allocations")
 }
@@ -86,15 +87,16 @@ fn refuse_each_growth<B: OrderBook>(
     for growing in [(HALTS, 19), (POSITIONS, 14)] {
         assert!(rt; refuse_forty(rt, alloc, refusing, market, growing.0, &[growing.1])? > 0);
         // What is there already takes none.
-        assert_eq!(rt;
+        same(
+            rt,
             refuse_forty(rt, alloc, refusing, market, growing.0, &[growing.1])?,
-            0
+            0,
         );
     }
     assert!(rt; refuse_forty(rt, alloc, refusing, market, ADDS, &[18, 35])? > 0);
     assert!(rt; refuse_forty(rt, alloc, refusing, market, NAMES, &[18, 35])? > 0);
     let refused = refuse_forty(rt, alloc, refusing, market, REPLACES, &[18, 26, 34])?;
-    assert_eq!(rt; market.book().len(), 80);
+    same(rt, market.book().len(), 80);
     Ok(refused)
 }
 
@@ -103,9 +105,10 @@ fn refuse_each_growth<B: OrderBook>(
 fn a_market_of_a_list_stays_as_it_was(rt: HostRuntime) -> Result<(), Fail> {
     let refusing = Refusing::new(rt.alloc(), 0);
     let mut market: Market<ListBook<Refused<'_>>> = Market::new(&refusing);
-    assert_eq!(rt;
+    same(
+        &rt,
         refuse_each_growth(&rt, rt.alloc(), &refusing, &mut market)?,
-        0
+        0,
     );
     Ok(())
 }
@@ -156,17 +159,18 @@ fn refuse_to_replay<B: OrderBook>(
     let end = replay(&mut reader, market);
     if !refusing.has_refused() {
         assert!(rt; matches!(end.stop, Stop::End));
-        assert_eq!(rt; end.count, 4);
+        same(rt, end.count, 4);
         return Ok(false);
     }
     assert!(rt; matches!(end.stop, Stop::Rule(Refusal::OutOfMemory)));
-    assert_eq!(rt; market.book().len() as u64, end.count.saturating_sub(1));
+    same(rt, market.book().len() as u64, end.count.saturating_sub(1));
     let block = reader.next_block()?;
-    assert_eq!(rt;
+    same(
+        rt,
         block,
         REPLACED
             .get((end.count as usize).saturating_add(1))
-            .copied()
+            .copied(),
     );
     Ok(true)
 }

@@ -1,4 +1,5 @@
 //! A session fetched, and one served, which takes no memory.
+use crate::equal::same;
 use crate::files::{market, seq};
 use crate::sessions::{
     FROM_1, FROM_3, LOGIN_1, LOGIN_3, SERVED, config, credentials, served_market,
@@ -48,7 +49,7 @@ fn refuse_to_fetch<B: OrderBook>(
     match result {
         Ok((found, next)) => {
             assert!(rt; same_market(&want, &found));
-            assert_eq!(rt; next.value(), 5);
+            same(rt, next.value(), 5);
         }
         Err(fault) => assert!(rt; refusing.has_refused() && wants_memory(&fault)),
     }
@@ -97,7 +98,7 @@ fn serve_without_memory(
     assert!(rt; served.is_ok() && !refusing.has_refused());
     let left = writer.into_inner().len();
     assert!(rt; left <= 256);
-    assert_eq!(rt; &memory[..256 - left], answer);
+    same(rt, &memory[..256 - left], answer);
     Ok(())
 }
 

@@ -1,4 +1,5 @@
 //! The messages of a snapshot taken one by one, a snapshot file read, and what takes no memory.
+use crate::equal::same;
 use crate::files::{REPLACED, REPLACED_SNAPSHOT, blocks, market, seq};
 use itch_book::{IndexedBook, ListBook, OrderBook};
 use itch_frame::testing::PieceReader;
@@ -37,7 +38,7 @@ fn refuse_to_take<B: OrderBook>(
             Err(fault) => {
                 assert!(rt; refusing.has_refused());
                 assert!(rt; wants_memory(&fault, taken.saturating_add(1)));
-                assert_eq!(rt; reader.taken(), taken);
+                same(rt, reader.taken(), taken);
             }
         }
     }
@@ -61,7 +62,7 @@ fn refuse_each<B: OrderBook>(
     match reader.finish() {
         Ok((market, next)) => {
             assert!(rt; same_market(&want, &market));
-            assert_eq!(rt; next.value(), 5);
+            same(rt, next.value(), 5);
         }
         Err(_) => panic!(rt; "the End of Snapshot was taken"),
     }
@@ -95,7 +96,7 @@ fn refuse_to_read<B: OrderBook>(
         Ok((market, next)) => {
             assert!(rt; !refusing.has_refused());
             assert!(rt; snapshot_len(&market) < 10);
-            assert_eq!(rt; next.value(), 5);
+            same(rt, next.value(), 5);
             Ok(false)
         }
         Err(fault) => {
@@ -140,9 +141,9 @@ fn writing_and_comparing_take_no_memory(rt: HostRuntime) -> Result<(), Fail> {
     let mut memory = [0; 144];
     let mut writer = Counted::new(memory.as_mut_slice());
     refusing.arm(0);
-    assert_eq!(rt; write_snapshot(&market, seq(&rt, 5), &mut writer)?, 4);
-    assert_eq!(rt; part_place(&market, &market), None);
+    same(&rt, write_snapshot(&market, seq(&rt, 5), &mut writer)?, 4);
+    same(&rt, part_place(&market, &market), None);
     assert!(rt; !refusing.has_refused());
-    assert_eq!(rt; memory.as_slice(), want.written());
+    same(&rt, memory.as_slice(), want.written());
     Ok(())
 }

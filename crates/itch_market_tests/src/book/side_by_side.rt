@@ -1,5 +1,6 @@
 //! Both books side by side: random calls return the same, and leave the same orders.
 use super::{add, delete, order, replace, take};
+use crate::equal::same;
 use itch_book::{IndexedBook, ListBook, Order, OrderBook};
 use itch_codec::Side;
 use std::alloc::AllocError;
@@ -77,12 +78,13 @@ fn call<B: OrderBook, C: OrderBook>(
             replace(rt, one, reference, new, shares, price)?;
             replace(rt, other, reference, new, shares, price)?;
         }
-        1 => assert_eq!(rt; delete(rt, one, reference), delete(rt, other, reference)),
+        1 => same(rt, delete(rt, one, reference), delete(rt, other, reference)),
         _ => {
             let shares = random.below(order.shares.saturating_add(1));
-            assert_eq!(rt;
+            same(
+                rt,
                 take(rt, one, reference, shares),
-                take(rt, other, reference, shares)
+                take(rt, other, reference, shares),
             );
         }
     }
@@ -114,18 +116,20 @@ fn check_side<B: OrderBook, C: OrderBook>(
     locate: u16,
     side: Side,
 ) {
-    assert_eq!(rt;
+    same(
+        rt,
         other.front(locate, side).copied(),
-        one.front(locate, side).copied()
+        one.front(locate, side).copied(),
     );
     let mut last = None;
     for _ in 0..4 {
         let price = one.next_price(locate, side, last);
-        assert_eq!(rt; other.next_price(locate, side, last), price);
+        same(rt, other.next_price(locate, side, last), price);
         let Some(price) = price else { break };
-        assert_eq!(rt;
+        same(
+            rt,
             other.level_total(locate, side, price),
-            one.level_total(locate, side, price)
+            one.level_total(locate, side, price),
         );
         last = Some(price);
     }
@@ -140,7 +144,7 @@ fn check_calls<B: OrderBook, C: OrderBook>(
     let mut random = Random { state: 1 };
     for _ in 0..100000 {
         call(rt, &mut random, one, other)?;
-        assert_eq!(rt; other.len(), one.len());
+        same(rt, other.len(), one.len());
         for locate in [1, 2, u16::MAX] {
             check_orders(rt, one, other, locate);
             check_side(rt, one, other, locate, Side::Buy);

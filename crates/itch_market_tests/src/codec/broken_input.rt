@@ -1,5 +1,6 @@
 //! Each byte of each vector at each value.
 use super::vectors::*;
+use crate::equal::same;
 use itch_codec::{CodecFault, Message, decode, encode};
 use std::process::Abort;
 
@@ -26,7 +27,7 @@ fn faults_of_bytes(rt: &impl Abort, vector: &[u8]) -> u32 {
             let spelled = &payload[..vector.len()];
             match decode(spelled) {
                 Ok(Message::End { .. }) => {}
-                Ok(message) => assert_eq!(rt; encode(&message).bytes(), spelled),
+                Ok(message) => same(rt, encode(&message).bytes(), spelled),
                 Err(fault) => {
                     assert!(rt; is_fault_at(fault, at, byte), "{fault} for {byte} at {at}");
                     faults = faults.wrapping_add(1);
@@ -63,7 +64,7 @@ fn each_byte_at_each_value(rt: HostRuntime) {
         (UNDECODED, 0),
     ];
     for (vector, faults) in rows {
-        assert_eq!(rt; faults_of_bytes(&rt, vector), faults);
+        same(&rt, faults_of_bytes(&rt, vector), faults);
     }
 }
 
@@ -75,7 +76,7 @@ fn each_type(rt: HostRuntime) {
         match decode(&payload) {
             Ok(message) => {
                 assert!(rt; !b"SRHYhLAFECXDUPQBG".contains(&byte));
-                assert_eq!(rt; encode(&message).bytes(), payload.as_slice());
+                same(&rt, encode(&message).bytes(), payload.as_slice());
             }
             Err(fault) => assert!(rt; is_fault_at(fault, 0, byte), "{fault} for {byte}"),
         }

@@ -1,5 +1,6 @@
 //! Lines that show messages, written out by hand.
 use super::{alpha, execution, header, order};
+use crate::equal::same;
 use itch_codec::{
     AddOrder, Alpha, AttributedAddOrder, BrokenTrade, CrossTrade, Directory, Header, Message,
     OperationalHalt, OrderCancel, OrderDelete, OrderExecuted, OrderExecutedWithPrice, OrderReplace,
@@ -220,9 +221,9 @@ impl Fields {
 
 // A message is shown so, as a line in place and as a string.
 fn shown(rt: &(impl Abort + AllocGlobal), number: u64, message: Message<'_>, expected: &str) {
-    assert_eq!(rt; show(number, &message).as_str(), expected);
+    same(rt, show(number, &message).as_str(), expected);
     let text = line(rt.alloc(), number, &message).expect(rt, "memory");
-    assert_eq!(rt; text.as_str(), expected);
+    same(rt, text.as_str(), expected);
 }
 
 #[test]
@@ -454,5 +455,5 @@ fn memory_refused(rt: HostRuntime) {
     let message = Message::AddOrder(order(&rt, 1));
     assert!(rt; line(&refusing, 3, &message).is_err());
     let again = line(&refusing, 3, &message).expect(&rt, "memory");
-    assert_eq!(rt; again.as_str(), "3 A 1 0 0 1 B 100 [AAPL] 150.0000\n");
+    same(&rt, again.as_str(), "3 A 1 0 0 1 B 100 [AAPL] 150.0000\n");
 }

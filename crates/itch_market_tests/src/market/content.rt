@@ -1,4 +1,5 @@
 //! What a market holds, by its calls.
+use crate::equal::same;
 use itch_book::{Order, OrderBook};
 use itch_codec::{Alpha, Directory};
 use itch_market::{Action, Market, Security};
@@ -71,7 +72,7 @@ pub(super) fn content_of<B: OrderBook>(
         }
         push_orders(rt, market.book(), locate, &mut orders)?;
     }
-    assert_eq!(rt; orders.len(), market.book().len());
+    same(rt, orders.len(), market.book().len());
     Ok(Content {
         phase: market.phase(),
         securities,

@@ -1,4 +1,5 @@
 //! Replays that fail in the middle, and go on.
+use crate::equal::same;
 use itch_book::{ListBook, OrderBook};
 use itch_frame::testing::PieceReader;
 use itch_frame::{BlockReader, CountedRead};
@@ -30,7 +31,7 @@ fn replayed<R: CountedRead, A: Allocator, B: OrderBook>(
     want: u64,
 ) -> Stop {
     let end = replay(reader, market);
-    assert_eq!(rt; end.count, want);
+    same(rt, end.count, want);
     end.stop
 }
 
@@ -60,7 +61,7 @@ fn check_first<B: OrderBook>(
     let mut reader = BlockReader::new(alloc, PieceReader::new(bytes, 64, None))?;
     let mut market: Market<B> = Market::new(memory);
     let (count, stop) = replay_first(&mut reader, &mut market, 2);
-    assert_eq!(rt; count, 2);
+    same(rt, count, 2);
     assert!(rt; stop.is_none());
     Ok(())
 }

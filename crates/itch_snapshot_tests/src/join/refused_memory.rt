@@ -4,6 +4,7 @@ use super::{
     END_6, EXECUTE_1, JOINED_AT_3, NAMED_5, OPENS, READ_2, REPLACE_1, Step, check_market, live,
     read, snapshot, stands, take_steps,
 };
+use crate::equal::same;
 use itch_book::{IndexedBook, OrderBook};
 use itch_join::{Cause, JoinFault, Joiner, Live, Snap};
 use itch_market::Refusal;
@@ -38,7 +39,7 @@ fn live_short<B: OrderBook>(
     refusing.arm(nth);
     let result = joiner.live(number, payload);
     let is_refused = refusing.has_refused();
-    assert_eq!(rt; result, if is_refused { refused } else { done });
+    same(rt, result, if is_refused { refused } else { done });
     is_refused
 }
 
@@ -58,7 +59,7 @@ fn snapshot_short<B: OrderBook>(
     } else {
         Ok(Snap::More)
     };
-    assert_eq!(rt; result, want);
+    same(rt, result, want);
     is_refused
 }
 

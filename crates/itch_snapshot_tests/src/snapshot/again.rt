@@ -3,6 +3,7 @@ use super::{
     AAPL, AAPL_LATER, ADD_2_OF_200, ADD_7_OF_150, END_1, END_4, END_6, EVENT, MSFT, NAMED_1,
     REPLACE_1, REPLACED_SNAPSHOT, RESTRICTS, TRADES, TRADES_X, are_same, blocks, market,
 };
+use crate::equal::same;
 use itch_book::{ListBook, OrderBook};
 use itch_codec::Seq;
 use itch_frame::BlockReader;
@@ -50,7 +51,7 @@ fn read_again<B: OrderBook>(
     want: &[u8],
 ) -> Result<(Market<ListBook>, Seq), Fail> {
     let file = written(rt, alloc, market, next)?;
-    assert_eq!(rt; file.written(), want);
+    same(rt, file.written(), want);
     read(alloc, file.written())
 }
 
@@ -59,9 +60,9 @@ fn check_file(rt: &impl Abort, alloc: Global, file: &[u8], want: &[u8]) -> Resul
     let (market, next) = read(alloc, file)?;
     let (again, number) = read_again(rt, alloc, &market, next, want)?;
     assert!(rt; are_same(rt, &market, &again));
-    assert_eq!(rt; number.value(), next.value());
+    same(rt, number.value(), next.value());
     let twice = written(rt, alloc, &again, number)?;
-    assert_eq!(rt; twice.written(), want);
+    same(rt, twice.written(), want);
     Ok(())
 }
 
@@ -106,7 +107,7 @@ fn check_replay<B: OrderBook>(
     let bytes = blocks(alloc, payloads)?;
     let mut reader = BlockReader::new(alloc, PieceReader::new(bytes.written(), 7, None))?;
     let end = replay(&mut reader, market);
-    assert_eq!(rt; end.count, payloads.len() as u64);
+    same(rt, end.count, payloads.len() as u64);
     assert!(rt; matches!(end.stop, Stop::End));
     Ok(())
 }

@@ -4,6 +4,7 @@ use super::{
     END_1, END_3, END_4, END_5, END_6, EVENT, EXECUTE_7, MSFT, MSFT_AT_1, REPLACED,
     REPLACED_SNAPSHOT, RESTRICTS, TRADES, TRADES_0, TRADES_X, blocks, check_snapshot,
 };
+use crate::equal::same;
 use itch_book::{IndexedBook, ListBook, OrderBook};
 use itch_frame::BlockReader;
 use itch_frame::testing::{FuseWriter, PieceReader};
@@ -79,9 +80,9 @@ fn check_replay<B: OrderBook>(
     bytes.extend_from_slice(file.rest)?;
     let mut reader = BlockReader::new(alloc, PieceReader::new(&bytes, 1, None))?;
     let end = replay(&mut reader, market);
-    assert_eq!(rt; end.count, file.count);
+    same(rt, end.count, file.count);
     let stop = format!(in alloc; "{}", end.stop)?;
-    assert_eq!(rt; stop.as_str(), file.stop);
+    same(rt, stop.as_str(), file.stop);
     Ok(())
 }
 

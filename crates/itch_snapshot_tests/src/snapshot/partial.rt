@@ -3,6 +3,7 @@ ghost use Rattle.std.specs.Prelude.{◌<◌, ◌^◌, length};
 ghost use Rattle.itch_snapshot.specs.Snapshot.{snap};
 
 use super::{AAPL, ADD_1, END_3, END_4, END_6, EVENT, MSFT, MSFT_AT_1, REPLACE_1, blocks, market};
+use crate::equal::same;
 use itch_book::{ListBook, OrderBook};
 use itch_codec::Seq;
 use itch_frame::testing::FuseWriter;
@@ -56,10 +57,10 @@ fn check_partial<B: OrderBook>(
     want: &[&[u8]],
 ) -> Result<(), Fail> {
     assert!(rt; snapshot_len(market) < 9);
-    assert_eq!(rt; count(market, set).saturating_add(1), want.len());
+    same(rt, count(market, set).saturating_add(1), want.len());
     let mut writer = FuseWriter::new(alloc, 1, None);
-    assert_eq!(rt; write(market, set, &mut writer)?, want.len() as u64);
-    assert_eq!(rt; writer.written(), blocks(alloc, want)?.written());
+    same(rt, write(market, set, &mut writer)?, want.len() as u64);
+    same(rt, writer.written(), blocks(alloc, want)?.written());
     Ok(())
 }
 
@@ -106,7 +107,7 @@ fn check_end<B: OrderBook>(
     end: &[u8],
     next: u64,
 ) -> Result<(), Fail> {
-    assert_eq!(rt; snapshot.message_only(set, end)?, Seq::new(next));
+    same(rt, snapshot.message_only(set, end)?, Seq::new(next));
     assert!(rt; matches!(snapshot.message_only(set, end), Err(SnapFault::AfterEnd)));
     Ok(())
 }
@@ -118,8 +119,8 @@ fn reads_the_locates_of_a_set(rt: HostRuntime) -> Result<(), Fail> {
     let mut snapshot: SnapshotReader<ListBook> = SnapshotReader::new(rt.alloc());
     let payloads = [ADD_1, AAPL, MSFT_AT_1, MSFT, REPLACE_1, ADD_2_OF_MSFT];
     check_more(&rt, &mut snapshot, &set, &payloads);
-    assert_eq!(rt; snapshot.taken(), 6);
-    assert_eq!(rt; snapshot_len(snapshot.market()), 2);
+    same(&rt, snapshot.taken(), 6);
+    same(&rt, snapshot_len(snapshot.market()), 2);
     check_end(&rt, &mut snapshot, &set, END_4, 4)
 }
 
@@ -135,7 +136,7 @@ fn check_fault<B: OrderBook>(
     for payload in [payload, END_3] {
         let fault = snapshot.message_only(set, payload).err().ok_or("a fault")?;
         let said = format!(in alloc; "{fault}")?;
-        assert_eq!(rt; said.as_str(), want);
+        same(rt, said.as_str(), want);
     }
     Ok(())
 }

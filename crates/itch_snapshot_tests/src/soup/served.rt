@@ -2,6 +2,7 @@
 ghost use Rattle.std.specs.Prelude.{◌≤◌};
 
 use super::{alpha, seq};
+use crate::equal::same;
 use itch_book::{ListBook, OrderBook};
 use itch_codec::Seq;
 use itch_frame::testing::{FuseWriter, PieceReader};
@@ -182,8 +183,8 @@ fn check_fault<B: OrderBook>(
     let mut writer = FuseWriter::new(alloc, 64, None);
     let served = serve(rt, &mut reader, &mut writer, market);
     let fault = served.err().expect(rt, "a fault");
-    assert_eq!(rt; fault.to_string(alloc)?.as_str(), want);
-    assert_eq!(rt; writer.written(), b"".as_slice());
+    same(rt, fault.to_string(alloc)?.as_str(), want);
+    same(rt, writer.written(), b"".as_slice());
     Ok(())
 }
 
@@ -209,7 +210,7 @@ fn gives<R: CountedRead, A: Allocator>(
     reader: &mut BlockReader<R, A>,
     want: &[u8],
 ) -> Result<(), FrameFault> {
-    assert_eq!(rt; reader.next_block()?, Some(want));
+    same(rt, reader.next_block()?, Some(want));
     Ok(())
 }
 
@@ -242,7 +243,7 @@ fn fetched<R: CountedRead + Drop>(
     let mut reader = BlockReader::new(alloc, reader)?;
     let mut writer = FuseWriter::new(alloc, 64, None);
     let result = fetch(rt, alloc, &mut reader, &mut writer);
-    assert_eq!(rt; writer.written(), LOGIN_1);
+    same(rt, writer.written(), LOGIN_1);
     Ok(result)
 }
 
@@ -258,7 +259,7 @@ fn check_fetched<B: OrderBook>(
     let (found, next) = fetched(rt, alloc, PieceReader::new(FROM_1, piece, None))??;
     assert!(rt; snapshot_len(want) < 9);
     assert!(rt; same_market(want, &found));
-    assert_eq!(rt; next.value(), 5);
+    same(rt, next.value(), 5);
     Ok(())
 }
 
@@ -282,7 +283,7 @@ fn nothing_is_read_after_the_end_of_snapshot(rt: HostRuntime) -> Result<(), Fail
 fn check_fetch_fault(rt: &impl Abort, alloc: Global, input: &[u8], want: &str) -> Result<(), Fail> {
     let result = fetched(rt, alloc, PieceReader::new(input, 5, None))?;
     let fault = result.err().expect(rt, "a fault");
-    assert_eq!(rt; fault.to_string(alloc)?.as_str(), want);
+    same(rt, fault.to_string(alloc)?.as_str(), want);
     Ok(())
 }
 
@@ -320,11 +321,11 @@ fn data_is_written(rt: HostRuntime) -> Result<(), Fail> {
     let mut writer = FuseWriter::new(rt.alloc(), 64, None);
     write_data(&mut writer, b"GG")?;
     write_data(&mut writer, b"")?;
-    assert_eq!(rt; writer.written(), b"\0\x03SGG\0\x01S".as_slice());
+    same(&rt, writer.written(), b"\0\x03SGG\0\x01S".as_slice());
     let longest = vec![in rt.alloc(); 7; 65_535]?;
     assert!(rt; matches!(write_data(&mut writer, &longest), Err(FrameFault::TooLong)));
-    assert_eq!(rt; writer.written().len(), 8);
+    same(&rt, writer.written().len(), 8);
     write_data(&mut writer, &longest[1..])?;
-    assert_eq!(rt; writer.written().len(), 8 + 65_537);
+    same(&rt, writer.written().len(), 8 + 65_537);
     Ok(())
 }
