@@ -40,8 +40,8 @@ fn compared(
         &mut out,
     );
     same(rt, out.written(), wanted.as_bytes());
-    let same = wanted == "same\n";
-    assert!(rt; matches!(answer, Ok(verdict) if verdict == same));
+    let are_same = wanted == "same\n";
+    assert!(rt; matches!(answer, Ok(verdict) if verdict == are_same));
     Ok(())
 }
 
