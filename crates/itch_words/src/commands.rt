@@ -1,4 +1,4 @@
-//! The words of the command line: the commands over files, and what each takes.
+//! The words of the command line: the commands, and what each takes.
 
 use clap::error::ErrorKind;
 use clap::{Arg, ArgAction, Command, Error};
@@ -10,10 +10,107 @@ const VERSION: &str = "0.1.0 (proved with rattle-kit-13b logic dac8208d650f15bf)
 /// The most that `--after` takes.
 const MOST_AFTER: i64 = 999_999_999_999;
 
-/// The program's words, but for those of sessions.
+/// A command: its name, what it does, and what it takes, in the order of the help.
+struct Entry {
+    name: &'static str,
+    about: &'static str,
+    takes: &'static [Argument],
+}
+
+/// What a command takes: a file, a number, a list or a flag.
+#[derive(Clone, Copy)]
+enum Argument {
+    File,
+    After,
+    Only,
+    Progress,
+    First,
+    Second,
+    Snapshot,
+    Check,
+    Joined,
+    Feed,
+    Locate,
+    Served,
+    Count,
+    Port,
+    User,
+    Password,
+}
+
+/// The commands.
+const COMMANDS: [Entry; 9] = [
+    Entry {
+        name: "snap",
+        about: "Write the snapshot of a file of messages",
+        takes: &[
+            Argument::File,
+            Argument::After,
+            Argument::Only,
+            Argument::Progress,
+        ],
+    },
+    Entry {
+        name: "check",
+        about: "Check that a file follows the order rules",
+        takes: &[Argument::File, Argument::Progress],
+    },
+    Entry {
+        name: "compare",
+        about: "Say whether two files leave the same market",
+        takes: &[Argument::First, Argument::Second, Argument::Progress],
+    },
+    Entry {
+        name: "canon",
+        about: "Write a snapshot in canonical form",
+        takes: &[Argument::Snapshot, Argument::Check, Argument::Progress],
+    },
+    Entry {
+        name: "join",
+        about: "Join a feed to a snapshot, and write the snapshot after both",
+        takes: &[
+            Argument::Joined,
+            Argument::Feed,
+            Argument::Only,
+            Argument::Progress,
+        ],
+    },
+    Entry {
+        name: "show",
+        about: "Show each message of a file as a line of text",
+        takes: &[Argument::File],
+    },
+    Entry {
+        name: "book",
+        about: "Write the prices of a locate",
+        takes: &[Argument::Locate, Argument::File],
+    },
+    Entry {
+        name: "serve",
+        about: "Serve the snapshot of a file over SoupBinTCP on 127.0.0.1",
+        takes: &[
+            Argument::Served,
+            Argument::Count,
+            Argument::Progress,
+            Argument::Port,
+            Argument::User,
+            Argument::Password,
+        ],
+    },
+    Entry {
+        name: "fetch",
+        about: "Write the snapshot that a server on 127.0.0.1 has",
+        takes: &[Argument::Port, Argument::User, Argument::Password],
+    },
+];
+
+/// The program's words.
 pub fn command<'a>(alloc: Global) -> Result<Command<'a>, AllocError> {
-    let command = with_snapshots(alloc, program(alloc)?)?;
-    with_views(alloc, command)
+    let mut program = program(alloc)?;
+    for entry in &COMMANDS {
+        program = program.subcommand(with_arguments(alloc, entry)?)?;
+    }
+    Ok(program)
 }
 
 /// The usage fault that says so.
@@ -31,77 +128,41 @@ fn program<'a>(alloc: Global) -> Result<Command<'a>, AllocError> {
     )
 }
 
-// The commands that make and compare snapshots.
-fn with_snapshots<'a>(alloc: Global, command: Command<'a>) -> Result<Command<'a>, AllocError> {
-    command
-        .subcommand(snap(alloc)?)?
-        .subcommand(check(alloc)?)?
-        .subcommand(compare(alloc)?)?
-        .subcommand(canon(alloc)?)?
-        .subcommand(join(alloc)?)
+fn with_arguments<'a>(alloc: Global, entry: &Entry) -> Result<Command<'a>, AllocError> {
+    let mut command = Command::new(alloc, entry.name).about(entry.about);
+    for argument in entry.takes {
+        command = command.arg(made(alloc, *argument))?;
+    }
+    Ok(command)
 }
 
-// The commands that show what is in a file.
-fn with_views<'a>(alloc: Global, command: Command<'a>) -> Result<Command<'a>, AllocError> {
-    command.subcommand(show(alloc)?)?.subcommand(book(alloc)?)
-}
-
-fn snap<'a>(alloc: Global) -> Result<Command<'a>, AllocError> {
-    Command::new(alloc, "snap")
-        .about("Write the snapshot of a file of messages")
-        .arg(file(alloc))?
-        .arg(after(alloc))?
-        .arg(only(alloc))?
-        .arg(progress(alloc))
-}
-
-fn check<'a>(alloc: Global) -> Result<Command<'a>, AllocError> {
-    Command::new(alloc, "check")
-        .about("Check that a file follows the order rules")
-        .arg(file(alloc))?
-        .arg(progress(alloc))
-}
-
-fn compare<'a>(alloc: Global) -> Result<Command<'a>, AllocError> {
-    Command::new(alloc, "compare")
-        .about("Say whether two files leave the same market")
-        .arg(named(alloc, "A", "The first file, `-` for standard input"))?
-        .arg(named(alloc, "B", "The second file, or `-`"))?
-        .arg(progress(alloc))
-}
-
-fn canon<'a>(alloc: Global) -> Result<Command<'a>, AllocError> {
-    Command::new(alloc, "canon")
-        .about("Write a snapshot in canonical form")
-        .arg(snapshot(alloc))?
-        .arg(only_check(alloc))?
-        .arg(progress(alloc))
-}
-
-fn join<'a>(alloc: Global) -> Result<Command<'a>, AllocError> {
-    Command::new(alloc, "join")
-        .about("Join a feed to a snapshot, and write the snapshot after both")
-        .arg(named(
+fn made<'a>(alloc: Global, argument: Argument) -> Arg<'a> {
+    match argument {
+        Argument::File => file(alloc),
+        Argument::After => after(alloc),
+        Argument::Only => only(alloc),
+        Argument::Progress => progress(alloc),
+        Argument::First => named(alloc, "A", "The first file, `-` for standard input"),
+        Argument::Second => named(alloc, "B", "The second file, or `-`"),
+        Argument::Snapshot => snapshot(alloc),
+        Argument::Check => only_check(alloc),
+        Argument::Joined => named(
             alloc,
             "SNAP",
             "The snapshot, read up to its End of Snapshot; `-` for standard input",
-        ))?
-        .arg(named(alloc, "FEED", "The feed, from its first message on, or `-`"))?
-        .arg(only(alloc))?
-        .arg(progress(alloc))
-}
-
-fn show<'a>(alloc: Global) -> Result<Command<'a>, AllocError> {
-    Command::new(alloc, "show")
-        .about("Show each message of a file as a line of text")
-        .arg(file(alloc))
-}
-
-fn book<'a>(alloc: Global) -> Result<Command<'a>, AllocError> {
-    Command::new(alloc, "book")
-        .about("Write the prices of a locate")
-        .arg(locate(alloc))?
-        .arg(file(alloc))
+        ),
+        Argument::Feed => named(alloc, "FEED", "The feed, from its first message on, or `-`"),
+        Argument::Locate => locate(alloc),
+        Argument::Served => named(
+            alloc,
+            "FILE",
+            "The file of messages whose market is served, `-` for standard input",
+        ),
+        Argument::Count => count(alloc),
+        Argument::Port => port(alloc),
+        Argument::User => user(alloc),
+        Argument::Password => password(alloc),
+    }
 }
 
 fn after<'a>(alloc: Global) -> Arg<'a> {
@@ -137,8 +198,7 @@ fn only<'a>(alloc: Global) -> Arg<'a> {
         .help("Keep only these locates, as 1,2,40")
 }
 
-/// The flag that has the progress shown.
-pub fn progress<'a>(alloc: Global) -> Arg<'a> {
+fn progress<'a>(alloc: Global) -> Arg<'a> {
     Arg::new(alloc, "progress")
         .long("progress")
         .help("Show on standard error how much was read so far, every 64 MiB")
@@ -151,4 +211,38 @@ fn named<'a>(alloc: Global, name: &'a str, help: &'a str) -> Arg<'a> {
 
 fn file<'a>(alloc: Global) -> Arg<'a> {
     Arg::new(alloc, "FILE").help("The file to read: standard input where it is `-` or left out")
+}
+
+fn count<'a>(alloc: Global) -> Arg<'a> {
+    Arg::new(alloc, "count")
+        .long("count")
+        .value_name("N")
+        .required(true)
+        .help("Serve N connections, one after the other")
+        .value_parser(clap::value_parser!(u64).range(1..=1_000_000))
+}
+
+fn port<'a>(alloc: Global) -> Arg<'a> {
+    Arg::new(alloc, "port")
+        .long("port")
+        .value_name("P")
+        .required(true)
+        .help("The port of the server")
+        .value_parser(clap::value_parser!(u64).range(1..=65_535))
+}
+
+fn user<'a>(alloc: Global) -> Arg<'a> {
+    Arg::new(alloc, "user")
+        .long("user")
+        .value_name("U")
+        .required(true)
+        .help("The user name: 1 to 6 printable characters")
+}
+
+fn password<'a>(alloc: Global) -> Arg<'a> {
+    Arg::new(alloc, "pass")
+        .long("pass")
+        .value_name("W")
+        .required(true)
+        .help("The password: 1 to 10 printable characters")
 }

@@ -2,11 +2,11 @@
 ghost use Rattle.std.specs.Prelude.{◌≡◌};
 ghost use Rattle.itch_words.specs.Jobs.{writes_snapshot};
 
-use crate::commands::{command, progress, usage_fault};
+use crate::commands::{command, usage_fault};
 use crate::request::{read_path, read_request};
-use clap::{Arg, ArgMatches, Command, Error};
+use clap::{ArgMatches, Error};
 use itch_commands::Request;
-use std::alloc::{AllocError, Global};
+use std::alloc::Global;
 use std::fmt::{self, Debug, Formatter};
 
 /// What the words of the command line ask for; with `progress` standard error shows how much was read so far.
@@ -62,10 +62,7 @@ impl Debug for Peer<'_> {
 ///
 /// An error is a usage fault, a request for help, or want of memory: its kind says which.
 pub fn read_job<'a>(alloc: Global, words: &'a [String], terminal: bool) -> Result<Job<'a>, Error> {
-    let command = command(alloc)?
-        .subcommand(serve(alloc)?)?
-        .subcommand(fetch(alloc)?)?;
-    let matches = command.try_get_matches_from(words)?;
+    let matches = command(alloc)?.try_get_matches_from(words)?;
     let job = match matches.subcommand() {
         Some(("serve", options)) => read_serve(alloc, options)?,
         Some(("fetch", options)) => Job::Fetch(read_peer(alloc, options)?),
@@ -113,68 +110,4 @@ fn read_number<'a>(alloc: Global, options: &ArgMatches<'a>, name: &str) -> Resul
         (Some(text), Some(number)) if text.bytes().all(|byte| byte.is_ascii_digit()) => Ok(number),
         _ => Err(usage_fault(alloc, "a number has decimal digits alone")?),
     }
-}
-
-fn serve<'a>(alloc: Global) -> Result<Command<'a>, AllocError> {
-    let command = Command::new(alloc, "serve")
-        .about("Serve the snapshot of a file over SoupBinTCP on 127.0.0.1")
-        .arg(served(alloc))?
-        .arg(count(alloc))?
-        .arg(progress(alloc))?;
-    with_peer(alloc, command)
-}
-
-fn fetch<'a>(alloc: Global) -> Result<Command<'a>, AllocError> {
-    let command = Command::new(alloc, "fetch").about(
-        "Write the snapshot that a server on 127.0.0.1 has",
-    );
-    with_peer(alloc, command)
-}
-
-// A command with the port of a server, and a login to it.
-fn with_peer<'a>(alloc: Global, command: Command<'a>) -> Result<Command<'a>, AllocError> {
-    command
-        .arg(port(alloc))?
-        .arg(user(alloc))?
-        .arg(password(alloc))
-}
-
-fn served<'a>(alloc: Global) -> Arg<'a> {
-    Arg::new(alloc, "FILE").required(true).help(
-        "The file of messages whose market is served, `-` for standard input",
-    )
-}
-
-fn count<'a>(alloc: Global) -> Arg<'a> {
-    Arg::new(alloc, "count")
-        .long("count")
-        .value_name("N")
-        .required(true)
-        .help("Serve N connections, one after the other")
-        .value_parser(clap::value_parser!(u64).range(1..=1_000_000))
-}
-
-fn port<'a>(alloc: Global) -> Arg<'a> {
-    Arg::new(alloc, "port")
-        .long("port")
-        .value_name("P")
-        .required(true)
-        .help("The port of the server")
-        .value_parser(clap::value_parser!(u64).range(1..=65_535))
-}
-
-fn user<'a>(alloc: Global) -> Arg<'a> {
-    Arg::new(alloc, "user")
-        .long("user")
-        .value_name("U")
-        .required(true)
-        .help("The user name: 1 to 6 printable characters")
-}
-
-fn password<'a>(alloc: Global) -> Arg<'a> {
-    Arg::new(alloc, "pass")
-        .long("pass")
-        .value_name("W")
-        .required(true)
-        .help("The password: 1 to 10 printable characters")
 }
