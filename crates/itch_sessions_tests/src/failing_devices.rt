@@ -1,6 +1,6 @@
 //! Each read and each write of `fetch` failing in turn: the status is 3. A failed read leaves nothing on the output; a failed write
 //! leaves a beginning of it.
-use crate::equal::same;
+use crate::equal::{holds_in, same, same_in};
 use crate::sessions::{FROM_1, LOGIN_1, SNAPSHOT};
 use itch_commands::status;
 use itch_frame::BlockReader;
@@ -41,7 +41,7 @@ fn reads_of_a_fetch(rt: HostRuntime) -> Result<(), Fail> {
         let mut writer = FuseWriter::new(alloc, 64, None);
         let mut out = FuseWriter::new(alloc, 64, None);
         fetch_fails(&rt, alloc, &mut reader, &mut writer, &credentials, &mut out);
-        assert!(rt; out.written().is_empty(), "read {read}");
+        holds_in(&rt, ("read", read), out.written().is_empty());
     }
     Ok(())
 }
@@ -55,8 +55,13 @@ fn writes_of_a_login(rt: HostRuntime) -> Result<(), Fail> {
         let mut writer = FuseWriter::new(alloc, 1, Some(at as u64 + 1));
         let mut out = FuseWriter::new(alloc, 64, None);
         fetch_fails(&rt, alloc, &mut reader, &mut writer, &credentials, &mut out);
-        assert_eq!(rt; Some(writer.written()), LOGIN_1.get(..at), "write {at}");
-        assert!(rt; out.written().is_empty(), "write {at}");
+        same_in(
+            &rt,
+            ("write", at),
+            Some(writer.written()),
+            LOGIN_1.get(..at),
+        );
+        holds_in(&rt, ("write", at), out.written().is_empty());
     }
     Ok(())
 }
@@ -70,7 +75,7 @@ fn writes_of_a_fetched_snapshot(rt: HostRuntime) -> Result<(), Fail> {
         let mut writer = FuseWriter::new(alloc, 64, None);
         let mut out = FuseWriter::new(alloc, 1, Some((at as u64).saturating_add(1)));
         fetch_fails(&rt, alloc, &mut reader, &mut writer, &credentials, &mut out);
-        assert_eq!(rt; Some(out.written()), SNAPSHOT.get(..at), "write {at}");
+        same_in(&rt, ("write", at), Some(out.written()), SNAPSHOT.get(..at));
     }
     Ok(())
 }

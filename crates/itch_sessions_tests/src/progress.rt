@@ -1,5 +1,6 @@
 //! What passes through a reader that is watched.
 
+use crate::equal::same_in;
 use itch_input::{Progress, Tally, Watched};
 use std::io::Read;
 use std::test::Fail;
@@ -12,7 +13,7 @@ fn messages_are_counted_in_pieces(rt: HostRuntime) -> Result<(), Fail> {
         for piece in stream.chunks(length) {
             tally.pass(piece);
         }
-        assert_eq!(rt; tally.messages(), 3, "in pieces of {length}");
+        same_in(&rt, ("in pieces of", length), tally.messages(), 3);
     }
     Ok(())
 }

@@ -1,5 +1,5 @@
 //! Each allocation of `fetch` refused in turn, and of a served connection: the status is 4, and nothing is on the output.
-use crate::equal::same;
+use crate::equal::{holds_in, same};
 use crate::sessions::{FROM_1, LOGIN_1, LOGIN_3, SNAPSHOT, serve_day};
 use itch_commands::{Book, ToolFault, status};
 use itch_frame::BlockReader;
@@ -56,13 +56,14 @@ fn a_connection_without_memory_ends_the_serving(rt: HostRuntime) -> Result<(), F
         let pair = (&rt, &refusing);
         let served = serve_day::<_, Book<Global>>(&pair, alloc, &listener, 1, &mut out)?;
         if nth < 3 {
-            assert!(rt;
+            holds_in(
+                &rt,
+                ("allocation", nth),
                 matches!(served, Err(ToolFault::OutOfMemory)),
-                "allocation {nth}"
             );
-            assert!(rt; out.written().is_empty(), "allocation {nth}");
+            holds_in(&rt, ("allocation", nth), out.written().is_empty());
         } else {
-            assert!(rt; matches!(served, Ok(true)), "allocation {nth}");
+            holds_in(&rt, ("allocation", nth), matches!(served, Ok(true)));
         }
     }
     Ok(())

@@ -1,6 +1,6 @@
 //! A market served over loopback, and a snapshot fetched over memory.
 
-use crate::equal::same;
+use crate::equal::{holds_in, same, same_in};
 use itch_book::OrderBook;
 use itch_codec::Seq;
 use itch_commands::{Book, ToolFault};
@@ -214,8 +214,8 @@ fn fetch_without_a_snapshot_writes_nothing(rt: HostRuntime) -> Result<(), Fail> 
         let line = format!(in alloc; "itchsnap: {reason}")?;
         let fault = answer.err().ok_or("a fault")?;
         same(&rt, format!(in alloc; "{fault}")?.as_str(), line.as_str());
-        assert_eq!(rt; fault.status(), 1, "{reason}");
-        assert!(rt; written.is_empty(), "{reason}");
+        same_in(&rt, reason, fault.status(), 1);
+        holds_in(&rt, reason, written.is_empty());
     }
     Ok(())
 }
@@ -241,7 +241,7 @@ fn a_login_has_short_printable_words(rt: HostRuntime) {
             Err(ToolFault::BadPassword) => user_is_good && !password_is_good,
             Err(_) => false,
         };
-        assert!(rt; right, "{user} {password}");
+        holds_in(&rt, (user, password), right);
     }
 }
 
@@ -267,7 +267,7 @@ fn faults_of_sessions_have_their_line_and_status(rt: HostRuntime) -> Result<(), 
     for (fault, reason, wanted) in cases.iter() {
         let line = format!(in alloc; "itchsnap: {reason}")?;
         same(&rt, format!(in alloc; "{fault}")?.as_str(), line.as_str());
-        assert_eq!(rt; fault.status(), *wanted, "{reason}");
+        same_in(&rt, reason, fault.status(), *wanted);
     }
     Ok(())
 }
