@@ -2,7 +2,7 @@
 
 use super::blocks::*;
 use super::files::file;
-use crate::equal::same;
+use crate::equal::{holds_in, same, same_in};
 use itch_codec::CodecFault;
 use itch_commands::canon::canon;
 use itch_commands::compare::compare;
@@ -115,8 +115,8 @@ fn compare_names_the_refused_file(rt: HostRuntime) -> Result<(), Fail> {
         );
         let fault = answer.err().ok_or("a refusal")?;
         same(&rt, format!(in alloc; "{fault}")?.as_str(), line);
-        assert_eq!(rt; fault.status(), 1, "{line}");
-        assert!(rt; out.written().is_empty(), "{line}");
+        same_in(&rt, line, fault.status(), 1);
+        holds_in(&rt, line, out.written().is_empty());
     }
     Ok(())
 }
@@ -150,8 +150,8 @@ fn canon_writes_a_snapshot_in_order(rt: HostRuntime) -> Result<(), Fail> {
         let input = file(alloc, input)?;
         let wanted = file(alloc, wanted)?;
         let (answer, written) = canonical(alloc, input.as_slice())?;
-        assert!(rt; matches!(answer, Ok(true)), "case {case}");
-        assert_eq!(rt; written.as_slice(), wanted.as_slice(), "case {case}");
+        holds_in(&rt, case, matches!(answer, Ok(true)));
+        same_in(&rt, case, written.as_slice(), wanted.as_slice());
     }
     Ok(())
 }
@@ -176,8 +176,8 @@ fn a_refused_snapshot_has_its_line_and_status(rt: HostRuntime) -> Result<(), Fai
         let (answer, written) = canonical(alloc, input.as_slice())?;
         let fault = answer.err().ok_or("a refusal")?;
         same(&rt, format!(in alloc; "{fault}")?.as_str(), line.as_str());
-        assert_eq!(rt; fault.status(), 1, "{reason}");
-        assert!(rt; written.is_empty(), "{reason}");
+        same_in(&rt, reason, fault.status(), 1);
+        holds_in(&rt, reason, written.is_empty());
     }
     Ok(())
 }
@@ -216,8 +216,8 @@ fn book_writes_each_price(rt: HostRuntime) -> Result<(), Fail> {
         let mut out = FuseWriter::new(alloc, 5, None);
         let reader = PieceReader::new(input.as_slice(), 7, None);
         let answer = book(alloc, *locate, reader, &mut out);
-        assert!(rt; matches!(answer, Ok(true)), "case {case}");
-        assert_eq!(rt; out.written(), wanted.as_bytes(), "case {case}");
+        holds_in(&rt, case, matches!(answer, Ok(true)));
+        same_in(&rt, case, out.written(), wanted.as_bytes());
     }
     Ok(())
 }
@@ -276,7 +276,7 @@ fn faults_of_snapshots_have_their_lines_and_statuses(rt: HostRuntime) -> Result<
             let fault = ToolFault::Snap { file, fault };
             let line = format!(in alloc; "itchsnap: {words}{reason}")?;
             same(&rt, format!(in alloc; "{fault}")?.as_str(), line.as_str());
-            assert_eq!(rt; fault.status(), status, "{reason}");
+            same_in(&rt, reason, fault.status(), status);
         }
     }
     Ok(())

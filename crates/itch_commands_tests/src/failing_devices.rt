@@ -3,7 +3,7 @@
 use super::blocks::*;
 use super::cases::{Case, Command, DAY_ENDS, OTHER_ENDS};
 use super::files::file;
-use crate::equal::same;
+use crate::equal::{holds_in, same, same_in};
 use itch_commands::snap::snap;
 use itch_commands::{Source, ToolFault, status};
 use itch_frame::testing::{FuseWriter, PieceReader};
@@ -85,13 +85,14 @@ fn fail_day_reads(
     for read in 1..=159 {
         let whole = whole_before(&DAY_ENDS, read);
         let found = failed_read(rt, alloc, &case, Some(read), None)?;
-        assert_eq!(rt;
+        same_in(
+            rt,
+            ("read", read),
             found,
             Failed::Day {
                 file: source,
-                whole
+                whole,
             },
-            "read {read}"
         );
     }
     Ok(())
@@ -125,7 +126,7 @@ fn reads_of_compare(rt: HostRuntime) -> Result<(), Fail> {
         let whole = whole_before(&OTHER_ENDS, read);
         let found = failed_read(&rt, rt.alloc(), &case, None, Some(read))?;
         let file = Source::Second;
-        assert_eq!(rt; found, Failed::Day { file, whole }, "read {read}");
+        same_in(&rt, ("read", read), found, Failed::Day { file, whole });
     }
     Ok(())
 }
@@ -137,13 +138,13 @@ fn reads_of_join(rt: HostRuntime) -> Result<(), Fail> {
     for read in 1..=case.first.len() as u64 {
         let found = failed_read(&rt, rt.alloc(), &case, Some(read), None)?;
         let file = Source::Snapshot;
-        assert_eq!(rt; found, Failed::Snapshot { file }, "read {read}");
+        same_in(&rt, ("read", read), found, Failed::Snapshot { file });
     }
     for read in 1..=159 {
         let whole = whole_before(&DAY_ENDS, read);
         let found = failed_read(&rt, rt.alloc(), &case, None, Some(read))?;
         let file = Source::Only;
-        assert_eq!(rt; found, Failed::Day { file, whole }, "read {read}");
+        same_in(&rt, ("read", read), found, Failed::Day { file, whole });
     }
     Ok(())
 }
@@ -154,7 +155,7 @@ fn fail_snapshot_reads(rt: &impl Abort, alloc: Global, command: Command) -> Resu
     for read in 1..=145 {
         let found = failed_read(rt, alloc, &case, Some(read), None)?;
         let file = Source::Only;
-        assert_eq!(rt; found, Failed::Snapshot { file }, "read {read}");
+        same_in(rt, ("read", read), found, Failed::Snapshot { file });
     }
     Ok(())
 }
@@ -173,8 +174,17 @@ fn fail_writes(rt: &impl Abort, alloc: Global, command: Command) -> Result<(), F
         let first = PieceReader::new(case.first.as_slice(), 64, None);
         let second = PieceReader::new(case.second.as_slice(), 64, None);
         let answer = case.perform(alloc, None, first, second, &mut out);
-        assert!(rt; matches!(answer, Err(ToolFault::Write(_))), "write {at}");
-        assert_eq!(rt; Some(out.written()), case.wanted.get(..at), "write {at}");
+        holds_in(
+            rt,
+            ("write", at),
+            matches!(answer, Err(ToolFault::Write(_))),
+        );
+        same_in(
+            rt,
+            ("write", at),
+            Some(out.written()),
+            case.wanted.get(..at),
+        );
     }
     Ok(())
 }
@@ -208,12 +218,13 @@ fn reads_below_a_buffer(rt: HostRuntime) -> Result<(), Fail> {
             .ok_or("a fault")?;
         let whole = whole_before(&DAY_ENDS, 50 * read - 49);
         let file = Source::Only;
-        assert_eq!(rt;
+        same_in(
+            &rt,
+            ("read", read),
             read_failure(&fault),
             Failed::Day { file, whole },
-            "read {read}"
         );
-        assert!(rt; out.written().is_empty(), "read {read}");
+        holds_in(&rt, ("read", read), out.written().is_empty());
     }
     Ok(())
 }

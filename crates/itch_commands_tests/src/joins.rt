@@ -2,7 +2,7 @@
 
 use super::blocks::*;
 use super::files::file;
-use crate::equal::same;
+use crate::equal::{holds_in, same, same_in};
 use itch_commands::join::join;
 use itch_frame::testing::{FuseWriter, PieceReader};
 use itch_market::LocateSet;
@@ -63,8 +63,8 @@ fn refused(
     );
     let fault = answer.err().ok_or("a refusal")?;
     same(rt, format!(in alloc; "{fault}")?.as_str(), line);
-    assert_eq!(rt; fault.status(), 1, "{line}");
-    assert!(rt; out.written().is_empty(), "{line}");
+    same_in(rt, line, fault.status(), 1);
+    holds_in(rt, line, out.written().is_empty());
     Ok(())
 }
 

@@ -3,6 +3,7 @@
 
 use super::blocks::*;
 use super::files::{file, snapshot};
+use crate::equal::{holds_in, same_in};
 use itch_frame::BlockReader;
 use itch_frame::testing::PieceReader;
 use std::alloc::Global;
@@ -61,10 +62,7 @@ fn equal_bytes_are_equal_markets(rt: HostRuntime) -> Result<(), Fail> {
     for (case, (one, other, same)) in cases.iter().enumerate() {
         let one = canonical(alloc, file(alloc, one)?.as_slice())?;
         let other = canonical(alloc, file(alloc, other)?.as_slice())?;
-        assert!(rt;
-            (one.as_slice() == other.as_slice()) == *same,
-            "case {case}"
-        );
+        holds_in(&rt, case, (one.as_slice() == other.as_slice()) == *same);
     }
     Ok(())
 }
@@ -87,14 +85,14 @@ fn a_snapshot_stands_for_what_came_before(rt: HostRuntime) -> Result<(), Fail> {
         let mut bytes = canonical(alloc, before.as_slice())?;
         // A snapshot replays to itself, and has no more messages than there were.
         let again = canonical(alloc, bytes.as_slice())?;
-        assert_eq!(rt; again.as_slice(), bytes.as_slice(), "after {count}");
+        same_in(&rt, ("after", count), again.as_slice(), bytes.as_slice());
         let many = messages(alloc, bytes.as_slice())?;
-        assert!(rt; many <= count, "after {count}");
+        holds_in(&rt, ("after", count), many <= count);
         // With the rest after it, it leaves the whole day's market.
         let rest = file(alloc, day.get(count..).ok_or("the rest")?)?;
         bytes.extend_from_slice(rest.as_slice())?;
         let joined = canonical(alloc, bytes.as_slice())?;
-        assert_eq!(rt; joined.as_slice(), whole.as_slice(), "after {count}");
+        same_in(&rt, ("after", count), joined.as_slice(), whole.as_slice());
     }
     Ok(())
 }

@@ -2,7 +2,7 @@
 
 use super::blocks::*;
 use super::files::{file, snapshot};
-use crate::equal::same;
+use crate::equal::{holds_in, same, same_in};
 use itch_commands::check::check;
 use itch_commands::{Source, ToolFault, status, system_fault};
 use itch_frame::testing::{FuseWriter, PieceReader};
@@ -88,7 +88,7 @@ fn a_refused_file_has_its_line_and_status(rt: HostRuntime) -> Result<(), Fail> {
         let fault = answer.err().ok_or("a refusal by snap")?;
         same(&rt, format!(in alloc; "{fault}")?.as_str(), line.as_str());
         same(&rt, fault.status(), 1);
-        assert!(rt; written.is_empty(), "{reason}");
+        holds_in(&rt, reason, written.is_empty());
         let mut out = FuseWriter::new(alloc, 64, None);
         let answer = check(
             alloc,
@@ -97,7 +97,7 @@ fn a_refused_file_has_its_line_and_status(rt: HostRuntime) -> Result<(), Fail> {
         );
         let fault = answer.err().ok_or("a refusal by check")?;
         same(&rt, format!(in alloc; "{fault}")?.as_str(), line.as_str());
-        assert!(rt; out.written().is_empty(), "{reason}");
+        holds_in(&rt, reason, out.written().is_empty());
     }
     Ok(())
 }
@@ -139,7 +139,7 @@ fn every_fault_has_its_line_and_status(rt: HostRuntime) -> Result<(), Fail> {
     for (fault, reason, wanted) in cases.iter() {
         let line = format!(in alloc; "itchsnap: {reason}")?;
         same(&rt, format!(in alloc; "{fault}")?.as_str(), line.as_str());
-        assert_eq!(rt; fault.status(), *wanted, "{reason}");
+        same_in(&rt, reason, fault.status(), *wanted);
     }
     same(&rt, status(&Err(ToolFault::Open)), 3);
     same(&rt, status(&Ok(true)), 0);

@@ -3,7 +3,7 @@
 use super::blocks::*;
 use super::files::file;
 use super::snaps::ROWS;
-use crate::equal::same;
+use crate::equal::{holds_in, same, same_in};
 use itch_commands::join::join;
 use itch_commands::read_locates;
 use itch_commands::snap::snap;
@@ -27,8 +27,8 @@ fn cut(
     let mut out = FuseWriter::new(alloc, 4096, None);
     let reader = PieceReader::new(day.as_slice(), 5, None);
     let answer = snap(alloc, reader, None, Some(&set), &mut out);
-    assert!(rt; matches!(answer, Ok(true)), "{list}");
-    assert_eq!(rt; out.written(), file(alloc, wanted)?.as_slice(), "{list}");
+    holds_in(rt, list, matches!(answer, Ok(true)));
+    same_in(rt, list, out.written(), file(alloc, wanted)?.as_slice());
     Ok(())
 }
 
@@ -187,9 +187,9 @@ fn lists_are_read(rt: HostRuntime) -> Result<(), Fail> {
     for (text, contained, other) in cases {
         let set = read_locates(rt.alloc(), text)?;
         for locate in contained {
-            assert!(rt; set.contains(*locate), "{text}");
+            holds_in(&rt, text, set.contains(*locate));
         }
-        assert!(rt; !set.contains(other), "{text}");
+        holds_in(&rt, text, !set.contains(other));
     }
     Ok(())
 }
@@ -218,7 +218,7 @@ fn other_texts_are_no_lists(rt: HostRuntime) -> Result<(), Fail> {
     ];
     for text in texts {
         let fault = read_locates(alloc, text).err().ok_or("a refusal")?;
-        assert_eq!(rt; fault.status(), 2, "{text}");
+        same_in(&rt, text, fault.status(), 2);
         same(
             &rt,
             format!(in alloc; "{fault}")?.as_str(),

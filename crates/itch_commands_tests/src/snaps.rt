@@ -1,7 +1,7 @@
 //! Snapshots of files, and their messages counted.
 use super::blocks::*;
 use super::files::{file, snapshot};
-use crate::equal::same;
+use crate::equal::{holds_in, same, same_in};
 use itch_commands::ToolFault;
 use itch_commands::check::check;
 use itch_commands::snap::snap;
@@ -68,15 +68,8 @@ fn snap_writes_the_canonical_snapshot(rt: HostRuntime) -> Result<(), Fail> {
         let wanted = file(alloc, wanted)?;
         for piece in [1, 2, 7, 4096] {
             let (answer, written) = snapshot(alloc, input.as_slice(), piece, None)?;
-            assert!(rt;
-                matches!(answer, Ok(true)),
-                "case {case} in pieces of {piece}"
-            );
-            assert_eq!(rt;
-                written.as_slice(),
-                wanted.as_slice(),
-                "case {case} in pieces of {piece}"
-            );
+            holds_in(&rt, (case, piece), matches!(answer, Ok(true)));
+            same_in(&rt, (case, piece), written.as_slice(), wanted.as_slice());
         }
     }
     Ok(())
@@ -94,12 +87,8 @@ fn snap_reads_through_any_buffer(rt: HostRuntime) -> Result<(), Fail> {
         let reader = BufReader::with_capacity(alloc, capacity, input.as_slice())?;
         let mut out = FuseWriter::new(alloc, 4096, None);
         let answer = snap(alloc, Counted::new(reader), None, None, &mut out);
-        assert!(rt; matches!(answer, Ok(true)), "through {capacity} bytes");
-        assert_eq!(rt;
-            out.written(),
-            wanted.as_slice(),
-            "through {capacity} bytes"
-        );
+        holds_in(&rt, ("through", capacity), matches!(answer, Ok(true)));
+        same_in(&rt, ("through", capacity), out.written(), wanted.as_slice());
     }
     Ok(())
 }
@@ -117,8 +106,8 @@ fn snap_stops_after_so_many_messages(rt: HostRuntime) -> Result<(), Fail> {
         let input = file(alloc, input)?;
         let wanted = file(alloc, wanted)?;
         let (answer, written) = snapshot(alloc, input.as_slice(), 7, Some(after))?;
-        assert!(rt; matches!(answer, Ok(true)), "after {after}");
-        assert_eq!(rt; written.as_slice(), wanted.as_slice(), "after {after}");
+        holds_in(&rt, ("after", after), matches!(answer, Ok(true)));
+        same_in(&rt, ("after", after), written.as_slice(), wanted.as_slice());
     }
     let input = file(alloc, &[START, AAPL, BUY_1])?;
     let (answer, written) = snapshot(alloc, input.as_slice(), 7, Some(4))?;
@@ -142,7 +131,7 @@ fn check_counts_the_messages(rt: HostRuntime) -> Result<(), Fail> {
         let input = file(alloc, input)?;
         let mut out = FuseWriter::new(alloc, 3, None);
         let answer = check(alloc, PieceReader::new(input.as_slice(), 2, None), &mut out);
-        assert!(rt; matches!(answer, Ok(true)), "{wanted}");
+        holds_in(&rt, wanted, matches!(answer, Ok(true)));
         same(&rt, out.written(), wanted.as_bytes());
     }
     Ok(())
