@@ -1,5 +1,5 @@
 //! Joins by what their calls return and the markets that they lead to. The helpers take a joiner over any book.
-use crate::equal::same;
+use crate::equal::{same, same_in};
 use itch_book::{IndexedBook, ListBook, OrderBook};
 use itch_codec::{CodecFault, Message, encode};
 use itch_join::{Cause, JoinFault, Joiner, Live, Snap, laws};
@@ -59,7 +59,7 @@ fn live<B: OrderBook>(
     payload: &[u8],
     want: Result<Live, JoinFault>,
 ) {
-    assert_eq!(rt; joiner.live(number, payload), want, "message {number}");
+    same_in(rt, ("message", number), joiner.live(number, payload), want);
 }
 
 fn snapshot<B: OrderBook>(

@@ -1,5 +1,5 @@
 //! Packets byte by byte, and whole sessions.
-use crate::equal::same;
+use crate::equal::{same, same_in};
 use itch_codec::{Alpha, Seq};
 use itch_frame::FrameFault;
 use itch_snapshot::SnapFault;
@@ -134,7 +134,7 @@ fn packets(rt: HostRuntime) {
         (b"O", Origin::Client, Packet::LogoutRequest),
     ];
     for (block, from, packet) in rows {
-        assert_eq!(rt; parse_packet(block, from).ok(), Some(packet), "{block:?}");
+        same_in(&rt, block, &parse_packet(block, from).ok(), &Some(packet));
     }
 }
 
@@ -157,10 +157,11 @@ fn numbers_of_logins(rt: HostRuntime) {
         let mut block = *LOGIN;
         block[27..].copy_from_slice(field);
         let packet = Packet::LoginRequest(login(&rt, "", number));
-        assert_eq!(rt;
-            parse_packet(&block, Origin::Client).ok(),
-            Some(packet),
-            "{number}"
+        same_in(
+            &rt,
+            number,
+            &parse_packet(&block, Origin::Client).ok(),
+            &Some(packet),
         );
     }
 }
@@ -188,10 +189,11 @@ fn session_names_are_padded(rt: HostRuntime) {
         };
         let mut login = *LOGIN;
         login[17..27].copy_from_slice(asked);
-        assert_eq!(rt;
+        same_in(
+            &rt,
+            session,
             ClientSession::new(credentials, 3, 0).login(),
             login,
-            "{session:?}"
         );
 
         let config = ServerConfig {
@@ -202,7 +204,7 @@ fn session_names_are_padded(rt: HostRuntime) {
         let mut accepted = *ACCEPTED;
         accepted[1..11].copy_from_slice(served);
         let server = ServerSession::new(config, 5, 0);
-        assert_eq!(rt; server.accepted(seq(&rt, 3)), accepted, "{session:?}");
+        same_in(&rt, session, server.accepted(seq(&rt, 3)), accepted);
     }
 }
 
@@ -417,8 +419,8 @@ fn ticks(rt: HostRuntime) {
     let accept = client.on_packet(&accepted(&rt, 3), 0);
     assert!(rt; matches!(accept, ClientAct::Accepted { next } if next.value() == 3));
     for (now, tick) in rows {
-        assert_eq!(rt; server.tick(now), tick, "server at {now}");
-        assert_eq!(rt; client.tick(now), tick, "client at {now}");
+        same_in(&rt, ("server at", now), server.tick(now), tick);
+        same_in(&rt, ("client at", now), client.tick(now), tick);
     }
     let after = server.on_packet(&Packet::ClientHeartbeat, 15_002);
     assert!(rt; matches!(after, ServerAct::Fault(SoupFault::Closed)));

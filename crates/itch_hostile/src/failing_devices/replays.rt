@@ -1,5 +1,5 @@
 //! A day file replayed.
-use crate::equal::same;
+use crate::equal::{holds_in, same, same_in};
 use crate::files::{REPLACED, blocks};
 use itch_book::{IndexedBook, ListBook, OrderBook};
 use itch_frame::testing::PieceReader;
@@ -24,15 +24,21 @@ fn fails_and_goes_on<B: OrderBook>(
     let mut reader = BlockReader::new(alloc, bytes)?;
     let mut market: Market<B> = Market::new(memory);
     let first = replay(&mut reader, &mut market);
-    assert!(rt;
+    holds_in(
+        rt,
+        ("byte", at),
         matches!(first.stop, Stop::Frame(FrameFault::Read(_))),
-        "byte {at}"
     );
     let whole = ENDS.iter().filter(|end| **end <= at).count();
-    assert_eq!(rt; first.count, whole as u64, "byte {at}");
+    same_in(rt, ("byte", at), first.count, whole as u64);
     let second = replay(&mut reader, &mut market);
-    assert!(rt; matches!(second.stop, Stop::End), "byte {at}");
-    assert_eq!(rt; first.count.saturating_add(second.count), 4, "byte {at}");
+    holds_in(rt, ("byte", at), matches!(second.stop, Stop::End));
+    same_in(
+        rt,
+        ("byte", at),
+        first.count.saturating_add(second.count),
+        4,
+    );
     same(rt, market.book().len(), 2);
     Ok(())
 }

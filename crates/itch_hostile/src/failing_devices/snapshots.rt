@@ -1,5 +1,5 @@
 //! A snapshot written.
-use crate::equal::same;
+use crate::equal::{holds_in, same};
 use crate::files::{ONE_ORDER, ONE_ORDER_SNAPSHOT, blocks, market, seq};
 use itch_book::IndexedBook;
 use itch_frame::FrameFault;
@@ -36,7 +36,7 @@ fn fails_at(
     let written = writer.written();
     same(rt, written.len() as u64, nth.saturating_sub(1));
     assert!(rt; whole.starts_with(written));
-    assert!(rt; says_its_block(&fault, written.len()), "write {nth}");
+    holds_in(rt, ("write", nth), says_its_block(&fault, written.len()));
 }
 
 #[test]
