@@ -1,5 +1,5 @@
 //! Books by what their calls return. The helpers take any book.
-use crate::equal::same;
+use crate::equal::{same, same_in};
 use itch_book::{IndexedBook, ListBook, Order, OrderBook, Taken};
 use itch_codec::Side;
 use std::alloc::AllocError;
@@ -111,7 +111,7 @@ fn check_order<B: OrderBook>(rt: &impl Abort, book: &B) {
         (5, 0),
         (u64::MAX, 0),
     ] {
-        assert_eq!(rt; next(rt, book, number), want, "after {number}");
+        same_in(rt, ("after", number), next(rt, book, number), want);
     }
     same(rt, reference(book.first(2)), 0);
     same(rt, reference(book.front(1, Side::Buy)), 2);
@@ -129,7 +129,7 @@ fn check_levels<B: OrderBook>(rt: &impl Abort, book: &B) {
         (Side::Sell, Some(1500200), Some(1500300)),
         (Side::Sell, Some(1500300), None),
     ] {
-        assert_eq!(rt; book.next_price(1, side, last), want, "after {last:?}");
+        same_in(rt, ("after", last), book.next_price(1, side, last), want);
     }
     for (locate, side, price, want) in [
         (1, Side::Buy, 1500100, (600, 2)),

@@ -1,8 +1,23 @@
-//! What the tests compare.
+//! What the tests compare: functions of their own, so that a proof of a test does not carry how a value is shown.
 use std::fmt::Debug;
 use std::process::Abort;
 
-/// Ends the test unless these are equal. It is a function of its own, so that a proof of a test does not carry how both are shown.
+/// Ends the test unless these are equal.
 pub fn same<T: PartialEq + Debug + Copy>(rt: &impl Abort, value: T, expected: T) {
     assert_eq!(rt; value, expected);
+}
+
+/// Ends the test unless these are equal, and names the case.
+pub fn same_in<T: PartialEq + Debug + Copy>(
+    rt: &impl Abort,
+    case: impl Debug + Copy,
+    value: T,
+    expected: T,
+) {
+    assert_eq!(rt; value, expected, "case {case:?}");
+}
+
+/// Ends the test unless this holds, and names the case.
+pub fn holds_in(rt: &impl Abort, case: impl Debug + Copy, holds: bool) {
+    assert!(rt; holds, "case {case:?}");
 }

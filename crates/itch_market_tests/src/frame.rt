@@ -1,7 +1,7 @@
 //! Worked cases, each failure in turn, and the calls that take no memory.
 ghost use Rattle.std.specs.Prelude.{None, IsErr};
 
-use crate::equal::same;
+use crate::equal::{holds_in, same, same_in};
 use itch_frame::testing::{FuseWriter, PieceReader};
 use itch_frame::{
     BlockReader, Buffered, Counted, CountedRead, CountedWrite, FrameFault, Splitter, laws,
@@ -77,7 +77,7 @@ fn cuts_a_stream_the_same_in_any_pieces(rt: HostRuntime) -> Result<(), Fail> {
         for piece in STREAM.chunks(size) {
             copy_piece(&mut splitter, &mut writer, piece)?;
         }
-        assert_eq!(rt; writer.written(), STREAM, "in pieces of {size}");
+        same_in(&rt, ("in pieces of", size), writer.written(), STREAM);
         same(&rt, splitter.held(), 0);
     }
     Ok(())
@@ -185,16 +185,8 @@ fn loses_nothing_whichever_read_fails(rt: HostRuntime) -> Result<(), Fail> {
             let mut reader = BlockReader::new(rt.alloc(), source)?;
             let mut writer = FuseWriter::new(rt.alloc(), 64, None);
             let failures = copy_blocks(&mut reader, &mut writer)?;
-            assert_eq!(rt;
-                writer.written(),
-                STREAM,
-                "read {fail_at} failed, in pieces of {piece}"
-            );
-            assert_eq!(rt;
-                failures == 1,
-                fail_at <= reads,
-                "read {fail_at}, in pieces of {piece}"
-            );
+            same_in(&rt, (fail_at, piece), writer.written(), STREAM);
+            same_in(&rt, (fail_at, piece), failures == 1, fail_at <= reads);
         }
     }
     Ok(())
@@ -209,12 +201,8 @@ fn blocks_are_the_same_through_any_buffer(rt: HostRuntime) -> Result<(), Fail> {
             let mut reader = BlockReader::new(rt.alloc(), Buffered::new(source))?;
             let mut writer = FuseWriter::new(rt.alloc(), 64, None);
             let failures = copy_blocks(&mut reader, &mut writer)?;
-            assert_eq!(rt;
-                writer.written(),
-                STREAM,
-                "read {fail_at} failed, in a buffer of {capacity}"
-            );
-            assert!(rt; failures <= 1, "read {fail_at}, in a buffer of {capacity}");
+            same_in(&rt, (fail_at, capacity), writer.written(), STREAM);
+            holds_in(&rt, (fail_at, capacity), failures <= 1);
         }
     }
     Ok(())

@@ -1,6 +1,6 @@
 //! Each byte of each vector at each value.
 use super::vectors::*;
-use crate::equal::same;
+use crate::equal::{holds_in, same};
 use itch_codec::{CodecFault, Message, decode, encode};
 use std::process::Abort;
 
@@ -29,7 +29,7 @@ fn faults_of_bytes(rt: &impl Abort, vector: &[u8]) -> u32 {
                 Ok(Message::End { .. }) => {}
                 Ok(message) => same(rt, encode(&message).bytes(), spelled),
                 Err(fault) => {
-                    assert!(rt; is_fault_at(fault, at, byte), "{fault} for {byte} at {at}");
+                    holds_in(rt, (fault, byte, at), is_fault_at(fault, at, byte));
                     faults = faults.wrapping_add(1);
                 }
             }
@@ -78,7 +78,7 @@ fn each_type(rt: HostRuntime) {
                 assert!(rt; !b"SRHYhLAFECXDUPQBG".contains(&byte));
                 same(&rt, encode(&message).bytes(), payload.as_slice());
             }
-            Err(fault) => assert!(rt; is_fault_at(fault, 0, byte), "{fault} for {byte}"),
+            Err(fault) => holds_in(&rt, (fault, byte), is_fault_at(fault, 0, byte)),
         }
     }
 }
