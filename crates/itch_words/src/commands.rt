@@ -17,20 +17,24 @@ struct Entry {
     takes: &'static [Argument],
 }
 
-/// What a command takes: a file, a number, a list or a flag.
+/// What a command takes: a file, a number, a list, a flag, or a part of a login.
 #[derive(Clone, Copy)]
 enum Argument {
     File,
     After,
     Only,
     Progress,
+    // The files of `compare`.
     First,
     Second,
+    // The file of `canon`, and its flag.
     Snapshot,
     Check,
+    // The files of `join`.
     Joined,
     Feed,
     Locate,
+    // The file of `serve`, which has to be named.
     Served,
     Count,
     Port,
@@ -108,7 +112,7 @@ const COMMANDS: [Entry; 9] = [
 pub fn command<'a>(alloc: Global) -> Result<Command<'a>, AllocError> {
     let mut program = program(alloc)?;
     for entry in &COMMANDS {
-        program = program.subcommand(with_arguments(alloc, entry)?)?;
+        program = program.subcommand(entry.command(alloc)?)?;
     }
     Ok(program)
 }
@@ -128,40 +132,44 @@ fn program<'a>(alloc: Global) -> Result<Command<'a>, AllocError> {
     )
 }
 
-fn with_arguments<'a>(alloc: Global, entry: &Entry) -> Result<Command<'a>, AllocError> {
-    let mut command = Command::new(alloc, entry.name).about(entry.about);
-    for argument in entry.takes {
-        command = command.arg(made(alloc, *argument))?;
+impl Entry {
+    fn command<'a>(&self, alloc: Global) -> Result<Command<'a>, AllocError> {
+        let mut command = Command::new(alloc, self.name).about(self.about);
+        for argument in self.takes {
+            command = command.arg(argument.arg(alloc))?;
+        }
+        Ok(command)
     }
-    Ok(command)
 }
 
-fn made<'a>(alloc: Global, argument: Argument) -> Arg<'a> {
-    match argument {
-        Argument::File => file(alloc),
-        Argument::After => after(alloc),
-        Argument::Only => only(alloc),
-        Argument::Progress => progress(alloc),
-        Argument::First => named(alloc, "A", "The first file, `-` for standard input"),
-        Argument::Second => named(alloc, "B", "The second file, or `-`"),
-        Argument::Snapshot => snapshot(alloc),
-        Argument::Check => only_check(alloc),
-        Argument::Joined => named(
-            alloc,
-            "SNAP",
-            "The snapshot, read up to its End of Snapshot; `-` for standard input",
-        ),
-        Argument::Feed => named(alloc, "FEED", "The feed, from its first message on, or `-`"),
-        Argument::Locate => locate(alloc),
-        Argument::Served => named(
-            alloc,
-            "FILE",
-            "The file of messages whose market is served, `-` for standard input",
-        ),
-        Argument::Count => count(alloc),
-        Argument::Port => port(alloc),
-        Argument::User => user(alloc),
-        Argument::Password => password(alloc),
+impl Argument {
+    fn arg<'a>(self, alloc: Global) -> Arg<'a> {
+        match self {
+            Argument::File => file(alloc),
+            Argument::After => after(alloc),
+            Argument::Only => only(alloc),
+            Argument::Progress => progress(alloc),
+            Argument::First => named(alloc, "A", "The first file, `-` for standard input"),
+            Argument::Second => named(alloc, "B", "The second file, or `-`"),
+            Argument::Snapshot => snapshot(alloc),
+            Argument::Check => only_check(alloc),
+            Argument::Joined => named(
+                alloc,
+                "SNAP",
+                "The snapshot, read up to its End of Snapshot; `-` for standard input",
+            ),
+            Argument::Feed => named(alloc, "FEED", "The feed, from its first message on, or `-`"),
+            Argument::Locate => locate(alloc),
+            Argument::Served => named(
+                alloc,
+                "FILE",
+                "The file of messages whose market is served, `-` for standard input",
+            ),
+            Argument::Count => count(alloc),
+            Argument::Port => port(alloc),
+            Argument::User => user(alloc),
+            Argument::Password => password(alloc),
+        }
     }
 }
 
