@@ -224,7 +224,7 @@ def the_first_start_says_what_is_proved(program):
             return done.returncode, done.stdout, done.stderr
 
         before = "itchsnap: proving and building the program, which "
-        first = before + "takes a quarter to half an hour on four cores\n"
+        first = before + "takes 15 to 40 minutes on four cores\n"
         failed = first + crates.split("\n")[0] + "\nrt: not proved\n"
         for label, more, wanted in (("a failed build", {"FAILS": "lib"}, (1, "", failed)), ("the first start", {}, (0, "one two\n", first + crates)),
                                     ("the second start", {}, (0, "one two\n", ""))):
