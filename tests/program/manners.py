@@ -1,4 +1,4 @@
-"""Runs of the program as a shell user meets it: its version, terminals, closed pipes, progress, and the scripts beside it.
+"""Runs of the program as a shell user meets it: its version, terminals, closed pipes, progress, and its manual.
 
 RUNS has a function for each run, named for what it shows; it is given the program, and yields what differs.
 """
@@ -27,7 +27,7 @@ def version(program):
 def the_version_is_that_of_the_changes_and_the_toolchain(program):
     printed = version(program)
     newest = re.search(r"^## ([\d.]+)", (TOP / "CHANGELOG.md").read_text(), re.M)[1]
-    parts = re.fullmatch(r"itchsnap (\S+) \(proved with (.+)\)\n", printed)
+    parts = re.fullmatch(r"itchsnap (\S+) \(proved with (.+), (not a released build|release [0-9a-f]{12})\)\n", printed)
     if not parts or parts[1] != newest:
         yield f"printed {printed!r}, where the newest changes are those of {newest}"
     elif f"`rt version`: {parts[2]})" not in (TOP / "README.md").read_text():
@@ -157,32 +157,6 @@ def no_progress_is_shown_of_a_small_file(program):
             yield f"{words[0]}: {done}"
 
 
-def the_program_is_installed_with_its_page(program):
-    with tempfile.TemporaryDirectory() as folder:
-        prefix = Path(folder) / "new/prefix"
-        for _ in range(2):
-            done = subprocess.run([TOP / "install", prefix], capture_output=True, timeout=60)
-            if (done.returncode, done.stdout, done.stderr) != (0, b"", b""):
-                yield f"ended with {done}"
-                return
-        placed = sorted(str(it.relative_to(prefix)) for it in prefix.rglob("*") if it.is_file())
-        if placed != ["bin/itchsnap", "share/man/man1/itchsnap.1"]:
-            yield f"placed {placed}"
-        if version(prefix / "bin/itchsnap") != version(program):
-            yield "another program was installed"
-        checked = subprocess.run([prefix / "bin/itchsnap", "check", OPENING], capture_output=True, timeout=60)
-        if (checked.returncode, checked.stdout) != (0, b"ok 5 messages\n"):
-            yield f"the installed program ended with {checked}"
-
-
-def what_cannot_be_installed_is_one_line(program):
-    with tempfile.NamedTemporaryFile() as file:
-        for words, status, line in (([file.name], 1, f"install: cannot write {file.name}/bin/itchsnap\n"), ([], 2, "usage: ./install PREFIX\n")):
-            done = subprocess.run([TOP / "install", *words], capture_output=True, text=True, timeout=60)
-            if (done.returncode, done.stdout, done.stderr) != (status, "", line):
-                yield f"{words}: ended with {done}"
-
-
 def the_page_has_each_command_and_option(program):
     page = (TOP / "docs/itchsnap.1").read_text().replace("\\-", "-")
     helps = [subprocess.run([program, *words, "--help"], capture_output=True, text=True, check=True).stdout
@@ -197,47 +171,6 @@ def the_page_has_each_command_and_option(program):
         yield "the page is that of another version"
 
 
-FAKE_RT = """#!/bin/sh
-# Builds nothing: the program that it makes prints its words.
-[ "$1" != "$FAILS" ] || { echo "rt: not proved"; exit 1; }
-[ "$1" != run ] || { mkdir -p out; printf '#!/bin/sh\\necho "$@"\\n' >out/itch_tool; chmod +x out/itch_tool; }
-"""
-
-
-def the_first_start_says_what_is_proved(program):
-    with tempfile.TemporaryDirectory() as folder:
-        top = Path(folder)
-        for name in ("itchsnap", "crates.txt"):
-            shutil.copy(TOP / name, top / name)
-        for crate in (TOP / "crates").iterdir():
-            (top / "crates" / crate.name).mkdir(parents=True)
-        (top / "crates/itch_tool/out").mkdir()
-        (top / "rt").write_text(FAKE_RT)
-        (top / "rt").chmod(0o755)
-        names = ("itch_frame itch_codec itch_book itch_market itch_snapshot itch_soup itch_join itch_commands itch_input itch_sessions itch_words "
-                 "itch_tool").split()
-        crates = "".join(f"itchsnap: proving {name} ({number} of {len(names)}) ..\n" for number, name in enumerate(names, 1))
-
-        def start(**more):
-            environment = {**os.environ, "PATH": f"{top}:{os.environ['PATH']}", **more}
-            done = subprocess.run([top / "itchsnap", "one", "two"], capture_output=True, text=True, env=environment, timeout=60)
-            return done.returncode, done.stdout, done.stderr
-
-        before = "itchsnap: proving and building the program, which "
-        first = before + "takes 15 to 40 minutes on four cores\n"
-        failed = first + crates.split("\n")[0] + "\nrt: not proved\n"
-        for label, more, wanted in (("a failed build", {"FAILS": "lib"}, (1, "", failed)), ("the first start", {}, (0, "one two\n", first + crates)),
-                                    ("the second start", {}, (0, "one two\n", ""))):
-            got = start(**more)
-            if got != wanted:
-                yield f"{label}: {got}"
-        (top / "crates/itch_tool/out/seconds").write_text("754\n")
-        os.utime(top / "crates/itch_tool/out/itch_tool", (0, 0))
-        got = start()
-        if got != (0, "one two\n", before + "took 12 min 34 s the last time\n" + crates):
-            yield f"a start after a change: {got}"
-
-
 RUNS = [
     the_version_is_that_of_the_changes_and_the_toolchain,
     a_closed_pipe_ends_quietly,
@@ -247,8 +180,5 @@ RUNS = [
     both_files_may_not_be_standard_input,
     progress_is_shown_every_64_mib,
     no_progress_is_shown_of_a_small_file,
-    the_program_is_installed_with_its_page,
-    what_cannot_be_installed_is_one_line,
     the_page_has_each_command_and_option,
-    the_first_start_says_what_is_proved,
 ]

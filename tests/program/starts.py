@@ -1,0 +1,178 @@
+"""Runs of `./itchsnap` and `./install` in a fresh copy of the checkout: which program they are, and what they say of it.
+
+RUNS has a function for each run, named for what it shows; it is given the program, and yields what differs.
+"""
+import contextlib
+import os
+import shutil
+import subprocess
+import tempfile
+import time
+from concurrent.futures import ThreadPoolExecutor
+from pathlib import Path
+
+TOP = Path(__file__).resolve().parent.parent.parent
+# Where no toolchain is.
+PLAIN = "/usr/bin:/bin"
+NAMES = ("itch_frame itch_codec itch_book itch_market itch_snapshot itch_soup itch_join itch_commands itch_input itch_sessions itch_words "
+         "itch_tool").split()
+CHANGED = "crates/itch_frame/src/lib.rt"
+OTHER = "itchsnap: the sources are not those of the released program"
+# Builds nothing: the program that it makes prints its words. It takes a moment, and notes what it was called with.
+FAKE_RT = """#!/bin/sh
+[ "$1" != "$FAILS" ] || { echo "rt: not proved"; exit 1; }
+echo "$1" >>"$CALLS"
+[ "$1" != run ] || { mkdir -p out; printf '#!/bin/sh\\necho "$@"\\n' >out/itch_tool; chmod +x out/itch_tool; sleep 0.2; }
+"""
+
+
+class Checkout:
+    """A fresh copy of what git keeps of this checkout, in a folder whose name has a space, and a `rt` that proves nothing."""
+
+    def __init__(self, folder):
+        self.folder = Path(folder)
+        self.top = self.folder / "a checkout"
+        files = subprocess.run(["git", "ls-files", "-z", "--cached", "--others", "--exclude-standard"], cwd=TOP, capture_output=True,
+                               check=True).stdout.decode()
+        for name in filter(None, files.split("\0")):
+            if (TOP / name).exists():
+                (self.top / name).parent.mkdir(parents=True, exist_ok=True)
+                shutil.copy2(TOP / name, self.top / name)
+        (self.folder / "rt").write_text(FAKE_RT)
+        (self.folder / "rt").chmod(0o755)
+
+    def change(self):
+        """Changes one byte of a source."""
+        with open(self.top / CHANGED, "a") as file:
+            file.write("\n")
+
+    def start(self, *words, script="itchsnap", rt=False, before=(), **more):
+        """What a script ends with: its status and both outputs; with the `rt` of this folder, or with none."""
+        path = f"{self.folder}:{PLAIN}" if rt else PLAIN
+        environment = {"HOME": "/", "LANG": "C.UTF-8", "PATH": path, "CALLS": str(self.folder / "calls"), **more}
+        done = subprocess.run([*before, self.top / script, *words], capture_output=True, text=True, env=environment, cwd="/",
+                              stdin=subprocess.DEVNULL, timeout=60)
+        return done.returncode, done.stdout, done.stderr
+
+
+@contextlib.contextmanager
+def checkout():
+    with tempfile.TemporaryDirectory() as folder:
+        os.chmod(folder, 0o755)
+        yield Checkout(folder)
+
+
+def differs(label, got, wanted):
+    if got != wanted:
+        yield f"{label}: {got}, not {wanted}"
+
+
+def a_fresh_copy_answers_within_a_second_without_the_toolchain(_program):
+    with checkout() as copy:
+        opening = copy.top / "examples/opening.itch"
+        begin = time.monotonic()
+        got = copy.start("check", opening)
+        took = time.monotonic() - begin
+        yield from differs("the first start", got, (0, "ok 5 messages\n", ""))
+        if took > 1:
+            yield f"the first start took {took:.2f} s"
+        link = copy.folder / "linked"
+        link.symlink_to(copy.top / "itchsnap")
+        again = copy.folder / "again"
+        again.symlink_to("linked")
+        yield from differs("through two links", copy.start("check", opening, script="../again"), (0, "ok 5 messages\n", ""))
+        if (copy.top / "crates/itch_tool/out").exists():
+            yield "something was built"
+
+
+def a_checkout_may_be_read_only(_program):
+    nobody = ["setpriv", "--reuid=65534", "--regid=65534", "--clear-groups"] if os.geteuid() == 0 else []
+    with checkout() as copy:
+        subprocess.run(["chmod", "-R", "a+rX,a-w", copy.top], check=True)
+        wanted = (0, "ok 5 messages\n", "")
+        try:
+            yield from differs("read-only", copy.start("check", copy.top / "examples/opening.itch", before=nobody), wanted)
+        finally:
+            subprocess.run(["chmod", "-R", "u+w", copy.top], check=True)
+
+
+def the_released_version_has_the_records_hash(_program):
+    with checkout() as copy:
+        record = dict(line.split(" ", 1) for line in (copy.top / "release/RECORD").read_text().splitlines())
+        wanted = f"itchsnap {record['version']} (proved with {record['toolchain']}, release {record['sources'][:12]})\n"
+        yield from differs("--version", copy.start("--version"), (0, wanted, ""))
+
+
+def a_changed_source_needs_the_toolchain(_program):
+    needed = f"{OTHER}, and to prove and build it the Rattle toolchain is needed: there is no command rt on the path\n"
+    with checkout() as copy:
+        copy.change()
+        yield from differs("no toolchain", copy.start("check"), (1, "", needed))
+        yield from differs("install", copy.start(copy.folder / "prefix", script="install"), (1, "", needed))
+
+
+def a_changed_source_is_proved_and_built(_program):
+    says = f"{OTHER}: it is proved and built from these, which "
+    crates = "".join(f"itchsnap: proving {name} ({number} of {len(NAMES)}), 0 min so far ..\n" for number, name in enumerate(NAMES, 1))
+    first = f"{says}takes 15 to 40 minutes on four cores\n"
+    with checkout() as copy:
+        copy.change()
+        failed = first + crates.split("\n")[0] + "\nrt: not proved\n"
+        yield from differs("a failed build", copy.start("one", "two", rt=True, FAILS="lib"), (1, "", failed))
+        (copy.top / "crates/itch_tool/out").mkdir()
+        yield from differs("the first start", copy.start("one", "two", rt=True), (0, "one two\n", first + crates))
+        yield from differs("the second start", copy.start("one", "two"), (0, "one two\n", ""))
+        (copy.top / "crates/itch_tool/out/seconds").write_text("754\n")
+        os.utime(copy.top / "crates/itch_tool/out/itch_tool", (0, 0))
+        wanted = f"{says}took 12 min 34 s the last time\n{crates}"
+        yield from differs("a start after a change", copy.start("one", "two", rt=True), (0, "one two\n", wanted))
+
+
+def of_two_starts_one_builds(_program):
+    with checkout() as copy, ThreadPoolExecutor(2) as pool:
+        copy.change()
+        got = [it.result() for it in [pool.submit(copy.start, "one", rt=True) for _ in range(2)]]
+        yield from differs("statuses and outputs", [it[:2] for it in got], [(0, "one\n")] * 2)
+        yield from differs("calls of rt", (copy.folder / "calls").read_text().split(), ["lib"] * (len(NAMES) - 1) + ["run"])
+
+
+def the_gate_refuses_a_changed_source(_program):
+    with checkout() as copy:
+        copy.change()
+        status, output, _ = copy.start(script="test", rt=True)
+        if status == 0 or "release/RECORD is of other sources of the program" not in output or (copy.folder / "calls").exists():
+            yield f"the gate ended with {status}: {output}"
+
+
+def the_program_is_installed_with_its_page(_program):
+    with checkout() as copy:
+        prefix = copy.folder / "new/prefix"
+        for _ in range(2):
+            yield from differs("install", copy.start(prefix, script="install"), (0, "", ""))
+        placed = sorted(str(it.relative_to(prefix)) for it in prefix.rglob("*") if it.is_file())
+        yield from differs("placed", placed, ["bin/itchsnap", "share/man/man1/itchsnap.1"])
+        if (prefix / "bin/itchsnap").read_bytes() != (TOP / "release/itchsnap").read_bytes():
+            yield "another program was installed"
+        checked = subprocess.run([prefix / "bin/itchsnap", "check", TOP / "examples/opening.itch"], capture_output=True, timeout=60)
+        yield from differs("the installed program", (checked.returncode, checked.stdout), (0, b"ok 5 messages\n"))
+
+
+def what_cannot_be_installed_is_one_line(_program):
+    with checkout() as copy:
+        file = copy.folder / "a file"
+        file.touch()
+        for words, wanted in (([file], (1, "", f"install: cannot write {file}/bin/itchsnap\n")), ([], (2, "", "usage: ./install PREFIX\n"))):
+            yield from differs(f"install {words}", copy.start(*words, script="install"), wanted)
+
+
+RUNS = [
+    a_fresh_copy_answers_within_a_second_without_the_toolchain,
+    a_checkout_may_be_read_only,
+    the_released_version_has_the_records_hash,
+    a_changed_source_needs_the_toolchain,
+    a_changed_source_is_proved_and_built,
+    of_two_starts_one_builds,
+    the_gate_refuses_a_changed_source,
+    the_program_is_installed_with_its_page,
+    what_cannot_be_installed_is_one_line,
+]

@@ -1,0 +1,68 @@
+# Proves and builds the program from the sources that are here. For scripts that have read tools/release.sh.
+
+# Says on standard error how long proving may take: what it took the last time on this machine, if that is known.
+say_how_long() {
+    local seconds
+    if read -r seconds 2>/dev/null <"$(dirname "$built")/seconds"; then
+        echo "which took $((seconds / 60)) min $((seconds % 60)) s the last time" >&2
+    else
+        echo "which takes 15 to 40 minutes on four cores" >&2
+    fi
+}
+
+# Runs a command quietly, and shows what it wrote where it fails.
+quietly() {
+    local log status=0
+    log=$(mktemp)
+    "$@" >"$log" 2>&1 </dev/null || status=$?
+    [ "$status" -eq 0 ] || cat "$log" >&2
+    rm -f "$log"
+    return "$status"
+}
+
+# Proves each crate in turn, and builds the program.
+prove_and_build() {
+    local crates number=0 crate verb begin=$SECONDS
+    find_crates itch_tool
+    for crate in "${crates[@]}"; do
+        number=$((number + 1))
+        echo "itchsnap: proving $crate ($number of ${#crates[@]}), $(((SECONDS - begin) / 60)) min so far .." >&2
+        verb=(lib)
+        [ "$crate" != itch_tool ] || verb=(run -- --help)
+        (cd "$top/crates/$crate" && quietly rt "${verb[@]}") || exit 1
+    done
+    touch "$built"
+    echo "$((SECONDS - begin))" >"$(dirname "$built")/seconds"
+}
+
+# Builds the program where it is not that of the sources, with why on standard error. Of two that are started, one builds at a time.
+build() {
+    local why=$1
+    if ! is_stale "$built" itch_tool; then
+        return
+    fi
+    if ! command -v rt >/dev/null; then
+        echo "itchsnap: $why, and to prove and build it the Rattle toolchain is needed: there is no command rt on the path" >&2
+        exit 1
+    fi
+    exec 9<"$top/crates.txt"
+    flock 9
+    if is_stale "$built" itch_tool; then
+        echo -n "itchsnap: $why: it is proved and built from these, " >&2
+        say_how_long
+        prove_and_build
+    fi
+    exec 9<&-
+}
+
+# Sets `program` to the released program, or where that is of other sources or does not run here, to the one that is built.
+choose_program() {
+    program=$released
+    if [ "$(recorded sources)" != "$(source_hash itch_tool)" ]; then
+        program=$built
+        build "the sources are not those of the released program"
+    elif ! runs_here; then
+        program=$built
+        build "the released program does not run on this machine"
+    fi
+}
