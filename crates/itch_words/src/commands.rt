@@ -5,7 +5,7 @@ use clap::{Arg, ArgAction, Command, Error};
 use std::alloc::{AllocError, Global};
 
 /// The program's version, the toolchain that it is proved with, as `rt version` prints it, and whether it is a released build: in
-/// the released program `./release` has the last words replaced by as many, `release` and the beginning of the hash of the sources.
+/// the released program `./make-release` has the last words replaced by as many, `release` and the beginning of the hash of the sources.
 const VERSION: &str =
     "0.1.0 (proved with rattle-kit-13b logic dac8208d650f15bf, not a released build)";
 
