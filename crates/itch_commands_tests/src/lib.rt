@@ -1,4 +1,8 @@
-//! Tests of the commands over files: what each writes of worked files, and how each is refused.
+//! Tests of the commands over files, of sessions over sockets, and of what the words of the command line ask for.
+//!
+//! They see what a run of the program does not: the lines and statuses of faults that no run reaches, readers and writers that fail
+//! in mid-block, pieces and buffers of each size, and each allocation that is refused. What is seen from outside is in the table of
+//! runs, `tests/program/runs.ini`.
 #![tactic(auto)]
 
 #[cfg(test)]
@@ -30,6 +34,10 @@ mod refused_memory;
 #[cfg(test)]
 mod restricted;
 #[cfg(test)]
+mod sessions;
+#[cfg(test)]
 mod shows;
 #[cfg(test)]
 mod snaps;
+#[cfg(test)]
+mod words;

@@ -1,6 +1,7 @@
 //! Messages applied to a market, and a day file replayed.
 use crate::equal::same;
-use crate::files::{REPLACED, blocks, spelled};
+use crate::days::{REPLACED, blocks};
+use crate::market::content::content_of;
 use itch_book::{IndexedBook, ListBook, OrderBook};
 use itch_codec::{Message, decode};
 use itch_frame::BlockReader;
@@ -21,7 +22,7 @@ fn refuse_to_apply<B: OrderBook>(
     market: &mut Market<B>,
     message: &Message<'_>,
 ) -> Result<u64, Fail> {
-    let before = spelled(alloc, market)?;
+    let before = content_of(rt, alloc, market)?;
     for nth in 0..16 {
         refusing.arm(nth);
         let result = market.apply(message);
@@ -30,7 +31,7 @@ fn refuse_to_apply<B: OrderBook>(
             return Ok(nth);
         }
         same(rt, result, Err(Refusal::OutOfMemory));
-        same(rt, spelled(alloc, market)?.as_slice(), before.as_slice());
+        same(rt, &content_of(rt, alloc, market)?, &before);
     }
     panic!(rt; "more than 16 allocations")
 }
