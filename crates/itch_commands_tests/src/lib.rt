@@ -10,11 +10,7 @@ mod blocks;
 #[cfg(test)]
 mod broken_input;
 #[cfg(test)]
-mod canons;
-#[cfg(test)]
 mod cases;
-#[cfg(test)]
-mod desk;
 #[cfg(test)]
 mod equal;
 #[cfg(test)]
@@ -35,8 +31,6 @@ mod refused_memory;
 mod restricted;
 #[cfg(test)]
 mod sessions;
-#[cfg(test)]
-mod shows;
 #[cfg(test)]
 mod snaps;
 #[cfg(test)]

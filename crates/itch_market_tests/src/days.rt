@@ -12,8 +12,7 @@ const NAMED_1: &[u8] =
     b"F\0\x01\0\0\0\0\0\0\0\0\0\0\0\0\0\0\0\x01B\0\0\0dAAPL    \0\x16\xe3\x60ABCD";
 
 /// Order 2: buy 200 at 150.0000.
-const ADD_2: &[u8] =
-    b"A\0\x01\0\0\0\0\0\0\0\0\0\0\0\0\0\0\0\x02B\0\0\0\xc8AAPL    \0\x16\xe3\x60";
+const ADD_2: &[u8] = b"A\0\x01\0\0\0\0\0\0\0\0\0\0\0\0\0\0\0\x02B\0\0\0\xc8AAPL    \0\x16\xe3\x60";
 
 /// Order 3 in place of order 1: 100 at 150.0000.
 const REPLACE_1: &[u8] =

@@ -1,6 +1,6 @@
 //! A day file replayed.
-use crate::equal::{holds_in, same, same_in};
 use crate::days::{REPLACED, blocks};
+use crate::equal::{holds_in, same, same_in};
 use itch_book::{IndexedBook, ListBook, OrderBook};
 use itch_frame::testing::PieceReader;
 use itch_frame::{BlockReader, FrameFault};
