@@ -30,11 +30,11 @@ fn is_refused(
     refusing.has_refused()
 }
 
-// The files are read in pieces of this many bytes.
+// The files are read and the output is written in pieces of this many bytes.
 fn refuse(rt: &impl Abort, alloc: Global, case: &Case, piece: usize, nth: u64) -> bool {
     assert!(rt; piece >= 1);
     let refusing = Refusing::new(alloc, nth);
-    let mut out = FuseWriter::new(alloc, 64, None);
+    let mut out = FuseWriter::new(alloc, piece, None);
     let first = PieceReader::new(case.first.as_slice(), piece, None);
     let second = PieceReader::new(case.second.as_slice(), piece, None);
     let answer = case.perform(&refusing, None, first, second, &mut out);
