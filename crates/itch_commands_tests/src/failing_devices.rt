@@ -166,25 +166,30 @@ fn reads_of_canon(rt: HostRuntime) -> Result<(), Fail> {
     fail_snapshot_reads(&rt, rt.alloc(), Command::CanonCheck)
 }
 
+// The write of this byte of the output.
+fn failed_write(rt: &impl Abort, alloc: Global, case: &Case, at: usize) {
+    let mut out = FuseWriter::new(alloc, 1, Some((at as u64).saturating_add(1)));
+    let first = PieceReader::new(case.first.as_slice(), 64, None);
+    let second = PieceReader::new(case.second.as_slice(), 64, None);
+    let answer = case.perform(alloc, None, first, second, &mut out);
+    holds_in(
+        rt,
+        ("write", at),
+        matches!(answer, Err(ToolFault::Write(_))),
+    );
+    same_in(
+        rt,
+        ("write", at),
+        Some(out.written()),
+        case.wanted.get(..at),
+    );
+}
+
 // The write of each byte of the output.
 fn fail_writes(rt: &impl Abort, alloc: Global, command: Command) -> Result<(), Fail> {
     let case = Case::new(alloc, command)?;
     for at in 0..case.wanted.len() {
-        let mut out = FuseWriter::new(alloc, 1, Some((at as u64).saturating_add(1)));
-        let first = PieceReader::new(case.first.as_slice(), 64, None);
-        let second = PieceReader::new(case.second.as_slice(), 64, None);
-        let answer = case.perform(alloc, None, first, second, &mut out);
-        holds_in(
-            rt,
-            ("write", at),
-            matches!(answer, Err(ToolFault::Write(_))),
-        );
-        same_in(
-            rt,
-            ("write", at),
-            Some(out.written()),
-            case.wanted.get(..at),
-        );
+        failed_write(rt, alloc, &case, at);
     }
     Ok(())
 }

@@ -1,4 +1,8 @@
-//! Tests of the commands over files: what each writes of worked files, and how each is refused.
+//! Tests of the commands over files, of sessions over sockets, and of what the words of the command line ask for.
+//!
+//! They see what a run of the program does not: the lines and statuses of faults that no run reaches, readers and writers that fail
+//! in mid-block, pieces and buffers of each size, and each allocation that is refused. What is seen from outside is in the table of
+//! runs, `tests/program/runs.ini`.
 #![tactic(auto)]
 
 #[cfg(test)]
@@ -6,11 +10,7 @@ mod blocks;
 #[cfg(test)]
 mod broken_input;
 #[cfg(test)]
-mod canons;
-#[cfg(test)]
 mod cases;
-#[cfg(test)]
-mod desk;
 #[cfg(test)]
 mod equal;
 #[cfg(test)]
@@ -30,6 +30,8 @@ mod refused_memory;
 #[cfg(test)]
 mod restricted;
 #[cfg(test)]
-mod shows;
+mod sessions;
 #[cfg(test)]
 mod snaps;
+#[cfg(test)]
+mod words;

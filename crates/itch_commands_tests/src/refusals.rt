@@ -3,10 +3,13 @@
 use super::blocks::*;
 use super::files::{file, snapshot};
 use crate::equal::{holds_in, same, same_in};
+use itch_codec::CodecFault;
 use itch_commands::check::check;
 use itch_commands::{Source, ToolFault, status, system_fault};
+use itch_frame::FrameFault;
 use itch_frame::testing::{FuseWriter, PieceReader};
 use itch_market::{Refusal, ReplayEnd, Stop};
+use itch_snapshot::SnapFault;
 use std::io;
 use std::test::Fail;
 
@@ -158,4 +161,39 @@ fn want_of_memory_has_its_own_fault(rt: HostRuntime) {
         )
     );
     assert!(rt; matches!(system_fault(missing, ToolFault::Open), ToolFault::Open));
+}
+
+#[test]
+fn faults_of_snapshots_have_their_lines_and_statuses(rt: HostRuntime) -> Result<(), Fail> {
+    let alloc = rt.alloc();
+    let error = io::Error::from(io::ErrorKind::Other);
+    let cases = [
+        (SnapFault::Frame(FrameFault::Read(error)), "read failed", 3),
+        (
+            SnapFault::Rule {
+                place: 2,
+                reason: Refusal::OutOfMemory,
+            },
+            "out of memory",
+            4,
+        ),
+        (
+            SnapFault::Codec {
+                place: 7,
+                fault: CodecFault::BadNumber,
+            },
+            "message 7: bad number",
+            1,
+        ),
+        (SnapFault::TooManyMessages, "too many messages", 1),
+    ];
+    for (fault, reason, status) in cases {
+        for (file, words) in [(Source::Only, ""), (Source::Snapshot, "snapshot: ")] {
+            let fault = ToolFault::Snap { file, fault };
+            let line = format!(in alloc; "itchsnap: {words}{reason}")?;
+            same(&rt, format!(in alloc; "{fault}")?.as_str(), line.as_str());
+            same_in(&rt, reason, fault.status(), status);
+        }
+    }
+    Ok(())
 }

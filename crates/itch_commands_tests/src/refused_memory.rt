@@ -2,7 +2,7 @@
 use super::blocks::*;
 use super::cases::{Case, Command};
 use super::files::file;
-use crate::equal::same;
+use crate::equal::{holds_in, same};
 use itch_commands::{ToolFault, status};
 use itch_frame::testing::{FuseWriter, PieceReader};
 use refusing::Refusing;
@@ -30,66 +30,55 @@ fn is_refused(
     refusing.has_refused()
 }
 
-fn refuse(rt: &impl Abort, alloc: Global, case: &Case, nth: u64) -> bool {
+// The files are read and the output is written in pieces of this many bytes.
+fn refuse(rt: &impl Abort, alloc: Global, case: &Case, piece: usize, nth: u64) -> bool {
+    assert!(rt; piece >= 1);
     let refusing = Refusing::new(alloc, nth);
-    let mut out = FuseWriter::new(alloc, 64, None);
-    let first = PieceReader::new(case.first.as_slice(), 64, None);
-    let second = PieceReader::new(case.second.as_slice(), 64, None);
+    let mut out = FuseWriter::new(alloc, piece, None);
+    let first = PieceReader::new(case.first.as_slice(), piece, None);
+    let second = PieceReader::new(case.second.as_slice(), piece, None);
     let answer = case.perform(&refusing, None, first, second, &mut out);
     let (written, wanted) = (out.written(), case.wanted.as_slice());
     is_refused(rt, &refusing, &answer, written, wanted, case.is_true())
 }
 
 // At least this many allocations are refused, each in its turn.
-fn refuse_each(rt: &impl Abort, alloc: Global, case: &Case, least: u64) {
+fn refuse_each(rt: &impl Abort, alloc: Global, case: &Case, piece: usize, least: u64) {
     for nth in 0..64 {
-        if !refuse(rt, alloc, case, nth) {
-            assert!(rt; nth >= least);
+        if !refuse(rt, alloc, case, piece, nth) {
+            holds_in(rt, (case.command, piece), nth >= least);
             return;
         }
     }
     panic!(rt; "more than 64 allocations")
 }
 
-// A block of the file, the directory's first entry and the book's first order each take memory.
-#[test]
-fn check(rt: HostRuntime) -> Result<(), Fail> {
-    refuse_each(&rt, rt.alloc(), &Case::new(rt.alloc(), Command::Check)?, 3);
-    Ok(())
+// The same, whatever the pieces.
+fn refuse_in_pieces(rt: &impl Abort, alloc: Global, case: &Case, least: u64) {
+    for piece in [1, 2, 7, 64, 4096] {
+        refuse_each(rt, alloc, case, piece, least);
+    }
 }
 
-#[test]
-fn snap(rt: HostRuntime) -> Result<(), Fail> {
-    refuse_each(&rt, rt.alloc(), &Case::new(rt.alloc(), Command::Snap)?, 3);
-    Ok(())
-}
+// A block of the file, the directory's first entry and the book's first order each take memory; of `canon --check` the bytes that
+// are kept too. Of `show` only a block of the file takes memory, before anything is read.
+const LEAST: [(Command, u64); 8] = [
+    (Command::Check, 3),
+    (Command::Snap, 3),
+    (Command::Compare, 6),
+    (Command::Canon, 3),
+    (Command::CanonCheck, 4),
+    (Command::Join, 4),
+    (Command::Show, 1),
+    (Command::Book, 3),
+];
 
 #[test]
-fn compare(rt: HostRuntime) -> Result<(), Fail> {
-    refuse_each(
-        &rt,
-        rt.alloc(),
-        &Case::new(rt.alloc(), Command::Compare)?,
-        6,
-    );
-    Ok(())
-}
-
-#[test]
-fn canon(rt: HostRuntime) -> Result<(), Fail> {
-    refuse_each(&rt, rt.alloc(), &Case::new(rt.alloc(), Command::Canon)?, 3);
-    Ok(())
-}
-
-// The bytes that are kept take memory too.
-#[test]
-fn canon_check(rt: HostRuntime) -> Result<(), Fail> {
-    refuse_each(
-        &rt,
-        rt.alloc(),
-        &Case::new(rt.alloc(), Command::CanonCheck)?,
-        4,
-    );
+fn each_command(rt: HostRuntime) -> Result<(), Fail> {
+    for (command, least) in LEAST {
+        let case = Case::new(rt.alloc(), command)?;
+        refuse_in_pieces(&rt, rt.alloc(), &case, least);
+    }
     Ok(())
 }
 
@@ -98,25 +87,6 @@ fn canon_check(rt: HostRuntime) -> Result<(), Fail> {
 fn canon_check_of_an_end(rt: HostRuntime) -> Result<(), Fail> {
     let mut case = Case::new(rt.alloc(), Command::CanonCheck)?;
     case.first = file(rt.alloc(), &[END_1])?;
-    refuse_each(&rt, rt.alloc(), &case, 2);
-    Ok(())
-}
-
-#[test]
-fn join(rt: HostRuntime) -> Result<(), Fail> {
-    refuse_each(&rt, rt.alloc(), &Case::new(rt.alloc(), Command::Join)?, 4);
-    Ok(())
-}
-
-// Only a block of the file takes memory, before anything is read.
-#[test]
-fn show(rt: HostRuntime) -> Result<(), Fail> {
-    refuse_each(&rt, rt.alloc(), &Case::new(rt.alloc(), Command::Show)?, 1);
-    Ok(())
-}
-
-#[test]
-fn book(rt: HostRuntime) -> Result<(), Fail> {
-    refuse_each(&rt, rt.alloc(), &Case::new(rt.alloc(), Command::Book)?, 3);
+    refuse_in_pieces(&rt, rt.alloc(), &case, 2);
     Ok(())
 }

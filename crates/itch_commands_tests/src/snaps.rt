@@ -1,12 +1,10 @@
-//! Snapshots of files, and their messages counted.
+//! Snapshots of files, in whatever pieces and through whatever buffer they are read.
 use super::blocks::*;
 use super::files::{file, snapshot};
-use crate::equal::{holds_in, same, same_in};
-use itch_commands::ToolFault;
-use itch_commands::check::check;
+use crate::equal::{holds_in, same_in};
 use itch_commands::snap::snap;
 use itch_frame::Counted;
-use itch_frame::testing::{FuseWriter, PieceReader};
+use itch_frame::testing::FuseWriter;
 use std::io::BufReader;
 use std::test::Fail;
 
@@ -89,50 +87,6 @@ fn snap_reads_through_any_buffer(rt: HostRuntime) -> Result<(), Fail> {
         let answer = snap(alloc, Counted::new(reader), None, None, &mut out);
         holds_in(&rt, ("through", capacity), matches!(answer, Ok(true)));
         same_in(&rt, ("through", capacity), out.written(), wanted.as_slice());
-    }
-    Ok(())
-}
-
-#[test]
-fn snap_stops_after_so_many_messages(rt: HostRuntime) -> Result<(), Fail> {
-    let alloc = rt.alloc();
-    let cases: [(&[&str], u64, &[&str]); 4] = [
-        (&[START, AAPL, BUY_1], 2, &[START, AAPL, END_3]),
-        (&[MSFT, START, AAPL], 1, &[MSFT, END_2]),
-        (&[MSFT, START, AAPL], 0, &[END_1]),
-        (&[AAPL, MSFT_AT_1], 1, &[AAPL, END_2]),
-    ];
-    for (input, after, wanted) in cases {
-        let input = file(alloc, input)?;
-        let wanted = file(alloc, wanted)?;
-        let (answer, written) = snapshot(alloc, input.as_slice(), 7, Some(after))?;
-        holds_in(&rt, ("after", after), matches!(answer, Ok(true)));
-        same_in(&rt, ("after", after), written.as_slice(), wanted.as_slice());
-    }
-    let input = file(alloc, &[START, AAPL, BUY_1])?;
-    let (answer, written) = snapshot(alloc, input.as_slice(), 7, Some(4))?;
-    assert!(rt; matches!(answer, Err(ToolFault::Short { count: 3 })));
-    assert!(rt; written.is_empty());
-    Ok(())
-}
-
-#[test]
-fn check_counts_the_messages(rt: HostRuntime) -> Result<(), Fail> {
-    let alloc = rt.alloc();
-    let cases: [(&[&str], &str); 6] = [
-        (&[], "ok 0 messages\n"),
-        (&[START, AAPL, BUY_1], "ok 3 messages\n"),
-        (&[AAPL, BUY_1, DELETE_1, BUY_1], "ok 4 messages\n"),
-        (&[AAPL, BUY_1, EXECUTE_0], "ok 3 messages\n"),
-        (&[IMBALANCE, LOWER_Z], "ok 2 messages\n"),
-        (&[AAPL, "0000", END_1], "ok 1 messages\n"),
-    ];
-    for (input, wanted) in cases {
-        let input = file(alloc, input)?;
-        let mut out = FuseWriter::new(alloc, 3, None);
-        let answer = check(alloc, PieceReader::new(input.as_slice(), 2, None), &mut out);
-        holds_in(&rt, wanted, matches!(answer, Ok(true)));
-        same(&rt, out.written(), wanted.as_bytes());
     }
     Ok(())
 }

@@ -1,5 +1,5 @@
 //! Markets by what their calls return. The helpers take a market over any book.
-mod content;
+pub(super) mod content;
 mod locate_sets;
 mod messages;
 mod replaying;

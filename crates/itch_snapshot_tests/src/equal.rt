@@ -16,3 +16,8 @@ pub fn same_in<T: PartialEq + Debug + Copy>(
 ) {
     assert_eq!(rt; value, expected, "case {case:?}");
 }
+
+/// Ends the test unless this holds, and names the case.
+pub fn holds_in(rt: &impl Abort, case: impl Debug + Copy, holds: bool) {
+    assert!(rt; holds, "case {case:?}");
+}

@@ -8,21 +8,21 @@ use std::process::Abort;
 
 /// The event, the securities with their locates, and the orders in snapshot order.
 #[derive(Debug, Drop, PartialEq)]
-pub(super) struct Content {
-    pub(super) phase: Option<u8>,
-    pub(super) securities: Vec<Kept>,
-    pub(super) orders: Vec<Order>,
+pub(crate) struct Content {
+    pub(crate) phase: Option<u8>,
+    pub(crate) securities: Vec<Kept>,
+    pub(crate) orders: Vec<Order>,
 }
 
 /// What is kept of the security at a locate.
 #[derive(Debug, Drop, PartialEq)]
-pub(super) struct Kept {
-    pub(super) locate: u16,
-    pub(super) entry: Directory,
-    pub(super) action: Option<Action>,
-    pub(super) sho: Option<u8>,
-    pub(super) halts: Vec<(u8, u8)>,
-    pub(super) positions: Vec<(Alpha<4>, [u8; 3])>,
+pub(crate) struct Kept {
+    pub(crate) locate: u16,
+    pub(crate) entry: Directory,
+    pub(crate) action: Option<Action>,
+    pub(crate) sho: Option<u8>,
+    pub(crate) halts: Vec<(u8, u8)>,
+    pub(crate) positions: Vec<(Alpha<4>, [u8; 3])>,
 }
 
 fn kept_at<A: Allocator>(
@@ -59,7 +59,7 @@ fn push_orders<B: OrderBook>(
     Ok(())
 }
 
-pub(super) fn content_of<B: OrderBook>(
+pub(crate) fn content_of<B: OrderBook>(
     rt: &impl Abort,
     alloc: Global,
     market: &Market<B>,
@@ -81,7 +81,7 @@ pub(super) fn content_of<B: OrderBook>(
 }
 
 /// The references of the orders in snapshot order.
-pub(super) fn references<B: OrderBook>(
+pub(crate) fn references<B: OrderBook>(
     rt: &impl Abort,
     alloc: Global,
     market: &Market<B>,

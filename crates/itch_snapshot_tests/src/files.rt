@@ -1,10 +1,9 @@
 //! Day files, snapshots and markets that the tables use.
 use itch_book::OrderBook;
-use itch_codec::{Seq, encode};
+use itch_codec::Seq;
 use itch_frame::testing::{FuseWriter, PieceReader};
 use itch_frame::{BlockReader, write_block};
 use itch_market::{Market, replay};
-use itch_snapshot::SnapshotIter;
 use std::alloc::Global;
 use std::process::Abort;
 use std::test::Fail;
@@ -70,15 +69,6 @@ pub(crate) fn market<B: OrderBook>(
     let mut market = Market::new(memory);
     replay(&mut reader, &mut market);
     Ok(market)
-}
-
-/// The payloads of a market's snapshot, one after another.
-pub(crate) fn spelled<B: OrderBook>(alloc: Global, market: &Market<B>) -> Result<Vec<u8>, Fail> {
-    let mut bytes = Vec::new(alloc);
-    for message in SnapshotIter::new(market) {
-        bytes.extend_from_slice(encode(&message).bytes())?;
-    }
-    Ok(bytes)
 }
 
 pub(crate) fn seq(rt: &impl Abort, number: u64) -> Seq {

@@ -1,6 +1,6 @@
 //! Each allocation of `fetch` refused in turn, and of a served connection: the status is 4, and nothing is on the output.
+use super::{FROM_1, LOGIN_1, LOGIN_3, SNAPSHOT, serve_day};
 use crate::equal::{holds_in, same};
-use crate::sessions::{FROM_1, LOGIN_1, LOGIN_3, SNAPSHOT, serve_day};
 use itch_commands::{Book, ToolFault, status};
 use itch_frame::BlockReader;
 use itch_frame::testing::{FuseWriter, PieceReader};

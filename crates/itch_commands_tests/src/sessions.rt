@@ -1,5 +1,11 @@
 //! A market served over loopback, and a snapshot fetched over memory.
 
+mod broken_input;
+mod examples;
+mod failing_devices;
+mod progress;
+mod refused_memory;
+
 use crate::equal::{holds_in, same, same_in};
 use itch_book::OrderBook;
 use itch_codec::Seq;

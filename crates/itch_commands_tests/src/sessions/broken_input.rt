@@ -1,6 +1,6 @@
 //! A client that says what no client may: its connection alone ends.
+use super::{LOGIN_3, lines};
 use crate::equal::same;
-use crate::sessions::{LOGIN_3, lines};
 use std::io::Write;
 use std::net::{TcpListener, TcpStream};
 use std::test::Fail;

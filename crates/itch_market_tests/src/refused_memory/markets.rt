@@ -1,17 +1,47 @@
 //! Messages applied to a market, and a day file replayed.
+use crate::days::{REPLACED, blocks};
 use crate::equal::same;
-use crate::files::{REPLACED, blocks, spelled};
+use crate::market::content::{Content, content_of};
 use itch_book::{IndexedBook, ListBook, OrderBook};
 use itch_codec::{Message, decode};
 use itch_frame::BlockReader;
 use itch_frame::testing::PieceReader;
 use itch_market::{LocateSet, Market, Refusal, Stop, replay};
 use refusing::Refusing;
-use std::alloc::Global;
+use std::alloc::{AllocError, Global};
 use std::process::Abort;
 use std::test::Fail;
 
 type Refused<'a> = &'a Refusing<Global>;
+
+// Applies a message with this allocation refused. Returns whether it was.
+fn refuse_one<B: OrderBook>(
+    rt: &impl Abort,
+    refusing: &Refusing<Global>,
+    market: &mut Market<B>,
+    message: &Message<'_>,
+    nth: u64,
+) -> bool {
+    refusing.arm(nth);
+    let result = market.apply(message);
+    if refusing.has_refused() {
+        same(rt, result, Err(Refusal::OutOfMemory));
+    } else {
+        same(rt, result, Ok(()));
+    }
+    refusing.has_refused()
+}
+
+// The market holds this.
+fn holds<B: OrderBook>(
+    rt: &impl Abort,
+    alloc: Global,
+    market: &Market<B>,
+    content: &Content,
+) -> Result<(), AllocError> {
+    same(rt, &content_of(rt, alloc, market)?, content);
+    Ok(())
+}
 
 // Applies a message with each of its allocations refused in turn, and then with memory. Returns how many were refused.
 fn refuse_to_apply<B: OrderBook>(
@@ -20,17 +50,13 @@ fn refuse_to_apply<B: OrderBook>(
     refusing: &Refusing<Global>,
     market: &mut Market<B>,
     message: &Message<'_>,
-) -> Result<u64, Fail> {
-    let before = spelled(alloc, market)?;
+) -> Result<u64, AllocError> {
+    let before = content_of(rt, alloc, market)?;
     for nth in 0..16 {
-        refusing.arm(nth);
-        let result = market.apply(message);
-        if !refusing.has_refused() {
-            same(rt, result, Ok(()));
+        if !refuse_one(rt, refusing, market, message, nth) {
             return Ok(nth);
         }
-        same(rt, result, Err(Refusal::OutOfMemory));
-        same(rt, spelled(alloc, market)?.as_slice(), before.as_slice());
+        holds(rt, alloc, market, &before)?;
     }
     panic!(rt; "more than 16 allocations")
 }
@@ -100,24 +126,31 @@ fn refuse_each_growth<B: OrderBook>(
     Ok(refused)
 }
 
+// The same of a market over this memory.
+fn refuse_growth<B: OrderBook>(
+    rt: &impl Abort,
+    alloc: Global,
+    refusing: &Refusing<Global>,
+    memory: B::Alloc,
+) -> Result<u64, Fail> {
+    let mut market: Market<B> = Market::new(memory);
+    refuse_each_growth(rt, alloc, refusing, &mut market)
+}
+
 // The order that is replaced leaves room.
 #[test]
 fn a_market_of_a_list_stays_as_it_was(rt: HostRuntime) -> Result<(), Fail> {
     let refusing = Refusing::new(rt.alloc(), 0);
-    let mut market: Market<ListBook<Refused<'_>>> = Market::new(&refusing);
-    same(
-        &rt,
-        refuse_each_growth(&rt, rt.alloc(), &refusing, &mut market)?,
-        0,
-    );
+    let refused = refuse_growth::<ListBook<Refused<'_>>>(&rt, rt.alloc(), &refusing, &refusing)?;
+    same(&rt, refused, 0);
     Ok(())
 }
 
 #[test]
 fn a_market_of_an_index_stays_as_it_was(rt: HostRuntime) -> Result<(), Fail> {
     let refusing = Refusing::new(rt.alloc(), 0);
-    let mut market: Market<IndexedBook<Refused<'_>>> = Market::new(&refusing);
-    assert!(rt; refuse_each_growth(&rt, rt.alloc(), &refusing, &mut market)? > 0);
+    let refused = refuse_growth::<IndexedBook<Refused<'_>>>(&rt, rt.alloc(), &refusing, &refusing)?;
+    assert!(rt; refused > 0);
     Ok(())
 }
 
@@ -151,12 +184,13 @@ fn a_set_of_locates_stays_as_it_was(rt: HostRuntime) -> Result<(), Fail> {
 fn refuse_to_replay<B: OrderBook>(
     rt: &impl Abort,
     alloc: Global,
-    market: &mut Market<B>,
     refusing: &Refusing<Global>,
+    memory: B::Alloc,
 ) -> Result<bool, Fail> {
     let day = blocks(alloc, REPLACED)?;
     let mut reader = BlockReader::new(alloc, PieceReader::new(day.written(), 64, None))?;
-    let end = replay(&mut reader, market);
+    let mut market: Market<B> = Market::new(memory);
+    let end = replay(&mut reader, &mut market);
     if !refusing.has_refused() {
         assert!(rt; matches!(end.stop, Stop::End));
         same(rt, end.count, 4);
@@ -179,8 +213,7 @@ fn refuse_to_replay<B: OrderBook>(
 fn a_replay_stops_at_the_message(rt: HostRuntime) -> Result<(), Fail> {
     for nth in 0..16 {
         let refusing = Refusing::new(rt.alloc(), nth);
-        let mut market: Market<IndexedBook<Refused<'_>>> = Market::new(&refusing);
-        if !refuse_to_replay(&rt, rt.alloc(), &mut market, &refusing)? {
+        if !refuse_to_replay::<IndexedBook<Refused<'_>>>(&rt, rt.alloc(), &refusing, &refusing)? {
             assert!(rt; nth > 1);
             return Ok(());
         }
@@ -192,8 +225,7 @@ fn a_replay_stops_at_the_message(rt: HostRuntime) -> Result<(), Fail> {
 fn a_replay_over_a_list_stops_at_the_message(rt: HostRuntime) -> Result<(), Fail> {
     for nth in 0..16 {
         let refusing = Refusing::new(rt.alloc(), nth);
-        let mut market: Market<ListBook<Refused<'_>>> = Market::new(&refusing);
-        if !refuse_to_replay(&rt, rt.alloc(), &mut market, &refusing)? {
+        if !refuse_to_replay::<ListBook<Refused<'_>>>(&rt, rt.alloc(), &refusing, &refusing)? {
             assert!(rt; nth > 1);
             return Ok(());
         }

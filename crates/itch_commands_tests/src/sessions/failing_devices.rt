@@ -1,7 +1,7 @@
 //! Each read and each write of `fetch` failing in turn: the status is 3. A failed read leaves nothing on the output; a failed write
 //! leaves a beginning of it.
+use super::{FROM_1, LOGIN_1, SNAPSHOT};
 use crate::equal::{holds_in, same, same_in};
-use crate::sessions::{FROM_1, LOGIN_1, SNAPSHOT};
 use itch_commands::status;
 use itch_frame::BlockReader;
 use itch_frame::testing::{FuseWriter, PieceReader};

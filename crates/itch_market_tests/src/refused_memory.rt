@@ -1,9 +1,5 @@
 //! Memory refused: each call of each layer that grows, with its first allocation refused, then its second, and so on, until a
 //! run meets no refusal. A run ends with the ordinary result or with want of memory; then all is as it was before the call, or
 //! as its page says, and the same call succeeds once there is memory.
-//!
-//! A joiner is in the tests of `itch_join`, the program's commands in those of `itch_commands` and `itch_sessions`.
 mod books;
 mod markets;
-mod sessions;
-mod snapshots;

@@ -1,7 +1,5 @@
 //! Broken input: packets and sessions, from each beginning of their bytes to each byte at each value. Each ends with the fault
 //! that the formats name, or with what its bytes spell.
-//!
-//! Messages are in the tests of `itch_codec`, files in those of `itch_commands`.
 mod answers;
 mod logins;
 mod packets;

@@ -1,6 +1,6 @@
 //! A day file replayed.
+use crate::days::{REPLACED, blocks};
 use crate::equal::{holds_in, same, same_in};
-use crate::files::{REPLACED, blocks};
 use itch_book::{IndexedBook, ListBook, OrderBook};
 use itch_frame::testing::PieceReader;
 use itch_frame::{BlockReader, FrameFault};
