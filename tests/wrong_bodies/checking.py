@@ -1,0 +1,75 @@
+"""Checks a copy of a crate as rt does, counts the processor time of it, and reads what rattle says of one function."""
+import os
+import re
+import shutil
+import subprocess
+import tempfile
+import threading
+from pathlib import Path
+
+from kit import rt, rtlib
+
+# A function's line where search found no proof of one of its own goals. That it calls another which is not proved is no failure of its own.
+SEARCHED = re.compile(r"no proof: expected .*`search` did not prove")
+# A proof file that names what an edit took away says nothing of the contract.
+NAMES_ONLY = re.compile(r"has no field|is not in scope|has no `|was not admitted|which was rejected, was not checked")
+
+
+class Checker:
+    """Checks in place of rt's own `checked`, and adds up the processor seconds of each crate."""
+
+    def __init__(self, logs=None):
+        self.logs = logs
+        if logs:
+            os.makedirs(logs, exist_ok=True)
+        self.seconds = {}
+        self.number = 0
+        self.counting = threading.Lock()
+
+    def checked(self, crate, texts, flags, kept):
+        """Checks a copy of the crate with these texts in place of its own, over what kept holds where it is given."""
+        with tempfile.TemporaryDirectory(prefix="edits-") as room:
+            for part in rtlib.PARTS:
+                if os.path.isdir(f"{crate.folder}/{part}"):
+                    shutil.copytree(f"{crate.folder}/{part}", f"{room}/{part}")
+            for path, text in texts.items():
+                Path(room, path).write_text(text, encoding="utf-8")
+            words = [rtlib.RATTLE, "check", *crate.words(flags, keeps=False), *(["--incremental", kept] if kept else [])]
+            return self.run(crate, [*rtlib.guarded(), *words], room)
+
+    def run(self, crate, words, room):
+        """Runs a command to its end, as subprocess.run does, and counts its processor time."""
+        how = {"cwd": room, "stdin": subprocess.DEVNULL, "stdout": subprocess.PIPE, "stderr": subprocess.STDOUT, "errors": "replace"}
+        started = subprocess.Popen(words, **how)
+        said = started.stdout.read()
+        started.stdout.close()
+        _, status, usage = os.wait4(started.pid, 0)
+        started.returncode = os.waitstatus_to_exitcode(status)
+        with self.counting:
+            self.number += 1
+            spent = usage.ru_utime + usage.ru_stime
+            self.seconds[crate.name] = self.seconds.get(crate.name, 0) + spent
+            if self.logs:
+                Path(self.logs, f"{crate.name}.{self.number}.log").write_text(f"{said}\nprocessor seconds: {spent:.1f}\n")
+        return subprocess.CompletedProcess(words, started.returncode, said)
+
+
+def reached_the_prover(ran, texts):
+    """Returns whether a check was refused by the prover, with every text read: the same conditions as in rt's must_fail."""
+    lines = ran.stdout.rstrip("\n").split("\n")
+    if any(rt.unread(it, texts) for it in lines) or rtlib.STALE.search(ran.stdout):
+        return False
+    return ran.returncode == 1 and lines[-1].startswith("logic=not-proved")
+
+
+def own_failure(said, crate, function):
+    """Returns rattle's line on the function where one of its own goals failed, or nothing."""
+    lines = said.split("\n")
+    verdict = next((it for it in lines if it.startswith(f"fn {crate.name}::{function}: ")), "").partition(": ")[2]
+    if SEARCHED.match(verdict):
+        return verdict
+    if not verdict.startswith(("not proved", "no proof")):
+        return ""
+    # a goal that the function's own proof file answers, and that the answer no longer fits
+    own = re.compile(rf"(\./)?proofs/{re.escape(function.replace('::', '/'))}/\w+\.antt:\d+:\d+: error: ")
+    return next((it for it in lines if own.match(it) and not NAMES_ONLY.search(it)), "")

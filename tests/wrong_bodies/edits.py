@@ -1,0 +1,81 @@
+"""A wrong body in `crates/NAME/wrong`, and which of them can be tried together."""
+from dataclasses import dataclass, field
+from pathlib import Path
+
+from kit import rt
+
+
+@dataclass(frozen=True)
+class Edit:
+    """An edit's file, and the functions that it changes, as rattle names them below the crate. The prover must refuse one of them."""
+
+    path: Path
+    functions: tuple[str, ...]
+
+    @property
+    def name(self):
+        return self.path.stem
+
+
+@dataclass
+class Round:
+    """Edits of different functions, and the texts of the files that they change together."""
+
+    edits: list[Edit] = field(default_factory=list)
+    functions: set[str] = field(default_factory=set)
+    texts: dict[str, str] = field(default_factory=dict)
+
+    def takes(self, edit, folder):
+        """Adds the edit, and returns whether it could: its functions are none of the round's, and its texts are there once."""
+        if self.functions & {*edit.functions}:
+            return False
+        texts = applied(edit, folder, self.texts)
+        if texts is None:
+            return False
+        self.edits.append(edit)
+        self.functions |= {*edit.functions}
+        self.texts = texts
+        return True
+
+
+def edits_of(crate):
+    """Returns the edits in the crate's folder wrong/, by name."""
+    return [read(it) for it in sorted(Path(crate.folder, "wrong").glob("*.edit"))]
+
+
+def read(path):
+    """Reads the lines `fn: ` of an edit."""
+    lines = path.read_text(encoding="utf-8", errors="replace").splitlines()
+    return Edit(path, tuple(it.removeprefix("fn: ").strip() for it in lines if it.startswith("fn: ")))
+
+
+def applied(edit, folder, before):
+    """Returns the texts once the edit is made over those of before, or None where it cannot be, or changes more than src/."""
+    texts, path, old = dict(before), "", ""
+    for line in edit.path.read_text(encoding="utf-8").split("\n"):
+        if line.startswith("file: "):
+            path = line.removeprefix("file: ").strip()
+        elif line.startswith("old: "):
+            old = line.removeprefix("old: ")
+        elif line.startswith("new:"):
+            text = texts.get(path) or Path(folder, path).read_text(encoding="utf-8")
+            if not path.startswith("src/") or text.count(old) != 1:
+                return None
+            texts[path] = text.replace(old, line.removeprefix("new:").removeprefix(" "))
+    return texts
+
+
+def rounds_of(edits, folder):
+    """Returns rounds with every edit that applies and names a function, and the edits that are to be tried alone."""
+    rounds, alone = [], []
+    for edit in edits:
+        if not edit.functions or rt.read_edit(str(edit.path), folder)[1]:
+            alone.append(edit)
+            continue
+        if not any(it.takes(edit, folder) for it in rounds):
+            begun = Round()
+            if begun.takes(edit, folder):
+                rounds.append(begun)
+            else:
+                alone.append(edit)
+    return rounds, alone
