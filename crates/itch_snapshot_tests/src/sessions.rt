@@ -1,13 +1,14 @@
 //! A served session that the tables use: its login, its answers, and both of its ends over memory.
 use crate::equal::same;
-use crate::files::{AAPL, ADD_1, ADD_2, EVENT, market};
-use itch_book::ListBook;
+use crate::files::{AAPL, ADD_1, ADD_2, EVENT, market, seq};
+use itch_book::{ListBook, OrderBook};
 use itch_codec::{Alpha, Seq};
 use itch_frame::testing::FuseWriter;
-use itch_frame::{BlockReader, CountedRead};
+use itch_frame::{BlockReader, CountedRead, CountedWrite};
 use itch_market::Market;
-use itch_soup::{Credentials, ServerConfig, SoupFault, fetch_one};
-use std::alloc::Global;
+use itch_snapshot::snapshot_len;
+use itch_soup::{Credentials, Served, ServerConfig, SoupFault, fetch_one, serve_one};
+use std::alloc::{Allocator, Global};
 use std::process::Abort;
 use std::test::Fail;
 
@@ -32,7 +33,7 @@ pub(crate) const FROM_3: &[u8] = b"\0\x1fA  ITCHSNAP                   3\
 /// What is served: four messages, and then End of Snapshot with number 5.
 pub(crate) const SERVED: &[&[u8]] = &[EVENT, AAPL, ADD_1, ADD_2];
 
-fn alpha<const N: usize>(rt: &impl Abort, text: &str) -> Alpha<N> {
+pub(crate) fn alpha<const N: usize>(rt: &impl Abort, text: &str) -> Alpha<N> {
     Alpha::from_text(text).expect(rt, "a text that fits")
 }
 
@@ -57,6 +58,28 @@ pub(crate) fn served_market(alloc: Global) -> Result<Market<ListBook>, Fail> {
     market(alloc, alloc, SERVED)
 }
 
+/// Serves one session of a market, with 5 in its End of Snapshot. This helper and those below have no contract, so that a proof of
+/// a test need not carry what the call leaves.
+pub(crate) fn serve<R: CountedRead, A: Allocator, W: CountedWrite, B: OrderBook>(
+    rt: &impl Abort,
+    reader: &mut BlockReader<R, A>,
+    writer: &mut W,
+    market: &Market<B>,
+) -> Result<Served, SoupFault> {
+    assert!(rt; snapshot_len(market) < 10);
+    serve_one(reader, writer, market, seq(rt, 5), &config(rt))
+}
+
+/// Fetches over a reader and a writer, and logs in for all messages.
+pub(crate) fn fetch<R: CountedRead, A: Allocator, B: OrderBook>(
+    rt: &impl Abort,
+    memory: B::Alloc,
+    reader: &mut BlockReader<R, A>,
+    writer: &mut FuseWriter,
+) -> Result<(Market<B>, Seq), SoupFault> {
+    fetch_one(memory, reader, writer, &credentials(rt))
+}
+
 /// What a fetch gives.
 pub(crate) type Fetched = Result<(Market<ListBook>, Seq), SoupFault>;
 
@@ -68,7 +91,7 @@ pub(crate) fn fetched<R: CountedRead + Drop>(
 ) -> Result<Fetched, Fail> {
     let mut reader = BlockReader::new(alloc, reader)?;
     let mut writer = FuseWriter::new(alloc, 64, None);
-    let result = fetch_one(alloc, &mut reader, &mut writer, &credentials(rt));
+    let result = fetch(rt, alloc, &mut reader, &mut writer);
     same(rt, writer.written(), LOGIN_1);
     Ok(result)
 }

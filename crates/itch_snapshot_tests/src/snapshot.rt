@@ -1,10 +1,11 @@
 //! Worked days and snapshots: what is written of each, what is read, and how each is refused.
 use crate::equal::same;
+use crate::files::{REPLACED, REPLACED_SNAPSHOT, blocks};
 use itch_book::{ListBook, OrderBook};
 use itch_codec::{CodecFault, Seq};
 use itch_frame::testing::{FuseWriter, PieceReader};
-use itch_frame::{BlockReader, FrameFault, write_block};
-use itch_market::{Market, Refusal, replay};
+use itch_frame::{BlockReader, FrameFault};
+use itch_market::{Market, Refusal};
 use itch_snapshot::{
     SnapFault, SnapshotIter, SnapshotReader, laws, part_place, read_snapshot, same_market,
     snapshot_len, write_snapshot,
@@ -80,27 +81,9 @@ const END_5: &[u8] = b"G                   5";
 
 const END_6: &[u8] = b"G                   6";
 
-// A day whose last message puts a new order in place of one with attribution, and its snapshot.
-const REPLACED: &[&[u8]] = &[AAPL, NAMED_1, ADD_2_OF_200, REPLACE_1];
-
-const REPLACED_SNAPSHOT: &[&[u8]] = &[AAPL, ADD_2_OF_200, NAMED_3, END_5];
-
-// The blocks of these payloads.
-fn blocks(alloc: Global, payloads: &[&[u8]]) -> Result<FuseWriter, Fail> {
-    let mut writer = FuseWriter::new(alloc, 64, None);
-    for payload in payloads {
-        write_block(&mut writer, payload)?;
-    }
-    Ok(writer)
-}
-
-// What a day with these payloads leaves.
+// What a day with these payloads leaves, over one kind of book.
 fn market(alloc: Global, payloads: &[&[u8]]) -> Result<Market<ListBook>, Fail> {
-    let day = blocks(alloc, payloads)?;
-    let mut reader = BlockReader::new(alloc, PieceReader::new(day.written(), 7, None))?;
-    let mut market = Market::new(alloc);
-    replay(&mut reader, &mut market);
-    Ok(market)
+    crate::files::market(alloc, alloc, payloads)
 }
 
 #[test]

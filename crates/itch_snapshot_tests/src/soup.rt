@@ -1,6 +1,7 @@
 //! Packets byte by byte, and whole sessions.
 use crate::equal::{same, same_in};
-use itch_codec::{Alpha, Seq};
+use crate::files::seq;
+use crate::sessions::{alpha, config, credentials};
 use itch_frame::FrameFault;
 use itch_snapshot::SnapFault;
 use itch_soup::{
@@ -17,14 +18,6 @@ mod served;
 const LOGIN: &[u8; 47] = b"Luser  secret                                 3";
 
 const ACCEPTED: &[u8; 31] = b"A  ITCHSNAP                   3";
-
-fn alpha<const N: usize>(rt: &impl Abort, text: &str) -> Alpha<N> {
-    Alpha::from_text(text).expect(rt, "a text that fits")
-}
-
-fn seq(rt: &impl Abort, number: u64) -> Seq {
-    Seq::new(number).expect(rt, "a sequence number")
-}
 
 // A login of the user whom the servers below let in.
 fn login(rt: &impl Abort, session: &str, number: u64) -> LoginRequest {
@@ -45,22 +38,12 @@ fn accepted<'a>(rt: &impl Abort, next: u64) -> Packet<'a> {
 
 // A server of five messages that begins at 0.
 fn server(rt: &impl Abort) -> ServerSession {
-    let config = ServerConfig {
-        username: alpha(rt, "user"),
-        password: alpha(rt, "secret"),
-        session: alpha(rt, "ITCHSNAP"),
-    };
-    ServerSession::new(config, 5, 0)
+    ServerSession::new(config(rt), 5, 0)
 }
 
 // A client that begins at 0, and asks for the messages from 3 on.
 fn client(rt: &impl Abort) -> ClientSession {
-    let credentials = Credentials {
-        username: alpha(rt, "user"),
-        password: alpha(rt, "secret"),
-        session: alpha(rt, ""),
-    };
-    ClientSession::new(credentials, 3, 0)
+    ClientSession::new(credentials(rt), 3, 0)
 }
 
 // Faults of the system have no equality: what is shown of a value stands for it.

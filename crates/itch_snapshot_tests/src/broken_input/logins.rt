@@ -1,13 +1,12 @@
 //! Broken logins: each beginning of a login, each of its bytes at each value, and what may come before it.
 use crate::equal::same;
 use crate::files::seq;
-use crate::sessions::{FROM_3, LOGIN_3, config, served_market};
+use crate::sessions::{FROM_3, LOGIN_3, serve, served_market};
 use itch_book::ListBook;
 use itch_frame::testing::{FuseWriter, PieceReader};
 use itch_frame::{BlockReader, FrameFault};
 use itch_market::Market;
-use itch_snapshot::snapshot_len;
-use itch_soup::{Served, SoupFault, serve_one};
+use itch_soup::{Served, SoupFault};
 use std::alloc::Global;
 use std::process::Abort;
 use std::test::Fail;
@@ -19,10 +18,9 @@ fn answer(
     market: &Market<ListBook>,
     input: &[u8],
 ) -> Result<Result<Served, SoupFault>, Fail> {
-    assert!(rt; snapshot_len(market) < 10);
     let mut reader = BlockReader::new(alloc, PieceReader::new(input, 64, None))?;
     let mut writer = FuseWriter::new(alloc, 64, None);
-    let served = serve_one(&mut reader, &mut writer, market, seq(rt, 5), &config(rt));
+    let served = serve(rt, &mut reader, &mut writer, market);
     let is_silent = !matches!(served, Ok(Served::Accepted { .. } | Served::Rejected(_)));
     same(rt, writer.written().is_empty(), is_silent);
     Ok(served)
@@ -171,10 +169,9 @@ fn ten_thousand_debug_packets_before_a_login(rt: HostRuntime) -> Result<(), Fail
 #[test]
 fn a_login_in_pieces_of_one_byte(rt: HostRuntime) -> Result<(), Fail> {
     let market = served_market(rt.alloc())?;
-    assert!(rt; snapshot_len(&market) < 10);
     let mut reader = BlockReader::new(rt.alloc(), PieceReader::new(LOGIN_3, 1, None))?;
     let mut writer = FuseWriter::new(rt.alloc(), 1, None);
-    serve_one(&mut reader, &mut writer, &market, seq(&rt, 5), &config(&rt))?;
+    serve(&rt, &mut reader, &mut writer, &market)?;
     same(&rt, writer.written(), FROM_3);
     Ok(())
 }

@@ -1,15 +1,13 @@
 //! One session served and fetched.
 use crate::equal::same;
-use crate::files::seq;
 use crate::sessions::{
-    FROM_1, FROM_3, Fetched, LOGIN_1, LOGIN_3, config, credentials, fetched, served_market,
+    FROM_1, FROM_3, Fetched, LOGIN_1, LOGIN_3, fetch, fetched, serve, served_market,
 };
 use itch_book::ListBook;
 use itch_frame::testing::{FuseWriter, PieceReader};
 use itch_frame::{BlockReader, FrameFault};
 use itch_market::Market;
-use itch_snapshot::snapshot_len;
-use itch_soup::{Served, SoupFault, fetch_one, serve_one};
+use itch_soup::{Served, SoupFault};
 use std::alloc::Global;
 use std::process::Abort;
 use std::test::Fail;
@@ -24,15 +22,14 @@ fn served_again(
     market: &Market<ListBook>,
     nth: u64,
 ) -> Result<(), Fail> {
-    assert!(rt; snapshot_len(market) < 10);
     let mut reader = BlockReader::new(alloc, PieceReader::new(LOGIN_3, 7, Some(nth)))?;
     let mut writer = FuseWriter::new(alloc, 64, None);
-    let mut served = serve_one(&mut reader, &mut writer, market, seq(rt, 5), &config(rt));
+    let mut served = serve(rt, &mut reader, &mut writer, market);
     same(rt, served.is_err(), nth <= LOGIN_READS);
     if served.is_err() {
         assert!(rt; matches!(served, Err(SoupFault::Frame(FrameFault::Read(_)))));
         assert!(rt; writer.written().is_empty());
-        served = serve_one(&mut reader, &mut writer, market, seq(rt, 5), &config(rt));
+        served = serve(rt, &mut reader, &mut writer, market);
     }
     assert!(rt; matches!(served, Ok(Served::Accepted { packets: 3, .. })));
     same(rt, writer.written(), FROM_3);
@@ -77,10 +74,9 @@ fn served_in_part(
     market: &Market<ListBook>,
     nth: u64,
 ) -> Result<(), Fail> {
-    assert!(rt; snapshot_len(market) < 10);
     let mut reader = BlockReader::new(alloc, PieceReader::new(LOGIN_3, 64, None))?;
     let mut writer = FuseWriter::new(alloc, 7, Some(nth));
-    let served = serve_one(&mut reader, &mut writer, market, seq(rt, 5), &config(rt));
+    let served = serve(rt, &mut reader, &mut writer, market);
     same(rt, served.is_err(), nth <= ANSWER_WRITES);
     match served {
         Ok(_) => same(rt, writer.written(), FROM_3),
@@ -105,7 +101,7 @@ fn an_answer_is_written_in_part(rt: HostRuntime) -> Result<(), Fail> {
 fn logged_in_in_part(rt: &impl Abort, alloc: Global, nth: u64) -> Result<(), Fail> {
     let mut reader = BlockReader::new(alloc, PieceReader::new(FROM_1, 64, None))?;
     let mut writer = FuseWriter::new(alloc, 7, Some(nth));
-    let result: Fetched = fetch_one(alloc, &mut reader, &mut writer, &credentials(rt));
+    let result: Fetched = fetch(rt, alloc, &mut reader, &mut writer);
     same(rt, result.is_err(), nth <= LOGIN_READS);
     if result.is_err() {
         assert!(rt; matches!(result, Err(SoupFault::Frame(FrameFault::Write { .. }))));

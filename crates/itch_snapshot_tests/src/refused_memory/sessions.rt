@@ -1,16 +1,14 @@
 //! A session fetched, and one served, which takes no memory.
 use crate::equal::same;
-use crate::files::{market, seq};
-use crate::sessions::{
-    FROM_1, FROM_3, LOGIN_1, LOGIN_3, SERVED, config, credentials, served_market,
-};
+use crate::files::market;
+use crate::sessions::{FROM_1, FROM_3, LOGIN_1, LOGIN_3, SERVED, fetch, serve, served_market};
 use itch_book::{IndexedBook, ListBook, OrderBook};
 use itch_codec::Seq;
 use itch_frame::testing::{FuseWriter, PieceReader};
 use itch_frame::{BlockReader, Counted};
 use itch_market::{Market, Refusal};
 use itch_snapshot::{SnapFault, same_market, snapshot_len};
-use itch_soup::{SoupFault, fetch_one, serve_one};
+use itch_soup::SoupFault;
 use refusing::Refusing;
 use std::alloc::Global;
 use std::process::Abort;
@@ -40,12 +38,7 @@ fn refuse_to_fetch<B: OrderBook>(
     assert!(rt; snapshot_len(&want) < 10);
     let mut reader = BlockReader::new(alloc, PieceReader::new(FROM_1, 64, None))?;
     let mut writer = FuseWriter::new(alloc, 64, None);
-    let result: Result<(Market<B>, Seq), SoupFault> = fetch_one(
-        memory,
-        &mut reader,
-        &mut writer,
-        &credentials(rt),
-    );
+    let result: Result<(Market<B>, Seq), SoupFault> = fetch(rt, memory, &mut reader, &mut writer);
     match result {
         Ok((found, next)) => {
             assert!(rt; same_market(&want, &found));
@@ -88,13 +81,12 @@ fn serve_without_memory(
     login: &[u8],
     answer: &[u8],
 ) -> Result<(), Fail> {
-    assert!(rt; snapshot_len(market) < 10);
     refusing.arm(1000);
     let mut reader = BlockReader::new(refusing, PieceReader::new(login, 64, None))?;
     let mut memory = [0; 256];
     let mut writer = Counted::new(memory.as_mut_slice());
     refusing.arm(0);
-    let served = serve_one(&mut reader, &mut writer, market, seq(rt, 5), &config(rt));
+    let served = serve(rt, &mut reader, &mut writer, market);
     assert!(rt; served.is_ok() && !refusing.has_refused());
     let left = writer.into_inner().len();
     assert!(rt; left <= 256);

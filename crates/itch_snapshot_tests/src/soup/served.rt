@@ -1,69 +1,20 @@
 //! One served and one fetched session over memory, row by row.
 ghost use Rattle.std.specs.Prelude.{◌≤◌};
 
-use super::{alpha, seq};
 use crate::equal::same;
+use crate::files::seq;
+use crate::sessions::{FROM_1, FROM_3, LOGIN_1, LOGIN_3, fetch, fetched, serve, served_market};
 use itch_book::{ListBook, OrderBook};
-use itch_codec::Seq;
 use itch_frame::testing::{FuseWriter, PieceReader};
 use itch_frame::{BlockReader, CountedRead, FrameFault};
-use itch_market::{Market, replay};
+use itch_market::Market;
 use itch_snapshot::{same_market, snapshot_len};
-use itch_soup::{
-    Credentials, Served, ServerConfig, SoupFault, fetch_one, laws, serve_one, write_data,
-};
-use std::alloc::{AllocError, Allocator, Global};
+use itch_soup::{Served, laws, write_data};
+use std::alloc::{Allocator, Global};
 use std::process::Abort;
 use std::test::Fail;
 
-// A day: an event, a directory, and two orders.
-const DAY: &[u8] = b"\0\x0cS\0\0\0\0\0\0\0\0\0\0O\
-    \0\x27R\0\x01\0\0\0\0\0\0\0\0AAPL    QN\0\0\0dNCZ PNN1N\0\0\0\0N\
-    \0\x24A\0\x01\0\0\0\0\0\0\0\0\0\0\0\0\0\0\0\x01B\0\0\0dAAPL    \0\x16\xe3\x60\
-    \0\x24A\0\x01\0\0\0\0\0\0\0\0\0\0\0\0\0\0\0\x02B\0\0\0\xc8AAPL    \0\x16\xe3\x60";
-
-// The answers to logins for all of it, for the orders, and for what follows the End of Snapshot.
-const FROM_1: &[u8] = b"\0\x1fA  ITCHSNAP                   1\
-    \0\x0dSS\0\0\0\0\0\0\0\0\0\0O\
-    \0\x28SR\0\x01\0\0\0\0\0\0\0\0AAPL    QN\0\0\0dNCZ PNN1N\0\0\0\0N\
-    \0\x25SA\0\x01\0\0\0\0\0\0\0\0\0\0\0\0\0\0\0\x01B\0\0\0dAAPL    \0\x16\xe3\x60\
-    \0\x25SA\0\x01\0\0\0\0\0\0\0\0\0\0\0\0\0\0\0\x02B\0\0\0\xc8AAPL    \0\x16\xe3\x60\
-    \0\x16SG                   5\0\x01Z";
-
-const FROM_3: &[u8] = b"\0\x1fA  ITCHSNAP                   3\
-    \0\x25SA\0\x01\0\0\0\0\0\0\0\0\0\0\0\0\0\0\0\x01B\0\0\0dAAPL    \0\x16\xe3\x60\
-    \0\x25SA\0\x01\0\0\0\0\0\0\0\0\0\0\0\0\0\0\0\x02B\0\0\0\xc8AAPL    \0\x16\xe3\x60\
-    \0\x16SG                   5\0\x01Z";
-
 const FROM_6: &[u8] = b"\0\x1fA  ITCHSNAP                   6\0\x01Z";
-
-const LOGIN_1: &[u8] = b"\0\x2fLuser  secret                                 1";
-
-const LOGIN_3: &[u8] = b"\0\x2fLuser  secret                                 3";
-
-fn config(rt: &impl Abort) -> ServerConfig {
-    ServerConfig {
-        username: alpha(rt, "user"),
-        password: alpha(rt, "secret"),
-        session: alpha(rt, "ITCHSNAP"),
-    }
-}
-
-fn credentials(rt: &impl Abort) -> Credentials {
-    Credentials {
-        username: alpha(rt, "user"),
-        password: alpha(rt, "secret"),
-        session: alpha(rt, ""),
-    }
-}
-
-// What the day leaves.
-fn market<A: Allocator + Copy>(alloc: A) -> Result<Market<ListBook<A>>, AllocError> {
-    let mut reader = BlockReader::new(alloc, PieceReader::new(DAY, 64, None))?;
-    let mut market = Market::new(alloc);
-    replay(&mut reader, &mut market);
-    Ok(market)
-}
 
 // Logins that are accepted, from which message on, how many packets follow, and the bytes of the answer.
 const ACCEPTED: [(&[u8], u64, u64, &[u8]); 6] = [
@@ -127,17 +78,6 @@ fn the_laws_of_sessions() {
     laws::waits_by_the_table();
 }
 
-// Serves one session, with 5 in its End of Snapshot.
-fn serve<R: CountedRead, A: Allocator, B: OrderBook>(
-    rt: &impl Abort,
-    reader: &mut BlockReader<R, A>,
-    writer: &mut FuseWriter,
-    market: &Market<B>,
-) -> Result<Served, SoupFault> {
-    assert!(rt; snapshot_len(market) < 9);
-    serve_one(reader, writer, market, seq(rt, 5), &config(rt))
-}
-
 // A login is served so, and answered by these bytes, in whatever pieces it comes.
 fn check_login<B: OrderBook>(
     rt: &impl Abort,
@@ -159,7 +99,7 @@ fn check_login<B: OrderBook>(
 
 #[test]
 fn logins_are_served(rt: HostRuntime) -> Result<(), Fail> {
-    let market = market(rt.alloc())?;
+    let market = served_market(rt.alloc())?;
     for (input, from, packets, bytes) in ACCEPTED {
         let from = seq(&rt, from);
         let want = Served::Accepted { from, packets };
@@ -197,7 +137,7 @@ fn faults_before_a_login_are_not_answered(rt: HostRuntime) -> Result<(), Fail> {
         (b"\0\x01L", "wrong length for packet L: want 47, got 1"),
         (b"\0\x01R\0\x2fLuser", "truncated, 7 bytes held"),
     ];
-    let market = market(rt.alloc())?;
+    let market = served_market(rt.alloc())?;
     for (input, want) in rows {
         check_fault(&rt, rt.alloc(), &market, input, want)?;
     }
@@ -219,32 +159,9 @@ fn nothing_is_read_after_the_login(rt: HostRuntime) -> Result<(), Fail> {
     let input = b"\0\x2fLuser  secret                                 3\0\x01O";
     let mut reader = BlockReader::new(rt.alloc(), PieceReader::new(input, 64, None))?;
     let mut writer = FuseWriter::new(rt.alloc(), 64, None);
-    serve(&rt, &mut reader, &mut writer, &market(rt.alloc())?)?;
+    serve(&rt, &mut reader, &mut writer, &served_market(rt.alloc())?)?;
     gives(&rt, &mut reader, b"O")?;
     Ok(())
-}
-
-// Fetches over a reader and a writer.
-fn fetch<R: CountedRead, A: Allocator>(
-    rt: &impl Abort,
-    alloc: Global,
-    reader: &mut BlockReader<R, A>,
-    writer: &mut FuseWriter,
-) -> Result<(Market<ListBook>, Seq), SoupFault> {
-    fetch_one(alloc, reader, writer, &credentials(rt))
-}
-
-// A fetch of what this reader gives, which logs in.
-fn fetched<R: CountedRead + Drop>(
-    rt: &impl Abort,
-    alloc: Global,
-    reader: R,
-) -> Result<Result<(Market<ListBook>, Seq), SoupFault>, Fail> {
-    let mut reader = BlockReader::new(alloc, reader)?;
-    let mut writer = FuseWriter::new(alloc, 64, None);
-    let result = fetch(rt, alloc, &mut reader, &mut writer);
-    same(rt, writer.written(), LOGIN_1);
-    Ok(result)
 }
 
 // The market that was served is fetched in pieces.
@@ -265,7 +182,7 @@ fn check_fetched<B: OrderBook>(
 
 #[test]
 fn answers_are_fetched(rt: HostRuntime) -> Result<(), Fail> {
-    let want = market(rt.alloc())?;
+    let want = served_market(rt.alloc())?;
     check_fetched(&rt, rt.alloc(), &want, 1)?;
     check_fetched(&rt, rt.alloc(), &want, 64)
 }
@@ -274,7 +191,7 @@ fn answers_are_fetched(rt: HostRuntime) -> Result<(), Fail> {
 fn nothing_is_read_after_the_end_of_snapshot(rt: HostRuntime) -> Result<(), Fail> {
     let mut reader = BlockReader::new(rt.alloc(), PieceReader::new(FROM_1, 64, None))?;
     let mut writer = FuseWriter::new(rt.alloc(), 64, None);
-    fetch(&rt, rt.alloc(), &mut reader, &mut writer)?;
+    fetch::<_, _, ListBook>(&rt, rt.alloc(), &mut reader, &mut writer)?;
     gives(&rt, &mut reader, b"Z")?;
     Ok(())
 }
