@@ -1,11 +1,9 @@
 //! Each read and each write of each command failing in turn: the status is 3. A failed read leaves nothing on the output, but for
 //! the lines of `show`; a failed write leaves a beginning of it.
-use super::blocks::*;
 use super::cases::{Case, Command, DAY_ENDS, OTHER_ENDS};
-use super::files::file;
 use crate::equal::{holds_in, same, same_in};
 use itch_commands::snap::snap;
-use itch_commands::{Source, ToolFault, status};
+use itch_commands::{Source, ToolFault};
 use itch_frame::testing::{FuseWriter, PieceReader};
 use itch_frame::{Counted, FrameFault};
 use itch_market::{ReplayEnd, Stop};
