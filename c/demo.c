@@ -195,6 +195,29 @@ static void join(buffer day, uint64_t count, buffer snapshot) {
     itchsnap_free(&empty);
 }
 
+/* A joiner for some locates that gets the snapshot of no message, and then the feed in its order, has the market cut down to them. */
+static void join_some(itchsnap_handle *market, buffer day, uint64_t count, size_t most) {
+    uint16_t locates[] = {1, 7};
+    const uint8_t end[] = "G                   1";
+    itchsnap_handle joiner = ITCHSNAP_NONE;
+    must(itchsnap_joiner_new_only(&joiner, 0, locates, 2).code == ITCHSNAP_OK, "a new joiner for some locates");
+    must(itchsnap_joiner_snapshot(&joiner, end, sizeof end - 1).code == ITCHSNAP_JOINED, "joined for some locates");
+    size_t place = 0;
+    for (uint64_t number = 1; number <= count; number++) {
+        payload message;
+        must(next_payload(day, &place, &message), "the next message");
+        must(itchsnap_joiner_live(&joiner, number, message.bytes, message.len).code == ITCHSNAP_APPLIED, "a message that is next");
+    }
+    buffer cut = buffer_of(most);
+    itchsnap_written written = itchsnap_snapshot_only(market, count + 1, locates, 2, cut.bytes, cut.len);
+    buffer joined = snapshot_of(&joiner, count + 1);
+    must(written.code == ITCHSNAP_OK && written.len == joined.len, "the snapshot of a joiner for some locates");
+    must(memcmp(cut.bytes, joined.bytes, joined.len) == 0, "the bytes of a joiner's snapshot for some locates");
+    free(cut.bytes);
+    free(joined.bytes);
+    itchsnap_free(&joiner);
+}
+
 /* A client and a server, each fed the other's packets, without a socket. */
 static void talk(buffer day) {
     itchsnap_login login;
@@ -258,6 +281,7 @@ int main(int argc, char **argv) {
     parts(&market, day, count + 1, snapshot.len);
     load(snapshot, count + 1);
     join(day, count, snapshot);
+    join_some(&market, day, count, snapshot.len);
     talk(day);
     misuse();
     write_file(argv[2], snapshot);

@@ -133,18 +133,19 @@ void itchsnap_free(itchsnap_handle *handle);
 
 /* Markets -------------------------------------------------------------- */
 
-/* Fills a handle with a market that no message has reached. Codes: OK, OUT_OF_MEMORY, IN_USE. */
+/* Fills a handle with a market that no message has reached. Codes: OK, or the first that fits of IN_USE, OUT_OF_MEMORY. */
 itchsnap_answer itchsnap_market_new(itchsnap_handle *handle);
 
 typedef struct {
     uint64_t next;  /* OK: the number of the first message that the snapshot does not contain */
-    uint64_t place; /* 1 to 5 and 16 to 23: the place of the message that is refused, counted from 1 */
+    uint64_t place; /* 1 to 5 and 16 to 23: the place of the message that is refused, counted from 1; OUT_OF_MEMORY: of the one
+                     * that memory was refused for, or 0 before the first and after the last */
     uint64_t detail;
     uint32_t code;
 } itchsnap_loaded;
 
-/* Fills a handle with the market of a snapshot file, whose messages stand in any order that follows the order rules. Codes: 0
- * to 36, OUT_OF_MEMORY, IN_USE. */
+/* Fills a handle with the market of a snapshot file, whose messages stand in any order that follows the order rules. Codes:
+ * IN_USE, or else 0 to 36, OUT_OF_MEMORY. */
 itchsnap_loaded itchsnap_market_load(itchsnap_handle *handle, const uint8_t *snapshot, size_t len);
 
 /* Applies the message of a payload; where it is refused, the market is as it was. Codes: 0 to 23, OUT_OF_MEMORY. */
@@ -201,7 +202,8 @@ typedef struct {
 } itchsnap_written;
 
 /* Writes the canonical snapshot to the front of out, closed with next as the number of the first message that it does not
- * contain. A call with length 0 returns the length. Codes: OK, NO_ROOM, NO_NUMBER, OUT_OF_MEMORY, TOO_MANY_MESSAGES. */
+ * contain. A call with length 0 returns the length. Codes: OK, or the first that fits of NO_NUMBER, TOO_MANY_MESSAGES,
+ * OUT_OF_MEMORY, NO_ROOM. */
 itchsnap_written itchsnap_snapshot(itchsnap_handle *handle, uint64_t next, uint8_t *out, size_t len);
 
 /* The same of the market cut down to the locates of a list. */
@@ -244,7 +246,8 @@ itchsnap_comparison itchsnap_compare(const uint8_t *first, size_t first_len, con
 
 /* Joiners: a snapshot and the live feed, joined into one market ---------- */
 
-/* Fills a handle with a joiner in which at most cap messages will wait. Codes: OK, OUT_OF_MEMORY, IN_USE. */
+/* Fills a handle with a joiner in which at most cap messages will wait. Codes: OK, or the first that fits of IN_USE,
+ * OUT_OF_MEMORY. */
 itchsnap_answer itchsnap_joiner_new(itchsnap_handle *handle, size_t cap);
 
 /* The same for the locates of a list: messages at all others are decoded and counted, and change nothing else. */
@@ -304,8 +307,8 @@ typedef struct {
     uint32_t code;
 } itchsnap_acceptance_packet;
 
-/* Fills a handle with a client's session that asks for the messages from number from on; 0 asks for all. Codes: OK, BAD_TEXT,
- * NO_NUMBER (from is above 10^19), OUT_OF_MEMORY, IN_USE. */
+/* Fills a handle with a client's session that asks for the messages from number from on; 0 asks for all. Codes: OK, or the first
+ * that fits of BAD_TEXT, NO_NUMBER (from is above 10^19), IN_USE, OUT_OF_MEMORY. */
 itchsnap_answer itchsnap_client_new(itchsnap_handle *handle, const itchsnap_login *login, uint64_t from, uint64_t now_ms);
 
 /* The login request to send first. Codes: OK. */
@@ -315,8 +318,8 @@ itchsnap_login_packet itchsnap_client_login(itchsnap_handle *handle);
  * ACCEPTED, REJECTED, DATA, ENDED, 1 to 5, TOO_MANY_MESSAGES, 96 to 100. */
 itchsnap_act itchsnap_client_packet(itchsnap_handle *handle, const uint8_t *packet, size_t len, uint64_t now_ms);
 
-/* Fills a handle with a server's session of total messages. Codes: OK, BAD_TEXT, TOO_MANY_MESSAGES (total is above 10^19 - 1),
- * OUT_OF_MEMORY, IN_USE. */
+/* Fills a handle with a server's session of total messages. Codes: OK, or the first that fits of BAD_TEXT, TOO_MANY_MESSAGES
+ * (total is above 10^19 - 1), IN_USE, OUT_OF_MEMORY. */
 itchsnap_answer itchsnap_server_new(itchsnap_handle *handle, const itchsnap_login *config, uint64_t total, uint64_t now_ms);
 
 /* The packet to send once a login is accepted from this number on. Codes: OK, NO_NUMBER. */

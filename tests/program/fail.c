@@ -1,12 +1,13 @@
 /* For tests, loaded into the program by LD_PRELOAD: one call of one kind fails, as FAIL says: `memory:3` refuses the third
- * allocation, `read:1` fails the first read, `write:2` the second write. Where a call has failed so, the file that FAILED names
- * is made. */
+ * allocation, `read:1` fails the first read, `write:2` the second write, `send:1`, `recv:1` and `setsockopt:1` the first such call at
+ * a socket. Where a call has failed so, the file that FAILED names is made. */
 #define _GNU_SOURCE
 #include <dlfcn.h>
 #include <errno.h>
 #include <fcntl.h>
 #include <stdlib.h>
 #include <string.h>
+#include <sys/socket.h>
 #include <unistd.h>
 
 static long left = -1;
@@ -75,3 +76,36 @@ ssize_t write(int file, const void *buffer, size_t count) {
 }
 
 ssize_t __write(int file, const void *buffer, size_t count) { return write(file, buffer, count); }
+
+ssize_t send(int socket, const void *buffer, size_t count, int flags) {
+    static ssize_t (*next)(int, const void *, size_t, int);
+    if (!next)
+        next = (ssize_t(*)(int, const void *, size_t, int))real("send");
+    if (fails("send")) {
+        errno = EIO;
+        return -1;
+    }
+    return next(socket, buffer, count, flags);
+}
+
+ssize_t recv(int socket, void *buffer, size_t count, int flags) {
+    static ssize_t (*next)(int, void *, size_t, int);
+    if (!next)
+        next = (ssize_t(*)(int, void *, size_t, int))real("recv");
+    if (fails("recv")) {
+        errno = EIO;
+        return -1;
+    }
+    return next(socket, buffer, count, flags);
+}
+
+int setsockopt(int socket, int level, int option, const void *value, socklen_t length) {
+    static int (*next)(int, int, int, const void *, socklen_t);
+    if (!next)
+        next = (int (*)(int, int, int, const void *, socklen_t))real("setsockopt");
+    if (fails("setsockopt")) {
+        errno = EIO;
+        return -1;
+    }
+    return next(socket, level, option, value, length);
+}

@@ -1,15 +1,17 @@
-"""Runs of the program as a shell user meets it: its version, terminals, closed pipes, progress, and its manual.
+"""Runs of the program as a shell user meets it: its version, terminals, closed pipes, progress, `examples/parts`, and its manual.
 
 RUNS has a function for each run, named for what it shows; it is given the program, and yields what differs.
 """
 import os
 import pty
 import re
+import select
 import shutil
 import signal
 import struct
 import subprocess
 import tempfile
+import time
 from pathlib import Path
 
 import large
@@ -148,6 +150,36 @@ def what_is_wrongly_shown(error, length):
             yield f"{messages} messages at byte {so_far}, not {wanted}"
 
 
+def shown_next(stream):
+    """The next line of progress, or what came within a minute."""
+    shown = b""
+    while not shown.endswith(b"MB/s") and select.select([stream], [], [], 60)[0]:
+        byte = os.read(stream.fileno(), 1)
+        if not byte:
+            break
+        shown += byte
+    return shown
+
+
+def the_rate_is_that_of_the_bytes_and_the_time(program):
+    """The second line is made a second after the first at least, and no later than it is read."""
+    part = (b"\xff\xff" + b"z" * 65_535) * 1024
+    begin = time.monotonic()
+    with subprocess.Popen([program, "check", "--progress"], stdin=subprocess.PIPE, stdout=subprocess.PIPE, stderr=subprocess.PIPE) as running:
+        for wait in (0, 1):
+            time.sleep(wait)
+            running.stdin.write(part)
+            running.stdin.flush()
+            shown = shown_next(running.stderr)
+        passed = time.monotonic() - begin
+        running.stdin.close()
+        rest = running.stderr.read(), running.stdout.read()
+    line = re.fullmatch(rb"\r(?P<size>\d+) bytes, \d+ messages, (?P<rate>[ \d]{5,}) MB/s", shown)
+    size, rate = (int(line["size"]), int(line["rate"])) if line else (0, 0)
+    if not 0 < int(size / passed / 1e6) <= rate <= size / 1e6 or rest != (b"\n", b"ok 2048 messages\n"):
+        yield f"{shown!r} after {passed:.3f} s, and then {rest}"
+
+
 def no_progress_is_shown_of_a_small_file(program):
     written = SNAPSHOT.read_bytes()
     for words, output in ((["check", OPENING], b"ok 5 messages\n"), (["snap", OPENING], written), (["canon", SNAPSHOT], written),
@@ -155,6 +187,44 @@ def no_progress_is_shown_of_a_small_file(program):
         done = subprocess.run([program, *words, "--progress"], capture_output=True, timeout=60)
         if (done.returncode, done.stdout, done.stderr) != (0, output, b""):
             yield f"{words[0]}: {done}"
+
+
+# The program, but that each part with locate 2 is refused its memory.
+FAILS_AT_2 = """#!/bin/sh
+[ "$2 $3" != "examples/opening.itch --only" ] || [ "$4" != 2 ] || { echo "itchsnap: out of memory" >&2; exit 4; }
+exec "$(dirname "$0")/program" "$@"
+"""
+
+
+def parts_are_the_whole_or_end_as_the_program_does(program):
+    usage = (2, "", "usage: examples/parts FILE [LOCATES [PROCESSES]]\n")
+    whole = "together the whole snapshot of 4 messages\n"
+    with tempfile.TemporaryDirectory() as name:
+        folder = Path(name)
+        (folder / "examples").symlink_to(TOP / "examples")
+        (folder / "program").symlink_to(program)
+        (folder / "empty").touch()
+
+        def ended(*words):
+            done = subprocess.run(["examples/parts", *words], cwd=folder, capture_output=True, text=True, timeout=60)
+            return done.returncode, done.stdout, done.stderr
+
+        (folder / "itchsnap").symlink_to(program)
+        for words, wanted in (
+                ([], usage), (["-"], usage), (["a", "1", "2", "3"], usage), (["a", "0"], usage), (["a", "1", "x"], usage),
+                (["nosuch"], (3, "", "itchsnap: cannot open\n  nosuch: No such file or directory (os error 2)\n")),
+                (["examples/refused.itch"], (1, "", "itchsnap: message 2: stock mismatch\n")),
+                (["empty"], (0, "0 parts, together the whole snapshot of 0 messages\n", "")),
+                (["examples/opening.itch"], (0, f"1 parts, {whole}", "")),
+                *((["examples/opening.itch", "1", it], (0, f"2 parts, {whole}", "")) for it in "1239")):
+            if (got := ended(*words)) != wanted:
+                yield f"parts {' '.join(words)}: {got}"
+        (folder / "itchsnap").unlink()
+        (folder / "itchsnap").write_text(FAILS_AT_2)
+        (folder / "itchsnap").chmod(0o755)
+        for processes in "129":
+            if (got := ended("examples/opening.itch", "1", processes)) != (4, "", "itchsnap: out of memory\n"):
+                yield f"{processes} at a time, where the second part fails: {got}"
 
 
 def the_page_has_each_command_and_option(program):
@@ -179,6 +249,8 @@ RUNS = [
     lines_are_shown_on_a_terminal,
     both_files_may_not_be_standard_input,
     progress_is_shown_every_64_mib,
+    the_rate_is_that_of_the_bytes_and_the_time,
     no_progress_is_shown_of_a_small_file,
+    parts_are_the_whole_or_end_as_the_program_does,
     the_page_has_each_command_and_option,
 ]

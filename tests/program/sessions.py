@@ -3,13 +3,18 @@
 RUNS has a function for each run, named for what it shows; it is given the program, and yields what differs.
 """
 import contextlib
+import os
+import select
 import socket
 import struct
 import subprocess
 import tempfile
+import threading
 import time
+from concurrent.futures import ThreadPoolExecutor
 from pathlib import Path
 
+import failing
 import large
 
 EXAMPLES = Path(__file__).resolve().parent.parent.parent / "examples"
@@ -23,34 +28,32 @@ def free_port():
         return listener.getsockname()[1]
 
 
+def login_words(port, password="secret"):
+    return ["--port", str(port), "--user", "user", "--pass", password]
+
+
 def fetch(program, port, password="secret", **options):
-    """Fetches, again and again until the server listens: the status and both outputs."""
-    words = [program, "fetch", "--port", str(port), "--user", "user", "--pass", password]
-    for _ in range(STARTING * 10):
-        done = subprocess.run(words, capture_output=True, timeout=120, **options)
-        if done.stderr != b"itchsnap: socket failed\n":
-            break
-        time.sleep(0.1)
+    """The status and both outputs of a fetch."""
+    done = subprocess.run([program, "fetch", *login_words(port, password)], capture_output=True, timeout=120, **options)
     return done.returncode, done.stdout, done.stderr
 
 
 def connect(port):
-    for _ in range(STARTING * 10):
-        with contextlib.suppress(ConnectionRefusedError):
-            return socket.create_connection(("127.0.0.1", port), timeout=60)
-        time.sleep(0.1)
-    raise TimeoutError("nothing listens")
+    return socket.create_connection(("127.0.0.1", port), timeout=60)
 
 
 class Server:
-    """`serve` of a file to `count` connections."""
+    """`serve` of a file to `count` connections, once it listens."""
 
-    def __init__(self, program, file, count, *options):
+    def __init__(self, program, file, count, *options, stdout=subprocess.PIPE, **environment):
         self.port = free_port()
-        words = ["serve", file, "--port", str(self.port), "--user", "user", "--pass", "secret", "--count", str(count), *options]
-        self.process = subprocess.Popen([program, *words], stdout=subprocess.PIPE, stderr=subprocess.PIPE)
+        words = [program, "serve", file, *login_words(self.port), "--count", str(count), *options]
+        self.process = subprocess.Popen(words, stdout=stdout, stderr=subprocess.PIPE, env={**os.environ, **environment})
+        self.line = self.output = b""
 
     def __enter__(self):
+        if select.select([self.process.stderr], [], [], STARTING)[0]:
+            self.line = self.process.stderr.readline()
         return self
 
     def __exit__(self, *_):
@@ -60,9 +63,11 @@ class Server:
     def differences(self, *endings):
         """How the server ended, against the endings of its connections."""
         output, error = self.process.communicate(timeout=60)
+        output = self.output + output
+        listening = f"listening on 127.0.0.1:{self.port}\n".encode()
         wanted = "".join(f"connection {number}: {ending}\n" for number, ending in enumerate(endings, 1)).encode()
-        if (self.process.returncode, output, error) != (0, wanted, b""):
-            yield f"the server ended with {self.process.returncode}, {output!r}, {error!r}, not {wanted!r}"
+        if (self.process.returncode, output, self.line, error) != (0, wanted, listening, b""):
+            yield f"the server ended with {self.process.returncode}, {output!r}, {self.line + error!r}, not {wanted!r}"
 
 
 def snapshot(program, file):
@@ -100,14 +105,21 @@ def a_small_file_is_served_with_progress_as_without(program):
         yield from server.differences(f"accepted from 1, {messages(wanted)} packets")
 
 
-def a_large_snapshot_is_fetched(program):
+@contextlib.contextmanager
+def large_server(program, count):
+    """A server of a large snapshot, and the snapshot."""
     day, wanted = large.orders(200_000)
     with tempfile.NamedTemporaryFile(suffix=".itch") as file:
         file.write(day)
         file.flush()
-        with Server(program, file.name, 1) as server:
-            yield from fetched_differs(fetch(program, server.port), wanted)
-            yield from server.differences(f"accepted from 1, {messages(wanted)} packets")
+        with Server(program, file.name, count) as server:
+            yield server, wanted
+
+
+def a_large_snapshot_is_fetched(program):
+    with large_server(program, 1) as (server, wanted):
+        yield from fetched_differs(fetch(program, server.port), wanted)
+        yield from server.differences(f"accepted from 1, {messages(wanted)} packets")
 
 
 def answer(snapshot):
@@ -150,18 +162,41 @@ def ten_thousand_debug_packets_are_passed_over(program):
         yield from server.differences(f"accepted from 1, {messages(wanted)} packets")
 
 
+def a_client_that_goes_on_sending_has_the_whole_answer(program):
+    """Heartbeats are a client's duty. They come while it still reads what the server has written."""
+    with large_server(program, 1) as (server, wanted), connect(server.port) as peer:
+        peer.sendall(LOGIN)
+        has_all = threading.Event()
+
+        def beat():
+            with contextlib.suppress(OSError):
+                while not has_all.wait(0.001):
+                    peer.sendall(b"\0\x01R")
+
+        beating = threading.Thread(target=beat)
+        beating.start()
+        time.sleep(1)
+        pieces = []
+        with contextlib.suppress(OSError):
+            while piece := peer.recv(1 << 16):
+                pieces.append(piece)
+                time.sleep(0.005)
+        has_all.set()
+        beating.join()
+        peer.close()
+        if b"".join(pieces) != answer(wanted):
+            yield f"{sum(map(len, pieces))} bytes, not the {len(answer(wanted))} of the answer"
+        yield from server.differences(f"accepted from 1, {messages(wanted)} packets")
+
+
 def served_after(program, leave):
     """A large snapshot served to a peer that logs in and leaves so, and then to another one."""
-    day, wanted = large.orders(200_000)
-    with tempfile.NamedTemporaryFile(suffix=".itch") as file:
-        file.write(day)
-        file.flush()
-        with Server(program, file.name, 2) as server:
-            with connect(server.port) as peer:
-                peer.sendall(LOGIN)
-                leave(peer)
-            yield from fetched_differs(fetch(program, server.port), wanted)
-            yield from server.differences("fault", f"accepted from 1, {messages(wanted)} packets")
+    with large_server(program, 2) as (server, wanted):
+        with connect(server.port) as peer:
+            peer.sendall(LOGIN)
+            leave(peer)
+        yield from fetched_differs(fetch(program, server.port), wanted)
+        yield from server.differences("fault", f"accepted from 1, {messages(wanted)} packets")
 
 
 def a_peer_that_does_not_read_ends_nothing_else(program):
@@ -193,21 +228,26 @@ def a_refused_file_is_not_served(program):
         yield f"ended with {done}"
 
 
+def socket_failed_differs(done, port, cause):
+    wanted = f"itchsnap: socket failed\n  127.0.0.1:{port}: {cause}\n".encode()
+    if (done.returncode, done.stdout, done.stderr) != (3, b"", wanted):
+        yield f"ended with {done}"
+
+
 def a_port_in_use_is_a_failed_socket(program):
     with socket.create_server(("127.0.0.1", 0)) as listener:
         port = listener.getsockname()[1]
         done = subprocess.run(
             [program, "serve", EXAMPLES / "opening.itch", "--port", str(port), "--user", "u", "--pass", "p", "--count", "1"],
             capture_output=True, timeout=60)
-    if (done.returncode, done.stdout, done.stderr) != (3, b"", b"itchsnap: socket failed\n"):
-        yield f"ended with {done}"
+    yield from socket_failed_differs(done, port, "Address already in use (os error 98)")
 
 
 def a_server_that_is_not_there_is_a_failed_socket(program):
+    port = free_port()
     done = subprocess.run(
-        [program, "fetch", "--port", str(free_port()), "--user", "u", "--pass", "p"], capture_output=True, timeout=60)
-    if (done.returncode, done.stdout, done.stderr) != (3, b"", b"itchsnap: socket failed\n"):
-        yield f"ended with {done}"
+        [program, "fetch", "--port", str(port), "--user", "u", "--pass", "p"], capture_output=True, timeout=60)
+    yield from socket_failed_differs(done, port, "Connection refused (os error 111)")
 
 
 def a_server_that_ends_early_gives_nothing(program):
@@ -230,24 +270,111 @@ def a_server_that_ends_early_gives_nothing(program):
             yield f"after {answer!r}: {login!r}, {client.returncode}, {output!r}, {error!r}"
 
 
-def a_slow_peer_holds_the_server_for_15_seconds(program):
+def held_by(program, name, server, wanted, longest, slow):
+    """What differs where `slow`, called each second, is to end in a fault after 15 seconds at least, and after `longest`."""
+    start = time.monotonic()
+    with ThreadPoolExecutor(1) as pool:
+        line = pool.submit(server.process.stdout.readline)
+        while not line.done() and time.monotonic() < start + 40:
+            with contextlib.suppress(OSError):
+                slow()
+            time.sleep(1)
+        seconds = time.monotonic() - start
+        if not line.done():
+            server.process.kill()
+        server.output = line.result()
+    if not 14 < seconds < longest:
+        yield f"{name} held the server for {seconds:.1f} seconds"
+    yield from fetched_differs(fetch(program, server.port), wanted)
+    yield from server.differences("fault", f"accepted from 1, {messages(wanted)} packets")
+
+
+def a_slow_login(program):
+    """Heartbeats all the time, and never a login."""
     wanted = snapshot(program, EXAMPLES / "opening.itch")
     with Server(program, EXAMPLES / "opening.itch", 2) as server, connect(server.port) as slow:
-        start = time.monotonic()
-        client = subprocess.Popen(
-            [program, "fetch", "--port", str(server.port), "--user", "user", "--pass", "secret"], stdout=subprocess.PIPE)
-        # Heartbeats all the time, and never a login.
-        while client.poll() is None and time.monotonic() < start + 30:
-            with contextlib.suppress(OSError):
-                slow.sendall(b"\0\x01R")
-            time.sleep(1)
-        client.kill()
-        output = client.communicate()[0]
-        seconds = time.monotonic() - start
-        yield from fetched_differs((client.returncode, output, b""), wanted)
-        if not 14 < seconds < 20:
-            yield f"the next client waited for {seconds:.1f} seconds"
-        yield from server.differences("fault", f"accepted from 1, {messages(wanted)} packets")
+        return list(held_by(program, "a slow login", server, wanted, 20, lambda: slow.sendall(b"\0\x01R")))
+
+
+def a_slow_reader(program):
+    """4 KiB a second, so that each write is done within 15 seconds. With small buffers and packets of TCP little is on its way."""
+    with large_server(program, 2) as (server, wanted), socket.socket() as slow:
+        slow.setsockopt(socket.SOL_SOCKET, socket.SO_RCVBUF, 4096)
+        slow.setsockopt(socket.IPPROTO_TCP, socket.TCP_MAXSEG, 536)
+        slow.connect(("127.0.0.1", server.port))
+        slow.sendall(LOGIN)
+        slow.settimeout(0.1)
+        return list(held_by(program, "a slow reader", server, wanted, 25, lambda: slow.recv(4096)))
+
+
+def slow_peers_hold_the_server_for_their_time(program):
+    with ThreadPoolExecutor(2) as pool:
+        for found in pool.map(lambda run: run(program), (a_slow_login, a_slow_reader)):
+            yield from found
+
+
+def a_call_that_fails_ends_one_connection(program):
+    """Of a socket's calls: the login is not read, or its answer, which is flushed at its end, is not written."""
+    wanted = snapshot(program, EXAMPLES / "opening.itch")
+    with tempfile.TemporaryDirectory() as folder:
+        shim = failing.build_shim(folder)
+        for failure in ("recv:1", "send:1", "setsockopt:2", "setsockopt:3"):
+            with Server(program, EXAMPLES / "opening.itch", 2, LD_PRELOAD=str(shim), FAIL=failure) as server:
+                with connect(server.port) as peer:
+                    peer.sendall(LOGIN)
+                    with contextlib.suppress(ConnectionResetError):
+                        if got := received(peer):
+                            yield f"{failure}: {got!r} was sent"
+                yield from fetched_differs(fetch(program, server.port), wanted)
+                yield from server.differences("fault", f"accepted from 1, {messages(wanted)} packets")
+
+
+def a_call_of_fetch_that_fails_is_told(program):
+    reasons = {"setsockopt:1": "socket failed", "send:1": "write failed", "recv:1": "read failed"}
+    with tempfile.TemporaryDirectory() as folder:
+        shim = failing.build_shim(folder)
+        for failure, reason in reasons.items():
+            with socket.create_server(("127.0.0.1", 0)) as listener:
+                port = listener.getsockname()[1]
+                got = fetch(program, port, env={**os.environ, "LD_PRELOAD": str(shim), "FAIL": failure})
+            wanted = f"itchsnap: {reason}\n  127.0.0.1:{port}: Input/output error (os error 5)\n".encode()
+            if got != (3, b"", wanted):
+                yield f"{failure}: fetched with {got}"
+
+
+def a_port_that_cannot_be_set_up_is_a_failed_socket(program):
+    with tempfile.TemporaryDirectory() as folder:
+        shim, port = failing.build_shim(folder), free_port()
+        done = subprocess.run(
+            [program, "serve", EXAMPLES / "opening.itch", *login_words(port), "--count", "1"],
+            env={**os.environ, "LD_PRELOAD": str(shim), "FAIL": "setsockopt:1"}, capture_output=True, timeout=60)
+    yield from socket_failed_differs(done, port, "Input/output error (os error 5)")
+
+
+def a_full_output_is_a_failed_write(program):
+    line = b"itchsnap: write failed\n  standard output: No space left on device (os error 28)\n"
+    wanted = snapshot(program, EXAMPLES / "opening.itch")
+    with open("/dev/full", "wb") as full:
+        with Server(program, EXAMPLES / "opening.itch", 1) as server:
+            done = subprocess.run([program, "fetch", *login_words(server.port)], stdout=full, stderr=subprocess.PIPE, timeout=60)
+            if (done.returncode, done.stderr) != (3, line):
+                yield f"fetch ended with {done}"
+            yield from server.differences(f"accepted from 1, {messages(wanted)} packets")
+        with Server(program, EXAMPLES / "opening.itch", 1, stdout=full) as server:
+            yield from fetched_differs(fetch(program, server.port), wanted)
+            error = server.process.communicate(timeout=60)[1]
+            if (server.process.returncode, error) != (3, line):
+                yield f"serve ended with {server.process.returncode}, {error!r}"
+
+
+def only_127_0_0_1_is_listened_on(program):
+    with Server(program, EXAMPLES / "opening.itch", 1) as server:
+        for address in ("127.0.0.2", socket.gethostbyname(socket.gethostname())):
+            if address == "127.0.0.1":
+                continue
+            with contextlib.suppress(OSError), socket.create_connection((address, server.port), timeout=10):
+                yield f"{address} is listened on"
+        fetch(program, server.port)
 
 
 RUNS = [
@@ -263,5 +390,11 @@ RUNS = [
     a_server_that_is_not_there_is_a_failed_socket,
     a_server_that_ends_early_gives_nothing,
     a_peer_killed_in_mid_answer_ends_nothing_else,
-    a_slow_peer_holds_the_server_for_15_seconds,
+    a_client_that_goes_on_sending_has_the_whole_answer,
+    a_call_that_fails_ends_one_connection,
+    a_call_of_fetch_that_fails_is_told,
+    a_port_that_cannot_be_set_up_is_a_failed_socket,
+    a_full_output_is_a_failed_write,
+    only_127_0_0_1_is_listened_on,
+    slow_peers_hold_the_server_for_their_time,
 ]

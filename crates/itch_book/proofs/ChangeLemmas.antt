@@ -120,6 +120,7 @@ module _ (references : List (ℕ × ℕ)) (bids asks : List (Place × ℕ)) (w :
     asks_sorted = is.asks_sorted;
     levels = changed_levels;
     there = is.there;
+    placed = is.placed;
     apart = is.apart;
     named = λ j y h. by_node j y h
         (λ e same. subst (λ (z : Order). node_of references z.reference ≡ Some j) same (is.named k x here ∙ ap Some (eqb_is k j e)))

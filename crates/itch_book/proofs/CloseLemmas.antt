@@ -10,15 +10,12 @@ use Rattle.itch_book.specs.Links.{at_key}
 use Rattle.itch_book.specs.Queued.{Seen}
 use Rattle.itch_book.specs.Indexed.{Place, place_cmp, orders_in, line, joined, indexed, queue_of_side, is_there, has_keys, IsPlace, IsIndexed, IsBusy, IsBusyBut}
 use Rattle.itch_book.proofs.Lists.{by_test}
-use Rattle.itch_book.proofs.OrderLemmas.{lay_same_levels, same_side_self}
+use Rattle.itch_book.proofs.OrderLemmas.{lay_same_levels}
 use Rattle.itch_book.proofs.LinkLemmas.{eqb_itself, eqb_is}
 use Rattle.itch_book.proofs.QueueSteps.{none_some, same_some}
 use Rattle.itch_book.proofs.SoundSteps.{at_apart, at_same}
-use Rattle.itch_book.proofs.IndexLemmas.{line_at, level_both, place_self}
-use Rattle.itch_book.proofs.OpenLemmas.{there_is}
-
-is_there_self : (s : Side) (l p : ℕ) → is_there s l p s l p ≡ true
-is_there_self s l p = let a = same_side_self s in let b = place_self (l, p) in simp (a, b) refl
+use Rattle.itch_book.proofs.IndexLemmas.{line_at, level_both}
+use Rattle.itch_book.proofs.OpenLemmas.{there_is, is_there_self}
 
 there_at : (s0 : Side) (l0 p0 : ℕ) (s : Side) (l p : ℕ) → IsPlace s0 l0 p0 s l p → is_there s0 l0 p0 s l p ≡ true
 there_at s0 l0 p0 s l p is =
@@ -55,6 +52,12 @@ module _ (references : List (ℕ × ℕ)) (bids asks bids' asks' : List (Place �
       (λ e. none_some (placed_here s l p e) h)
       (λ e. let was : queue_of_side s bids asks l p ≡ Some q0 = sym (placed_else s l p e) ∙ h in old was (other_queue s l p q0 e was))
 
+  -- another queue has its price still
+  still_at : (s : Side) (l p q0 : ℕ) → eqb q q0 ≡ false → queue_of_side s bids asks l p ≡ Some q0 → queue_of_side s bids' asks' l p ≡ Some q0
+  still_at s l p q0 n h = by_test (is_there s0 l0 p0 s l p)
+      (λ e. absurd (false≢true (sym n ∙ subst (λ t. eqb q t ≡ true) (same_some (at_there s l p e) h) (eqb_itself q))))
+      (λ e. placed_else s l p e ∙ h)
+
   line_kept : (q0 : ℕ) → eqb q q0 ≡ false → line closed q0 ≡ line w q0
   line_kept q0 e = ap (orders_in w.orders) (at_apart q None w.keys q0 e)
 
@@ -88,6 +91,10 @@ module _ (references : List (ℕ × ℕ)) (bids asks bids' asks' : List (Place �
     asks_sorted = asks_sorted;
     levels = close_levels;
     there = λ s l p q0 h. by_place s l p q0 h (λ was e. subst IsSome (sym (at_apart q None w.keys q0 e)) (is.there s l p q0 was));
+    placed = λ q0 h. by_test (eqb q q0)
+        (λ e. absurd (false≢true (subst IsSome (at_same q None w.keys q0 e) h)))
+        (λ e. let was = is.placed q0 (subst IsSome (at_apart q None w.keys q0 e) h) in
+        record { side = was.side; locate = was.locate; price = was.price; at_price = still_at was.side was.locate was.price q0 e was.at_price });
     apart = λ s t l p m n q0 h k. by_place s l p q0 h (λ was e. by_place t m n q0 k (λ was2 e2. is.apart s t l p m n q0 was was2));
     named = is.named;
     known = λ r j h. let was = is.known r j h in record { order = was.order; there = was.there; reference = was.reference };
@@ -99,9 +106,7 @@ module _ (references : List (ℕ × ℕ)) (bids asks bids' asks' : List (Place �
         record {
           queue = was.queue;
           keys = was.keys;
-          at_price = by_test (is_there s0 l0 p0 y.side y.locate y.price)
-              (λ e. absurd (false≢true (sym other ∙ subst (λ t. eqb q t ≡ true) (same_some (at_there y.side y.locate y.price e) was.at_price) (eqb_itself q))))
-              (λ e. placed_else y.side y.locate y.price e ∙ was.at_price);
+          at_price = still_at y.side y.locate y.price was.queue other was.at_price;
           keys_are = at_apart q None w.keys was.queue other ∙ was.keys_are;
           member = was.member;
         };

@@ -128,6 +128,7 @@ module _ (references references' : List (ℕ × ℕ)) (bids asks : List (Place �
     asks_sorted = is.asks_sorted;
     levels = cut_levels;
     there = λ s l p q h. some_mapped (w.keys q) (is.there s l p q h);
+    placed = λ q h. is.placed q (some_was (w.keys q) h);
     apart = is.apart;
     named = λ j y h. let was = kept j y h in
         let name = is.named j y was.0 in
@@ -161,6 +162,10 @@ module _ (references references' : List (ℕ × ℕ)) (bids asks : List (Place �
       some_mapped : (o : Option (List ℕ)) → IsSome o → IsSome (option_map (without_key k) o)
       some_mapped None h = h
       some_mapped (Some ks) h = refl
+
+      some_was : (o : Option (List ℕ)) → IsSome (option_map (without_key k) o) → IsSome o
+      some_was None h = h
+      some_was (Some ks) h = refl
 
       by_keys : (q : ℕ) (js : List ℕ) (j : ℕ) (o : Option (List ℕ)) → w.keys q ≡ o → option_map (without_key k) o ≡ Some js → In j js → IsSome (cut.orders j)
       by_keys q js j None e h i = none_some refl h

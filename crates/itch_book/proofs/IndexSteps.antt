@@ -1,5 +1,5 @@
 -- What is read off an index.
-use Rattle.std.proofs.Common.{◌≡◌, ℕ, ◌&&◌, Bool, true, false, not, List, [], ◌∷◌, ◌++◌, length, filter, find, get_or, Option, Some, None, refl, sym, ap, ◌∙◌, subst, arith}
+use Rattle.std.proofs.Common.{◌≡◌, ℕ, ◌&&◌, Bool, true, false, not, List, [], ◌∷◌, ◌++◌, length, filter, find, get_or, Option, Some, None, IsSome, refl, sym, ap, ◌∙◌, subst, arith}
 use Rattle.std.specs.List.{AllByRecursion}
 use Rattle.std.specs.List.Sorted.{IsStrictlySortedBy}
 use Rattle.itch_book.proofs.BookLemmas.{IsBook-lay}
@@ -168,6 +168,7 @@ empty_index v vacant none = record {
   asks_sorted = tt;
   levels = λ s l p q h. no_queue s l p q h;
   there = λ s l p q h. no_queue s l p q h;
+  placed = λ q h. absurd (false≢true (subst IsSome (none q) h));
   apart = λ s t l p m n q h k. no_queue s l p q h;
   named = λ k x h. none_some (vacant k) h;
   known = λ r k h. absurd (let no_one : ⊥ = cc in no_one);

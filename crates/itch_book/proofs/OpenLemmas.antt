@@ -14,11 +14,11 @@ use Rattle.std.proofs.Common.{get_or}
 use Rattle.itch_book.specs.Queued.{Queued, Seen, seen}
 use Rattle.itch_book.specs.Indexed.{Place, place_cmp, orders_in, line, joined, indexed, queue_of_side, is_there, node_of, has_keys, IsPlace, IsIndexed, IsBusy, IsBusyBut}
 use Rattle.itch_book.proofs.Lists.{by_test}
-use Rattle.itch_book.proofs.OrderLemmas.{lay_same_levels, same_side_is}
+use Rattle.itch_book.proofs.OrderLemmas.{lay_same_levels, same_side_self, same_side_is}
 use Rattle.itch_book.proofs.LinkLemmas.{eqb_itself, eqb_is}
 use Rattle.itch_book.proofs.QueueSteps.{none_some, same_some}
 use Rattle.itch_book.proofs.SoundSteps.{at_apart, at_same}
-use Rattle.itch_book.proofs.IndexLemmas.{line_at, level_both, place_is}
+use Rattle.itch_book.proofs.IndexLemmas.{line_at, level_both, place_self, place_is}
 
 pub there_is : (s0 : Side) (l0 p0 : ℕ) (s : Side) (l p : ℕ) → is_there s0 l0 p0 s l p ≡ true → IsPlace s0 l0 p0 s l p
 there_is s0 l0 p0 s l p h =
@@ -27,6 +27,9 @@ there_is s0 l0 p0 s l p h =
     let is = place_is (l0, p0) (l, p) it in
     (same_side_is s0 s e, ap (λ (a : Place). a.0) is, ap (λ (a : Place). a.1) is))
     (λ e. let no : false ≡ true = simp e at h in absurd (false≢true no))
+
+pub is_there_self : (s : Side) (l p : ℕ) → is_there s l p s l p ≡ true
+is_there_self s l p = let a = same_side_self s in let b = place_self (l, p) in simp (a, b) refl
 
 module _ (references : List (ℕ × ℕ)) (bids asks bids' asks' : List (Place × ℕ)) (w : Seen) (is : IsIndexed references bids asks w) (s0 : Side) (l0 p0 q : ℕ)
     (bids_sorted : IsStrictlySortedBy place_cmp (keys_of bids')) (asks_sorted : IsStrictlySortedBy place_cmp (keys_of asks'))
@@ -46,6 +49,10 @@ module _ (references : List (ℕ × ℕ)) (bids asks bids' asks' : List (Place �
 
   placed_else : (s : Side) (l p : ℕ) → is_there s0 l0 p0 s l p ≡ false → queue_of_side s bids' asks' l p ≡ queue_of_side s bids asks l p
   placed_else s l p h = placed s l p ∙ simp h refl
+
+  -- a price that had a queue has it still
+  still_at : (s : Side) (l p q0 : ℕ) → queue_of_side s bids asks l p ≡ Some q0 → queue_of_side s bids' asks' l p ≡ Some q0
+  still_at s l p q0 h = by_test (is_there s0 l0 p0 s l p) (λ e. none_some (none_there s l p e) h) (λ e. placed_else s l p e ∙ h)
 
   -- the new key is none that was there
   other_key : (q0 : ℕ) → IsSome (w.keys q0) → eqb q q0 ≡ false
@@ -95,6 +102,10 @@ module _ (references : List (ℕ × ℕ)) (bids asks bids' asks' : List (Place �
     there = λ s l p q0 h. by_place s l p q0 h
         (λ same e. subst IsSome (sym (at_same q (Some []) w.keys q0 (subst (λ t. eqb q t ≡ true) same (eqb_itself q)))) refl)
         (λ was e. let old = is.there s l p q0 was in subst IsSome (sym (at_apart q (Some []) w.keys q0 (other_key q0 old))) old);
+    placed = λ q0 h. by_test (eqb q q0)
+        (λ e. record { side = s0; locate = l0; price = p0; at_price = placed_here s0 l0 p0 (is_there_self s0 l0 p0) ∙ ap Some (eqb_is q q0 e) })
+        (λ e. let was = is.placed q0 (subst IsSome (at_apart q (Some []) w.keys q0 e) h) in
+        record { side = was.side; locate = was.locate; price = was.price; at_price = still_at was.side was.locate was.price q0 was.at_price });
     apart = λ s t l p m n q0 h k. by_place s l p q0 h
         (λ same e. by_place t m n q0 k
         (λ same2 e2. let a = there_is s0 l0 p0 s l p e in let b = there_is s0 l0 p0 t m n e2 in (sym a.0 ∙ b.0, sym a.1 ∙ b.1, sym a.2 ∙ b.2))
@@ -109,9 +120,7 @@ module _ (references : List (ℕ × ℕ)) (bids asks bids' asks' : List (Place �
         record {
           queue = was.queue;
           keys = was.keys;
-          at_price = by_test (is_there s0 l0 p0 y.side y.locate y.price)
-              (λ e. none_some (none_there y.side y.locate y.price e) was.at_price)
-              (λ e. placed_else y.side y.locate y.price e ∙ was.at_price);
+          at_price = still_at y.side y.locate y.price was.queue was.at_price;
           keys_are = at_apart q (Some []) w.keys was.queue (other_key was.queue some) ∙ was.keys_are;
           member = was.member;
         };
@@ -145,6 +154,7 @@ reordered references references' bids asks w same len is = record {
   asks_sorted = is.asks_sorted;
   levels = is.levels;
   there = is.there;
+  placed = is.placed;
   apart = is.apart;
   named = λ k x h. same x.reference ∙ is.named k x h;
   known = λ r k h. is.known r k (sym (same r) ∙ h);

@@ -131,6 +131,9 @@ module _ (references references' : List (ℕ × ℕ)) (bids asks : List (Place �
     there = λ s l p q0 h. by_test (eqb q q0)
         (λ e. subst IsSome (sym (at_same q (Some (ks ++ k ∷ [])) w.keys q0 e)) refl)
         (λ e. subst IsSome (sym (at_apart q (Some (ks ++ k ∷ [])) w.keys q0 e)) (is.there s l p q0 h));
+    placed = λ q0 h. is.placed q0 (by_test (eqb q q0)
+        (λ e. subst IsSome (ap w.keys (eqb_is q q0 e)) (subst IsSome (sym keys) refl))
+        (λ e. subst IsSome (at_apart q (Some (ks ++ k ∷ [])) w.keys q0 e) h));
     apart = is.apart;
     named = λ j y h. by_test (eqb k j)
         (λ e. let one : x ≡ y = same_some (at_same k (Some x) w.orders j e) h in

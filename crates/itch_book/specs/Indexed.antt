@@ -69,11 +69,18 @@ pub record IsKnown (v : Seen) (k r : ℕ) : Type 0 where
   pub there : v.orders k ≡ Some order
   pub reference : order.reference ≡ r
 
+-- a queue is that of a price
+pub record IsPlaced (bids asks : List (Place × ℕ)) (q : ℕ) : Type 0 where
+  pub side : Side
+  pub locate : ℕ
+  pub price : ℕ
+  pub at_price : queue_of_side side bids asks locate price ≡ Some q
+
 -- the one side and place are the other
 abbrev pub IsPlace : Side → ℕ → ℕ → Side → ℕ → ℕ → Type 0
 IsPlace s l p t m n = (s ≡ t) × (l ≡ m) × (p ≡ n)
 
--- references lead to the nodes, and prices to the queues
+-- references lead to the nodes, and prices to the queues, each of which is that of a price
 pub record IsIndexed (references : List (ℕ × ℕ)) (bids asks : List (Place × ℕ)) (v : Seen) : Type 0 where
   pub book : IsBook (indexed v bids asks)
   pub live : (k : ℕ) (x : Order) → v.orders k ≡ Some x → IsLive x
@@ -82,6 +89,7 @@ pub record IsIndexed (references : List (ℕ × ℕ)) (bids asks : List (Place �
   pub asks_sorted : IsStrictlySortedBy place_cmp (keys_of asks)
   pub levels : (s : Side) (l p q : ℕ) → queue_of_side s bids asks l p ≡ Some q → AllByRecursion (λ x. is_level l s p x ≡ true) (line v q)
   pub there : (s : Side) (l p q : ℕ) → queue_of_side s bids asks l p ≡ Some q → IsSome (v.keys q)
+  pub placed : (q : ℕ) → IsSome (v.keys q) → IsPlaced bids asks q
   pub apart : (s t : Side) (l p m n q : ℕ) → queue_of_side s bids asks l p ≡ Some q → queue_of_side t bids asks m n ≡ Some q → IsPlace s l p t m n
   pub named : (k : ℕ) (x : Order) → v.orders k ≡ Some x → node_of references x.reference ≡ Some k
   pub known : (r k : ℕ) → node_of references r ≡ Some k → IsKnown v k r

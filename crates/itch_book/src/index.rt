@@ -275,8 +275,7 @@ fn close_empty<A: Allocator + Copy>(
     if queues.first(queue).is_some() {
         return;
     }
-    queues.close(queue);
-    prices.remove_level(locate, side, price);
+    prices.close_level(queues, queue, locate, side, price);
 }
 
 // Takes out the order of a reference, and its queue with the last of it.

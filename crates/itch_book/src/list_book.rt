@@ -1,5 +1,6 @@
 //! A book that is one list.
-ghost use Rattle.itch_book.specs.Orders.{IsBook};
+ghost use Rattle.std.specs.Prelude.{◌≡◌, ◌<◌, None, IsSome, IsOk, OnOk, OnErr, vec_len, vec_capacity};
+ghost use Rattle.itch_book.specs.Orders.{IsBook, get, lay, added, replaced};
 ghost use Rattle.itch_book.specs.BookLists.{IsBook-prop};
 
 use crate::book::OrderBook;
@@ -59,7 +60,13 @@ impl<A: Allocator + Copy> OrderBook for ListBook<A> {
         total_at(&self.orders, locate, side, price)
     }
 
-    fn add(&mut self, order: Order) -> Result<(), AllocError> {
+    fn add(&mut self, order: Order) -> Result<(), AllocError>
+        requires some_shares { 0 < order.shares }
+        requires new_reference { get self.old.orders.items order.reference ≡ None }
+        ensures ok { OnOk result (self.new.orders.items ≡ lay (added order self.old.orders.items)) }
+        ensures err { OnErr result (self.new.orders.items ≡ self.old.orders.items) }
+        ensures room { vec_len self.old.orders < vec_capacity self.old.orders → IsOk result }
+    {
         put_in(&mut self.orders, order)
     }
 
@@ -71,13 +78,20 @@ impl<A: Allocator + Copy> OrderBook for ListBook<A> {
         take_out(&mut self.orders, reference)
     }
 
+    // The order that is taken out leaves room, so memory is never refused.
     fn replace(
         &mut self,
         original: u64,
         reference: u64,
         shares: u32,
         price: u32,
-    ) -> Result<(), AllocError> {
+    ) -> Result<(), AllocError>
+        requires live { IsSome (get self.old.orders.items original) }
+        requires some_shares { 0 < shares }
+        requires new_reference { get self.old.orders.items reference ≡ None }
+        ensures ok { IsOk result }
+        ensures orders { self.new.orders.items ≡ lay (replaced original reference shares price self.old.orders.items) }
+    {
         exchange(&mut self.orders, original, reference, shares, price);
         Ok(())
     }

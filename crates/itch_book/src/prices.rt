@@ -6,7 +6,8 @@ ghost use Rattle.std.specs.BTreeMap.{is_at};
 ghost use Rattle.std.specs.Map.Iter.{deref_pair};
 ghost use Rattle.itch_codec.specs.declared.orders.Side.{Side};
 ghost use Rattle.itch_codec.specs.declared.orders.Side.TheVariants.{Buy, Sell};
-ghost use Rattle.itch_book.specs.Queued.{Opens};
+ghost use Rattle.itch_book.specs.Links.{at_key};
+ghost use Rattle.itch_book.specs.Queued.{Opens, keys_at};
 ghost use Rattle.itch_book.specs.Indexed.{queue_at as on_side, queue_of_side, is_there, place_cmp, IsNextOr, level_entry};
 
 use crate::queues::Queues;
@@ -85,12 +86,23 @@ impl<A: Allocator + Copy> Prices<A> {
         }
     }
 
-    /// Takes the queue from a price of a side.
-    pub(crate) fn remove_level(&mut self, locate: u16, side: Side, price: u32)
+    /// Takes an empty queue from a price of a side, and closes it.
+    pub(crate) fn close_level(
+        &mut self,
+        queues: &mut Queues<A>,
+        queue: usize,
+        locate: u16,
+        side: Side,
+        price: u32,
+    )
+        requires { keys_at queues.old queue ≡ Some [] }
+        ensures keys { (q : ℕ) → keys_at queues.new q ≡ at_key queue None (keys_at queues.old) q }
+        ensures orders { queues.new.orders ≡ queues.old.orders }
         ensures placed { (s : Side) → (l p : ℕ) → queue_of_side s self.new.bids.entries self.new.asks.entries l p ≡ cond (is_there side locate price s l p) None (queue_of_side s self.old.bids.entries self.old.asks.entries l p) }
         ensures bids_sorted { IsStrictlySortedBy place_cmp (keys_of self.old.bids.entries) → IsStrictlySortedBy place_cmp (keys_of self.new.bids.entries) }
         ensures asks_sorted { IsStrictlySortedBy place_cmp (keys_of self.old.asks.entries) → IsStrictlySortedBy place_cmp (keys_of self.new.asks.entries) }
     {
+        queues.close(queue);
         match side {
             Side::Buy => remove_on(&mut self.bids, locate, price),
             Side::Sell => remove_on(&mut self.asks, locate, price),

@@ -2,7 +2,7 @@
 //!
 //! [`decode`] makes a [`Message`] of a payload, or returns its first fault; [`encode`] spells a message. What is decoded and
 //! encoded again is the same bytes, but for the padding of End of Snapshot. Types that are not decoded are kept whole, as
-//! [`Undecoded`]. Nothing here takes memory, but for [`show`], a message as a line of text.
+//! [`Undecoded`]. [`show`] makes a line of text of a message. Nothing here takes memory but [`line`], which makes that line a string.
 //!
 //! A value that exists is valid: an [`Alpha`] is printable, a [`Seq`] is from 1 to 10^19, a [`Stamp`] fits its six bytes.
 //! `laws` has what holds of every payload and every message.

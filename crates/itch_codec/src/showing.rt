@@ -38,7 +38,7 @@ impl LineText {
     }
 }
 
-/// The line of a message: its number, the letter of its type, and its fields in the order of its layout, parted by one space.
+/// The line of a message: its number, the letter of its type, and its fields in the order of its layout, separated by one space.
 ///
 /// Integers are decimal, prices have their four decimals, texts stand in square brackets without the spaces at their end,
 /// sides are `B` or `S`, and codes are lower-case hexadecimal, two digits a byte. A message of a type that is not decoded is
@@ -54,7 +54,7 @@ pub fn show(number: u64, message: &Message<'_>) -> LineText
     LineText { text }
 }
 
-/// The same line as a string of its own. The error is want of memory.
+/// The same line as a string of its own. The error is that memory ran out.
 pub fn line<A: Allocator>(
     alloc: A,
     number: u64,

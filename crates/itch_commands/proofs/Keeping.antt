@@ -81,13 +81,13 @@ module _ (old mid new : Option (List ℕ)) (load : Load) (count : ℕ) (kept : L
       let going = message_read empty old mid new load.taken load.market n so_far.going step in
       inl (going.payloads, n, going.takes, omega (arith, going.counted), subst (λ c. c ≤ 10 ^ 19 - 1) (sym going.counted) going.few)
   kept_refused tool.OutOfMemory n more (Some next, step) = inr (next, n, end_read empty old mid new load.taken load.market n next so_far.going step)
-  kept_refused tool.Open n more h = absurd h
+  kept_refused (tool.Open file error) n more h = absurd h
   kept_refused tool.BadUser n more h = absurd h
   kept_refused tool.BadPassword n more h = absurd h
   kept_refused tool.BadLocates n more h = absurd h
   kept_refused tool.TooMany n more h = absurd h
   kept_refused (tool.Soup fault) n more h = absurd h
-  kept_refused tool.Socket n more h = absurd h
+  kept_refused (tool.Socket error) n more h = absurd h
 
 -- what is kept is the file, where its input is at its end
 known_alone : (a b : Option (List ℕ)) (kept closed : List ℕ) (canonical : Bool) → Consumes a b kept → IsAtEnd b → ((canonical ≡ true) ↔ (kept ≡ closed)) → IfSome a (λ bytes. (canonical ≡ true) ↔ (bytes ≡ closed))
@@ -132,13 +132,13 @@ module _ {R : Type 0} (remaining : R → Option (List ℕ)) (failures : R → Fa
   refused_before new tool.UnknownLocate n kept h counts = absurd h
   refused_before new (tool.Write error) n kept h counts = absurd h
   refused_before new tool.OutOfMemory n kept room counts = (room, counts)
-  refused_before new tool.Open n kept h counts = absurd h
+  refused_before new (tool.Open file error) n kept h counts = absurd h
   refused_before new tool.BadUser n kept h counts = absurd h
   refused_before new tool.BadPassword n kept h counts = absurd h
   refused_before new tool.BadLocates n kept h counts = absurd h
   refused_before new tool.TooMany n kept h counts = absurd h
   refused_before new (tool.Soup fault) n kept h counts = absurd h
-  refused_before new tool.Socket n kept h counts = absurd h
+  refused_before new (tool.Socket error) n kept h counts = absurd h
 
   module _ (mid new : Reading R) (n : Content) (next : ℕ) (kept : List ℕ) (reads : KeepsAll (bytes_left remaining old) (bytes_left remaining mid) (Ok next) n kept)
       (uncounted : failures mid.reader ≡ failures old.reader) where
@@ -153,13 +153,13 @@ module _ {R : Type 0} (remaining : R → Option (List ℕ)) (failures : R → Fa
     refused_after tool.UnknownLocate h counts = absurd h
     refused_after (tool.Write error) h counts = absurd h
     refused_after tool.OutOfMemory h counts = absurd h
-    refused_after tool.Open h counts = absurd h
+    refused_after (tool.Open file error) h counts = absurd h
     refused_after tool.BadUser h counts = absurd h
     refused_after tool.BadPassword h counts = absurd h
     refused_after tool.BadLocates h counts = absurd h
     refused_after tool.TooMany h counts = absurd h
     refused_after (tool.Soup fault) h counts = absurd h
-    refused_after tool.Socket h counts = absurd h
+    refused_after (tool.Socket error) h counts = absurd h
 
     -- or it was read
     file_read : ReadsEnd (bytes_left remaining mid) (bytes_left remaining new) (Ok tt) → failures new.reader ≡ failures mid.reader → ReadsSnap remaining failures Only old new (Ok (n, next))

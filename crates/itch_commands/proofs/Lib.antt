@@ -6,6 +6,7 @@ pub mod Keeping
 pub mod Closings
 pub mod Comparisons
 pub mod AsRead
+pub mod SetReadings
 pub mod Seen
 pub mod Starting
 pub mod Deliveries

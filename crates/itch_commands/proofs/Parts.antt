@@ -116,13 +116,13 @@ module _ {R : Type 0} (remaining : R → Option (List ℕ)) (failures : R → Fa
         by_fault tool.UnknownLocate h counted leaves = absurd h
         by_fault (tool.Write error) h counted leaves = absurd h
         by_fault tool.OutOfMemory h counted leaves = absurd h
-        by_fault tool.Open h counted leaves = absurd h
+        by_fault (tool.Open file error) h counted leaves = absurd h
         by_fault tool.BadUser h counted leaves = absurd h
         by_fault tool.BadPassword h counted leaves = absurd h
         by_fault tool.BadLocates h counted leaves = absurd h
         by_fault tool.TooMany h counted leaves = absurd h
         by_fault (tool.Soup fault) h counted leaves = absurd h
-        by_fault tool.Socket h counted leaves = absurd h
+        by_fault (tool.Socket error) h counted leaves = absurd h
 
 module _ {W : Type 0} (contents : W → Option (List ℕ)) (failures : W → Failures) where
   -- what is written is what is made of what was read

@@ -141,12 +141,12 @@ module _ {R W : Type 0} (contents : W → Option (List ℕ)) (failures : W → F
       )
   shown_ends old mid new count out on out' (tool.Short k) shown (p, next, none) counts leaves = absurd none
   shown_ends old mid new count out on out' tool.OutOfMemory shown (p, next, none) counts leaves = absurd none
-  shown_ends old mid new count out on out' tool.Open shown (p, next, none) counts leaves = absurd none
+  shown_ends old mid new count out on out' (tool.Open file error) shown (p, next, none) counts leaves = absurd none
   shown_ends old mid new count out on out' tool.BadUser shown (p, next, none) counts leaves = absurd none
   shown_ends old mid new count out on out' tool.BadPassword shown (p, next, none) counts leaves = absurd none
   shown_ends old mid new count out on out' tool.BadLocates shown (p, next, none) counts leaves = absurd none
   shown_ends old mid new count out on out' tool.TooMany shown (p, next, none) counts leaves = absurd none
   shown_ends old mid new count out on out' (tool.Soup f) shown (p, next, none) counts leaves = absurd none
-  shown_ends old mid new count out on out' tool.Socket shown (p, next, none) counts leaves = absurd none
+  shown_ends old mid new count out on out' (tool.Socket error) shown (p, next, none) counts leaves = absurd none
   shown_ends old mid new count out on out' (tool.Snap file f) shown (p, next, none) counts leaves = absurd none
   shown_ends old mid new count out on out' tool.UnknownLocate shown (p, next, none) counts leaves = absurd none

@@ -2,6 +2,7 @@ pub mod Statuses
 pub mod Readings
 pub mod Outputs
 pub mod Canons
+pub mod Causes
 pub mod Showing
 pub mod Comparing
 pub mod Books

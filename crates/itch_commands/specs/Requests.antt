@@ -4,7 +4,8 @@ use Rattle.itch_frame.specs.Reading.{Reading}
 use Rattle.itch_frame.specs.declared.tally.Failures.{Failures}
 use Rattle.itch_market.specs.Wanted.{Wanted}
 use Rattle.itch_commands.specs.declared.fault.ToolFault.{ToolFault}
-use Rattle.itch_commands.specs.declared.fault.Source.TheVariants.{Only}
+use Rattle.itch_commands.specs.declared.fault.Source.{Source}
+use Rattle.itch_commands.specs.declared.fault.Source.TheVariants.{Only, Second, Snapshot}
 use Rattle.itch_commands.specs.declared.request.Request.{Request}
 use Rattle.itch_commands.specs.declared.request.Request.TheVariants.{Snap, Check, Show, Canon, Compare, Book, Join}
 use Rattle.itch_commands.specs.Readings.{ReadsDay, ReadsSnap}
@@ -13,15 +14,17 @@ use Rattle.itch_commands.specs.Showing.{Shows}
 use Rattle.itch_commands.specs.Outputs.{Outputs, ok_line_of, snapshot_in, closed_bytes}
 use Rattle.itch_commands.specs.Books.{ReadsListed, book_of}
 
--- the path of the file that a request reads, and of two that of the first; none where it is standard input
-abbrev pub file_of : Request → Option (List ℕ)
-file_of (Snap file after only) = option_map (λ path. path.now) file
-file_of (Check file) = option_map (λ path. path.now) file
-file_of (Show file) = option_map (λ path. path.now) file
-file_of (Canon file check) = option_map (λ path. path.now) file
-file_of (Book locate file) = option_map (λ path. path.now) file
-file_of (Compare first second) = option_map (λ path. path.now) first
-file_of (Join snapshot feed only) = option_map (λ path. path.now) snapshot
+-- the path of the file that a fault of a request names so; none where it is standard input
+abbrev pub file_of : Request → Source → Option (List ℕ)
+file_of (Snap file after only) source = option_map (λ path. path.now) file
+file_of (Check file) source = option_map (λ path. path.now) file
+file_of (Show file) source = option_map (λ path. path.now) file
+file_of (Canon file check) source = option_map (λ path. path.now) file
+file_of (Book locate file) source = option_map (λ path. path.now) file
+file_of (Compare first second) Second = option_map (λ path. path.now) second
+file_of (Compare first second) source = option_map (λ path. path.now) first
+file_of (Join snapshot feed only) Snapshot = option_map (λ path. path.now) snapshot
+file_of (Join snapshot feed only) source = option_map (λ path. path.now) feed
 
 -- the list of the locates that a request wants, where it is not all of them
 abbrev pub only_of : Request → Option (List ℕ)

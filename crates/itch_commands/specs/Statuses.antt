@@ -50,13 +50,13 @@ status_of (tool.Short count) = 1
 status_of tool.UnknownLocate = 1
 status_of (tool.Write error) = 3
 status_of tool.OutOfMemory = 4
-status_of tool.Open = 3
+status_of (tool.Open file error) = 3
 status_of tool.BadUser = 2
 status_of tool.BadPassword = 2
 status_of tool.BadLocates = 2
 status_of tool.TooMany = 1
 status_of (tool.Soup fault) = soup_status fault
-status_of tool.Socket = 3
+status_of (tool.Socket error) = 3
 
 -- a command that was performed: true is 0 and false is 1
 abbrev pub exit_status : Result Bool ToolFault → ℕ

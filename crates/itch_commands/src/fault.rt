@@ -35,7 +35,7 @@ impl fmt::Display for Source {
     }
 }
 
-/// Why a command failed. Only `Write` leaves output: a beginning of it.
+/// Why a command failed. `Write` leaves a beginning of the output; else only `show` and `serve` leave any, the lines before.
 ///
 /// `Display` gives the line for standard error, without its line feed, and takes no memory.
 #[derive(Debug, Drop)]
@@ -53,7 +53,7 @@ pub enum ToolFault {
     /// Memory was refused.
     OutOfMemory,
     /// A file cannot be opened.
-    Open,
+    Open { file: Source, error: io::Error },
     /// The user name is not 1 to 6 printable characters.
     BadUser,
     /// The password is not 1 to 10 printable characters.
@@ -65,7 +65,7 @@ pub enum ToolFault {
     /// A session ended without a snapshot.
     Soup(SoupFault),
     /// A socket was not bound, connected, accepted or set up.
-    Socket,
+    Socket(io::Error),
 }
 
 impl ToolFault {
@@ -77,12 +77,12 @@ impl ToolFault {
             ToolFault::Stopped { end, .. } => stop_status(&end.stop),
             ToolFault::Snap { fault, .. } => snapshot_status(fault),
             ToolFault::Short { .. } | ToolFault::UnknownLocate => 1,
-            ToolFault::Write(_) | ToolFault::Open => 3,
+            ToolFault::Write(_) | ToolFault::Open { .. } => 3,
             ToolFault::OutOfMemory => 4,
             ToolFault::BadUser | ToolFault::BadPassword | ToolFault::BadLocates => 2,
             ToolFault::TooMany => 1,
             ToolFault::Soup(fault) => soup_status(fault),
-            ToolFault::Socket => 3,
+            ToolFault::Socket(_) => 3,
         }
     }
 }
@@ -98,7 +98,7 @@ pub fn status(outcome: &Result<bool, ToolFault>) -> u8
     }
 }
 
-/// The fault of a call of the system: want of memory where the error says so, else another.
+/// The fault of a call of the system: `OutOfMemory` where the error says so, else `otherwise`.
 pub fn system_fault(error: io::Error, otherwise: ToolFault) -> ToolFault
     ensures memory { error_kind error ≡ ErrorKind.OutOfMemory → result ≡ ToolFault.OutOfMemory }
     ensures otherwise { error_kind error ≢ ErrorKind.OutOfMemory → result ≡ otherwise }
@@ -171,13 +171,13 @@ impl fmt::Display for ToolFault {
             ToolFault::UnknownLocate => f.write_str("unknown locate"),
             ToolFault::Write(_) => f.write_str("write failed"),
             ToolFault::OutOfMemory => f.write_str("out of memory"),
-            ToolFault::Open => f.write_str("cannot open"),
+            ToolFault::Open { .. } => f.write_str("cannot open"),
             ToolFault::BadUser => f.write_str("bad user"),
             ToolFault::BadPassword => f.write_str("bad password"),
             ToolFault::BadLocates => f.write_str("bad locate list"),
             ToolFault::TooMany => f.write_str("too many messages"),
             ToolFault::Soup(fault) => write_soup(fault, f),
-            ToolFault::Socket => f.write_str("socket failed"),
+            ToolFault::Socket(_) => f.write_str("socket failed"),
         }
     }
 }

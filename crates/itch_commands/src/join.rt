@@ -35,8 +35,8 @@ use std::alloc::Allocator;
 ///
 /// # Faults
 ///
-/// `Snap` for the snapshot, `Stopped` for the feed, with the count of the messages before; in both, want of memory at a message
-/// is the rule `OutOfMemory`. `TooMany` where the market has more than 10^19 - 1 messages. `OutOfMemory` where there is no
+/// `Snap` for the snapshot, `Stopped` for the feed, with the count of the messages before; in both, memory that runs out at
+/// a message is the rule `OutOfMemory`. `TooMany` where the market has more than 10^19 - 1 messages. `OutOfMemory` where there is no
 /// memory for a block of each file.
 pub fn join<R: CountedRead + Drop, S: CountedRead + Drop, A: Allocator + Copy, W: CountedWrite>(
     alloc: A,

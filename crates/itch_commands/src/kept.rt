@@ -18,7 +18,7 @@ use std::alloc::{AllocError, Allocator};
 
 /// Reads a snapshot file up to its End of Snapshot, of which the number is returned, and keeps the bytes that it reads.
 ///
-/// A message is taken before its bytes are kept, so that a fault of the file comes before want of memory for it.
+/// A message is taken before its bytes are kept, so that a fault of the file is returned before memory for them can run out.
 pub fn read_kept<R: CountedRead, C: Allocator, B: OrderBook, A: Allocator>(
     reader: &mut BlockReader<R, C>,
     loader: &mut SnapshotReader<B>,

@@ -1,7 +1,7 @@
 //! The commands over files: each is a public function over readers and a writer.
 //!
-//! A command has a module of its own, with two functions. One takes a reader of bytes and makes the reader of their blocks, for
-//! which it wants memory; the other, with `_blocks` in its name, takes the readers of blocks. Both return true, or false where
+//! A command has a module of its own, with two functions. One takes a reader of bytes and makes the reader of their blocks, which
+//! takes memory; the other, with `_blocks` in its name, takes the readers of blocks. Both return true, or false where
 //! `compare` finds two markets that differ and `canon` a file that is not canonical. A [`ToolFault`] says why a command failed,
 //! and has its line and the status that a program ends with.
 //!
@@ -16,6 +16,7 @@
 mod book;
 pub mod canon;
 mod canonical;
+mod cause;
 pub mod check;
 mod closed_pipe;
 pub mod compare;
@@ -23,6 +24,7 @@ mod fault;
 mod feed;
 pub mod join;
 mod kept;
+pub mod laws;
 pub mod levels;
 mod locates;
 mod performing;
@@ -34,6 +36,7 @@ mod start;
 mod writing;
 
 pub use book::Book;
+pub use cause::{Cause, Device};
 pub use closed_pipe::{ends_by_closed_pipe, final_status};
 pub use fault::{Source, ToolFault, status, system_fault};
 pub use locates::read_locates;

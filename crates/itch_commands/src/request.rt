@@ -2,6 +2,8 @@
 ghost use Rattle.std.specs.Prelude.{◌≡◌, ◌↔◌, Some, IsNone, IfSome, option_map, codes};
 ghost use Rattle.itch_commands.specs.Requests.{file_of, is_binary, only_of};
 
+use crate::fault::Source;
+
 /// What the program is asked to do. A file is the path of one, or none for standard input.
 #[derive(Clone, Copy, Debug, PartialEq, Eq)]
 pub enum Request<'a> {
@@ -43,9 +45,9 @@ pub enum Request<'a> {
 }
 
 impl<'a> Request<'a> {
-    /// The file that is read; of two the first.
-    pub fn file(&self) -> Option<&'a str>
-        ensures { option_map (λ path. path.now) result ≡ file_of self.now }
+    /// The path of the file that a fault names so, or none where it is standard input.
+    pub fn file(&self, source: Source) -> Option<&'a str>
+        ensures { option_map (λ path. path.now) result ≡ file_of self.now source }
     {
         match *self {
             Request::Snap { file, .. }
@@ -53,8 +55,14 @@ impl<'a> Request<'a> {
             | Request::Show { file }
             | Request::Canon { file, .. }
             | Request::Book { file, .. } => file,
-            Request::Compare { first, .. } => first,
-            Request::Join { snapshot, .. } => snapshot,
+            Request::Compare { first, second } => match source {
+                Source::Second => second,
+                _ => first,
+            },
+            Request::Join { snapshot, feed, .. } => match source {
+                Source::Snapshot => snapshot,
+                _ => feed,
+            },
         }
     }
 

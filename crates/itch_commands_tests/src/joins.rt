@@ -4,6 +4,7 @@ use super::blocks::*;
 use super::files::file;
 use crate::equal::same;
 use itch_commands::join::join;
+use itch_commands::laws;
 use itch_frame::testing::{FuseWriter, PieceReader};
 use itch_market::LocateSet;
 use std::alloc::Global;
@@ -69,6 +70,12 @@ const JOINED: [(&[&str], &[&str], &[&str]); 6] = [
         &[AAPL, BUY_1, END_4],
     ),
 ];
+
+#[test]
+fn the_laws_of_what_is_read_with_a_set() {
+    laws::reading_for_a_set();
+    laws::restricted_reading();
+}
 
 #[test]
 fn join_goes_on_after_a_snapshot(rt: HostRuntime) -> Result<(), Fail> {

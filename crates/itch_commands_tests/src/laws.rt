@@ -1,4 +1,4 @@
-//! Worked files for what snapshots are worth: equal bytes for equal markets and for no others, a snapshot replayed, a snapshot in
+//! Worked files for the laws of snapshots: equal bytes for equal markets and for no others, a snapshot replayed, a snapshot in
 //! place of the messages before it, and no more messages than the file has.
 
 use super::blocks::*;

@@ -137,14 +137,21 @@ fn every_fault_has_its_line_and_status(rt: HostRuntime) -> Result<(), Fail> {
         (ToolFault::Short { count: 3 }, "only 3 messages", 1),
         (ToolFault::Write(error), "write failed", 3),
         (ToolFault::OutOfMemory, "out of memory", 4),
-        (ToolFault::Open, "cannot open", 3),
+        (
+            ToolFault::Open {
+                file: Source::Second,
+                error,
+            },
+            "cannot open",
+            3,
+        ),
     ];
     for (fault, reason, wanted) in cases.iter() {
         let line = format!(in alloc; "itchsnap: {reason}")?;
         same(&rt, format!(in alloc; "{fault}")?.as_str(), line.as_str());
         same_in(&rt, reason, fault.status(), *wanted);
     }
-    same(&rt, status(&Err(ToolFault::Open)), 3);
+    same(&rt, status(&Err(ToolFault::Write(error))), 3);
     same(&rt, status(&Ok(true)), 0);
     same(&rt, status(&Ok(false)), 1);
     Ok(())
@@ -156,11 +163,16 @@ fn want_of_memory_has_its_own_fault(rt: HostRuntime) {
     let missing = io::Error::from(io::ErrorKind::NotFound);
     assert!(rt;
         matches!(
-            system_fault(refused, ToolFault::Open),
+            system_fault(refused, ToolFault::Socket(refused)),
             ToolFault::OutOfMemory
         )
     );
-    assert!(rt; matches!(system_fault(missing, ToolFault::Open), ToolFault::Open));
+    assert!(rt;
+        matches!(
+            system_fault(missing, ToolFault::Socket(missing)),
+            ToolFault::Socket(_)
+        )
+    );
 }
 
 #[test]

@@ -10,16 +10,16 @@ use crate::equal::{holds_in, same, same_in};
 use itch_book::OrderBook;
 use itch_codec::Seq;
 use itch_commands::{Book, ToolFault};
-use itch_frame::BlockReader;
 use itch_frame::testing::{FuseWriter, PieceReader};
+use itch_frame::{BlockReader, FrameFault};
 use itch_market::{Market, Refusal, replay};
-use itch_sessions::{Login, Patient, fetch, serve_on};
+use itch_sessions::{Listening, Login, Patient, fetch, serve_on, time_left};
 use itch_snapshot::{SnapFault, snapshot_len};
 use itch_soup::SoupFault;
 use std::alloc::{Alloc, Global};
 use std::cell::Cell;
 use std::io::{self, Read, Write};
-use std::net::{TcpListener, TcpStream};
+use std::net::{Net, Shutdown, TcpListener, TcpStream};
 use std::process::Abort;
 use std::rt::Clock;
 use std::test::Fail;
@@ -61,13 +61,16 @@ pub(super) const SNAPSHOT: &[u8] = b"\0\x0cS\0\0\0\0\0\0\0\0\0\0O\
 const NOTHING_FROM_1: &[u8] = b"\0\x1fA  ITCHSNAP                   1\0\x01Z";
 
 // Serves the market of the day. It is kept over any book, so that what owns it is proved once.
-pub(super) fn serve_day<R: Clock + Alloc + Abort, B: OrderBook>(
+pub(super) fn serve_day<R, B: OrderBook>(
     rt: &R,
     alloc: B::Alloc,
     listener: &TcpListener,
     count: u64,
     out: &mut FuseWriter,
-) -> Result<Result<bool, ToolFault>, Fail> {
+) -> Result<Result<bool, ToolFault>, Fail>
+where
+    R: Clock + Alloc + Abort + Net<Listener = TcpListener, Stream = TcpStream>,
+{
     let config = Login::new("user", "secret")?.config();
     let next = Seq::new(5).ok_or("a number")?;
     let mut reader = BlockReader::new(alloc, PieceReader::new(DAY, 64, None))?;
@@ -77,12 +80,23 @@ pub(super) fn serve_day<R: Clock + Alloc + Abort, B: OrderBook>(
     Ok(serve_on(rt, listener, &market, next, &config, count, out))
 }
 
-// Serves as many connections as clients have made, and returns their lines.
-pub(super) fn lines<R: Clock + AllocGlobal + Abort>(
+// A client that has said all that it says. A server waits for that before it closes the connection.
+pub(super) fn client<R: Net<Stream = TcpStream>>(
     rt: &R,
     listener: &TcpListener,
-    count: u64,
-) -> Result<Vec<u8>, Fail> {
+    says: &[u8],
+) -> Result<TcpStream, Fail> {
+    let mut client = TcpStream::connect(rt, listener.local_addr()?)?;
+    client.write_all(says)?;
+    client.shutdown(Shutdown::Write)?;
+    Ok(client)
+}
+
+// Serves as many connections as clients have made, and returns their lines.
+pub(super) fn lines<R>(rt: &R, listener: &TcpListener, count: u64) -> Result<Vec<u8>, Fail>
+where
+    R: Clock + AllocGlobal + Abort + Net<Listener = TcpListener, Stream = TcpStream>,
+{
     let alloc = rt.alloc();
     let mut out = FuseWriter::new(alloc, 4096, None);
     let served = serve_day::<R, Book<Global>>(rt, alloc, listener, count, &mut out)?;
@@ -93,13 +107,9 @@ pub(super) fn lines<R: Clock + AllocGlobal + Abort>(
 #[test]
 fn connections_are_served_in_turn(rt: HostRuntime) -> Result<(), Fail> {
     let listener = TcpListener::bind(&rt, "127.0.0.1:0")?;
-    let address = listener.local_addr()?;
-    let mut first = TcpStream::connect(&rt, address)?;
-    first.write_all(LOGIN_3)?;
-    let mut second = TcpStream::connect(&rt, address)?;
-    second.write_all(WRONG)?;
-    let mut third = TcpStream::connect(&rt, address)?;
-    third.write_all(b"\0\x01O")?;
+    let mut first = client(&rt, &listener, LOGIN_3)?;
+    let mut second = client(&rt, &listener, WRONG)?;
+    let mut third = client(&rt, &listener, b"\0\x01O")?;
     let written = lines(&rt, &listener, 3)?;
     same(
         &rt,
@@ -125,6 +135,7 @@ fn a_client_that_says_more_has_its_answer(rt: HostRuntime) -> Result<(), Fail> {
     client.write_all(b"\0\x01R")?;
     client.write_all(LOGIN_3)?;
     client.write_all(b"\0\x01R\0\x01R\0\0")?;
+    client.shutdown(Shutdown::Write)?;
     let written = lines(&rt, &listener, 1)?;
     same(
         &rt,
@@ -160,9 +171,9 @@ fn patience_ends_for_all_reads_together(rt: HostRuntime) -> Result<(), Fail> {
     let (stream, _) = listener.accept()?;
     client.write_all(b"12345")?;
     let clock = Ticking(Cell::new(0));
-    let mut patient = Patient::new(&stream, &clock, Duration::from_secs(15))?;
-    // The reads come after 4, 8, 12 and 16 seconds, and a byte is there for each.
-    for _ in 0..3 {
+    let mut patient = Patient::new(stream, &clock);
+    // The reads come at once and after 4, 8, 12 and 16 seconds, and a byte is there for each.
+    for _ in 0..4 {
         let mut byte = [0];
         same(&rt, patient.read(&mut byte)?, 1);
     }
@@ -173,6 +184,59 @@ fn patience_ends_for_all_reads_together(rt: HostRuntime) -> Result<(), Fail> {
             Err(io::ErrorKind::TimedOut)
         )
     );
+    Ok(())
+}
+
+#[test]
+fn patience_grows_with_what_was_taken(rt: HostRuntime) -> Result<(), Fail> {
+    let listener = TcpListener::bind(&rt, "127.0.0.1:0")?;
+    let _client = TcpStream::connect(&rt, listener.local_addr()?)?;
+    let (stream, _) = listener.accept()?;
+    let clock = Ticking(Cell::new(0));
+    let mut patient = Patient::new(stream, &clock);
+    // The writes come as the reads above. What the first takes is two seconds' worth, which the fifth write needs.
+    patient.write_all(&[0; 1 << 17])?;
+    for _ in 0..4 {
+        patient.write_all(&[0])?;
+    }
+    let late = patient.write(&[0]);
+    assert!(rt;
+        matches!(
+            late.map_err(|error| error.kind()),
+            Err(io::ErrorKind::TimedOut)
+        )
+    );
+    Ok(())
+}
+
+#[test]
+fn a_peer_has_15_seconds_and_one_for_64_kib(rt: HostRuntime) {
+    let rows = [
+        (0, 0, Some(15_000)),
+        (0, 14_999, Some(1)),
+        (0, 15_000, None),
+        (65_535, 15_000, None),
+        (65_536, 15_000, Some(1_000)),
+        (65_536, 16_000, None),
+        (131_072, 0, Some(17_000)),
+        (1 << 30, 16_398_999, Some(1)),
+        (1 << 30, 16_399_000, None),
+        (1 << 30, u64::MAX, None),
+    ];
+    for (taken, spent, left) in rows {
+        same_in(
+            &rt,
+            (taken, spent),
+            time_left(taken, Duration::from_millis(spent)),
+            left.map(Duration::from_millis),
+        );
+    }
+}
+
+#[test]
+fn a_port_that_is_listened_on_has_its_line(rt: HostRuntime) -> Result<(), Fail> {
+    let line = format!(in rt.alloc(); "{}", Listening(5100))?;
+    same(&rt, line.as_str(), "listening on 127.0.0.1:5100");
     Ok(())
 }
 
@@ -258,12 +322,35 @@ fn faults_of_sessions_have_their_line_and_status(rt: HostRuntime) -> Result<(), 
         place: 2,
         reason: Refusal::StockMismatch,
     };
+    let out_of_memory = SnapFault::Rule {
+        place: 2,
+        reason: Refusal::OutOfMemory,
+    };
+    let error = io::Error::from(io::ErrorKind::Other);
     let cases = [
         (ToolFault::BadUser, "bad user", 2),
         (ToolFault::BadPassword, "bad password", 2),
         (ToolFault::TooMany, "too many messages", 1),
-        (ToolFault::Socket, "socket failed", 3),
+        (ToolFault::Socket(error), "socket failed", 3),
+        (ToolFault::Soup(SoupFault::Rejected(b'A')), "rejected A", 1),
+        (ToolFault::Soup(SoupFault::Rejected(b'S')), "rejected S", 1),
+        (ToolFault::Soup(SoupFault::EndedEarly), "ended early", 1),
         (ToolFault::Soup(SoupFault::SecondLogin), "session fault", 1),
+        (
+            ToolFault::Soup(SoupFault::Frame(FrameFault::Read(error))),
+            "read failed",
+            3,
+        ),
+        (
+            ToolFault::Soup(SoupFault::Frame(FrameFault::Write { sent: 0, error })),
+            "write failed",
+            3,
+        ),
+        (
+            ToolFault::Soup(SoupFault::Snapshot(out_of_memory)),
+            "out of memory",
+            4,
+        ),
         (
             ToolFault::Soup(SoupFault::Snapshot(refused)),
             "session fault",

@@ -1,8 +1,8 @@
 //! What a command reads, a file or standard input, and how far it has read its files, shown on standard error.
 //!
 //! [`Opened`] is one of both. A [`Watched`] reader reads as the one inside it does. What passes through it is counted by a [`Tally`]:
-//! its bytes, and the messages that are whole by them. [`Progress`] sums up all files of a command, and renews its line with each
-//! 64 MiB.
+//! its bytes, and the messages that are whole by them. [`Progress`] sums up all files of a command, and updates its line
+//! every 64 MiB.
 //!
 //! ```
 //! let mut tally = Tally::new();
@@ -17,5 +17,5 @@ mod progress;
 mod tally;
 
 pub use opened::Opened;
-pub use progress::{Progress, Watched};
+pub use progress::{Amount, Progress, Watched};
 pub use tally::{Place, Tally};

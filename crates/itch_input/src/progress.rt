@@ -1,19 +1,44 @@
 //! How far a command has read its files, shown on standard error.
-ghost use Rattle.std.specs.Prelude.{◌≡◌, ◌↔◌, [], IsNone, IfSome};
+ghost use Rattle.std.specs.Prelude.{◌≡◌, ◌↔◌, [], take, IsNone, IfSome, IfOk};
+ghost use Rattle.std.specs.Io.{ReadsAtMost};
+ghost use Rattle.std.specs.Io.KnownBytes.{ReadConsumes};
 ghost use Rattle.itch_input.specs.Tallies.{Counts, CountsOn};
+ghost use Rattle.itch_input.specs.Watches.{Notes};
 
 use crate::tally::Tally;
 use std::cell::Cell;
+use std::fmt;
 use std::io::{self, Read};
 use std::rt::Clock;
-use std::time::Instant;
+use std::time::{Duration, Instant};
 
-/// The line is renewed whenever this many more bytes have been read: 64 MiB.
+/// The line is updated whenever this many more bytes have been read: 64 MiB.
 const STEP: u64 = 1 << 26;
+
+/// How much was read, and in how much time. `Display` gives the line of it.
+#[derive(Clone, Copy, Debug)]
+pub struct Amount {
+    pub bytes: u64,
+    pub messages: u64,
+    pub elapsed: Duration,
+}
+
+impl fmt::Display for Amount {
+    fn fmt<W: fmt::Write>(&self, f: &mut fmt::Formatter<W>) -> fmt::Result {
+        let Amount {
+            bytes,
+            messages,
+            ..
+        } = self;
+        // Bytes in a microsecond are megabytes in a second.
+        let rate = u128::from(*bytes) / self.elapsed.as_micros().max(1);
+        write!(f, "{bytes} bytes, {messages} messages, {rate:>5} MB/s")
+    }
+}
 
 /// What a command has read of all its files, and since when.
 ///
-/// A line on standard error is renewed with each 64 MiB, and ends where a file has been read to its end, or with the command.
+/// A line on standard error is updated every 64 MiB, and ends where a file has been read to its end, or with the command.
 /// What standard error does not take is left out.
 pub struct Progress<'a, R: Eprint> {
     rt: &'a R,
@@ -55,11 +80,12 @@ impl<'a, R: Eprint + Clock> Progress<'a, R> {
         let Ok(elapsed) = self.begun.elapsed(self.rt) else {
             return;
         };
-        let bytes = self.bytes.get();
-        let messages = self.messages.get();
-        // Bytes in a microsecond are megabytes in a second.
-        let rate = u128::from(bytes) / elapsed.as_micros().max(1);
-        let _ = eprint!(self.rt; "\r{bytes} bytes, {messages} messages, {rate:>5} MB/s");
+        let amount = Amount {
+            bytes: self.bytes.get(),
+            messages: self.messages.get(),
+            elapsed,
+        };
+        let _ = eprint!(self.rt; "\r{amount}");
         self.is_open.set(true);
     }
 }
@@ -112,7 +138,11 @@ impl<'a, T, R: Eprint> Watched<'a, T, R> {
 impl<T: Read, R: Eprint + Clock> Read for Watched<'_, T, R> {
     ghost remaining = { λ w. T.remaining w.inner };
 
-    fn read(&mut self, buf: &mut [u8]) -> io::Result<usize> {
+    fn read(&mut self, buf: &mut [u8]) -> io::Result<usize>
+        ensures bound { ReadsAtMost result buf.new }
+        ensures bytes { ReadConsumes (T.remaining self.old.inner) (T.remaining self.new.inner) result buf.new }
+        ensures watch { IfOk result (λ count. Notes self.old.watch (take count buf.new) self.new.watch) }
+    {
         let count = self.inner.read(buf)?;
         self.note(&buf[..count]);
         Ok(count)
@@ -122,7 +152,8 @@ impl<T: Read, R: Eprint + Clock> Read for Watched<'_, T, R> {
 impl<T, R: Eprint + Clock> Watched<'_, T, R> {
     // Shows the watch what was read.
     fn note(&mut self, piece: &[u8])
-        ensures { self.new.inner ≡ self.old.inner }
+        ensures inner { self.new.inner ≡ self.old.inner }
+        ensures watch { Notes self.old.watch piece.now self.new.watch }
     {
         if let Some(watch) = &mut self.watch {
             watch.pass(piece);

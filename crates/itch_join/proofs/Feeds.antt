@@ -9,7 +9,7 @@ use Rattle.itch_join.specs.declared.fault.Cause.{Cause}
 use Rattle.itch_join.specs.Rules.{Rules, AreLawful, after, run, first_bad, bad}
 
 module _ (R : Rules) where
-  positive : (m : Content) (F : List (List ℕ)) → 1 ≤ first_bad R m F
+  pub positive : (m : Content) (F : List (List ℕ)) → 1 ≤ first_bad R m F
   positive m [] = omega arith
   positive m (q ∷ F) = by_test (is_some (R.refused m q)) where
     by_test : (b : Bool) → 1 ≤ cond b 1 (first_bad R (R.effect m q) F + 1)

@@ -2,7 +2,6 @@
 use Rattle.std.proofs.Common.{◌≡◌, ℕ, ◌+◌, ◌-◌, ◌==◌, ◌<◌, ◌≤◌, nat_lt, nat_le, Bool, true, false, not, ◌&&◌, ◌||◌, cond, List, [], ◌∷◌, Option, Some, None, is_some, slice_get, Result, Ok, Err, refl, sym, ap, ◌∙◌, subst, arith, eqb, ◌⊎◌, inl, inr}
 use Rattle.std.specs.List.{AllByRecursion}
 use Rattle.std.specs.FinMap as map
-use Rattle.std.specs.Cmp.{nat_cmp_total}
 use Rattle.std.proofs.lemmas.Bool.Decides.{nat_tests}
 use Rattle.itch_codec.specs.Fields.{AreBytes}
 use Rattle.itch_market.specs.Content.{Content}
@@ -25,7 +24,7 @@ use Rattle.itch_join.specs.Applying.{Front, front_of, advanced, at_hand, EndsBy,
 use Rattle.itch_join.specs.Steps.{started, SnapEnds, snapshot_case, Call, CallLive, CallSnapshot, CallResume}
 use Rattle.itch_join.specs.Deliveries.{Event, is_taken, accepts, accepted, start_by, start_of, or_else, start, settling, by_fault, by_live_fault, or_last, settled}
 use Rattle.itch_join.specs.Stands.{is_from, IsBadAt, IsHaltedAt}
-use Rattle.itch_join.proofs.Maps.{get-from, len_within}
+use Rattle.itch_join.proofs.Maps.{get-from}
 use Rattle.itch_market.proofs.Maps.{get-insert}
 use Rattle.itch_join.proofs.Draining.{counted}
 use Rattle.itch_join.proofs.Feeds.{market_at, market_good, bad_here}
@@ -72,9 +71,8 @@ pub record IsPositioned (R : Rules) (feed : List (List ℕ)) (past : List Event)
   pub before : s.halt ≡ None → (i : ℕ) → first ≤ i → i < j.next → accepted i past ≡ true
   pub gap : s.halt ≡ None → settled past ≡ true → map.get s.wait j.next ≡ None
 
-pub record IsKeptUp (R : Rules) (cap : ℕ) (feed : List (List ℕ)) (past : List Event) (s : State) : Type 0 where
+pub record IsKeptUp (R : Rules) (feed : List (List ℕ)) (past : List Event) (s : State) : Type 0 where
   pub bytes : (i : ℕ) (p : List ℕ) → map.get s.wait i ≡ Some p → slice_get feed (i - 1) ≡ Some p
-  pub within : map.len s.wait ≤ cap
   pub was_taken : (i : ℕ) (p : List ℕ) → map.get s.wait i ≡ Some p → accepted i past ≡ true
   pub kept : s.halt ≡ None → (i : ℕ) → accepted i past ≡ true → is_from s.joined i ≡ true → is_some (map.get s.wait i) ≡ true
   pub placed : (j : Position) → s.joined ≡ Some j → IsPositioned R feed past s j
@@ -85,9 +83,9 @@ pub record IsKeptUp (R : Rules) (cap : ℕ) (feed : List (List ℕ)) (past : Lis
 abbrev pub then_call : State → Call → List Event → List Event
 then_call s call past = let x : Event = record { before = s; call = call } in x ∷ past
 
-module _ (R : Rules) (lawful : AreLawful R) (cap : ℕ) (feed : List (List ℕ)) (bytes : AllByRecursion AreBytes feed) where
+module _ (R : Rules) (lawful : AreLawful R) (feed : List (List ℕ)) (bytes : AllByRecursion AreBytes feed) where
   abbrev Keeps : List Event → State → Type 0
-  Keeps past s = IsKeptUp R cap feed past s
+  Keeps past s = IsKeptUp R feed past s
 
   -- a call after which the same waits at the same place
   pub stay : (past : List Event) (s : State) (call : Call) (h : HalfRead) → Keeps past s → HalfIsGood h → start_of R s call ≡ None
@@ -96,7 +94,6 @@ module _ (R : Rules) (lawful : AreLawful R) (cap : ℕ) (feed : List (List ℕ))
       → Keeps (then_call s call past) (record s { half = h })
   stay past s call h k fine starts accepting calm = record {
     bytes = k.bytes;
-    within = k.within;
     was_taken = λ i p there. or_right (accepts i call) (accepted i past) (k.was_taken i p there);
     kept = λ none i acc from. elim (or_cases (accepts i call) (accepted i past) acc) [
       | inl now ↦ k.kept none i (accepting i now from) from
@@ -128,7 +125,7 @@ module _ (R : Rules) (lawful : AreLawful R) (cap : ℕ) (feed : List (List ℕ))
 
   -- where applying has ended
   pub finish : (past : List Event) (s : State) (call : Call) (half : HalfRead) (taken : ℕ → Bool) (first : ℕ) (ending : Result (Unit {0}) Stopped) (b : Front)
-      → Ended R lawful cap feed bytes taken first ending b → HalfIsGood half → start R (then_call s call past) ≡ Some first
+      → Ended R lawful feed bytes taken first ending b → HalfIsGood half → start R (then_call s call past) ≡ Some first
       → ((i : ℕ) → b.next ≤ i → taken i ≡ true → accepted i (then_call s call past) ≡ true)
       → (halt_of ending b.next ≡ None → (i : ℕ) → taken i ≡ true → accepted i (then_call s call past) ≡ true)
       → ((i : ℕ) → accepted i (then_call s call past) ≡ true → taken i ≡ true)
@@ -151,7 +148,6 @@ module _ (R : Rules) (lawful : AreLawful R) (cap : ℕ) (feed : List (List ℕ))
       } in
       record {
         bytes = g.bytes;
-        within = g.within;
         was_taken = λ i p there. up i (g.low i p there) (g.was_taken i p there);
         kept = λ none i acc from. let low : b.next ≤ i = grind (arith, nat_tests) in g.kept i low (down i acc);
         placed = λ j is. let same : here ≡ j = cc in subst (IsPositioned R feed (then_call s call past) (standing half ending b)) same placed_here;
@@ -224,7 +220,6 @@ module _ (R : Rules) (lawful : AreLawful R) (cap : ℕ) (feed : List (List ℕ))
       subst (λ (f : Front). Keeps (then_call s call past) (standing s.half (Err (Refused cause)) f)) (sym same)
       (record {
         bytes = k.bytes;
-        within = k.within;
         was_taken = λ i p has. or_right (accepts i call) (accepted i past) (k.was_taken i p has);
         kept = λ halts. absurd (cc);
         placed = λ l at. let e : j ≡ l = cc in subst (IsPositioned R feed (then_call s call past) now) e placed_here;
@@ -260,7 +255,7 @@ module _ (R : Rules) (lawful : AreLawful R) (cap : ℕ) (feed : List (List ℕ))
       let same : payload ≡ p = cc in
       let here : slice_get feed (j.next - 1) ≡ Some p = subst (λ n. slice_get feed (n - 1) ≡ Some payload) is deliver ∙ ap Some same in
       let itself : (number == j.next) ≡ true = grind (arith, nat_tests) in
-      let start_front : Going R cap feed taken q.first (j.next + 1) (front_of s j) = record {
+      let start_front : Going R feed taken q.first (j.next + 1) (front_of s j) = record {
         bytes = k.bytes;
         low = q.low;
         was_taken = λ i x at. or_right (number == i) (accepted i past) (k.was_taken i x at);
@@ -269,15 +264,14 @@ module _ (R : Rules) (lawful : AreLawful R) (cap : ℕ) (feed : List (List ℕ))
           | inl eq ↦ let e : number ≡ i = grind (arith, nat_tests) in absurd (omega arith)
           | inr old ↦ k.kept none i old (ap (λ o. is_from o i) there ∙ (let up : nat_le j.next i ≡ true = grind (arith, nat_tests) in up))
         ];
-        within = k.within;
         positive = q.positive;
         from_first = q.from_first;
         to_bad = q.to_bad;
         good = q.good;
         market = q.market;
       } in
-      let moved_on = move R lawful cap feed bytes taken q.first (j.next + 1) (front_of s j) p start_front (omega arith) here (ap (λ t. t || accepted j.next past) itself) fine in
-      let ended = go_on R lawful cap feed bytes taken q.first (advanced R (front_of s j) p) b ps ending moved_on rest in
+      let moved_on = move R lawful feed bytes taken q.first (j.next + 1) (front_of s j) p start_front (omega arith) here (ap (λ t. t || accepted j.next past) itself) fine in
+      let ended = go_on R lawful feed bytes taken q.first (advanced R (front_of s j) p) b ps ending moved_on rest in
       let far = counted R (advanced R (front_of s j) p) b (at_hand (advanced R (front_of s j) p)) ps ending rest in
       finish past s call s.half taken q.first ending b ended k.half q.is_start
       (λ i lo was. elim (or_cases (number == i) (accepted i past) was) [
@@ -302,18 +296,15 @@ module _ (R : Rules) (lawful : AreLawful R) (cap : ℕ) (feed : List (List ℕ))
       answered has (Err NoMemory) next running = or_right has true refl
 
   -- the delivered message is stored
-  pub store_at : (past : List Event) (s : State) (number : ℕ) (payload : List ℕ) → Keeps past s → s.halt ≡ None → slice_get feed (number - 1) ≡ Some payload
-      → map.len s.wait < cap → is_some (map.get s.wait number) ≡ false → IsAbove s number
+  pub store_at : (past : List Event) (s : State) (number : ℕ) (payload : List ℕ) → Keeps past s → s.halt ≡ None → slice_get feed (number - 1) ≡ Some payload → IsAbove s number
       → Keeps (then_call s (CallLive number payload (Ok Kept)) past) (record s { wait = map.insert s.wait number payload })
-  store_at past s number payload k none deliver room free above =
+  store_at past s number payload k none deliver above =
       let call = CallLive number payload (Ok Kept) in
       let w : Wait = map.insert s.wait number payload in
       let now : State = record s { wait = w } in
       let at = get-insert s.wait number payload in
-      let longer : map.len w ≡ map.len s.wait + 1 = map.len-insert nat_cmp_total s.wait number payload ∙ ap (λ b. cond b (map.len s.wait) (map.len s.wait + 1)) free in
       record {
         bytes = λ i p has. by_key i p (eqb i number) refl (sym (at i) ∙ has) (λ e same. subst (λ n. slice_get feed (n - 1) ≡ Some p) (sym e) (deliver ∙ ap Some same)) (k.bytes i p);
-        within = omega arith;
         was_taken = λ i p has. by_key i p (eqb i number) refl (sym (at i) ∙ has)
             (λ e same. let is : (number == i) ≡ true = grind (arith, nat_tests) in ap (λ t. (t && true) || accepted i past) is)
             (λ old. or_right (accepts i call) (accepted i past) (k.was_taken i p old));
@@ -352,17 +343,15 @@ module _ (R : Rules) (lawful : AreLawful R) (cap : ℕ) (feed : List (List ℕ))
       → Applies R (started s next m) (at_hand (started s next m)) ps ending b
       → Keeps (then_call s (CallSnapshot payload (result_by snap.Joined true ending b.next)) past) (standing unread ending b)
   end_at past s payload next count m ps ending b k none apart half kind some low same applies =
-      let w : Wait = map.retain_keys s.wait (λ i. not (nat_lt i next)) in
       let at = get-from s.wait next in
       let call = CallSnapshot payload (result_by snap.Joined true ending b.next) in
-      let g : Going R cap feed (λ i. accepted i past) next next (started s next m) = record {
+      let g : Going R feed (λ i. accepted i past) next next (started s next m) = record {
         bytes = λ i p has. k.bytes i p (by_key i p (nat_lt i next) refl (sym (at i) ∙ has)).0;
         low = λ i p has. (by_key i p (nat_lt i next) refl (sym (at i) ∙ has)).1;
         was_taken = λ i p has. k.was_taken i p (by_key i p (nat_lt i next) refl (sym (at i) ∙ has)).0;
         before = λ i lo hi. absurd (omega arith);
         kept = λ i lo was. let off : nat_lt i next ≡ false = grind (arith, nat_tests) in
             ap is_some (at i ∙ ap (λ t. cond (not t) (map.get s.wait i) None) off) ∙ k.kept none i was (ap (λ o. is_from o i) apart);
-        within = let h : map.len w ≤ map.len s.wait = len_within s.wait w (λ q has. let x = some_is (map.get w q) has in ap is_some (by_key q x.0 (nat_lt q next) refl (sym (at q) ∙ x.1)).0) in let c = k.within in omega arith;
         positive = some;
         from_first = omega arith;
         to_bad = low;
@@ -370,7 +359,7 @@ module _ (R : Rules) (lawful : AreLawful R) (cap : ℕ) (feed : List (List ℕ))
         market = same;
       } in
       finish past s call unread (λ i. accepted i past) next ending b
-      (go_on R lawful cap feed bytes (λ i. accepted i past) next (started s next m) b ps ending g applies)
+      (go_on R lawful feed bytes (λ i. accepted i past) next (started s next m) b ps ending g applies)
       empty_good
       (ap (λ l. or_else (start_by l) (start R past)) kind)
       (λ i lo was. was)
@@ -388,13 +377,12 @@ module _ (R : Rules) (lawful : AreLawful R) (cap : ℕ) (feed : List (List ℕ))
       → Keeps (then_call s (CallResume (result_by Some false ending b.next)) past) (standing s.half ending b)
   resume_at past s j ps ending b k none there applies =
       let q = k.placed j there in
-      let g : Going R cap feed (λ i. accepted i past) q.first j.next (front_of s j) = record {
+      let g : Going R feed (λ i. accepted i past) q.first j.next (front_of s j) = record {
         bytes = k.bytes;
         low = q.low;
         was_taken = k.was_taken;
         before = q.before none;
         kept = λ i lo was. k.kept none i was (ap (λ o. is_from o i) there ∙ (let up : nat_le j.next i ≡ true = grind (arith, nat_tests) in up));
-        within = k.within;
         positive = q.positive;
         from_first = q.from_first;
         to_bad = q.to_bad;
@@ -402,7 +390,7 @@ module _ (R : Rules) (lawful : AreLawful R) (cap : ℕ) (feed : List (List ℕ))
         market = q.market;
       } in
       finish past s (CallResume (result_by Some false ending b.next)) s.half (λ i. accepted i past) q.first ending b
-      (go_on R lawful cap feed bytes (λ i. accepted i past) q.first (front_of s j) b ps ending g applies)
+      (go_on R lawful feed bytes (λ i. accepted i past) q.first (front_of s j) b ps ending g applies)
       k.half q.is_start
       (λ i lo was. was)
       (λ running i was. was)

@@ -8,8 +8,11 @@ pub mod Lawful
 pub mod Feeds
 pub mod Moving
 pub mod Cases
+pub mod Caps
 pub mod Keeping
 pub mod Standing
 pub mod WholeFeeds
 pub mod Premises
 pub mod Results
+pub mod RestrictedFeeds
+pub mod SetSnapshots

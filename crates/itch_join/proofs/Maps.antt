@@ -1,5 +1,5 @@
 -- Finite maps with numbers as keys: what is left where keys are dropped.
-use Rattle.std.proofs.Common.{T, is_lt, Less, true, ◌≡◌, ℕ, ◌-◌, ◌<◌, ◌≤◌, nat_lt, not, cond, List, [], ◌∷◌, length, Some, None, is_some, refl, sym, ap, ◌∙◌, nat_cmp, eqb, arith, map}
+use Rattle.std.proofs.Common.{T, is_lt, Less, Bool, true, false, ◌≡◌, ℕ, ◌-◌, ◌<◌, ◌≤◌, nat_lt, not, cond, List, [], ◌∷◌, length, Option, Some, None, is_some, refl, sym, ap, ◌∙◌, nat_cmp, eqb, arith, map}
 use Rattle.std.specs.Cmp.{nat_cmp_total, eq_by_cmp_equiv}
 use Rattle.std.specs.FinMap as finite
 use Rattle.std.specs.FinMap.{nat_cmp-IsAntisymmetric}
@@ -46,6 +46,20 @@ module _ {X : Type 0} where
       length-le_from_is_member laws (finite.keys n) (finite.keys m) (IsDistinct-from_sorted nat_cmp (finite.keys n) (keys_rise n))
       (λ q has. sym (finite.contains_key-keys m q) ∙ within q (finite.contains_key-keys n q ∙ has)) in
       omega (arith, finite.len-entries n, finite.len-entries m, length-map (λ (e : ℕ × X). e.0) (finite.entries n), length-map (λ (e : ℕ × X). e.0) (finite.entries m))
+
+  -- so is one without a key
+  pub len_removed : (m : finite.FinMap nat_cmp X) (k : ℕ) → finite.len (finite.remove m k) ≤ finite.len m
+  len_removed m k = len_within m (finite.remove m k) (λ q has. was_there (eqb q k) (finite.get m q) (ap is_some (sym (get-remove m k q)) ∙ has)) where
+    was_there : (b : Bool) (o : Option X) → is_some (cond b None o) ≡ true → is_some o ≡ true
+    was_there true o has = cc
+    was_there false o has = has
+
+  -- and one without the keys below a number
+  pub len_from : (m : finite.FinMap nat_cmp X) (n : ℕ) → finite.len (finite.retain_keys m (λ i. not (nat_lt i n))) ≤ finite.len m
+  len_from m n = len_within m (finite.retain_keys m (λ i. not (nat_lt i n))) (λ q has. was_there (nat_lt q n) (finite.get m q) (ap is_some (sym (get-from m n q)) ∙ has)) where
+    was_there : (b : Bool) (o : Option X) → is_some (cond (not b) o None) ≡ true → is_some o ≡ true
+    was_there true o has = cc
+    was_there false o has = has
 
   -- to take out a key that is there makes a map shorter
   pub len_less : (m : finite.FinMap nat_cmp X) (k : ℕ) (x : X) → finite.get m k ≡ Some x → finite.len (finite.remove m k) < finite.len m

@@ -14,7 +14,7 @@ use Rattle.itch_join.specs.declared.state.Stopped.{Stopped}
 use Rattle.itch_join.specs.Rules.{Rules, AreLawful, bad}
 use Rattle.itch_join.specs.States.{Wait}
 use Rattle.itch_join.specs.Applying.{Front, advanced, at_hand, EndsBy, Applies}
-use Rattle.itch_join.proofs.Maps.{get-remove, len_within}
+use Rattle.itch_join.proofs.Maps.{get-remove}
 use Rattle.itch_join.proofs.Feeds.{market_at, market_next, bad_next, market_good, bytes_at}
 
 -- what is left of a map without a key
@@ -35,26 +35,22 @@ pub some_is : {A : Type 0} (o : Option A) → is_some o ≡ true → (x : A) × 
 some_is None h = absurd (cc)
 some_is (Some x) h = (x, refl)
 
-removed_len : (w : Wait) (k : ℕ) → map.len (map.remove w k) ≤ map.len w
-removed_len w k = len_within w (map.remove w k) (λ q has. let x = some_is (map.get (map.remove w k) q) has in ap is_some (left w k q x.0 x.1).there)
-
-pub record Going (R : Rules) (cap : ℕ) (feed : List (List ℕ)) (taken : ℕ → Bool) (first from : ℕ) (a : Front) : Type 0 where
+pub record Going (R : Rules) (feed : List (List ℕ)) (taken : ℕ → Bool) (first from : ℕ) (a : Front) : Type 0 where
   pub bytes : (i : ℕ) (p : List ℕ) → map.get a.wait i ≡ Some p → slice_get feed (i - 1) ≡ Some p
   pub low : (i : ℕ) (p : List ℕ) → map.get a.wait i ≡ Some p → a.next ≤ i
   pub was_taken : (i : ℕ) (p : List ℕ) → map.get a.wait i ≡ Some p → taken i ≡ true
   pub before : (i : ℕ) → first ≤ i → i < a.next → taken i ≡ true
   pub kept : (i : ℕ) → from ≤ i → taken i ≡ true → is_some (map.get a.wait i) ≡ true
-  pub within : map.len a.wait ≤ cap
   pub positive : 0 < first
   pub from_first : first ≤ a.next
   pub to_bad : a.next ≤ bad R feed
   pub good : IsGood a.market
   pub market : Same a.market (market_at R feed a.next)
 
-module _ (R : Rules) (lawful : AreLawful R) (cap : ℕ) (feed : List (List ℕ)) (bytes : AllByRecursion AreBytes feed) where
+module _ (R : Rules) (lawful : AreLawful R) (feed : List (List ℕ)) (bytes : AllByRecursion AreBytes feed) where
   -- one message is applied
-  pub move : (taken : ℕ → Bool) (first from : ℕ) (a : Front) (p : List ℕ) → Going R cap feed taken first from a → from ≤ a.next + 1 → slice_get feed (a.next - 1) ≡ Some p
-      → taken a.next ≡ true → R.refused a.market p ≡ None → Going R cap feed taken first (a.next + 1) (advanced R a p)
+  pub move : (taken : ℕ → Bool) (first from : ℕ) (a : Front) (p : List ℕ) → Going R feed taken first from a → from ≤ a.next + 1 → slice_get feed (a.next - 1) ≡ Some p
+      → taken a.next ≡ true → R.refused a.market p ≡ None → Going R feed taken first (a.next + 1) (advanced R a p)
   move taken first from a p g near there was none =
       let some : 0 < a.next = omega (arith, g.positive, g.from_first) in
       let fine : IsGood (market_at R feed a.next) = market_good R lawful feed a.next bytes some g.to_bad in
@@ -70,7 +66,6 @@ module _ (R : Rules) (lawful : AreLawful R) (cap : ℕ) (feed : List (List ℕ))
           | inr not_less ↦ let same : a.next ≡ i = omega arith in subst (λ k. taken k ≡ true) same was
         ];
         kept = λ i after is. let other : i ≢ a.next = omega arith in ap is_some (stays a.wait a.next i other) ∙ g.kept i (omega arith) is;
-        within = let h = removed_len a.wait a.next in let k = g.within in omega arith;
         positive = g.positive;
         from_first = let k = g.from_first in omega arith;
         to_bad = bad_next R feed a.next p some g.to_bad there none_too;
@@ -82,11 +77,11 @@ module _ (R : Rules) (lawful : AreLawful R) (cap : ℕ) (feed : List (List ℕ))
 
   -- applying went as far as it does
   pub record Ended (taken : ℕ → Bool) (first : ℕ) (ending : Result (Unit {0}) Stopped) (b : Front) : Type 0 where
-    pub going : Going R cap feed taken first b.next b
+    pub going : Going R feed taken first b.next b
     pub ends : EndsBy R b.market (at_hand b) ending
 
   -- all that waits is applied
-  pub go_on : (taken : ℕ → Bool) (first : ℕ) (a b : Front) (ps : List (List ℕ)) (ending : Result (Unit {0}) Stopped) → Going R cap feed taken first a.next a
+  pub go_on : (taken : ℕ → Bool) (first : ℕ) (a b : Front) (ps : List (List ℕ)) (ending : Result (Unit {0}) Stopped) → Going R feed taken first a.next a
       → Applies R a (at_hand a) ps ending b → Ended taken first ending b
   go_on taken first a b [] ending g (ends, is) =
       subst (λ (f : Front). Ended taken first ending f) (sym is) (record { going = g; ends = ends })

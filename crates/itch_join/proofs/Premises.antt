@@ -1,8 +1,9 @@
 -- The snapshot of a feed's first messages is one of the feed.
-use Rattle.std.proofs.Common.{◌≡◌, ℕ, zero, suc, ◌+◌, ◌-◌, ◌^◌, ◌==◌, ◌<◌, ◌≤◌, Bool, true, false, not, cond, List, [], ◌∷◌, map, length, take, Some, None, refl, sym, ap, ◌∙◌, subst, arith}
+use Rattle.std.proofs.Common.{◌≡◌, ℕ, zero, suc, ◌+◌, ◌-◌, ◌^◌, ◌==◌, ◌<◌, ◌≤◌, Bool, true, false, not, cond, List, [], ◌∷◌, map, length, take, Some, None, refl, sym, ap, ap₂, ◌∙◌, subst, arith}
 use Rattle.std.specs.Option.{option_map}
 use Rattle.std.specs.List.{AllByRecursion}
 use Rattle.std.proofs.lemmas.Bool.Decides.{nat_tests}
+use Rattle.std.proofs.lemmas.List.{length-map}
 use Rattle.itch_codec.specs.declared.message.Message.{Message}
 use Rattle.itch_codec.specs.declared.message.Message.TheVariants as is
 use Rattle.itch_codec.specs.Fields.{AreBytes}
@@ -11,17 +12,16 @@ use Rattle.itch_codec.specs.Widths.{IsMessage}
 use Rattle.itch_codec.proofs.Spelling.{message_of-spelling, fault-spelling, IsMessage-Spells, Spells-message_of}
 use Rattle.itch_book.specs.declared.order.Order.{Order}
 use Rattle.itch_book.specs.Orders as book
-use Rattle.itch_book.proofs.Lists.{by_test, passes_filter, All-weaker_rec, length_filter_le}
+use Rattle.itch_book.proofs.Lists.{by_test, length_filter_le}
 use Rattle.itch_book.proofs.OrderLemmas.{lay_fit}
 use Rattle.itch_market.specs.Content.{Content, empty, laid}
 use Rattle.itch_market.specs.GoodMarkets.{IsGood}
-use Rattle.itch_market.specs.Reasons.{reason}
 use Rattle.itch_market.specs.Effects.{effect}
 use Rattle.itch_market.specs.Runs as runs
 use Rattle.itch_market.specs.Runs.{AreMessages, FollowsFrom}
 use Rattle.itch_market.specs.SameMarkets.{Same}
 use Rattle.itch_market.specs.Partial.{skips, kept, only}
-use Rattle.itch_market.proofs.Partials.{kept_message, kept_leaves}
+use Rattle.itch_market.proofs.Partials.{kept_message, kept_leaves, only_good}
 use Rattle.itch_market.proofs.GoodMarkets.{effect_good, empty_good}
 use Rattle.itch_market.proofs.Laid.{reason-laid, effect-laid, laid_twice}
 use Rattle.itch_market.proofs.SameMarkets.{laid_is_same}
@@ -39,20 +39,25 @@ use Rattle.itch_join.specs.Deliveries.{IsOfFeed}
 use Rattle.itch_join.specs.Premise.{half_next, half_after, half_of_snapshot}
 use Rattle.itch_join.proofs.Feeds.{first_fine, none_there, good}
 use Rattle.itch_join.proofs.Lawful.{only_lawful, faultless, reasonless}
-use Rattle.itch_join.proofs.Skipping.{skipped_faultless, faultless_skips, refused_here, effect_here, effect_skipped, all_rules}
+use Rattle.itch_join.proofs.Skipping.{skipped_faultless, faultless_skips, skipped_number, refused_here, effect_here, refused_skipped, effect_skipped, all_rules}
 use Rattle.itch_snapshot.proofs.FileLemmas.{unrefused_number}
 
-take_short : (k : ℕ) (F : List (List ℕ)) → length (map message_of (take k F)) ≤ k
+pub take_short : (k : ℕ) (F : List (List ℕ)) → length (map message_of (take k F)) ≤ k
 take_short zero F = omega arith
 take_short (suc k) [] = omega arith
 take_short (suc k) (q ∷ F) = let h = take_short k F in omega arith
 
-laid_empty : laid empty ≡ empty
+pub laid_empty : laid empty ≡ empty
 laid_empty = let none : book.lay [] ≡ [] = lay_fit [] tt in ap (λ (os : List Order). let m : Content = record empty { orders = os } in m) none
 
-not_false : (b : Bool) → not b ≡ true → b ≡ false
-not_false true h = cc
-not_false false h = refl
+-- messages that are spelled are read back
+read_back : (ms : List Message) → AreMessages ms → map message_of (map spelling ms) ≡ ms
+read_back [] fit = refl
+read_back (x ∷ xs) fit = ap₂ (λ y ys. y ∷ ys) (message_of-spelling x fit.0) (read_back xs fit.1)
+
+are_clean : (ms : List Message) → AreMessages ms → AllByRecursion (λ p. fault p ≡ None) (map spelling ms)
+are_clean [] fit = tt
+are_clean (x ∷ xs) fit = (fault-spelling x fit.0, are_clean xs fit.1)
 
 -- the snapshot of the first k messages ends as one of the feed
 pub record EndsAsOne (R : Rules) (feed : List (List ℕ)) (k : ℕ) : Type 0 where
@@ -111,65 +116,84 @@ module _ (wanted : ℕ → Bool) where
       let fine = first_fine R m q F k low in
       one_more m q (take k F) bytes.0 (none_there R (R.refused m q) fine.0) (is_run (R.effect m q) F k bytes.1 fine.1)
 
-  -- a message at a locate that is wanted
-  abbrev Stays : Message → Type 0
-  Stays x = skips wanted x ≡ false
-
-  -- one message of a snapshot
-  takes_case : (taken : ℕ) (m : Content) (x : Message) → IsGood m → IsMessage x → Stays x → reason m x ≡ None → taken + 1 ≤ 10 ^ 19 - 1
-      → half_case R (Reading taken (laid m)) (spelling x) ≡ SnapTakes taken (laid m)
-  takes_case taken m x fine fits in_set none room =
-      let p = spelling x in
-      let clean : fault p ≡ None = fault-spelling x fits in
-      let same : message_of p ≡ x = message_of-spelling x fits in
-      let stays = faultless_skips wanted p clean ∙ ap (skips wanted) same ∙ in_set in
-      let says : closing_number p ≡ None = ap (λ f. number_by f p) clean ∙ ap number_in same ∙ unrefused_number m x none in
-      let refuses : R.refused (laid m) p ≡ None =
-      refused_here wanted (laid m) p stays ∙ ap (λ f. refused_by f (laid m) p) clean ∙ ap (option_map cause.Rule) (ap (reason (laid m)) same ∙ reason-laid m x fine ∙ none) in
+  -- one message of a snapshot is taken
+  takes : (taken : ℕ) (m : Content) (p : List ℕ) → closing_number p ≡ None → R.refused m p ≡ None → taken + 1 ≤ 10 ^ 19 - 1 → half_case R (Reading taken m) p ≡ SnapTakes taken m
+  takes taken m p says refuses room =
       let free : (taken == 10 ^ 19 - 1) ≡ false = grind (arith, nat_tests) in
-      ap (λ n. payload_case taken (laid m) n (R.refused (laid m) p)) says
-      ∙ ap (payload_case taken (laid m) None) refuses
-      ∙ ap (λ b. cond b (payload_case (10 ^ 19 - 1) (laid m) None None) (SnapTakes taken (laid m))) free
+      ap (λ n. payload_case taken m n (R.refused m p)) says
+      ∙ ap (payload_case taken m None) refuses
+      ∙ ap (λ b. cond b (payload_case (10 ^ 19 - 1) m None None) (SnapTakes taken m)) free
 
-  reads_on : (ms : List Message) (taken : ℕ) (m : Content) → IsGood m → AreMessages ms → AllByRecursion Stays ms → FollowsFrom m ms → taken + length ms ≤ 10 ^ 19 - 1
-      → half_after R (Reading taken (laid m)) (map spelling ms) ≡ Reading (taken + length ms) (laid (runs.after m ms))
-  reads_on [] taken m fine fit in_set follows room = ap (λ n. Reading n (laid m)) (omega arith)
-  reads_on (x ∷ xs) taken m fine fit in_set follows room =
-      let p = spelling x in
+  -- a snapshot whose messages are taken, of which those that are skipped change nothing
+  pub reads_on : (ps : List (List ℕ)) (taken : ℕ) (m : Content) → IsGood m → AllByRecursion (λ p. fault p ≡ None) ps → AreMessages (map message_of ps) → FollowsFrom m (kept wanted (map message_of ps))
+      → taken + length ps ≤ 10 ^ 19 - 1 → half_after R (Reading taken (laid m)) ps ≡ Reading (taken + length ps) (laid (runs.after m (kept wanted (map message_of ps))))
+  reads_on [] taken m fine clean fit follows room = ap (λ n. Reading n (laid m)) (omega arith)
+  reads_on (p ∷ ps) taken m fine clean fit follows room =
+      let x = message_of p in
+      let xs = map message_of ps in
       let half = Reading taken (laid m) in
-      let kind = takes_case taken m x fine fit.0 in_set.0 follows.0 (omega arith) in
-      let same : message_of p ≡ x = message_of-spelling x fit.0 in
-      let stays = faultless_skips wanted p (fault-spelling x fit.0) ∙ ap (skips wanted) same ∙ in_set.0 in
-      let market_is : laid (R.effect (laid m) p) ≡ laid (effect m x) = ap laid (effect_here wanted (laid m) p stays) ∙ ap (λ y. laid (effect (laid m) y)) same ∙ effect-laid m x fine in
-      ap (λ l. half_after R (half_next R half p l) (map spelling xs)) kind
-      ∙ ap (λ n. half_after R (Reading (taken + 1) n) (map spelling xs)) market_is
-      ∙ reads_on xs (taken + 1) (effect m x) (effect_good m x fine fit.0 follows.0) fit.1 in_set.1 follows.1 (omega arith)
-      ∙ ap (λ n. Reading n (laid (runs.after (effect m x) xs))) (omega arith)
+      by_test (is_skipped wanted p)
+      (λ skip.
+      let out = sym (faultless_skips wanted p clean.0) ∙ skip in
+      let gone : kept wanted (x ∷ xs) ≡ kept wanted xs = ap (λ b. cond (not b) (x ∷ kept wanted xs) (kept wanted xs)) out in
+      let kind = takes taken (laid m) p (skipped_number wanted p skip) (refused_skipped wanted (laid m) p skip) (omega arith) in
+      let market_is : laid (R.effect (laid m) p) ≡ laid m = ap laid (effect_skipped wanted (laid m) p skip) ∙ laid_twice m in
+      ap (λ l. half_after R (half_next R half p l) ps) kind
+      ∙ ap (λ n. half_after R (Reading (taken + 1) n) ps) market_is
+      ∙ reads_on ps (taken + 1) m fine clean.1 fit.1 (subst (FollowsFrom m) gone follows) (omega arith)
+      ∙ ap (λ ms. Reading (taken + 1 + length ps) (laid (runs.after m ms))) (sym gone)
+      ∙ ap (λ n. Reading n (laid (runs.after m (kept wanted (x ∷ xs))))) (omega arith))
+      (λ stays.
+      let in_set = sym (faultless_skips wanted p clean.0) ∙ stays in
+      let more : kept wanted (x ∷ xs) ≡ x ∷ kept wanted xs = ap (λ b. cond (not b) (x ∷ kept wanted xs) (kept wanted xs)) in_set in
+      let both = subst (FollowsFrom m) more follows in
+      let says : closing_number p ≡ None = ap (λ f. number_by f p) clean.0 ∙ unrefused_number m x both.0 in
+      let refuses : R.refused (laid m) p ≡ None =
+      refused_here wanted (laid m) p stays ∙ ap (λ f. refused_by f (laid m) p) clean.0 ∙ ap (option_map cause.Rule) (reason-laid m x fine ∙ both.0) in
+      let kind = takes taken (laid m) p says refuses (omega arith) in
+      let market_is : laid (R.effect (laid m) p) ≡ laid (effect m x) = ap laid (effect_here wanted (laid m) p stays) ∙ effect-laid m x fine in
+      ap (λ l. half_after R (half_next R half p l) ps) kind
+      ∙ ap (λ n. half_after R (Reading (taken + 1) n) ps) market_is
+      ∙ reads_on ps (taken + 1) (effect m x) (effect_good m x fine fit.0 both.0) clean.1 fit.1 both.1 (omega arith)
+      ∙ ap (λ ms. Reading (taken + 1 + length ps) (laid (runs.after m ms))) (sym more)
+      ∙ ap (λ n. Reading n (laid (runs.after m (kept wanted (x ∷ xs))))) (omega arith))
 
-  -- the snapshot list of a market with nothing at other locates
-  all_stay : (m : Content) → only wanted m ≡ m → AllByRecursion Stays (snap m)
-  all_stay m within =
-      All-weaker_rec (λ x. not (skips wanted x) ≡ true) Stays (λ x yes. not_false (skips wanted x) yes) (snap m)
-      (subst (AllByRecursion (λ x. not (skips wanted x) ≡ true)) (sym (snap_only wanted m) ∙ ap snap within) (passes_filter (λ x. not (skips wanted x)) (snap m)))
+  -- the whole snapshot of a market, as one of the market cut down
+  reads_snap : (m : Content) → IsGood m → length (snap m) ≤ 10 ^ 19 - 1 → half_of_snapshot R m ≡ Reading (length (snap m)) (laid (only wanted m))
+  reads_snap m fine short =
+      let ps = map spelling (snap m) in
+      let fit = snap_messages m fine in
+      let back = read_back (snap m) fit in
+      let cut = snap_leads (only wanted m) (only_good wanted m fine) in
+      let stay : kept wanted (map message_of ps) ≡ snap (only wanted m) = ap (kept wanted) back ∙ sym (snap_only wanted m) in
+      let same_length = length-map (snap m) spelling in
+      let many : 0 + length ps ≡ length (snap m) = omega arith in
+      ap (λ n. half_after R (Reading 0 n) ps) (sym laid_empty)
+      ∙ reads_on ps 0 empty empty_good (are_clean (snap m) fit) (subst AreMessages (sym back) fit) (subst (FollowsFrom empty) (sym stay) cut.follows) (omega arith)
+      ∙ ap (λ ms. Reading (0 + length ps) (laid (runs.after empty ms))) stay
+      ∙ ap (λ n. Reading (0 + length ps) (laid n)) cut.leaves ∙ ap (Reading (0 + length ps)) (laid_twice (only wanted m))
+      ∙ ap (λ n. Reading n (laid (only wanted m))) many
+
+  -- and its End of Snapshot
+  pub ends_so : (m : Content) (k : ℕ) → IsGood m → length (snap m) ≤ k → k < 10 ^ 19 → half_case R (half_of_snapshot R m) (spelling (is.End (k + 1))) ≡ SnapEnds (k + 1) (laid (only wanted m))
+  ends_so m k fine short few =
+      let number : IsMessage (is.End (k + 1)) = record { low = omega arith; high = omega arith } in
+      let p = spelling (is.End (k + 1)) in
+      let says : closing_number p ≡ Some (k + 1) = ap (λ f. number_by f p) (fault-spelling (is.End (k + 1)) number) ∙ ap number_in (message_of-spelling (is.End (k + 1)) number) in
+      let n = laid (only wanted m) in
+      ap (λ h. half_case R h p) (reads_snap m fine (omega arith)) ∙ ap (λ o. payload_case (length (snap m)) n o (R.refused n p)) says
 
   pub meets : (feed : List (List ℕ)) (k : ℕ) → AllByRecursion AreBytes feed → k < bad R feed → k < 10 ^ 19 → EndsAsOne R feed k
   meets feed k bytes low few =
       let M = run R (take k feed) in
       let fine : IsGood M = good R (only_lawful wanted) empty feed k empty_good bytes (omega arith) in
       let ran = is_run empty feed k bytes (omega arith) in
-      let leads = snap_leads M fine in
       let ms = map message_of (take k feed) in
       let short : length (snap M) ≤ k = let h = short_snap (kept wanted ms) ran.fit ran.follows in let t = take_short k feed in let l = length_filter_le (λ x. not (skips wanted x)) ms in
       let e : length (snap M) ≡ length (snap (runs.run (kept wanted ms))) = ap (λ m. length (snap m)) ran.left in omega arith in
-      let reading : half_of_snapshot R M ≡ Reading (0 + length (snap M)) (laid M) =
-      ap (λ m. half_after R (Reading 0 m) (map spelling (snap M))) (sym laid_empty)
-      ∙ reads_on (snap M) 0 empty empty_good (snap_messages M fine) (all_stay M (ran.within (sym (kept_leaves wanted [] tt tt)))) leads.follows (omega arith)
-      ∙ ap (λ m. Reading (0 + length (snap M)) (laid m)) leads.leaves ∙ ap (Reading (0 + length (snap M))) (laid_twice M) in
-      let number : IsMessage (is.End (k + 1)) = record { low = omega arith; high = omega arith } in
-      let p = spelling (is.End (k + 1)) in
-      let says : closing_number p ≡ Some (k + 1) = ap (λ f. number_by f p) (fault-spelling (is.End (k + 1)) number) ∙ ap number_in (message_of-spelling (is.End (k + 1)) number) in
+      let same : only wanted M ≡ M = ran.within (sym (kept_leaves wanted [] tt tt)) in
       record {
-        kind = ap (λ h. half_case R h p) reading ∙ ap (λ n. payload_case (0 + length (snap M)) (laid M) n (R.refused (laid M) p)) says;
+        kind = ends_so M k fine short few ∙ ap (λ m. SnapEnds (k + 1) (laid m)) same;
         fits = (omega arith, omega arith, let e : (k + 1) - 1 ≡ k = omega arith in subst (λ n. Same (laid M) (run R (take n feed))) (sym e) (laid_is_same M fine));
       }
 

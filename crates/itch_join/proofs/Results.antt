@@ -24,6 +24,7 @@ use Rattle.itch_join.specs.Steps.{live_case, LiveBy, NextBy, SnapshotCase, SnapH
 use Rattle.itch_join.specs.Deliveries.{Event, Fits, History, halt_in, halt_returned}
 use Rattle.itch_join.specs.Stands.{IsBadAt, IsResultRight, LastIsRight}
 use Rattle.itch_join.proofs.Cases.{IsLiveCase, live_case_is, IsSnapshotCase, snapshot_case_is}
+use Rattle.itch_join.proofs.Caps.{at_most, leads}
 use Rattle.itch_join.proofs.Feeds.{market_at, market_good, bad_next}
 use Rattle.itch_join.proofs.Keeping.{IsKeptUp, at_bad}
 use Rattle.itch_join.proofs.Standing.{always}
@@ -115,7 +116,7 @@ module _ (R : Rules) (lawful : AreLawful R) (cap : ℕ) (feed : List (List ℕ))
   Bad number result = (cause : Cause) × (result ≡ Err (Halted number cause)) × IsBadAt R feed number cause
 
   -- a message that is applied is not the bad one
-  fine : (past : List Event) (s : State) (j : Position) (p : List ℕ) → IsKeptUp R cap feed past s → s.joined ≡ Some j → j.next ≡ bad R feed → slice_get feed (j.next - 1) ≡ Some p → R.refused j.market p ≡ None → ⊥
+  fine : (past : List Event) (s : State) (j : Position) (p : List ℕ) → IsKeptUp R feed past s → s.joined ≡ Some j → j.next ≡ bad R feed → slice_get feed (j.next - 1) ≡ Some p → R.refused j.market p ≡ None → ⊥
   fine past s j p k there at deliver none =
       let q = k.placed j there in
       let some : 0 < j.next = omega (arith, q.positive, q.from_first) in
@@ -125,19 +126,19 @@ module _ (R : Rules) (lawful : AreLawful R) (cap : ℕ) (feed : List (List ℕ))
       omega arith
 
   next_bad : (past : List Event) (s : State) (j : Position) (number : ℕ) (payload : List ℕ) (taken : Bool) (ps : List (List ℕ)) (ending : Result (Unit {0}) Stopped) (b : Front)
-      → IsKeptUp R cap feed past s → s.joined ≡ Some j → number ≡ j.next → j.next ≡ bad R feed → slice_get feed (j.next - 1) ≡ Some payload
+      → IsKeptUp R feed past s → s.joined ≡ Some j → number ≡ j.next → j.next ≡ bad R feed → slice_get feed (j.next - 1) ≡ Some payload
       → Applies R (front_of s j) (Some payload) ps ending b → Bad number (result_by Applied taken ending b.next)
   next_bad past s j number payload taken [] (Ok done) b k there is at deliver (ends, same) = absurd ends
   next_bad past s j number payload taken [] (Err (Refused cause)) b k there is at deliver (ends, same) =
       let q = k.placed j there in
-      let found = at_bad R lawful cap feed bytes j.next j.market payload cause (omega (arith, q.positive, q.from_first)) q.to_bad q.good q.market deliver ends in
+      let found = at_bad R lawful feed bytes j.next j.market payload cause (omega (arith, q.positive, q.from_first)) q.to_bad q.good q.market deliver ends in
       (cause, ap (λ n. Err (Halted n cause)) (ap (λ (f : Front). f.next) same ∙ sym is), subst (λ n. IsBadAt R feed n cause) (sym is) found)
   next_bad past s j number payload taken [] (Err NoMemory) b k there is at deliver (ends, same) = absurd (fine past s j payload k there at deliver ends.0)
   next_bad past s j number payload taken (p ∷ ps) ending b k there is at deliver (first, none, rest) =
       let same : payload ≡ p = cc in absurd (fine past s j p k there at (deliver ∙ ap Some same) none)
 
   bad_by : (past : List Event) (s : State) (number : ℕ) (payload : List ℕ) (kind : LiveCase) (result : Result Live JoinFault) (now : State) (j : Position)
-      → IsKeptUp R cap feed past s → IsLiveCase cap s number payload kind → LiveBy R cap s number payload kind result now
+      → IsKeptUp R feed past s → IsLiveCase cap s number payload kind → LiveBy R cap s number payload kind result now
       → is_number number ≡ true → slice_get feed (number - 1) ≡ Some payload → s.joined ≡ Some j → number ≡ j.next → j.next ≡ bad R feed → Bad number result
   bad_by past s number payload (live.Halted h) result now j k there (answer, same) num deliver joined is at =
       let x = k.halted h there in
@@ -162,20 +163,20 @@ module _ (R : Rules) (lawful : AreLawful R) (cap : ℕ) (feed : List (List ℕ))
   number_is : (n : ℕ) → 0 < n → n < 10 ^ 19 → is_number n ≡ true
   number_is n low high = let one : nat_lt 0 n ≡ true = grind (arith, nat_tests) in let two : nat_lt n (10 ^ 19) ≡ true = grind (arith, nat_tests) in ap (λ b. b && nat_lt n (10 ^ 19)) one ∙ two
 
-  call_right : (past : List Event) (s : State) (call : Call) (now : State) → length feed < 10 ^ 19 → IsKeptUp R cap feed past s → Step R cap s call now → Fits R feed s call
+  call_right : (past : List Event) (s : State) (call : Call) (now : State) → length feed < 10 ^ 19 → map.len s.wait ≤ cap → IsKeptUp R feed past s → Step R cap s call now → Fits R feed s call
       → IsResultRight R cap feed (record { before = s; call = call }) now
-  call_right past s (CallLive number payload result) now short k step fits = record {
-    full = full_by R cap s number payload (live_case cap s number payload) result now k.within (live_case_is cap s number payload) step;
-    bad_halts = λ j joined is at low.
+  call_right past s (CallLive number payload result) now short low k step fits = record {
+    full = full_by R cap s number payload (live_case cap s number payload) result now low (live_case_is cap s number payload) step;
+    bad_halts = λ j joined is at inside.
         let q = k.placed j joined in
         let num = number_is number (omega (arith, q.positive, q.from_first)) (omega arith) in
         bad_by past s number payload (live_case cap s number payload) result now j k (live_case_is cap s number payload) step num (fits num) joined is at;
     halt_stays = halt_stays R cap s (CallLive number payload result) now step;
   }
-  call_right past s (CallSnapshot payload result) now short k step fits = record { full = tt; bad_halts = tt; halt_stays = halt_stays R cap s (CallSnapshot payload result) now step }
-  call_right past s CallRestart now short k step fits = record { full = tt; bad_halts = tt; halt_stays = halt_stays R cap s CallRestart now step }
-  call_right past s (CallResume result) now short k step fits = record { full = tt; bad_halts = tt; halt_stays = halt_stays R cap s (CallResume result) now step }
+  call_right past s (CallSnapshot payload result) now short low k step fits = record { full = tt; bad_halts = tt; halt_stays = halt_stays R cap s (CallSnapshot payload result) now step }
+  call_right past s CallRestart now short low k step fits = record { full = tt; bad_halts = tt; halt_stays = halt_stays R cap s CallRestart now step }
+  call_right past s (CallResume result) now short low k step fits = record { full = tt; bad_halts = tt; halt_stays = halt_stays R cap s (CallResume result) now step }
 
   pub last_right : (past : List Event) (now : State) → length feed < 10 ^ 19 → History R cap feed past now → LastIsRight R cap feed past now
   last_right [] now short is = tt
-  last_right (x ∷ past) now short (step, fits, before) = call_right past x.before x.call now short (always R lawful cap feed bytes past x.before before) step fits
+  last_right (x ∷ past) now short (step, fits, before) = call_right past x.before x.call now short (at_most R cap past x.before (leads R cap feed past x.before before)) (always R lawful cap feed bytes past x.before before) step fits

@@ -23,12 +23,13 @@ use Rattle.itch_join.specs.Steps.{live_case, LiveBy, NextBy, SnapshotCase, SnapH
 use Rattle.itch_join.specs.Deliveries.{Event, IsOfFeed, Fits, History, accepted, start_by, by_live_fault, settled}
 use Rattle.itch_join.specs.Stands.{is_from, Stands}
 use Rattle.itch_join.proofs.Moving.{some_is}
+use Rattle.itch_join.proofs.Caps.{at_most, leads}
 use Rattle.itch_join.proofs.Cases.{IsLiveCase, live_case_is, IsSnapshotCase, snapshot_case_is}
 use Rattle.itch_join.proofs.Keeping.{and_first, and_second, unheard, HalfIsGood, IsKeptUp, then_call, stay, refuse_live, next_at, store_at, end_at, resume_at}
 
 module _ (R : Rules) (lawful : AreLawful R) (cap : ℕ) (feed : List (List ℕ)) (bytes : AllByRecursion AreBytes feed) where
   abbrev Keeps : List Event → State → Type 0
-  Keeps past s = IsKeptUp R cap feed past s
+  Keeps past s = IsKeptUp R feed past s
 
   along : {T : Type 0} (call : T → Call) (past : List Event) (s : State) (result r : T) (now n : State) → result ≡ r → now ≡ n → Keeps (then_call s (call r) past) n → Keeps (then_call s (call result) past) now
   along call past s result r now n one two k = subst (λ x. Keeps (then_call s (call x) past) now) (sym one) (subst (Keeps (then_call s (call r) past)) (sym two) k)
@@ -37,34 +38,34 @@ module _ (R : Rules) (lawful : AreLawful R) (cap : ℕ) (feed : List (List ℕ))
       → (is_number number ≡ true → slice_get feed (number - 1) ≡ Some payload) → IsLiveCase cap s number payload kind → LiveBy R cap s number payload kind result now
       → Keeps (then_call s (CallLive number payload result) past) now
   live_by past s number payload (live.Halted h) result now k fits is (answer, same) =
-      along (CallLive number payload) past s result _ now s answer same (refuse_live R lawful cap feed bytes past s number payload (Halted h.number h.cause) k refl (λ none. absurd (cc)))
+      along (CallLive number payload) past s result _ now s answer same (refuse_live R lawful feed bytes past s number payload (Halted h.number h.cause) k refl (λ none. absurd (cc)))
   live_by past s number payload live.BadNumber result now k fits is (answer, same) =
-      along (CallLive number payload) past s result _ now s answer same (refuse_live R lawful cap feed bytes past s number payload BadNumber k refl (λ none. unheard s.joined number BadNumber refl))
+      along (CallLive number payload) past s result _ now s answer same (refuse_live R lawful feed bytes past s number payload BadNumber k refl (λ none. unheard s.joined number BadNumber refl))
   live_by past s number payload live.Old result now k fits (none, j, there, below) (answer, same) =
       along (CallLive number payload) past s result _ now s answer same
-      (stay R lawful cap feed bytes past s (CallLive number payload (Ok Old)) s.half k k.half refl
+      (stay R lawful feed bytes past s (CallLive number payload (Ok Old)) s.half k k.half refl
       (λ i acc from. let e = and_first (number == i) true acc in let at : number ≡ i = grind (arith, nat_tests) in
       let up : nat_le j.next i ≡ true = sym (ap (λ o. is_from o i) there) ∙ from in let over : j.next ≤ i = grind (arith, nat_tests) in absurd (omega arith))
       (λ halts set. set))
   live_by past s number payload live.Conflict result now k fits is (answer, same) =
-      along (CallLive number payload) past s result _ now s answer same (refuse_live R lawful cap feed bytes past s number payload (Conflict number) k refl (λ none. unheard s.joined number (Conflict number) refl))
+      along (CallLive number payload) past s result _ now s answer same (refuse_live R lawful feed bytes past s number payload (Conflict number) k refl (λ none. unheard s.joined number (Conflict number) refl))
   live_by past s number payload live.Next result now k fits (none, num, j, there, at) h =
       let goes = subst (λ o. NextBy R s number payload o result now) there h in
       along (CallLive number payload) past s result _ now _ goes.returned goes.left
-      (next_at R lawful cap feed bytes past s j number payload goes.payloads goes.ending goes.front k none there at (fits num) goes.applies)
+      (next_at R lawful feed bytes past s j number payload goes.payloads goes.ending goes.front k none there at (fits num) goes.applies)
   live_by past s number payload live.Kept result now k fits (none, waits, above) (answer, same) =
       along (CallLive number payload) past s result _ now s answer same
-      (stay R lawful cap feed bytes past s (CallLive number payload (Ok Kept)) s.half k k.half refl
+      (stay R lawful feed bytes past s (CallLive number payload (Ok Kept)) s.half k k.half refl
       (λ i acc from. let e = and_first (number == i) true acc in let at : number ≡ i = grind (arith, nat_tests) in
       let x = some_is (map.get s.wait number) waits in subst (λ n. accepted n past ≡ true) at (k.was_taken number x.0 x.1))
       (λ halts set. set))
   live_by past s number payload live.Full result now k fits is (answer, same) =
-      along (CallLive number payload) past s result _ now s answer same (refuse_live R lawful cap feed bytes past s number payload (Full cap) k refl (λ none. unheard s.joined number (Full cap) refl))
+      along (CallLive number payload) past s result _ now s answer same (refuse_live R lawful feed bytes past s number payload (Full cap) k refl (λ none. unheard s.joined number (Full cap) refl))
   live_by past s number payload live.Stored (Ok answer) now k fits (none, num, room, free, above) (is, same) =
-      along (λ r. CallLive number payload (Ok r)) past s answer Kept now _ is same (store_at R lawful cap feed bytes past s number payload k none (fits num) room free above)
+      along (λ r. CallLive number payload (Ok r)) past s answer Kept now _ is same (store_at R lawful feed bytes past s number payload k none (fits num) above)
   live_by past s number payload live.Stored (Err fault) now k fits (none, num, room, free, above) (is, same) =
       along (λ r. CallLive number payload (Err r)) past s fault (OutOfMemory false) now s is same
-      (refuse_live R lawful cap feed bytes past s number payload (OutOfMemory false) k refl (λ halts. apart_live s.joined above))
+      (refuse_live R lawful feed bytes past s number payload (OutOfMemory false) k refl (λ halts. apart_live s.joined above))
     where
       apart_live : (o : Option Position) → ((j : Position) → o ≡ Some j → j.next < number) → by_live_fault o number (OutOfMemory false) ≡ None
       apart_live None over = refl
@@ -73,7 +74,7 @@ module _ (R : Rules) (lawful : AreLawful R) (cap : ℕ) (feed : List (List ℕ))
   -- a message of a snapshot at which nothing is applied
   quiet : (past : List Event) (s : State) (payload : List ℕ) (result : Result Snap JoinFault) (h : HalfRead) → Keeps past s → HalfIsGood h → start_by (snapshot_case R s payload) ≡ None
       → (s.halt ≡ None → settled (then_call s (CallSnapshot payload result) past) ≡ true → settled past ≡ true) → Keeps (then_call s (CallSnapshot payload result) past) (record s { half = h })
-  quiet past s payload result h k fine starts calm = stay R lawful cap feed bytes past s (CallSnapshot payload result) h k fine starts (λ i acc. absurd (cc)) calm
+  quiet past s payload result h k fine starts calm = stay R lawful feed bytes past s (CallSnapshot payload result) h k fine starts (λ i acc. absurd (cc)) calm
 
   pub snapshot_by : (past : List Event) (s : State) (payload : List ℕ) (kind : SnapshotCase) (result : Result Snap JoinFault) (now : State) → Keeps past s → AreBytes payload
       → snapshot_case R s payload ≡ kind → IsSnapshotCase R s payload kind → IsOfFeed R feed kind → SnapshotBy R s payload kind result now
@@ -88,7 +89,7 @@ module _ (R : Rules) (lawful : AreLawful R) (cap : ℕ) (feed : List (List ℕ))
       along (CallSnapshot payload) past s result _ now _ answer same (quiet past s payload (Err (BadSnapshot place cause)) (Broken place cause) k tt (ap start_by kind) (λ halts set. set))
   snapshot_by past s payload (SnapEnds next m) result now k are kind (none, apart, taken, half) (some, low, is_same) goes =
       along (CallSnapshot payload) past s result _ now _ goes.returned goes.left
-      (end_at R lawful cap feed bytes past s payload next taken m goes.payloads goes.ending goes.front k none apart half kind some low is_same goes.applies)
+      (end_at R lawful feed bytes past s payload next taken m goes.payloads goes.ending goes.front k none apart half kind some low is_same goes.applies)
   snapshot_by past s payload (SnapTakes taken m) (Ok answer) now k are kind (half, none) fits (is, same) =
       along (λ r. CallSnapshot payload (Ok r)) past s answer snap.More now _ is same
       (quiet past s payload (Ok snap.More) (Reading (taken + 1) (laid (R.effect m payload))) k
@@ -99,20 +100,20 @@ module _ (R : Rules) (lawful : AreLawful R) (cap : ℕ) (feed : List (List ℕ))
 
   restart_by : (past : List Event) (s now : State) (o : Option Position) → Keeps past s → now ≡ restarted o s → Keeps (then_call s CallRestart past) now
   restart_by past s now None k same =
-      subst (Keeps (then_call s CallRestart past)) (sym same) (stay R lawful cap feed bytes past s CallRestart unread k empty_good refl (λ i acc. absurd (cc)) (λ halts set. set))
+      subst (Keeps (then_call s CallRestart past)) (sym same) (stay R lawful feed bytes past s CallRestart unread k empty_good refl (λ i acc. absurd (cc)) (λ halts set. set))
   restart_by past s now (Some j) k same =
-      subst (Keeps (then_call s CallRestart past)) (sym same) (stay R lawful cap feed bytes past s CallRestart s.half k k.half refl (λ i acc. absurd (cc)) (λ halts set. set))
+      subst (Keeps (then_call s CallRestart past)) (sym same) (stay R lawful feed bytes past s CallRestart s.half k k.half refl (λ i acc. absurd (cc)) (λ halts set. set))
 
   resume_by : (past : List Event) (s : State) (result : Result (Option ℕ) JoinFault) (now : State) (o : Option Halt) → Keeps past s → s.halt ≡ o → ResumeBy R s o result now
       → Keeps (then_call s (CallResume result) past) now
   resume_by past s result now (Some h) k is (answer, same) =
-      along CallResume past s result _ now s answer same (stay R lawful cap feed bytes past s (CallResume (Err (Halted h.number h.cause))) s.half k k.half refl (λ i acc. absurd (cc)) (λ halts set. set))
+      along CallResume past s result _ now s answer same (stay R lawful feed bytes past s (CallResume (Err (Halted h.number h.cause))) s.half k k.half refl (λ i acc. absurd (cc)) (λ halts set. set))
   resume_by past s result now None k is h = by_joined s.joined refl h where
     by_joined : (o : Option Position) → s.joined ≡ o → Resumes R s o result now → Keeps (then_call s (CallResume result) past) now
     by_joined None there (answer, same) =
-        along CallResume past s result _ now s answer same (stay R lawful cap feed bytes past s (CallResume (Ok None)) s.half k k.half refl (λ i acc. absurd (cc)) (λ halts set. set))
+        along CallResume past s result _ now s answer same (stay R lawful feed bytes past s (CallResume (Ok None)) s.half k k.half refl (λ i acc. absurd (cc)) (λ halts set. set))
     by_joined (Some j) there goes =
-        along CallResume past s result _ now _ goes.returned goes.left (resume_at R lawful cap feed bytes past s j goes.payloads goes.ending goes.front k is there goes.applies)
+        along CallResume past s result _ now _ goes.returned goes.left (resume_at R lawful feed bytes past s j goes.payloads goes.ending goes.front k is there goes.applies)
 
   keeps : (past : List Event) (s : State) (call : Call) (now : State) → Keeps past s → Step R cap s call now → Fits R feed s call → Keeps (then_call s call past) now
   keeps past s (CallLive number payload result) now k step fits = live_by past s number payload (live_case cap s number payload) result now k fits (live_case_is cap s number payload) step
@@ -124,7 +125,6 @@ module _ (R : Rules) (lawful : AreLawful R) (cap : ℕ) (feed : List (List ℕ))
   at_first : Keeps [] new
   at_first = record {
     bytes = λ i p has. none_there map.empty i p refl has;
-    within = omega (arith, map.len-empty nat_cmp (List ℕ));
     was_taken = λ i p has. none_there map.empty i p refl has;
     kept = λ halts i acc. absurd (cc);
     placed = λ j is. absurd (cc);
@@ -165,7 +165,7 @@ module _ (R : Rules) (lawful : AreLawful R) (cap : ℕ) (feed : List (List ℕ))
         waiting = λ none i. alike (is_some (map.get now.wait i)) (accepted i past && is_from now.joined i)
             (λ has. let x = some_is (map.get now.wait i) has in both (accepted i past) (is_from now.joined i) (k.was_taken i x.0 x.1) (from now.joined i (λ j is. (k.placed j is).low i x.0 x.1)))
             (λ are. k.kept none i (and_first (accepted i past) (is_from now.joined i) are) (and_second (accepted i past) (is_from now.joined i) are));
-        within = k.within;
+        within = at_most R cap past now (leads R cap feed past now h);
         halted = k.halted;
       }
     where

@@ -35,7 +35,12 @@ Fits R feed s (CallSnapshot payload result) = AreBytes payload × IsOfFeed R fee
 Fits R feed s CallRestart = Unit {0}
 Fits R feed s (CallResume result) = Unit {0}
 
--- from a new joiner, these calls have led to this state; the latest stands first
+-- from a new joiner of this cap, these calls have led to this state, whatever they delivered; the latest stands first
+abbrev pub LeadsTo : Rules → ℕ → List Event → State → Type 0
+LeadsTo R cap [] now = now ≡ new
+LeadsTo R cap (x ∷ past) now = Step R cap x.before x.call now × LeadsTo R cap past x.before
+
+-- the same, where the deliveries are of one feed
 abbrev pub History : Rules → ℕ → List (List ℕ) → List Event → State → Type 0
 History R cap feed [] now = now ≡ new
 History R cap feed (x ∷ past) now = Step R cap x.before x.call now × Fits R feed x.before x.call × History R cap feed past x.before

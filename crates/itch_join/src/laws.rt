@@ -1,18 +1,21 @@
 //! What holds of every joiner, whatever it is delivered.
 //!
 //! Each function here does nothing: its clauses are the laws.
-ghost use Rattle.std.specs.Prelude.{◌≡◌, ℕ, Bool, List, ◌+◌, ◌<◌, ◌^◌, true, Some, length, take};
+ghost use Rattle.std.specs.Prelude.{◌≡◌, ℕ, Bool, List, ◌+◌, ◌<◌, ◌≤◌, ◌^◌, true, Some, None, length, take};
 ghost use Rattle.std.specs.List.{AllByRecursion};
+ghost use Rattle.std.specs.FinMap as map;
 ghost use Rattle.itch_codec.specs.Fields.{AreBytes};
 ghost use Rattle.itch_codec.specs.declared.message.Message.TheVariants as is;
 ghost use Rattle.itch_codec.specs.Messages.{spelling};
-ghost use Rattle.itch_market.specs.Content.{laid};
+ghost use Rattle.itch_market.specs.Content.{Content, laid};
+ghost use Rattle.itch_market.specs.Partial.{only as cut};
+ghost use Rattle.itch_snapshot.specs.TakenMessages.{closing_number};
 ghost use Rattle.itch_join.specs.Positions.{Position};
 ghost use Rattle.itch_join.specs.Rules.{Rules, AreLawful, IsLawfulFeed, market_rules, rules_of, run, bad};
-ghost use Rattle.itch_join.specs.States.{State};
+ghost use Rattle.itch_join.specs.States.{State, Reading, unread};
 ghost use Rattle.itch_join.specs.Steps.{SnapEnds, half_case};
-ghost use Rattle.itch_join.specs.Deliveries.{Event, History, IsOfFeed, settled};
-ghost use Rattle.itch_join.specs.Premise.{half_of_snapshot};
+ghost use Rattle.itch_join.specs.Deliveries.{Event, LeadsTo, History, IsOfFeed, settled};
+ghost use Rattle.itch_join.specs.Premise.{half_after, half_of_snapshot};
 ghost use Rattle.itch_join.specs.Stands.{Stands, LastIsRight, AreAllAccepted, IsAtEnd};
 
 /// The rules of markets are lawful: the same markets refuse the same messages for the same causes, and stay the same. So are
@@ -33,6 +36,11 @@ pub fn late_joiner()
         → History (rules_of wanted) cap feed past now → Stands (rules_of wanted) cap feed past now }
     ensures every_rules { (rules : Rules) → (cap : ℕ) → (feed : List (List ℕ)) → (past : List Event) → (now : State) → AreLawful rules → AllByRecursion AreBytes feed
         → History rules cap feed past now → Stands rules cap feed past now }
+{}
+
+/// No more messages wait than may, after every list of calls, whatever they deliver: nothing is asked of the deliveries.
+pub fn at_most_cap_wait()
+    ensures { (rules : Rules) → (cap : ℕ) → (past : List Event) → (now : State) → LeadsTo rules cap past now → map.len now.wait ≤ cap }
 {}
 
 /// What the last call has returned: `Full` comes only where as many messages wait as may and the number is not the next,
@@ -66,4 +74,36 @@ pub fn whole_feed()
         → History market_rules cap feed past now → now.joined ≡ Some j → settled past ≡ true → AreAllAccepted market_rules feed past → IsAtEnd market_rules feed now j }
     ensures only { (wanted : ℕ → Bool) → (cap : ℕ) → (feed : List (List ℕ)) → (past : List Event) → (now : State) → (j : Position) → AllByRecursion AreBytes feed → IsLawfulFeed (rules_of wanted) feed
         → History (rules_of wanted) cap feed past now → now.joined ≡ Some j → settled past ≡ true → AreAllAccepted (rules_of wanted) feed past → IsAtEnd (rules_of wanted) feed now j }
+{}
+
+/// Where no message of a feed's first k is refused, the rules of a set of locates refuse none of them either, and leave the
+/// market of all of them, cut down to the set.
+pub fn restricted_feed()
+    ensures follows { (wanted : ℕ → Bool) → (feed : List (List ℕ)) → (k : ℕ) → AllByRecursion AreBytes feed → k < bad market_rules feed → k < bad (rules_of wanted) feed }
+    ensures leaves { (wanted : ℕ → Bool) → (feed : List (List ℕ)) → (k : ℕ) → AllByRecursion AreBytes feed → k < bad market_rules feed
+        → run (rules_of wanted) (take k feed) ≡ cut wanted (run market_rules (take k feed)) }
+{}
+
+/// From the snapshot of a feed's first messages, where none of them is refused, a joiner of a set of locates may start as well:
+/// from the whole one, of which it skips what is at other locates, and from the one of the market cut down to the set. Either
+/// leaves it that market, and the End of Snapshot meets what `late_joiner` asks of a snapshot.
+pub fn snapshot_for_a_set()
+    ensures whole { (wanted : ℕ → Bool) → (feed : List (List ℕ)) → (k : ℕ) → AllByRecursion AreBytes feed → k < bad market_rules feed → k < 10 ^ 19
+        → half_case (rules_of wanted) (half_of_snapshot (rules_of wanted) (run market_rules (take k feed))) (spelling (is.End (k + 1)))
+        ≡ SnapEnds (k + 1) (laid (cut wanted (run market_rules (take k feed)))) }
+    ensures part { (wanted : ℕ → Bool) → (feed : List (List ℕ)) → (k : ℕ) → AllByRecursion AreBytes feed → k < bad market_rules feed → k < 10 ^ 19
+        → half_case (rules_of wanted) (half_of_snapshot (rules_of wanted) (cut wanted (run market_rules (take k feed)))) (spelling (is.End (k + 1)))
+        ≡ SnapEnds (k + 1) (laid (cut wanted (run market_rules (take k feed)))) }
+    ensures fits { (wanted : ℕ → Bool) → (feed : List (List ℕ)) → (k : ℕ) → AllByRecursion AreBytes feed → k < bad market_rules feed → k < 10 ^ 19
+        → IsOfFeed (rules_of wanted) feed (SnapEnds (k + 1) (laid (cut wanted (run market_rules (take k feed))))) }
+{}
+
+/// Whatever snapshot a joiner of the whole market may start from, one of a set of locates may start from as well. It leaves it
+/// that market, cut down to the set, and the End of Snapshot meets what `late_joiner` asks of a snapshot there too.
+pub fn any_snapshot_for_a_set()
+    ensures leaves { (wanted : ℕ → Bool) → (ps : List (List ℕ)) → (taken : ℕ) → (m : Content) → AllByRecursion AreBytes ps → AllByRecursion (λ p. closing_number p ≡ None) ps
+        → half_after market_rules unread ps ≡ Reading taken m → half_after (rules_of wanted) unread ps ≡ Reading taken (laid (cut wanted m)) }
+    ensures fits { (wanted : ℕ → Bool) → (feed ps : List (List ℕ)) → (taken next : ℕ) → (m : Content) → AllByRecursion AreBytes feed → AllByRecursion AreBytes ps
+        → AllByRecursion (λ p. closing_number p ≡ None) ps → half_after market_rules unread ps ≡ Reading taken m
+        → IsOfFeed market_rules feed (SnapEnds next m) → IsOfFeed (rules_of wanted) feed (SnapEnds next (laid (cut wanted m))) }
 {}

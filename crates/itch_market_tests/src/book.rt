@@ -231,4 +231,5 @@ fn indexed_book_keeps_priority(rt: HostRuntime) -> Result<(), Fail> {
     Ok(())
 }
 
+mod many;
 mod side_by_side;

@@ -20,17 +20,17 @@ lines_push n (first ∷ endings) ending =
     ∙ ap (λ k. connection_line n first ++ (connection_lines (n + 1) endings ++ connection_line k ending)) count
     ∙ sym (append_assoc (connection_line n first) (connection_lines (n + 1) endings) (connection_line (n + length (first ∷ endings)) ending))
 
-module _ {W : Type 0} (contents : W → Option (List ℕ)) (failures : W → Failures) (m : Content) (next : ℕ) (config : ServerConfig) where
+module _ {S W : Type 0} (remaining : S → Option (List ℕ)) (taken : S → Option (List ℕ)) (contents : W → Option (List ℕ)) (failures : W → Failures) (m : Content) (next : ℕ) (config : ServerConfig) where
   -- this many connections were served
   pub record AreServed (old : W) (count : ℕ) (mid : W) : Type 0 where
     pub endings : List Ending
     pub counted : length endings ≡ count
-    pub all : ServesAll contents failures m next config endings old mid
+    pub all : ServesAll remaining taken contents failures m next config endings old mid
 
   pub none_served : (old : W) → AreServed old 0 old
   none_served old = record { endings = []; counted = refl; all = (tt, (Appends-nil (contents old), refl)) }
 
-  pub one_served : (old mid new : W) (count : ℕ) → AreServed old count mid → ServesNext contents failures m next config (count + 1) mid (Ok tt) new → AreServed old (count + 1) new
+  pub one_served : (old mid new : W) (count : ℕ) → AreServed old count mid → ServesNext remaining taken contents failures m next config (count + 1) mid (Ok tt) new → AreServed old (count + 1) new
   one_served old mid new count so_far (inl (ending, is, wrote)) =
       let number : count + 1 ≡ 1 + length so_far.endings = omega (arith, so_far.counted) in
       let bytes : connection_lines 1 so_far.endings ++ connection_line (count + 1) ending ≡ connection_lines 1 (so_far.endings ++ ending ∷ []) =
@@ -39,7 +39,7 @@ module _ {W : Type 0} (contents : W → Option (List ℕ)) (failures : W → Fai
         endings = so_far.endings ++ ending ∷ [];
         counted = omega (arith, so_far.counted, length-append so_far.endings (ending ∷ []));
         all = (
-          All-append_rec (IsEnding m next config) so_far.endings (ending ∷ []) so_far.all.0 (is, tt),
+          All-append_rec (IsEnding remaining taken m next config) so_far.endings (ending ∷ []) so_far.all.0 (is, tt),
           (
             subst (Appends (contents old) (contents new)) bytes
                 (Appends-trans (contents old) (contents mid) (contents new) (connection_lines 1 so_far.endings) (connection_line (count + 1) ending) so_far.all.1.0 wrote.0),
@@ -51,25 +51,25 @@ module _ {W : Type 0} (contents : W → Option (List ℕ)) (failures : W → Fai
 
   -- or it was not
   pub serving_failed : (old mid new : W) (count total : ℕ) (fault : ToolFault) → AreServed old count mid → count < total
-      → ServesNext contents failures m next config (count + 1) mid (Err fault) new → ServesOn contents failures m next config total old (Err fault) new
+      → ServesNext remaining taken contents failures m next config (count + 1) mid (Err fault) new → ServesOn remaining taken contents failures m next config total old (Err fault) new
   serving_failed old mid new count total fault so_far within served = (
     so_far.endings,
     mid,
     subst (λ k. k < total) (sym so_far.counted) within,
     so_far.all,
-    subst (λ k. ServesNext contents failures m next config (k + 1) mid (Err fault) new) (sym so_far.counted) served,
+    subst (λ k. ServesNext remaining taken contents failures m next config (k + 1) mid (Err fault) new) (sym so_far.counted) served,
   )
 
-module _ {W : Type 0} (contents : W → Option (List ℕ)) (failures : W → Failures) where
+module _ {S W : Type 0} (remaining : S → Option (List ℕ)) (taken : S → Option (List ℕ)) (contents : W → Option (List ℕ)) (failures : W → Failures) where
   -- the market of a file is that of its messages, and the next number follows them
   pub day_served : (reads : Result (List (List ℕ)) ToolFault → Type 0) (payloads : List (List ℕ)) (m : Content) (read next : ℕ) (config : ServerConfig) (count : ℕ) (old : W) (result : Result Bool ToolFault) (new : W)
       → reads (Ok payloads) → m ≡ laid (run (map message_of payloads)) → length payloads ≡ read → next ≡ read + 1
-      → ServesMarket contents failures m next config count old result new → ServesDay contents failures reads config count old result new
+      → ServesMarket remaining taken contents failures m next config count old result new → ServesDay remaining taken contents failures reads config count old result new
   day_served reads payloads m read next config count old result new is_read left counted follows served =
       let number : next ≡ length payloads + 1 = omega (arith, counted, follows) in
       inr (
         payloads,
         is_read,
-        subst (λ n. ServesMarket contents failures n (length payloads + 1) config count old result new) left
-            (subst (λ k. ServesMarket contents failures m k config count old result new) number served),
+        subst (λ n. ServesMarket remaining taken contents failures n (length payloads + 1) config count old result new) left
+            (subst (λ k. ServesMarket remaining taken contents failures m k config count old result new) number served),
       )

@@ -1,2 +1,4 @@
 pub mod Logins
+pub mod Patience
 pub mod Sessions
+pub mod Sides

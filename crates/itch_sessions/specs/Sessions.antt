@@ -1,7 +1,10 @@
 -- What the program fetches, and the lines that it writes of the connections that it serves.
 use Rattle.std.specs.Prelude.{◌≡◌, ℕ, ◌+◌, ◌-◌, ◌^◌, ◌<◌, ◌≤◌, ◌⊎◌, Bool, true, List, [], ◌∷◌, ◌++◌, length, map, codes, decimal, Option, Some, None, Result, Ok, Err}
 use Rattle.std.specs.List.{AllByRecursion}
+use Rattle.std.specs.declared.io.Error.{Error}
+use Rattle.std.specs.Io.KnownBytes.{Keeps}
 use Rattle.itch_codec.specs.Messages.{message_of}
+use Rattle.itch_frame.specs.Counting.{failed}
 use Rattle.itch_frame.specs.Reading.{Reading}
 use Rattle.itch_frame.specs.declared.tally.Failures.{Failures}
 use Rattle.itch_market.specs.Content.{Content, laid}
@@ -9,17 +12,15 @@ use Rattle.itch_market.specs.Runs.{run}
 use Rattle.itch_snapshot.specs.Snapshot.{snap}
 use Rattle.itch_soup.specs.declared.login.Credentials.{Credentials}
 use Rattle.itch_soup.specs.declared.login.ServerConfig.{ServerConfig}
-use Rattle.itch_soup.specs.declared.packet.LoginRequest.{LoginRequest}
 use Rattle.itch_soup.specs.declared.serve.Served.{Served}
 use Rattle.itch_soup.specs.declared.serve.Served.TheVariants.{Accepted, Rejected, Left}
-use Rattle.itch_soup.specs.declared.server.ServerAct.TheVariants as act
 use Rattle.itch_soup.specs.Fetching.{Fetches}
 use Rattle.itch_soup.specs.declared.fault.SoupFault.{SoupFault}
-use Rattle.itch_soup.specs.Sending.{messages_from, verdict}
 use Rattle.itch_soup.specs.Serving.{Serves}
 use Rattle.itch_commands.specs.declared.fault.ToolFault.{ToolFault}
 use Rattle.itch_commands.specs.declared.fault.ToolFault.TheVariants as tool
 use Rattle.itch_commands.specs.Outputs.{Wrote, WritesText}
+use Rattle.itch_sessions.specs.Sides.{Side, sound, unread}
 
 module _ {R V : Type 0} (remaining : R → Option (List ℕ)) (reads : R → Failures) (contents : V → Option (List ℕ)) (writes : V → Failures) where
   -- what is fetched from a peer: a market and its number; or the session's fault is the program's
@@ -34,14 +35,20 @@ module _ {R V : Type 0} (remaining : R → Option (List ℕ)) (reads : R → Fai
 abbrev pub Ending : Type 0
 Ending = Option Served
 
+module _ {V : Type 0} (contents : V → Option (List ℕ)) (writes : V → Failures) where
+  -- What is done once a peer was served. Where that had no fault, what was written is flushed: it ended as it was served; or
+  -- the flush failed, which is counted, and it has no ending. Where it had a fault, nothing is flushed, and it has none.
+  abbrev pub Flushes : Result Served SoupFault → V → Ending → V → Type 0
+  Flushes (Ok served) old (Some ending) new = (ending ≡ served) × Keeps (contents old) (contents new) × (writes new ≡ writes old)
+  Flushes (Ok served) old None new = Keeps (contents old) (contents new) × ((error : Error) × (writes new ≡ failed error (writes old)))
+  Flushes (Err fault) old ending new = (ending ≡ None) × (new ≡ old)
+
 module _ {R V : Type 0} (remaining : R → Option (List ℕ)) (reads : R → Failures) (contents : V → Option (List ℕ)) (writes : V → Failures) where
-  -- what serving a peer returns: how it was served; or none, where that had a fault or what was written could not be flushed
-  abbrev pub ServesFlushed : Content → ℕ → ServerConfig → Reading R → V → Ending → Reading R → Type 0
-  ServesFlushed m next config reader writer (Some served) reader_after =
-      (writer_after : V) × Serves remaining reads contents writes m next config reader writer (Ok served) reader_after writer_after
-  ServesFlushed m next config reader writer None reader_after =
-      (result : Result Served SoupFault) × (writer_after : V)
-      × Serves remaining reads contents writes m next config reader writer result reader_after writer_after
+  -- a peer is served, and what was written is flushed
+  abbrev pub ServesFlushed : Content → ℕ → ServerConfig → Reading R → V → Ending → Reading R → V → Type 0
+  ServesFlushed m next config reader writer ending reader_after writer_after =
+      (result : Result Served SoupFault) × (mid : V)
+      × Serves remaining reads contents writes m next config reader writer result reader_after mid × Flushes contents writes result mid ending writer_after
 
 -- the words of an accepted login
 abbrev pub accepted_words : ℕ → ℕ → List ℕ
@@ -63,37 +70,44 @@ abbrev pub connection_lines : ℕ → List Ending → List ℕ
 connection_lines number [] = []
 connection_lines number (ending ∷ endings) = connection_line number ending ++ connection_lines (number + 1) endings
 
--- An ending that comes of a login: its verdict accepts it from this number on, and these many messages were sent, or rejects
--- it with this code. Of what a socket gave or took no contract can say more.
-abbrev pub IsEnding : Content → ℕ → ServerConfig → Ending → Type 0
-IsEnding m next config (Some (Accepted from packets)) =
-    (login : LoginRequest) × (verdict m next config login ≡ act.Accept from) × (packets ≡ length (messages_from from m next))
-IsEnding m next config (Some (Rejected code)) = (login : LoginRequest) × (verdict m next config login ≡ act.Reject code)
-IsEnding m next config (Some Left) = Unit {0}
-IsEnding m next config None = Unit {0}
+-- an ending that comes of serving a peer over these two sides of a connection
+abbrev pub EndsOver : Content → ℕ → ServerConfig → Reading Side → Side → Ending → Type 0
+EndsOver m next config reader writer ending =
+    (heard : Reading Side) × (answered : Side)
+    × ServesFlushed (λ (s : Side). s.bytes) (λ s. s.failures) (λ (s : Side). s.bytes) (λ s. s.failures) m next config reader writer ending heard answered
+
+-- the same of a peer that sends these bytes, over a connection to which these were written before
+abbrev pub EndsAs : Content → ℕ → ServerConfig → Option (List ℕ) → Option (List ℕ) → Ending → Type 0
+EndsAs m next config sent written ending = EndsOver m next config (unread sent) (sound written) ending
 
 -- what serving one connection returns: its ending, or want of memory
-abbrev pub ServesPeer : Content → ℕ → ServerConfig → Result Ending ToolFault → Type 0
-ServesPeer m next config (Ok ending) = IsEnding m next config ending
-ServesPeer m next config (Err tool.OutOfMemory) = Unit {0}
-ServesPeer m next config (Err fault) = ⊥
+abbrev pub ServesPeer : Content → ℕ → ServerConfig → Option (List ℕ) → Option (List ℕ) → Result Ending ToolFault → Type 0
+ServesPeer m next config sent written (Ok ending) = EndsAs m next config sent written ending
+ServesPeer m next config sent written (Err tool.OutOfMemory) = Unit {0}
+ServesPeer m next config sent written (Err fault) = ⊥
 
 -- no connection was accepted, or there is no memory for one
 abbrev pub IsUnserved : ToolFault → Type 0
-IsUnserved tool.Socket = Unit {0}
+IsUnserved (tool.Socket error) = Unit {0}
 IsUnserved tool.OutOfMemory = Unit {0}
 IsUnserved fault = ⊥
 
-module _ {W : Type 0} (contents : W → Option (List ℕ)) (failures : W → Failures) where
+module _ {S : Type 0} (remaining : S → Option (List ℕ)) (taken : S → Option (List ℕ)) where
+  -- an ending that comes of serving some socket: it is read by one handle, and written to by another
+  abbrev pub IsEnding : Content → ℕ → ServerConfig → Ending → Type 0
+  IsEnding m next config ending = (stream : S) × (answering : S) × EndsAs m next config (remaining stream) (taken answering) ending
+
+module _ {S W : Type 0} (remaining : S → Option (List ℕ)) (taken : S → Option (List ℕ)) (contents : W → Option (List ℕ)) (failures : W → Failures) where
   -- the next connection is served, and its line written as far as it could be; or none is, and nothing is written
   abbrev pub ServesNext : Content → ℕ → ServerConfig → ℕ → W → Result (Unit {0}) ToolFault → W → Type 0
   ServesNext m next config number old result new =
-      ((ending : Ending) × IsEnding m next config ending × WritesText contents failures (connection_line number ending) old result new)
+      ((ending : Ending) × IsEnding remaining taken m next config ending × WritesText contents failures (connection_line number ending) old result new)
       ⊎ ((fault : ToolFault) × (result ≡ Err fault) × IsUnserved fault × (new ≡ old))
 
   -- these connections are served, and their lines written
   abbrev pub ServesAll : Content → ℕ → ServerConfig → List Ending → W → W → Type 0
-  ServesAll m next config endings old new = AllByRecursion (IsEnding m next config) endings × Wrote contents failures (connection_lines 1 endings) old new
+  ServesAll m next config endings old new =
+      AllByRecursion (IsEnding remaining taken m next config) endings × Wrote contents failures (connection_lines 1 endings) old new
 
   -- this many connections are served; or fewer, and then this went wrong with the next one
   abbrev pub ServesOn : Content → ℕ → ServerConfig → ℕ → W → Result Bool ToolFault → W → Type 0

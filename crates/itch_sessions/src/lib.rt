@@ -1,7 +1,8 @@
 //! The two ends of a SoupBinTCP 3.00 session on this machine: a market served over sockets, and a snapshot fetched.
 //!
 //! [`serve_blocks`] reads a day file and serves the snapshot of its market to one connection after another, with a line for each:
-//! the clauses say what is served, and no peer keeps the others waiting for long. [`fetch`] logs in, receives a snapshot and
+//! the clauses say what is served, and how each connection ended by what its socket gave and took. No peer keeps the others waiting
+//! for longer than [`time_left`] allows. [`fetch`] logs in, receives a snapshot and
 //! writes it in canonical form. A [`Login`] is the user name and the password of both.
 //!
 //! ```
@@ -16,11 +17,13 @@ mod ending;
 mod fetching;
 mod login;
 mod patient;
+mod sending;
 mod serve;
 
-pub use connection::{PIECE, serve_stream};
+pub use connection::{PIECE, serve_peer, serve_stream};
 pub use ending::{Ending, write_ending};
 pub use fetching::fetch;
 pub use login::Login;
-pub use patient::{Patient, hang_up};
-pub use serve::{serve_blocks, serve_on};
+pub use patient::{Patient, time_left};
+pub use sending::Sending;
+pub use serve::{Listening, serve_blocks, serve_on};

@@ -15,10 +15,13 @@ use itch_market::Market;
 use itch_snapshot::snapshot_len;
 use itch_soup::ServerConfig;
 use std::alloc::{Alloc, Allocator};
-use std::net::{Ipv4Addr, Net, TcpListener, TcpStream};
+use std::fmt::{self, Display, Formatter};
+use std::io;
+use std::net::{Ipv4Addr, Net, OpenListener, OpenStream, TcpListener};
 use std::rt::Clock;
 
-/// Serves the market of a day file on a port of 127.0.0.1, as [`serve_on`] does: the snapshot after all of its messages.
+/// Serves the market of a day file on a port of 127.0.0.1, as [`serve_on`] does: the snapshot after all of its messages. Standard
+/// error is told once the port is listened on.
 ///
 /// Nothing is served of a file that is refused, nor of one whose snapshot has too many messages, `TooMany`; `Socket` where
 /// the port cannot be listened on.
@@ -31,8 +34,8 @@ pub fn serve_blocks<R, F: CountedRead, D: Allocator, A: Allocator + Copy, W: Cou
     out: &mut W,
 ) -> Result<bool, ToolFault>
 where
-    R: Clock + Alloc<A = A> + Net<Listener = TcpListener, Stream = TcpStream>,
-    ensures { ServesDay W.contents W.failures (ReadsDay F.remaining F.failures Only None reader.old reader.new) config.now count out.old result out.new }
+    R: Clock + Eprint + Alloc<A = A> + Net,
+    ensures { ServesDay R.Stream.remaining R.Stream.contents W.contents W.failures (ReadsDay F.remaining F.failures Only None reader.old reader.new) config.now count out.old result out.new }
 {
     serve_over::<R, F, D, Book<A>, W>(rt, rt.alloc(), reader, port, config, count, out)
 }
@@ -48,8 +51,8 @@ fn serve_over<R, F: CountedRead, D: Allocator, B: OrderBook, W: CountedWrite>(
     out: &mut W,
 ) -> Result<bool, ToolFault>
 where
-    R: Clock + Alloc + Net<Listener = TcpListener, Stream = TcpStream>,
-    ensures { ServesDay W.contents W.failures (ReadsDay F.remaining F.failures Only None reader.old reader.new) config.now count out.old result out.new }
+    R: Clock + Eprint + Alloc + Net,
+    ensures { ServesDay R.Stream.remaining R.Stream.contents W.contents W.failures (ReadsDay F.remaining F.failures Only None reader.old reader.new) config.now count out.old result out.new }
 {
     let mut market: Market<B> = Market::new(alloc);
     let read = match read_market(reader, &mut market, None, Source::Only) {
@@ -73,8 +76,8 @@ fn serve_market<R, B: OrderBook, W: CountedWrite>(
     out: &mut W,
 ) -> Result<bool, ToolFault>
 where
-    R: Clock + Alloc + Net<Listener = TcpListener, Stream = TcpStream>,
-    ensures { ServesMarket W.contents W.failures market.now next config.now count out.old result out.new }
+    R: Clock + Eprint + Alloc + Net,
+    ensures { ServesMarket R.Stream.remaining R.Stream.contents W.contents W.failures market.now next config.now count out.old result out.new }
 {
     if snapshot_len(market) >= u128::from(MOST_MESSAGES) {
         return Err(ToolFault::TooMany);
@@ -85,20 +88,33 @@ where
     }
 }
 
-fn listen<N: Net<Listener = TcpListener, Stream = TcpStream>>(
-    net: &N,
-    port: u16,
-) -> Result<TcpListener, ToolFault>
+// Listens on a port, and says so.
+fn listen<N: Net + Eprint>(net: &N, port: u16) -> Result<N::Listener, ToolFault>
     ensures { IfErr result IsUnserved }
 {
     match TcpListener::bind(net, (Ipv4Addr::LOCALHOST, port)) {
-        Ok(listener) => Ok(listener),
-        Err(error) => Err(system_fault(error, ToolFault::Socket)),
+        Ok(listener) => {
+            let _ = net.eprintln(&Listening(port));
+            Ok(listener)
+        }
+        Err(error) => Err(system_fault(error, ToolFault::Socket(error))),
+    }
+}
+
+/// The line that says that a port is listened on, without its line feed.
+#[derive(Clone, Copy, Debug)]
+pub struct Listening(pub u16);
+
+impl Display for Listening {
+    fn fmt<W: fmt::Write>(&self, f: &mut Formatter<W>) -> fmt::Result {
+        let port = self.0;
+        write!(f, "listening on 127.0.0.1:{port}")
     }
 }
 
 /// Serves a market to `count` connections, one after the other, and writes a line for each: how it was answered, or that it
-/// had a fault, which ends nothing else. A peer has 15 seconds for its login, and as long for each write.
+/// had a fault, which ends nothing else. A peer has 15 seconds for its login, and as long for its answer and one more for each
+/// 64 KiB of it.
 ///
 /// The caller keeps the snapshot below 10^19 - 1 messages: `snapshot_len` counts them.
 ///
@@ -106,9 +122,9 @@ fn listen<N: Net<Listener = TcpListener, Stream = TcpStream>>(
 ///
 /// `Socket` where no connection could be accepted, `OutOfMemory` where there is no memory for one, and `Write` for its line:
 /// the lines of the connections before were written.
-pub fn serve_on<R: Clock + Alloc, B: OrderBook, W: CountedWrite>(
+pub fn serve_on<R: Clock + Alloc + Net, B: OrderBook, W: CountedWrite>(
     rt: &R,
-    listener: &TcpListener,
+    listener: &R::Listener,
     market: &Market<B>,
     next: Seq,
     config: &ServerConfig,
@@ -116,7 +132,7 @@ pub fn serve_on<R: Clock + Alloc, B: OrderBook, W: CountedWrite>(
     out: &mut W,
 ) -> Result<bool, ToolFault>
     requires { length (snap market.now) < 10 ^ 19 - 1 }
-    ensures { ServesOn W.contents W.failures market.now next config.now count out.old result out.new }
+    ensures { ServesOn R.Stream.remaining R.Stream.contents W.contents W.failures market.now next config.now count out.old result out.new }
 {
     for before in 0..count {
         serve_next(rt, listener, market, next, config, before + 1, out)?;
@@ -125,9 +141,9 @@ pub fn serve_on<R: Clock + Alloc, B: OrderBook, W: CountedWrite>(
 }
 
 // Serves the next connection, and writes its line.
-fn serve_next<R: Clock + Alloc, B: OrderBook, W: CountedWrite>(
+fn serve_next<R: Clock + Alloc + Net, B: OrderBook, W: CountedWrite>(
     rt: &R,
-    listener: &TcpListener,
+    listener: &R::Listener,
     market: &Market<B>,
     next: Seq,
     config: &ServerConfig,
@@ -135,14 +151,21 @@ fn serve_next<R: Clock + Alloc, B: OrderBook, W: CountedWrite>(
     out: &mut W,
 ) -> Result<(), ToolFault>
     requires { length (snap market.now) < 10 ^ 19 - 1 }
-    ensures { ServesNext W.contents W.failures market.now next config.now number out.old result out.new }
+    ensures { ServesNext R.Stream.remaining R.Stream.contents W.contents W.failures market.now next config.now number out.old result out.new }
 {
-    let stream = match listener.accept() {
-        Ok((stream, _)) => stream,
-        Err(error) => return Err(system_fault(error, ToolFault::Socket)),
+    let (stream, answering) = match accept::<R>(listener) {
+        Ok(handles) => handles,
+        Err(error) => return Err(system_fault(error, ToolFault::Socket(error))),
     };
-    match serve_stream(rt, &stream, market, next, config) {
+    match serve_stream(rt, stream, answering, market, next, config) {
         Ok(ending) => write_ending(out, number, &ending),
         Err(fault) => Err(fault),
     }
+}
+
+// Accepts the next connection, and gives two handles of its socket.
+fn accept<N: Net>(listener: &N::Listener) -> io::Result<(N::Stream, N::Stream)> {
+    let (stream, _) = listener.accept()?;
+    let answering = stream.try_clone()?;
+    Ok((stream, answering))
 }

@@ -10,7 +10,7 @@ use std::fmt;
 
 /// Why a snapshot was not written or not read.
 ///
-/// A place counts the snapshot's messages from 1. Want of memory is `Rule` with the reason `OutOfMemory`.
+/// A place counts the snapshot's messages from 1. Memory that runs out is `Rule` with the reason `OutOfMemory`.
 #[derive(Clone, Copy, Debug)]
 pub enum SnapFault {
     /// The blocks ended before an End of Snapshot.

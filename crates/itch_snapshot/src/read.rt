@@ -20,7 +20,7 @@ use std::alloc::Allocator;
 ///
 /// `NoEnd` where the blocks end before, `Codec` and `Rule` for the first message that is not taken, `TooManyMessages` where
 /// 10^19 - 1 messages and no End of Snapshot came, `AfterEnd` for a block after it, and `Frame` for a failed read or an
-/// unfinished block. Want of memory is `Rule` with the reason `OutOfMemory`. On a fault no market is handed out.
+/// unfinished block. Memory that runs out is `Rule` with the reason `OutOfMemory`. On a fault no market is handed out.
 pub fn read_snapshot<R: CountedRead, A: Allocator, B: OrderBook>(
     alloc: B::Alloc,
     reader: &mut BlockReader<R, A>,

@@ -75,8 +75,8 @@ impl<B: OrderBook> SnapshotReader<B> {
 
     /// Takes the message of a payload: `None` for a message that was applied, `Some(next)` for the End of Snapshot.
     ///
-    /// A message is refused by `Codec`, `Rule` or `TooManyMessages`, and every later call returns the same. Want of memory is
-    /// `Rule` with the reason `OutOfMemory`; it leaves all as before, and the call may be made again. After the End of
+    /// A message is refused by `Codec`, `Rule` or `TooManyMessages`, and every later call returns the same. Memory that runs out is
+    /// `Rule` with the reason `OutOfMemory`; that leaves all as before, and the call may be made again. After the End of
     /// Snapshot each call returns `AfterEnd`.
     pub fn message(&mut self, payload: &[u8]) -> Result<Option<Seq>, SnapFault>
         ensures { Loads self.old payload.now result self.new }

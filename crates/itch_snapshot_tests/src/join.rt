@@ -229,9 +229,13 @@ fn joins_late(rt: HostRuntime) -> Result<(), Fail> {
 fn the_laws_of_joins() {
     laws::lawful_market();
     laws::late_joiner();
+    laws::at_most_cap_wait();
     laws::last_result();
     laws::snapshot_of_feed();
     laws::whole_feed();
+    laws::restricted_feed();
+    laws::snapshot_for_a_set();
+    laws::any_snapshot_for_a_set();
 }
 
 // The snapshot of the first two messages.

@@ -18,3 +18,4 @@ pub mod SaidAnswers
 pub mod OneFetch
 pub mod SomeFetch
 pub mod SomeWait
+pub mod Through

@@ -23,7 +23,7 @@ use std::alloc::Allocator;
 ///
 /// `Frame(Write)` for the login; nothing was read. Otherwise the first of: a fault of a packet or its block, or of the
 /// session; `Rejected`; `WrongStart` where the login is accepted with another number than 1; `EndedEarly` where the session
-/// or the input ends; `Snapshot` for a message that the snapshot's reader refuses, want of memory among its reasons; and
+/// or the input ends; `Snapshot` for a message that the snapshot's reader refuses, `OutOfMemory` among its reasons; and
 /// `TooManyMessages` for a packet after 10^19 others. No market is handed out then.
 pub fn fetch_one<R: CountedRead, A: Allocator, W: CountedWrite, B: OrderBook>(
     alloc: B::Alloc,

@@ -4,15 +4,17 @@
 //! for them. `serve` and `fetch` are those of `itch_sessions`, over sockets of this machine.
 #![tactic(auto)]
 
+mod failed;
 mod opened;
 mod run;
 mod sockets;
 
+use crate::failed::DeviceName;
 use crate::run::run;
 use clap::Error;
 use clap::error::ErrorKind;
-use itch_commands::{ToolFault, ends_by_closed_pipe, final_status, system_fault};
-use itch_words::{read_job, usage_fault};
+use itch_commands::{Cause, ToolFault, ends_by_closed_pipe, final_status, system_fault};
+use itch_words::{Job, read_job, usage_fault};
 use std::alloc::{AllocError, Global};
 use std::env::{self, Args};
 use std::io::{self, IsTerminal};
@@ -23,7 +25,7 @@ fn main(rt: HostRuntime) -> ExitCode {
     let terminal = rt.stdout().is_terminal();
     let status = match read_words(alloc, env::args(&rt)) {
         Ok(words) => match read_job(alloc, words.as_slice(), terminal) {
-            Ok(job) => finish(&rt, run(&rt, job)),
+            Ok(job) => finish(&rt, Some(&job), run(&rt, job)),
             Err(error) => explain(&rt, error),
         },
         Err(error) => explain(&rt, error),
@@ -43,9 +45,9 @@ fn read_words(alloc: Global, args: io::Result<Args>) -> Result<Vec<String>, Erro
 }
 
 // Says a fault on standard error, and returns the status. Of a closed pipe nothing is said.
-fn finish(rt: &impl Eprint, outcome: Result<bool, ToolFault>) -> u8 {
+fn finish(rt: &impl Eprint, job: Option<&Job<'_>>, outcome: Result<bool, ToolFault>) -> u8 {
     match &outcome {
-        Err(fault) if !ends_by_closed_pipe(&outcome) => match rt.eprintln(fault) {
+        Err(fault) if !ends_by_closed_pipe(&outcome) => match say(rt, job, fault) {
             Ok(()) => final_status(&outcome),
             Err(error) => final_status(&Err(ToolFault::Write(error))),
         },
@@ -53,13 +55,29 @@ fn finish(rt: &impl Eprint, outcome: Result<bool, ToolFault>) -> u8 {
     }
 }
 
+// Writes the line of a fault, and where a device failed a second one, with its name and what the system says.
+fn say(rt: &impl Eprint, job: Option<&Job<'_>>, fault: &ToolFault) -> io::Result<()> {
+    rt.eprintln(fault)?;
+    match fault.cause() {
+        Some(Cause { device, error }) => {
+            let name = DeviceName::of(job, device);
+            eprintln!(rt; "  {name}: {error}")
+        }
+        None => Ok(()),
+    }
+}
+
 // Prints what help or a usage fault has to say, and returns the status.
 fn explain<R: Print + Eprint>(rt: &R, error: Error) -> u8 {
     if matches!(error.kind(), ErrorKind::OutOfMemory) {
-        return finish(rt, Err(ToolFault::OutOfMemory));
+        return finish(rt, None, Err(ToolFault::OutOfMemory));
     }
     match error.print(rt) {
         Ok(()) => error.exit_code() as u8,
-        Err(failed) => finish(rt, Err(system_fault(failed, ToolFault::Write(failed)))),
+        Err(failed) => finish(
+            rt,
+            None,
+            Err(system_fault(failed, ToolFault::Write(failed))),
+        ),
     }
 }

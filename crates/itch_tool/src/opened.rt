@@ -1,22 +1,32 @@
 //! What a command reads, opened.
 
-use itch_commands::{ToolFault, system_fault};
+use itch_commands::{Source, ToolFault, system_fault};
 use itch_input::{Opened, Progress, Watched};
 use std::fs;
 use std::rt::Files;
 
-/// Opens the file of a path, or standard input where there is none. `progress` counts what is read of it.
+/// Opens the file of a path, or standard input where there is none. `progress` counts what is read of it, and `source` is the
+/// file's name in a fault.
 ///
 /// An error is `Open`, or `OutOfMemory` where the system has no memory for it.
 pub fn open<'a, R: Files + Input + Eprint>(
     rt: &R,
     path: Option<&str>,
+    source: Source,
     progress: Option<&'a Progress<'a, R>>,
 ) -> Result<Watched<'a, Opened<R::File, R::Reader>, R>, ToolFault> {
     let opened = match path {
         Some(path) => match fs::open(rt, path) {
             Ok(file) => Opened::File(file),
-            Err(error) => return Err(system_fault(error, ToolFault::Open)),
+            Err(error) => {
+                return Err(system_fault(
+                    error,
+                    ToolFault::Open {
+                        file: source,
+                        error,
+                    },
+                ));
+            }
         },
         None => Opened::Standard(rt.reader()),
     };

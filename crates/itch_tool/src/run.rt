@@ -5,7 +5,7 @@ use crate::opened::open;
 use crate::sockets::{run_fetch, run_serve};
 use itch_commands::compare::compare_blocks;
 use itch_commands::join::join_blocks;
-use itch_commands::{Request, ToolFault, perform, read_locates};
+use itch_commands::{Request, Source, ToolFault, perform, read_locates};
 use itch_frame::{BlockReader, Buffered, Counted, CountedWrite};
 use itch_input::Progress;
 use itch_market::LocateSet;
@@ -67,17 +67,17 @@ fn answer<R: Files + Input + Eprint + AllocGlobal + Clock, W: CountedWrite>(
     let alloc = rt.alloc();
     match request {
         Request::Compare { first, second } => {
-            let first = open(rt, first, progress)?;
-            let second = open(rt, second, progress)?;
+            let first = open(rt, first, Source::First, progress)?;
+            let second = open(rt, second, Source::Second, progress)?;
             compare_over(alloc, first, second, out)
         }
         Request::Join { snapshot, feed, .. } => {
-            let snapshot = open(rt, snapshot, progress)?;
-            let feed = open(rt, feed, progress)?;
+            let snapshot = open(rt, snapshot, Source::Snapshot, progress)?;
+            let feed = open(rt, feed, Source::Only, progress)?;
             join_over(alloc, snapshot, feed, only, out)
         }
         _ => {
-            let file = open(rt, request.file(), progress)?;
+            let file = open(rt, request.file(Source::Only), Source::Only, progress)?;
             perform_over(alloc, request, only.as_ref(), file, out)
         }
     }

@@ -1,7 +1,7 @@
 //! The two ends of a session on this machine.
 
 use crate::opened::open;
-use itch_commands::{ToolFault, system_fault};
+use itch_commands::{Source, ToolFault, system_fault};
 use itch_frame::{BlockReader, Buffered, Counted};
 use itch_input::Progress;
 use itch_sessions::{Login, PIECE, fetch, serve_blocks};
@@ -24,7 +24,7 @@ where
 {
     let login = Login::new(peer.user, peer.password)?;
     let progress = if progress { Progress::begin(rt) } else { None };
-    let file = open(rt, file, progress.as_ref())?;
+    let file = open(rt, file, Source::Only, progress.as_ref())?;
     let Ok(buffered) = BufReader::with_capacity(rt.alloc(), PIECE, file) else {
         return Err(ToolFault::OutOfMemory);
     };
@@ -67,8 +67,8 @@ fn connect<N: Net<Stream = TcpStream>>(net: &N, port: u16) -> Result<TcpStream, 
     match TcpStream::connect(net, (Ipv4Addr::LOCALHOST, port)) {
         Ok(stream) => match stream.set_nodelay(true) {
             Ok(()) => Ok(stream),
-            Err(_) => Err(ToolFault::Socket),
+            Err(error) => Err(ToolFault::Socket(error)),
         },
-        Err(error) => Err(system_fault(error, ToolFault::Socket)),
+        Err(error) => Err(system_fault(error, ToolFault::Socket(error))),
     }
 }

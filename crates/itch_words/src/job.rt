@@ -1,11 +1,11 @@
 //! What the program is asked to do: a request over files, or a session with a peer on this machine.
-ghost use Rattle.std.specs.Prelude.{◌≡◌};
-ghost use Rattle.itch_words.specs.Jobs.{writes_snapshot};
+ghost use Rattle.std.specs.Prelude.{◌≡◌, option_map};
+ghost use Rattle.itch_words.specs.Jobs.{file_of, port_of, writes_snapshot};
 
 use crate::commands::{command, usage_fault};
 use crate::request::{read_path, read_request};
 use clap::{ArgMatches, Error};
-use itch_commands::Request;
+use itch_commands::{Request, Source};
 use std::alloc::Global;
 use std::fmt::{self, Debug, Formatter};
 
@@ -26,6 +26,29 @@ pub enum Job<'a> {
     },
     /// Fetch the snapshot that a server has.
     Fetch(Peer<'a>),
+}
+
+impl<'a> Job<'a> {
+    /// The path of the file that a fault names so, or none where it is standard input.
+    pub fn file(&self, source: Source) -> Option<&'a str>
+        ensures { option_map (λ path. path.now) result ≡ file_of self.now source }
+    {
+        match self {
+            Job::Files { request, .. } => request.file(source),
+            Job::Serve { file, .. } => *file,
+            Job::Fetch(_) => None,
+        }
+    }
+
+    /// The port of the session, where the job has one.
+    pub fn port(&self) -> Option<u16>
+        ensures { result ≡ port_of self.now }
+    {
+        match self {
+            Job::Files { .. } => None,
+            Job::Serve { peer, .. } | Job::Fetch(peer) => Some(peer.port),
+        }
+    }
 }
 
 // Whether the output is a snapshot, which is no text.
@@ -60,7 +83,7 @@ impl Debug for Peer<'_> {
 
 /// Reads the words, of which the first is the program's name. A snapshot is refused where standard output is a terminal.
 ///
-/// An error is a usage fault, a request for help, or want of memory: its kind says which.
+/// An error is a usage fault, a request for help, or that memory ran out: its kind says which.
 pub fn read_job<'a>(alloc: Global, words: &'a [String], terminal: bool) -> Result<Job<'a>, Error> {
     let matches = command(alloc)?.try_get_matches_from(words)?;
     let job = match matches.subcommand() {

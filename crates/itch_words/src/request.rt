@@ -7,7 +7,7 @@ use std::alloc::Global;
 
 /// Reads what was matched of a request over files.
 ///
-/// An error is a usage fault or want of memory: its kind says which.
+/// An error is a usage fault or that memory ran out: its kind says which.
 pub fn read_request<'a>(alloc: Global, matches: &ArgMatches<'a>) -> Result<Request<'a>, Error> {
     match matches.subcommand() {
         Some(("snap", options)) => read_snap(alloc, options),

@@ -39,16 +39,19 @@ use Rattle.itch_commands.proofs.Comparisons.{taken_good, taken_few}
 use Rattle.itchsnap_c.specs.declared.answers.Written.{Written}
 use Rattle.itchsnap_c.specs.Files.{market_of, outcome, RefusesDay, refused_day}
 use Rattle.itchsnap_c.specs.Codes.{stop_answer}
-use Rattle.itchsnap_c.specs.Snapshots.{is_listed, unwritten, Copies, Puts}
+use Rattle.itchsnap_c.specs.Snapshots.{is_listed, Writes, Puts}
 
--- where a day file stops a replay of it, or of its part
-pub halts_at : (after : Option ℕ) (m n : Content) (day : List ℕ) (bytes new : Option (List ℕ)) (count : ℕ) (stop : Stop) → m ≡ empty → bytes ≡ Some day
-    → HaltsPart after m bytes new count stop n → IsDecided stop → Stops empty day count stop
-halts_at after m n day bytes new count stop first known halts =
-    by_part after (subst (λ b. HaltsPart after empty b new count stop n) known (subst (λ x. HaltsPart after x bytes new count stop n) first halts)) where
-      by_part : (part : Option ℕ) → HaltsPart part empty (Some day) new count stop n → IsDecided stop → Stops empty day count stop
-      by_part None h = replays_stop empty n (Some day) new count stop h
-      by_part (Some most) h = replays_stop empty n (Some day) new count stop h.1
+-- a replay of a day file, or of its part, from the empty market stops so
+halts_first : (after : Option ℕ) (m n : Content) (day : List ℕ) (bytes new : Option (List ℕ)) (count : ℕ) (stop : Stop) → m ≡ empty → bytes ≡ Some day
+    → HaltsPart after m bytes new count stop n → HaltsPart after empty (Some day) new count stop n
+halts_first after m n day bytes new count stop first known halts =
+    subst (λ b. HaltsPart after empty b new count stop n) known (subst (λ x. HaltsPart after x bytes new count stop n) first halts)
+
+-- where a day file stops it
+halts_at : (after : Option ℕ) (n : Content) (day : List ℕ) (new : Option (List ℕ)) (count : ℕ) (stop : Stop) → HaltsPart after empty (Some day) new count stop n
+    → IsDecided stop → Stops empty day count stop
+halts_at None n day new count stop halts = replays_stop empty n (Some day) new count stop halts
+halts_at (Some most) n day new count stop halts = replays_stop empty n (Some day) new count stop halts.1
 
 -- it has fewer messages than are wanted
 pub short_part : (after : Option ℕ) (m n : Content) (bytes new : Option (List ℕ)) (count : ℕ) → IsSome after → HaltsPart after m bytes new count End n → IsShort after count
@@ -80,29 +83,34 @@ stop_decided (Rule UnexpectedEnd) counts = inl tt
 stop_decided (Rule OutOfMemory) counts = inr refl
 stop_decided TooManyMessages counts = inl tt
 
-refused_at_stop : (after : Option ℕ) (day : List ℕ) (count : ℕ) (stop : Stop) → stop ≢ End → (IsDecided stop → Stops empty day count stop)
-    → IsDecided stop ⊎ (stop ≡ Rule OutOfMemory) → RefusesDay day after (outcome count 0 (stop_answer stop).detail (stop_answer stop).code)
-refused_at_stop after day count stop going stops (inl decided) = inl (count, stop, refl, going, stops decided)
-refused_at_stop after day count stop going stops (inr memory) = inr (inr (count, ap (λ s. outcome count 0 (stop_answer s).detail (stop_answer s).code) memory))
+refused_at_stop : (after : Option ℕ) (n : Content) (day : List ℕ) (new : Option (List ℕ)) (count : ℕ) (stop : Stop) → stop ≢ End
+    → HaltsPart after empty (Some day) new count stop n → IsDecided stop ⊎ (stop ≡ Rule OutOfMemory)
+    → RefusesDay day after (outcome count 0 (stop_answer stop).detail (stop_answer stop).code)
+refused_at_stop after n day new count stop going halts (inl decided) = inl (count, stop, refl, going, halts_at after n day new count stop halts decided)
+refused_at_stop after n day new count stop going halts (inr memory) = inr (inr (
+  count,
+  ap (λ s. outcome count 0 (stop_answer s).detail (stop_answer s).code) memory,
+  inr (new, n, subst (λ s. HaltsPart after empty (Some day) new count s n) memory halts),
+))
 
 -- why a day file is refused
 pub day_refused : (after : Option ℕ) (m n : Content) (day : List ℕ) (bytes new : Option (List ℕ)) (fault : ToolFault) → m ≡ empty → bytes ≡ Some day
     → ReadsMarket Only after m bytes new (Err fault) n → CountsRead {X = ℕ} (Err fault) no_failures no_failures → RefusesDay day after (refused_day fault)
 day_refused after m n day bytes new (tool.Stopped at end) first known (same, going, halts) counts =
-    refused_at_stop after day end.count end.stop going (halts_at after m n day bytes new end.count end.stop first known halts) (stop_decided end.stop counts)
+    refused_at_stop after n day new end.count end.stop going (halts_first after m n day bytes new end.count end.stop first known halts) (stop_decided end.stop counts)
 day_refused after m n day bytes new (tool.Short count) first known (some, halts) counts =
-    inr (inl (count, refl, short_part after m n bytes new count some halts, halts_at after m n day bytes new count End first known halts tt))
+    inr (inl (count, refl, short_part after m n bytes new count some halts, halts_at after n day new count End (halts_first after m n day bytes new count End first known halts) tt))
 day_refused after m n day bytes new (tool.Snap at fault) first known reads counts = absurd reads
 day_refused after m n day bytes new tool.UnknownLocate first known reads counts = absurd reads
 day_refused after m n day bytes new (tool.Write error) first known reads counts = absurd reads
 day_refused after m n day bytes new tool.OutOfMemory first known reads counts = absurd reads
-day_refused after m n day bytes new tool.Open first known reads counts = absurd reads
+day_refused after m n day bytes new (tool.Open file error) first known reads counts = absurd reads
 day_refused after m n day bytes new tool.BadUser first known reads counts = absurd reads
 day_refused after m n day bytes new tool.BadPassword first known reads counts = absurd reads
 day_refused after m n day bytes new tool.BadLocates first known reads counts = absurd reads
 day_refused after m n day bytes new tool.TooMany first known reads counts = absurd reads
 day_refused after m n day bytes new (tool.Soup fault) first known reads counts = absurd reads
-day_refused after m n day bytes new tool.Socket first known reads counts = absurd reads
+day_refused after m n day bytes new (tool.Socket error) first known reads counts = absurd reads
 
 -- a market cut down has no more messages
 module _ (wanted : ℕ → Bool) (m : Content) where
@@ -131,12 +139,11 @@ module _ (after : Option ℕ) (ps : List (List ℕ)) (m : Content) (taken : AreT
   -- and is written with the number after them, unless memory is refused
   pub written_read : (cut : Content → Content) (count : ℕ) (old new : List ℕ) (written : Written) → length ps ≡ count → canon (cut m) ≡ canon (cut (market_of ps))
       → Puts m (cut m) (count + 1) old written new
-      → Copies (canon (cut (market_of ps)) ++ closing (length ps + 1)) old written new ⊎ ((written ≡ unwritten 48) × (new ≡ old))
-  written_read cut count old new written counted same (inl (number, few, copies)) = inl (subst (λ bytes. Copies bytes old written new)
-      (ap (λ bytes. bytes ++ closing (count + 1)) same ∙ ap (λ k. canon (cut (market_of ps)) ++ closing (k + 1)) (sym counted)) copies)
+      → Writes (canon (cut (market_of ps)) ++ closing (length ps + 1)) old written new
+  written_read cut count old new written counted same (inl (number, few, writes)) = subst (λ bytes. Writes bytes old written new)
+      (ap (λ bytes. bytes ++ closing (count + 1)) same ∙ ap (λ k. canon (cut (market_of ps)) ++ closing (k + 1)) (sym counted)) writes
   written_read cut count old new written counted same (inr (inl (code, none, stays))) = absurd (none (omega arith, omega (arith, counted, taken.few)))
-  written_read cut count old new written counted same (inr (inr (inl (code, many, stays)))) = absurd (omega (arith, many, taken_few after ps m fits taken left))
-  written_read cut count old new written counted same (inr (inr (inr refused))) = inr refused
+  written_read cut count old new written counted same (inr (inr (code, number, many, stays))) = absurd (omega (arith, many, taken_few after ps m fits taken left))
 
 -- what is read of a snapshot fails as reading does
 fails_here : (old new : Option (List ℕ)) (fault : FrameFault) → ReadsSnapshot old new (Err (snap_fault.Frame fault)) → (mid : Option (List ℕ)) × FailsHere fault mid new
@@ -148,18 +155,18 @@ pub snapshot_refused : (day : List ℕ) (old new : Option (List ℕ)) (fault : S
     → IfSome old (λ b. IsDecidedFault fault → IsFaultOf b fault) → CountsFault fault no_failures no_failures → IsRefusedFor day fault
 snapshot_refused day old new fault known reads decided counts =
     by_fault fault reads (subst (λ o. IfSome o (λ b. IsDecidedFault fault → IsFaultOf b fault)) known decided) counts where
-      by_rule : (place : ℕ) (why : Refusal) → (IsDecided (Rule why) → IsFaultOf day (snap_fault.Rule place why)) → IsDecided (Rule why) ⊎ (Rule why ≡ Rule OutOfMemory)
-          → IsRefusedFor day (snap_fault.Rule place why)
-      by_rule place why is (inl sure) = inl (is sure)
-      by_rule place UnknownLocate is (inr memory) = inl (is tt)
-      by_rule place StockMismatch is (inr memory) = inl (is tt)
-      by_rule place ZeroShares is (inr memory) = inl (is tt)
-      by_rule place DuplicateRef is (inr memory) = inl (is tt)
-      by_rule place UnknownRef is (inr memory) = inl (is tt)
-      by_rule place LocateMismatch is (inr memory) = inl (is tt)
-      by_rule place (TooManyShares remain) is (inr memory) = inl (is tt)
-      by_rule place UnexpectedEnd is (inr memory) = inl (is tt)
-      by_rule place OutOfMemory is (inr memory) = inr (place, refl)
+      by_rule : (place : ℕ) (why : Refusal) → ReadsSnapshot old new (Err (snap_fault.Rule place why)) → (IsDecided (Rule why) → IsFaultOf day (snap_fault.Rule place why))
+          → IsDecided (Rule why) ⊎ (Rule why ≡ Rule OutOfMemory) → IsRefusedFor day (snap_fault.Rule place why)
+      by_rule place why reads is (inl sure) = inl (is sure)
+      by_rule place UnknownLocate reads is (inr memory) = inl (is tt)
+      by_rule place StockMismatch reads is (inr memory) = inl (is tt)
+      by_rule place ZeroShares reads is (inr memory) = inl (is tt)
+      by_rule place DuplicateRef reads is (inr memory) = inl (is tt)
+      by_rule place UnknownRef reads is (inr memory) = inl (is tt)
+      by_rule place LocateMismatch reads is (inr memory) = inl (is tt)
+      by_rule place (TooManyShares remain) reads is (inr memory) = inl (is tt)
+      by_rule place UnexpectedEnd reads is (inr memory) = inl (is tt)
+      by_rule place OutOfMemory reads is (inr memory) = inr (place, refl, inr (new, subst (λ b. ReadsSnapshot b new (Err (snap_fault.Rule place OutOfMemory))) known reads))
 
       by_fault : (f : SnapFault) → ReadsSnapshot old new (Err f) → (IsDecidedFault f → IsFaultOf day f) → CountsFault f no_failures no_failures → IsRefusedFor day f
       by_fault snap_fault.NoEnd reads is counts = inl (is tt)
@@ -168,6 +175,6 @@ snapshot_refused day old new fault known reads decided counts =
       by_fault (snap_fault.Frame (Write sent error)) reads is counts = absurd ((fails_here old new (Write sent error) reads).1)
       by_fault (snap_fault.Frame TooLong) reads is counts = absurd ((fails_here old new TooLong reads).1)
       by_fault (snap_fault.Codec place f) reads is counts = inl (is tt)
-      by_fault (snap_fault.Rule place why) reads is counts = by_rule place why is (stop_decided (Rule why) refl)
+      by_fault (snap_fault.Rule place why) reads is counts = by_rule place why reads is (stop_decided (Rule why) refl)
       by_fault snap_fault.AfterEnd reads is counts = inl (is tt)
       by_fault snap_fault.TooManyMessages reads is counts = inl (is tt)

@@ -5,19 +5,20 @@ use Rattle.itch_codec.specs.Messages.{message_of}
 use Rattle.itch_commands.specs.declared.fault.ToolFault.{ToolFault}
 use Rattle.itch_commands.specs.declared.fault.ToolFault.TheVariants as tool
 use Rattle.itch_commands.specs.Comparing.{IsPartPlace}
-use Rattle.itch_commands.specs.Readings.{AreTaken, IsPart, IsShort}
+use Rattle.itch_commands.specs.Readings.{AreTaken, HaltsPart, IsPart, IsShort}
 use Rattle.itch_market.specs.Content.{Content, empty, laid}
 use Rattle.itch_market.specs.Replays.{Fits}
 use Rattle.itch_market.specs.Runs.{run}
 use Rattle.itch_market.specs.Stops.{Stops}
+use Rattle.itch_market.specs.declared.refusal.Refusal.TheVariants.{OutOfMemory}
 use Rattle.itch_market.specs.declared.stop.Stop.{Stop}
-use Rattle.itch_market.specs.declared.stop.Stop.TheVariants.{End}
+use Rattle.itch_market.specs.declared.stop.Stop.TheVariants.{End, Rule}
 use Rattle.itch_snapshot.specs.Bytes.{canon, closing}
 use Rattle.itchsnap_c.specs.declared.answers.Comparison.{Comparison}
 use Rattle.itchsnap_c.specs.declared.answers.Outcome.{Outcome}
 use Rattle.itchsnap_c.specs.declared.answers.Written.{Written}
 use Rattle.itchsnap_c.specs.Codes.{stop_answer}
-use Rattle.itchsnap_c.specs.Snapshots.{unwritten, Copies}
+use Rattle.itchsnap_c.specs.Snapshots.{Writes}
 
 -- the messages that are wanted of a file: all, where 2^64 - 1 are
 abbrev pub part_of : ℕ → Option ℕ
@@ -41,13 +42,18 @@ abbrev pub ReadsDay : List ℕ → Option ℕ → Content → ℕ → Type 0
 ReadsDay day after m count =
     (payloads : List (List ℕ)) × Reads day after payloads × (m ≡ laid (run (map message_of payloads))) × (length payloads ≡ count)
 
+-- Memory is refused: before the first message, or for the one after this many, which were taken. That one takes memory, and no
+-- order rule refuses it.
+abbrev pub RunsOut : Option ℕ → List ℕ → ℕ → Type 0
+RunsOut after day count = (count ≡ 0) ⊎ ((new : Option (List ℕ)) × (m : Content) × HaltsPart after empty (Some day) new count (Rule OutOfMemory) m)
+
 -- Why a day file is refused: at its first bad place, with the number of messages before it; or it has fewer messages than are
--- wanted; or memory is refused.
+-- wanted; or memory is refused, with the number of messages that were taken.
 abbrev pub RefusesDay : List ℕ → Option ℕ → Outcome → Type 0
 RefusesDay day after o =
     ((count : ℕ) × (stop : Stop) × (o ≡ outcome count 0 (stop_answer stop).detail (stop_answer stop).code) × (stop ≢ End) × Stops empty day count stop)
     ⊎ ((count : ℕ) × (o ≡ outcome count 0 0 37) × IsShort after count × Stops empty day count End)
-    ⊎ ((count : ℕ) × (o ≡ outcome count 0 0 48))
+    ⊎ ((count : ℕ) × (o ≡ outcome count 0 0 48) × RunsOut after day count)
 
 -- a day file follows the order rules, and this is its number of messages; or it is refused
 abbrev pub Checks : List ℕ → Outcome → Type 0
@@ -63,7 +69,7 @@ market_of payloads = run (map message_of payloads)
 abbrev pub Snaps : (Content → Content) → List ℕ → Option ℕ → List ℕ → Outcome → List ℕ → Type 0
 Snaps cut day after old o new =
     ((payloads : List (List ℕ)) × (written : Written) × Reads day after payloads × (o ≡ outcome (length payloads) written.len 0 written.code)
-    × (Copies (canon (cut (market_of payloads)) ++ closing (length payloads + 1)) old written new ⊎ ((written ≡ unwritten 48) × (new ≡ old))))
+    × Writes (canon (cut (market_of payloads)) ++ closing (length payloads + 1)) old written new)
     ⊎ (RefusesDay day after o × (new ≡ old))
 
 -- the markets are the same, or part at this place

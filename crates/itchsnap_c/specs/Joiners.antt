@@ -15,7 +15,7 @@ use Rattle.itchsnap_c.specs.declared.answers.Count.{Count}
 use Rattle.itchsnap_c.specs.declared.answers.Joined.{Joined}
 use Rattle.itchsnap_c.specs.declared.object.Object.{Object}
 use Rattle.itchsnap_c.specs.declared.object.Object.TheVariants.{Market, Joiner, Client, Server}
-use Rattle.itchsnap_c.specs.Codes.{done, no_memory}
+use Rattle.itchsnap_c.specs.Codes.{done, no_memory, in_use}
 use Rattle.itchsnap_c.specs.JoinCodes.{coded_number, live_answer, snap_answer, resumed_answer}
 use Rattle.itchsnap_c.specs.Objects.{Fills}
 use Rattle.itchsnap_c.specs.Snapshots.{is_listed}
@@ -32,11 +32,12 @@ new_joiner cap set = Joiner (record { cap = cap; set = set; state = states.new }
 abbrev pub FillsAll : ℕ → Option Object → Answer → Option Object → Type 0
 FillsAll cap old answer new = (set : Wanted) × ((locate : ℕ) → has set locate ≡ true) × Fills old (new_joiner cap set) answer new
 
--- the same for those of a list, for which memory may be refused
+-- the same for those of a list
 abbrev pub FillsListed : ℕ → List ℕ → Option Object → Answer → Option Object → Type 0
-FillsListed cap locates old answer new =
-    ((set : Wanted) × ((locate : ℕ) → has set locate ≡ is_listed locates locate) × Fills old (new_joiner cap set) answer new)
-    ⊎ ((answer ≡ no_memory) × (new ≡ old))
+FillsListed cap locates (Some old) answer new = (answer ≡ in_use) × (new ≡ Some old)
+FillsListed cap locates None answer new =
+    ((set : Wanted) × ((locate : ℕ) → has set locate ≡ is_listed locates locate) × (answer ≡ done) × (new ≡ Some (new_joiner cap set)))
+    ⊎ ((answer ≡ no_memory) × (new ≡ None))
 
 -- a call and what it returns take a joiner from one state to another
 abbrev pub Steps : Joining → Call → Joining → Type 0

@@ -1,10 +1,11 @@
 -- What the calls on a market return and leave.
-use Rattle.std.specs.Prelude.{◌≡◌, ◌⊎◌, ℕ, List, Option, Some, None, Result}
+use Rattle.std.specs.Prelude.{◌≡◌, ◌⊎◌, ℕ, List, Option, Some, None, Result, Err}
 use Rattle.itch_market.specs.Content.{Content}
 use Rattle.itch_market.specs.Replays.{TakesOne}
 use Rattle.itch_market.specs.declared.refusal.Refusal.TheVariants.{OutOfMemory}
 use Rattle.itch_market.specs.declared.stop.Stop.{Stop}
 use Rattle.itch_snapshot.specs.Files.{IsMarketOf, IsFaultOf}
+use Rattle.itch_snapshot.specs.Reads.{ReadsSnapshot}
 use Rattle.itch_snapshot.specs.declared.fault.SnapFault.{SnapFault}
 use Rattle.itch_snapshot.specs.declared.fault.SnapFault.TheVariants.{Rule}
 use Rattle.itchsnap_c.specs.declared.answers.Answer.{Answer}
@@ -21,9 +22,14 @@ Applies payload m answer n = (outcome : Result (Unit {0}) Stop) × (answer ≡ o
 abbrev pub read_to : ℕ → Loaded
 read_to next = record { next = next; place = 0; detail = 0; code = 0 }
 
+-- Memory is refused: before the first message or after the last, or for the one at this place, counted from 1. That one takes
+-- memory, and no order rule refuses it.
+abbrev pub RunsOutAt : List ℕ → ℕ → Type 0
+RunsOutAt bytes place = (place ≡ 0) ⊎ ((new : Option (List ℕ)) × ReadsSnapshot (Some bytes) new (Err (Rule place OutOfMemory)))
+
 -- why a snapshot file is refused: for its one fault, or since memory is
 abbrev pub IsRefusedFor : List ℕ → SnapFault → Type 0
-IsRefusedFor bytes fault = IsFaultOf bytes fault ⊎ ((place : ℕ) × (fault ≡ Rule place OutOfMemory))
+IsRefusedFor bytes fault = IsFaultOf bytes fault ⊎ ((place : ℕ) × (fault ≡ Rule place OutOfMemory) × RunsOutAt bytes place)
 
 -- a new market of a snapshot file is put into an empty handle, or the file is refused and nothing is
 abbrev pub LoadsNew : List ℕ → Loaded → Option Object → Type 0

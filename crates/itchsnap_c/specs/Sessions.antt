@@ -37,19 +37,19 @@ credentials_of login = record { username = login.username; password = login.pass
 abbrev pub config_of : Login → ServerConfig
 config_of login = record { username = login.username; password = login.password; session = login.session }
 
--- a handle is filled with a new client's session, unless a text or the number is none
+-- a handle is filled with a new client's session, unless a text is none, or else the number is
 abbrev pub FillsClient : Login → ℕ → ℕ → Option Object → Answer → Option Object → Type 0
 FillsClient login number now old answer new =
     (AreTexts login × (number ≤ 10 ^ 19) × Fills old (Client (soup.new_client (credentials_of login) number now)) answer new)
     ⊎ ((¬ AreTexts login) × (answer ≡ coded 3 0) × (new ≡ old))
-    ⊎ ((10 ^ 19 < number) × (answer ≡ coded 54 0) × (new ≡ old))
+    ⊎ (AreTexts login × (10 ^ 19 < number) × (answer ≡ coded 54 0) × (new ≡ old))
 
--- a handle is filled with a new server's session, unless a text is none or there are too many messages
+-- a handle is filled with a new server's session, unless a text is none, or else there are too many messages
 abbrev pub FillsServer : Login → ℕ → ℕ → Option Object → Answer → Option Object → Type 0
 FillsServer config total now old answer new =
     (AreTexts config × (total < 10 ^ 19) × Fills old (Server (soup_server.new_server (config_of config) total now)) answer new)
     ⊎ ((¬ AreTexts config) × (answer ≡ coded 3 0) × (new ≡ old))
-    ⊎ ((10 ^ 19 ≤ total) × (answer ≡ coded 33 0) × (new ≡ old))
+    ⊎ (AreTexts config × (10 ^ 19 ≤ total) × (answer ≡ coded 33 0) × (new ≡ old))
 
 -- a block is a server's packet, and is answered so; or it is none, and leaves the session
 abbrev pub ClientHears : List ℕ → ℕ → soup.Client → Act → soup.Client → Type 0

@@ -24,14 +24,17 @@ Copies bytes old written new =
     ((written ≡ record { len = length bytes; code = 0 }) × (length bytes ≤ length old) × (new ≡ bytes ++ drop (length bytes) old))
     ⊎ ((written ≡ record { len = length bytes; code = 49 }) × (length old < length bytes) × (new ≡ old))
 
+-- the bytes are made, unless memory is refused, and then copied
+abbrev pub Writes : List ℕ → List ℕ → Written → List ℕ → Type 0
+Writes bytes old written new = Copies bytes old written new ⊎ ((written ≡ unwritten 48) × (new ≡ old))
+
 -- What a snapshot of a market, or of what it was cut down to, closed with a number, leaves. It is refused exactly where the
--- number is none, or where the market has too many messages, unless memory is refused.
+-- number is none, and else exactly where the market has too many messages.
 abbrev pub Puts : Content → Content → ℕ → List ℕ → Written → List ℕ → Type 0
 Puts m cut next old written new =
-    (IsNumber next × (length (snap m) < 10 ^ 19) × Copies (canon cut ++ closing next) old written new)
+    (IsNumber next × (length (snap m) < 10 ^ 19) × Writes (canon cut ++ closing next) old written new)
     ⊎ ((written ≡ unwritten 54) × (¬ IsNumber next) × (new ≡ old))
-    ⊎ ((written ≡ unwritten 33) × (10 ^ 19 ≤ length (snap m)) × (new ≡ old))
-    ⊎ ((written ≡ unwritten 48) × (new ≡ old))
+    ⊎ ((written ≡ unwritten 33) × IsNumber next × (10 ^ 19 ≤ length (snap m)) × (new ≡ old))
 
 -- the same of a handle's market
 abbrev pub PutsHeld : (Content → Content) → Option Content → ℕ → List ℕ → Written → List ℕ → Type 0

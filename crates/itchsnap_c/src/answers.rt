@@ -75,7 +75,7 @@ pub struct Written {
 pub struct Loaded {
     /// The number of the first message that the snapshot does not contain.
     pub next: u64,
-    /// The place of the message that is refused, counted from 1; 0 where none is.
+    /// The place of the message that is refused, or that memory is refused for, counted from 1; 0 where none is.
     pub place: u64,
     /// As in `Answer`.
     pub detail: u64,

@@ -107,13 +107,13 @@ fn refused_day(fault: &ToolFault) -> Outcome
         | ToolFault::UnknownLocate
         | ToolFault::Write(_)
         | ToolFault::OutOfMemory
-        | ToolFault::Open
+        | ToolFault::Open { .. }
         | ToolFault::BadUser
         | ToolFault::BadPassword
         | ToolFault::BadLocates
         | ToolFault::TooMany
         | ToolFault::Soup(_)
-        | ToolFault::Socket => outcome(0, 0, 0, UNREAD),
+        | ToolFault::Socket(_) => outcome(0, 0, 0, UNREAD),
     }
 }
 

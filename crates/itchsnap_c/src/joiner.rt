@@ -5,7 +5,7 @@ ghost use Rattle.itchsnap_c.specs.Objects.{OnHandle, AtJoiner};
 ghost use Rattle.itchsnap_c.specs.Joiners.{FillsAll, FillsListed, Delivers, TakesSnapshot, Restarts, Resumes, wrong_joined, held_joiner, joiner_of, next_in, waiting_in};
 
 use crate::answers::{Answer, Count, Joined};
-use crate::codes::{DONE, NO_MEMORY, NOT_JOINED, WRONG, WRONG_HANDLE};
+use crate::codes::{DONE, NO_MEMORY, NOT_JOINED, TAKEN, WRONG, WRONG_HANDLE};
 use crate::handle::Handle;
 use crate::join_codes::{WRONG_JOINED, live_answer, resumed_answer, snap_answer};
 use crate::object::Object;
@@ -33,6 +33,9 @@ pub extern "C" fn itchsnap_joiner_new_only(
 ) -> Answer
     ensures { FillsListed cap locates.now handle.old.kept.object result handle.new.kept.object }
 {
+    if handle.is_live() {
+        return TAKEN;
+    }
     let Some(set) = set_of(alloc, locates) else {
         return NO_MEMORY;
     };

@@ -41,7 +41,7 @@ const VERSION: u32 = 1;
 /// The version of this interface, as the header has it in `ITCHSNAP_VERSION`.
 #[unsafe(no_mangle)]
 pub extern "C" fn itchsnap_version() -> u32
-    ensures { result ≡ VERSION }
+    ensures { result ≡ 1 }
 {
     VERSION
 }

@@ -1,1 +1,2 @@
 mod Admissions
+mod OneRefusal

@@ -1,6 +1,10 @@
 //! For tests: an allocator that refuses one allocation.
 #![tactic(auto)]
 
+ghost use Rattle.std.specs.Prelude.{◌≡◌, ◌≢◌, ℕ, true, false, Some};
+ghost use Rattle.std.specs.Fn.{iterate};
+ghost use Rattle.refusing.specs.Countdown.{goes_through, after_one};
+
 use std::alloc::{AllocError, Allocator};
 use std::cell::Cell;
 
@@ -42,19 +46,34 @@ impl<B: Allocator> Drop for Refusing<B> {
     }
 }
 
-// Whether an allocation goes through.
+/// Of allocations counted from 0, the `nth` is refused and every other one goes through.
+///
+/// This function does nothing: its clauses are the law.
+#[tactic(auto, using(crate::proofs::OneRefusal::refused_there, crate::proofs::OneRefusal::granted_elsewhere))]
+pub fn one_refusal()
+    ensures refused { (nth : ℕ) → goes_through (iterate after_one nth (Some nth)) ≡ false }
+    ensures others { (nth place : ℕ) → place ≢ nth → goes_through (iterate after_one place (Some nth)) ≡ true }
+{}
+
+// Whether the next allocation goes through, by how many do before the one that is refused.
+fn goes_through(before: Option<u64>) -> bool
+    ensures { result ≡ goes_through before }
+{
+    before != Some(0)
+}
+
+// How many go through before the refusal after one more allocation, or none where nothing is refused any more.
+fn after_one(before: Option<u64>) -> Option<u64>
+    ensures { result ≡ after_one before }
+{
+    before?.checked_sub(1)
+}
+
+// Whether an allocation goes through, which is counted.
 fn admits(before: &Cell<Option<u64>>) -> bool {
-    match before.get() {
-        Some(0) => {
-            before.set(None);
-            false
-        }
-        Some(count) => {
-            before.set(Some(count - 1));
-            true
-        }
-        None => true,
-    }
+    let now = before.get();
+    before.set(after_one(now));
+    goes_through(now)
 }
 
 unsafe impl<B: Allocator> Allocator for Refusing<B> {
@@ -77,28 +96,58 @@ mod tests {
     use super::*;
     use std::test::Fail;
 
-    // Which of four allocations are refused.
-    fn refusals<A: Allocator>(alloc: A) -> [bool; 4] {
-        let mut refused = [false; 4];
-        for at in 0..4 {
+    // Which of eight allocations are refused.
+    fn refusals<A: Allocator>(alloc: A) -> [bool; 8] {
+        let mut refused = [false; 8];
+        for at in 0..8 {
             let mut list: Vec<u8, &A> = Vec::new(&alloc);
             refused[at] = list.push(1).is_err();
         }
         refused
     }
 
+    // The allocation at a place of eight alone is refused, or none where the place is beyond them.
+    fn is_at(refused: [bool; 8], nth: u64) -> bool {
+        let mut place = 0u64;
+        for one in refused {
+            if one != (place == nth) {
+                return false;
+            }
+            place = place.saturating_add(1);
+        }
+        true
+    }
+
     #[test]
     fn refuses_one_allocation(rt: HostRuntime) -> Result<(), Fail> {
         let alloc = Refusing::new(rt.alloc(), 2);
-        assert_eq!(rt; refusals(&alloc), [false, false, true, false]);
+        assert!(rt; is_at(refusals(&alloc), 2));
         assert!(rt; alloc.has_refused());
-        alloc.arm(0);
+        for nth in 0..12u64 {
+            alloc.arm(nth);
+            assert!(rt; !alloc.has_refused());
+            assert!(rt; is_at(refusals(&alloc), nth));
+            assert!(rt; alloc.has_refused() == (nth < 8));
+        }
+        // Eight of the eleven before the last refusal have gone through.
+        assert!(rt; is_at(refusals(&alloc), 3));
+        assert!(rt; is_at(refusals(alloc), 8));
+        Ok(())
+    }
+
+    // A refusal below is passed on and not counted; what is refused is not asked for below.
+    #[test]
+    fn passes_a_refusal_on(rt: HostRuntime) -> Result<(), Fail> {
+        let inner = Refusing::new(rt.alloc(), 1);
+        let alloc = Refusing::new(&inner, 8);
+        assert!(rt; is_at(refusals(&alloc), 1));
+        assert!(rt; inner.has_refused());
         assert!(rt; !alloc.has_refused());
-        assert_eq!(rt; refusals(&alloc), [true, false, false, false]);
-        alloc.arm(4);
-        assert_eq!(rt; refusals(&alloc), [false; 4]);
-        assert!(rt; !alloc.has_refused());
-        assert_eq!(rt; refusals(alloc), [true, false, false, false]);
+        inner.arm(7);
+        assert!(rt; is_at(refusals(&alloc), 0));
+        assert!(rt; alloc.has_refused());
+        assert!(rt; !inner.has_refused());
+        assert!(rt; is_at(refusals(&inner), 0));
         Ok(())
     }
 }

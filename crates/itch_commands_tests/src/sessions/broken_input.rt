@@ -1,18 +1,14 @@
 //! A client that says what no client may: its connection alone ends.
-use super::{LOGIN_3, lines};
+use super::{LOGIN_3, client, lines};
 use crate::equal::same;
-use std::io::Write;
-use std::net::{TcpListener, TcpStream};
+use std::net::TcpListener;
 use std::test::Fail;
 
 #[test]
 fn a_fault_ends_one_connection_alone(rt: HostRuntime) -> Result<(), Fail> {
     let listener = TcpListener::bind(&rt, "127.0.0.1:0")?;
-    let address = listener.local_addr()?;
-    let mut first = TcpStream::connect(&rt, address)?;
-    first.write_all(b"\0\0")?;
-    let mut second = TcpStream::connect(&rt, address)?;
-    second.write_all(LOGIN_3)?;
+    let _first = client(&rt, &listener, b"\0\0")?;
+    let _second = client(&rt, &listener, LOGIN_3)?;
     let written = lines(&rt, &listener, 2)?;
     same(
         &rt,

@@ -2,20 +2,28 @@
 //! leaves a beginning of it.
 use super::{FROM_1, LOGIN_1, SNAPSHOT};
 use crate::equal::{holds_in, same, same_in};
-use itch_commands::status;
+use itch_codec::Seq;
+use itch_commands::{Book, status};
 use itch_frame::BlockReader;
 use itch_frame::testing::{FuseWriter, PieceReader};
-use itch_sessions::{Login, fetch};
+use itch_market::Market;
+use itch_sessions::{Login, Sending, fetch, serve_peer};
+use itch_snapshot::snapshot_len;
 use itch_soup::Credentials;
 use std::alloc::Global;
+use std::io::{self, Write};
 use std::process::Abort;
 use std::test::Fail;
 
-fn credentials(rt: &impl Abort) -> Credentials {
+fn login(rt: &impl Abort) -> Login {
     let Ok(login) = Login::new("user", "secret") else {
         panic!(rt; "a login");
     };
-    login.credentials()
+    login
+}
+
+fn credentials(rt: &impl Abort) -> Credentials {
+    login(rt).credentials()
 }
 
 // A fetch over these devices fails with status 3.
@@ -77,5 +85,34 @@ fn writes_of_a_fetched_snapshot(rt: HostRuntime) -> Result<(), Fail> {
         fetch_fails(&rt, alloc, &mut reader, &mut writer, &credentials, &mut out);
         same_in(&rt, ("write", at), Some(out.written()), SNAPSHOT.get(..at));
     }
+    Ok(())
+}
+
+// Takes all, and fails to hand it on.
+#[derive(Drop)]
+struct Stuck;
+
+impl Write for Stuck {
+    fn write(&mut self, buf: &[u8]) -> io::Result<usize> {
+        Ok(buf.len())
+    }
+
+    fn flush(&mut self) -> io::Result<()> {
+        Err(io::Error::from(io::ErrorKind::Other))
+    }
+}
+
+#[test]
+fn a_flush_of_an_answer(rt: HostRuntime) -> Result<(), Fail> {
+    let alloc = rt.alloc();
+    let config = login(&rt).config();
+    let next = Seq::new(1).ok_or("a number")?;
+    let market: Market<Book<Global>> = Market::new(alloc);
+    assert!(rt; snapshot_len(&market) < 100);
+    let mut reader = BlockReader::new(alloc, PieceReader::new(LOGIN_1, 64, None))?;
+    let mut writer = Sending::new(Stuck);
+    let ending = serve_peer(&mut reader, &mut writer, &market, next, &config);
+    assert!(rt; ending.is_none());
+    same(&rt, writer.failures().count(), 1);
     Ok(())
 }

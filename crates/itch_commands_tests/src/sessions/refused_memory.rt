@@ -1,5 +1,5 @@
 //! Each allocation of `fetch` refused in turn, and of a served connection: the status is 4, and nothing is on the output.
-use super::{FROM_1, LOGIN_1, LOGIN_3, SNAPSHOT, serve_day};
+use super::{FROM_1, LOGIN_1, LOGIN_3, SNAPSHOT, client, serve_day};
 use crate::equal::{holds_in, same};
 use itch_commands::{Book, ToolFault, status};
 use itch_frame::BlockReader;
@@ -7,8 +7,7 @@ use itch_frame::testing::{FuseWriter, PieceReader};
 use itch_sessions::{Login, fetch};
 use refusing::Refusing;
 use std::alloc::Global;
-use std::io::Write;
-use std::net::{TcpListener, TcpStream};
+use std::net::TcpListener;
 use std::process::Abort;
 use std::test::Fail;
 
@@ -47,11 +46,9 @@ fn a_fetch(rt: HostRuntime) -> Result<(), Fail> {
 fn a_connection_without_memory_ends_the_serving(rt: HostRuntime) -> Result<(), Fail> {
     let alloc = rt.alloc();
     let listener = TcpListener::bind(&rt, "127.0.0.1:0")?;
-    let address = listener.local_addr()?;
     for nth in 0..8 {
         let refusing = Refusing::new(alloc, nth);
-        let mut client = TcpStream::connect(&rt, address)?;
-        client.write_all(LOGIN_3)?;
+        let _client = client(&rt, &listener, LOGIN_3)?;
         let mut out = FuseWriter::new(alloc, 4096, None);
         let pair = (&rt, &refusing);
         let served = serve_day::<_, Book<Global>>(&pair, alloc, &listener, 1, &mut out)?;

@@ -21,7 +21,7 @@ returns g c =
     let new = c.read_market.new.reader in
     let applied = read_done Only None (bytes_left g.F.CountedRead.remaining old) (bytes_left g.F.CountedRead.remaining new) c.new-market.result c.in-Ok.read c.read_market.new.market
     c.new-market.ensures c.in-Ok.ensures.reads in
-    day_served g.W.CountedWrite.contents g.W.CountedWrite.failures (ReadsDay g.F.CountedRead.remaining g.F.CountedRead.failures Only None old new) applied.payloads c.read_market.new.market
+    day_served g.R.Stream.Read.remaining g.R.Stream.Write.contents g.W.CountedWrite.contents g.W.CountedWrite.failures (ReadsDay g.F.CountedRead.remaining g.F.CountedRead.failures Only None old new) applied.payloads c.read_market.new.market
     c.in-Ok.read c.in-Some.next c.args.config.now c.args.count c.args.out.now c.serve_market.result c.serve_market.new.out
     (day_done g.F.CountedRead.remaining g.F.CountedRead.failures Only None old new c.in-Ok.read c.read_market.new.market applied c.in-Ok.ensures.failures c.in-Ok.ensures.reader)
     applied.left applied.counted c.in-Some.ensures.number c.serve_market.ensures

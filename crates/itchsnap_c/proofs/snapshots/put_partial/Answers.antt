@@ -13,7 +13,7 @@ returns-in-Some-partial_bytes c =
     inl (
       c.in-Some.ensures.accepts.0 refl,
       omega (arith, c.if-snapshot_len-from.false, c.from.ensures, c.snapshot_len.ensures),
-      subst (λ bytes. Copies bytes c.args.out.now c.copy.result c.copy.new.out)
+      inl (subst (λ bytes. Copies bytes c.args.out.now c.copy.result c.copy.new.out)
           (c.as_slice.ensures.value ∙ c.in-Some-partial_bytes.ensures ∙ ap (λ k. canon (only (has set) m) ++ closing k) c.in-Some.ensures.number
-          ∙ same_cut set c.args.locates.now m c.args.next c.in-Some-set_of.ensures) c.copy.ensures,
+          ∙ same_cut set c.args.locates.now m c.args.next c.in-Some-set_of.ensures) c.copy.ensures),
     )

@@ -1,0 +1,84 @@
+//! What the system said where a command failed at a file, at its output or at a socket.
+ghost use Rattle.std.specs.Prelude.{◌≡◌};
+ghost use Rattle.itch_commands.specs.Causes.{device_cause, stop_cause, snapshot_cause, cause_of};
+
+use crate::fault::{Source, ToolFault};
+use itch_frame::FrameFault;
+use itch_market::Stop;
+use itch_snapshot::SnapFault;
+use itch_soup::SoupFault;
+use std::io;
+
+/// What a command reads or writes.
+#[derive(Clone, Copy, Debug, PartialEq, Eq)]
+pub enum Device {
+    /// One of its files, or standard input in its place.
+    File(Source),
+    /// Standard output.
+    Output,
+    /// The socket of a session.
+    Socket,
+}
+
+/// The device that a command failed at, and the system's own error.
+#[derive(Clone, Copy, Debug)]
+pub struct Cause {
+    pub device: Device,
+    pub error: io::Error,
+}
+
+impl ToolFault {
+    /// The device that failed, with the system's own error: none where no device did, or where memory ran out.
+    pub fn cause(&self) -> Option<Cause>
+        ensures { result ≡ cause_of self.now }
+    {
+        match self {
+            ToolFault::Stopped { file, end } => stop_cause(Device::File(*file), &end.stop),
+            ToolFault::Snap { file, fault } => snapshot_cause(Device::File(*file), fault),
+            ToolFault::Open { file, error } => Some(Cause {
+                device: Device::File(*file),
+                error: *error,
+            }),
+            ToolFault::Write(error) => Some(Cause {
+                device: Device::Output,
+                error: *error,
+            }),
+            ToolFault::Socket(error) => Some(Cause {
+                device: Device::Socket,
+                error: *error,
+            }),
+            ToolFault::Soup(SoupFault::Frame(fault)) => device_cause(Device::Socket, fault),
+            _ => None,
+        }
+    }
+}
+
+fn stop_cause(device: Device, stop: &Stop) -> Option<Cause>
+    ensures { result ≡ stop_cause device stop.now }
+{
+    match stop {
+        Stop::Frame(fault) => device_cause(device, fault),
+        _ => None,
+    }
+}
+
+fn snapshot_cause(device: Device, fault: &SnapFault) -> Option<Cause>
+    ensures { result ≡ snapshot_cause device fault.now }
+{
+    match fault {
+        SnapFault::Frame(fault) => device_cause(device, fault),
+        _ => None,
+    }
+}
+
+fn device_cause(device: Device, fault: &FrameFault) -> Option<Cause>
+    ensures { result ≡ device_cause device fault.now }
+{
+    match fault {
+        FrameFault::Read(error) | FrameFault::Write { error, .. } => Some(Cause {
+            device,
+            error: *error,
+        }),
+        _ => None,
+    }
+}

@@ -1,0 +1,42 @@
+//! What is read with a set of locates, as `join` reads it.
+//!
+//! Each function here does nothing: its clauses are the laws.
+ghost use Rattle.std.specs.Prelude.{◌≡◌, ℕ, Bool, List, map};
+ghost use Rattle.std.specs.List.{AllByRecursion};
+ghost use Rattle.itch_codec.specs.Fields.{AreBytes};
+ghost use Rattle.itch_codec.specs.Messages.{message_of};
+ghost use Rattle.itch_market.specs.Content.{Content, empty};
+ghost use Rattle.itch_market.specs.GoodMarkets.{IsGood};
+ghost use Rattle.itch_market.specs.Partial.{only as cut};
+ghost use Rattle.itch_market.specs.Replays.{NoCause};
+ghost use Rattle.itch_market.specs.Runs.{run};
+ghost use Rattle.itch_market.specs.SameMarkets.{Same};
+ghost use Rattle.itch_snapshot.specs.TakenMessages.{closing_number};
+ghost use Rattle.itch_join.specs.Rules.{Rules, market_rules, rules_of, bad, run as run_by};
+ghost use Rattle.itch_commands.specs.AsRead.{as_read};
+ghost use Rattle.itch_commands.specs.Joining.{from_number, joined_market};
+
+/// A payload as it is read with a set is to the rules of markets what the payload itself is to the rules of the set: it is
+/// refused for the same cause, has the same effect, takes memory where that does, and ends a snapshot where that does. So a
+/// feed has the same first bad message, and payloads leave the same market.
+pub fn reading_for_a_set()
+    ensures refused { (wanted : ℕ → Bool) → (m : Content) → (p : List ℕ) → Rules.refused market_rules m (as_read wanted p) ≡ Rules.refused (rules_of wanted) m p }
+    ensures effect { (wanted : ℕ → Bool) → (m : Content) → (p : List ℕ) → Rules.effect market_rules m (as_read wanted p) ≡ Rules.effect (rules_of wanted) m p }
+    ensures memory { (wanted : ℕ → Bool) → (m : Content) → (p : List ℕ) → Rules.takes_memory market_rules m (as_read wanted p) ≡ Rules.takes_memory (rules_of wanted) m p }
+    ensures number { (wanted : ℕ → Bool) → (p : List ℕ) → closing_number (as_read wanted p) ≡ closing_number p }
+    ensures first_bad { (wanted : ℕ → Bool) → (feed : List (List ℕ)) → bad market_rules (map (as_read wanted) feed) ≡ bad (rules_of wanted) feed }
+    ensures leaves { (wanted : ℕ → Bool) → (ps : List (List ℕ)) → run (map message_of (map (as_read wanted) ps)) ≡ run_by (rules_of wanted) ps }
+{}
+
+/// Where none of a file's payloads is faulty or refused, none is as they are read with a set, and they leave the market that
+/// all of them leave, cut down to the set. So of a feed after a snapshot: from a market that is the same as the snapshot's cut
+/// down, it leaves one that is the same as what the whole feed leaves, cut down.
+pub fn restricted_reading()
+    ensures follows { (wanted : ℕ → Bool) → (ps : List (List ℕ)) → AllByRecursion AreBytes ps → NoCause empty ps → NoCause empty (map (as_read wanted) ps) }
+    ensures leaves { (wanted : ℕ → Bool) → (ps : List (List ℕ)) → AllByRecursion AreBytes ps → NoCause empty ps
+        → run (map message_of (map (as_read wanted) ps)) ≡ cut wanted (run (map message_of ps)) }
+    ensures feed_follows { (wanted : ℕ → Bool) → (m n : Content) → (number : ℕ) → (ps : List (List ℕ)) → IsGood m → IsGood n → Same n (cut wanted m) → AllByRecursion AreBytes (from_number number ps)
+        → NoCause m (from_number number ps) → NoCause n (from_number number (map (as_read wanted) ps)) }
+    ensures joined { (wanted : ℕ → Bool) → (m n : Content) → (number : ℕ) → (ps : List (List ℕ)) → IsGood m → IsGood n → Same n (cut wanted m) → AllByRecursion AreBytes (from_number number ps)
+        → NoCause m (from_number number ps) → Same (joined_market (n, number) (map (as_read wanted) ps)) (cut wanted (joined_market (m, number) ps)) }
+{}

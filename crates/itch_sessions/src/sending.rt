@@ -1,0 +1,69 @@
+//! A writer of which every failure is counted.
+ghost use Rattle.std.specs.Prelude.{◌≡◌, None};
+ghost use Rattle.std.specs.Io.KnownBytes.{Keeps};
+ghost use Rattle.itch_frame.specs.Counting.{CountsErr};
+
+use itch_frame::CountedWrite;
+use itch_frame::tally::Failures;
+use std::io::{self, ErrorKind, Write};
+
+/// Counts the failures of a standard writer, as `Counted` does, and those of its flush too.
+#[derive(Drop)]
+pub struct Sending<W> {
+    inner: W,
+    failures: Failures,
+}
+
+impl<W: Write> Sending<W> {
+    /// Counts from 0.
+    pub fn new(inner: W) -> Sending<W>
+        ensures inner { result.inner ≡ inner }
+        ensures count { result.failures.count ≡ 0 }
+        ensures last { result.failures.last ≡ None }
+    {
+        Sending {
+            inner,
+            failures: Failures::none(),
+        }
+    }
+
+    /// Hands on what the writer inside still holds. An `Err` is counted.
+    pub fn flush(&mut self) -> io::Result<()>
+        ensures bytes { Keeps (W.contents self.old.inner) (W.contents self.new.inner) }
+        ensures count { CountsErr result self.old.failures self.new.failures }
+    {
+        match self.inner.flush() {
+            Ok(()) => Ok(()),
+            Err(error) => Err(self.failures.add(error)),
+        }
+    }
+
+    /// The failures so far.
+    pub fn failures(&self) -> Failures
+        ensures { result ≡ self.now.failures }
+    {
+        self.failures
+    }
+
+    /// The writer inside.
+    pub fn into_inner(self) -> W
+        ensures { result ≡ self.inner }
+    {
+        let Sending { inner, failures: _ } = self;
+        inner
+    }
+}
+
+impl<W: Write> CountedWrite for Sending<W> {
+    ghost contents = { λ s. W.contents s.inner };
+
+    ghost failures = { λ s. s.failures };
+
+    fn write_some(&mut self, buf: &[u8]) -> io::Result<usize> {
+        match self.inner.write(buf) {
+            Ok(count) if count > 0 || buf.is_empty() => Ok(count),
+            Ok(_) => Err(self.failures.add(io::Error::from(ErrorKind::WriteZero))),
+            Err(error) => Err(self.failures.add(error)),
+        }
+    }
+}

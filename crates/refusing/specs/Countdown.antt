@@ -1,0 +1,14 @@
+-- Which of some allocations is refused: how many go through before it, or nothing where none is refused any more.
+use Rattle.std.specs.Prelude.{ℕ, zero, suc, Bool, true, false, Option, Some, None}
+
+-- whether the next allocation goes through
+abbrev pub goes_through : Option ℕ → Bool
+goes_through None = true
+goes_through (Some zero) = false
+goes_through (Some (suc n)) = true
+
+-- what stands after it
+abbrev pub after_one : Option ℕ → Option ℕ
+after_one None = None
+after_one (Some zero) = None
+after_one (Some (suc n)) = Some n

@@ -1,0 +1,276 @@
+/* codes.c: each code of itchsnap.h, and what it adds, by a call that returns it.
+ *
+ *   codes    ends with status 1 at the first call that returns another
+ *
+ * OUT_OF_MEMORY and TAKEN_NO_MEMORY are those of memory.c. UNREAD and BROKEN_SESSION do not happen. */
+#include "itchsnap.h"
+
+#include <stdio.h>
+#include <stdlib.h>
+#include <string.h>
+
+static const uint64_t most = UINT64_C(9999999999999999999);
+
+/* Ends the program where something is not as it must be. */
+static void must(bool holds, const char *what) {
+    if (!holds) {
+        fprintf(stderr, "codes: %s\n", what);
+        exit(1);
+    }
+}
+
+static void answers(itchsnap_answer answer, uint32_t code, uint64_t detail, const char *what) {
+    must(answer.code == code && answer.detail == detail, what);
+}
+
+/* Bytes of a payload, a packet or a file. */
+typedef struct {
+    uint8_t bytes[200];
+    size_t len;
+} text;
+
+static void put_number(uint8_t *at, size_t width, uint64_t number) {
+    for (; width > 0; number >>= 8) {
+        at[--width] = (uint8_t)number;
+    }
+}
+
+static text of_type(char type, uint16_t locate, size_t len) {
+    text made = {{0}, len};
+    made.bytes[0] = (uint8_t)type;
+    put_number(made.bytes + 1, 2, locate);
+    return made;
+}
+
+static text directory(uint16_t locate, const char *stock) {
+    text made = of_type('R', locate, 39);
+    memcpy(made.bytes + 11, stock, 8);
+    return made;
+}
+
+static text order(uint16_t locate, uint64_t reference, char side, uint32_t shares) {
+    text made = of_type('A', locate, 36);
+    put_number(made.bytes + 11, 8, reference);
+    made.bytes[19] = (uint8_t)side;
+    put_number(made.bytes + 20, 4, shares);
+    memcpy(made.bytes + 24, "AAPL    ", 8);
+    put_number(made.bytes + 32, 4, 1500000);
+    return made;
+}
+
+static text cancel(uint16_t locate, uint64_t reference, uint32_t shares) {
+    text made = of_type('X', locate, 23);
+    put_number(made.bytes + 11, 8, reference);
+    put_number(made.bytes + 19, 4, shares);
+    return made;
+}
+
+static text spelled(const char *bytes) {
+    text made = {{0}, strlen(bytes)};
+    memcpy(made.bytes, bytes, made.len);
+    return made;
+}
+
+/* An End of Snapshot before the first message. */
+static text end(void) { return spelled("G                   1"); }
+
+static void add_block(text *file, text payload) {
+    put_number(file->bytes + file->len, 2, payload.len);
+    memcpy(file->bytes + file->len + 2, payload.bytes, payload.len);
+    file->len += 2 + payload.len;
+}
+
+static itchsnap_answer fault(text payload) { return itchsnap_decode_fault(payload.bytes, payload.len); }
+
+static void payloads(void) {
+    answers(fault(spelled("")), ITCHSNAP_EMPTY, 0, "EMPTY");
+    answers(fault(spelled("S")), ITCHSNAP_WRONG_LENGTH, 12, "WRONG_LENGTH");
+    answers(fault(directory(1, "AA\nL    ")), ITCHSNAP_BAD_TEXT, 13, "BAD_TEXT");
+    answers(fault(order(1, 1, 'X', 1)), ITCHSNAP_BAD_SIDE, 19, "BAD_SIDE");
+    answers(fault(spelled("G                   0")), ITCHSNAP_BAD_NUMBER, 0, "BAD_NUMBER");
+}
+
+static itchsnap_answer apply(itchsnap_handle *market, text payload) {
+    return itchsnap_market_apply(market, payload.bytes, payload.len);
+}
+
+static void rules(void) {
+    itchsnap_handle market = ITCHSNAP_NONE;
+    answers(itchsnap_market_new(&market), ITCHSNAP_OK, 0, "OK");
+    answers(apply(&market, order(1, 1, 'B', 5)), ITCHSNAP_UNKNOWN_LOCATE, 0, "UNKNOWN_LOCATE");
+    answers(apply(&market, directory(1, "AAPL    ")), ITCHSNAP_OK, 0, "a directory entry");
+    answers(apply(&market, directory(1, "MSFT    ")), ITCHSNAP_STOCK_MISMATCH, 0, "STOCK_MISMATCH");
+    answers(apply(&market, order(1, 1, 'B', 0)), ITCHSNAP_ZERO_SHARES, 0, "ZERO_SHARES");
+    answers(apply(&market, order(1, 1, 'B', 5)), ITCHSNAP_OK, 0, "an order");
+    answers(apply(&market, order(1, 1, 'B', 5)), ITCHSNAP_DUPLICATE_REFERENCE, 0, "DUPLICATE_REFERENCE");
+    answers(apply(&market, cancel(1, 2, 1)), ITCHSNAP_UNKNOWN_REFERENCE, 0, "UNKNOWN_REFERENCE");
+    answers(apply(&market, cancel(2, 1, 1)), ITCHSNAP_LOCATE_MISMATCH, 0, "LOCATE_MISMATCH");
+    answers(apply(&market, cancel(1, 1, 6)), ITCHSNAP_TOO_MANY_SHARES, 5, "TOO_MANY_SHARES");
+    answers(apply(&market, end()), ITCHSNAP_UNEXPECTED_END, 0, "UNEXPECTED_END");
+    itchsnap_free(&market);
+}
+
+static void files(void) {
+    uint8_t out[1];
+    text file = {{0}, 0};
+    add_block(&file, directory(1, "AAPL    "));
+    itchsnap_outcome outcome = itchsnap_check(file.bytes, file.len - 1);
+    must(outcome.code == ITCHSNAP_TRUNCATED && outcome.count == 0 && outcome.detail == 40, "TRUNCATED");
+    outcome = itchsnap_snap(file.bytes, file.len, 2, out, 1);
+    must(outcome.code == ITCHSNAP_SHORT && outcome.count == 1, "SHORT");
+    outcome = itchsnap_snap(file.bytes, file.len, 1, out, 1);
+    must(outcome.code == ITCHSNAP_NO_ROOM && outcome.len == 64, "NO_ROOM");
+    add_block(&file, directory(1, "MSFT    "));
+    outcome = itchsnap_check(file.bytes, file.len);
+    must(outcome.code == ITCHSNAP_STOCK_MISMATCH && outcome.count == 1, "the count of messages before the one that is refused");
+    itchsnap_handle market = ITCHSNAP_NONE;
+    itchsnap_loaded loaded = itchsnap_market_load(&market, file.bytes, file.len);
+    must(loaded.code == ITCHSNAP_STOCK_MISMATCH && loaded.place == 2, "the place of the message that is refused");
+    must(itchsnap_market_load(&market, file.bytes, 41).code == ITCHSNAP_NO_END, "NO_END");
+    file.len = 0;
+    add_block(&file, end());
+    add_block(&file, end());
+    must(itchsnap_market_load(&market, file.bytes, file.len).code == ITCHSNAP_AFTER_END, "AFTER_END");
+    loaded = itchsnap_market_load(&market, file.bytes, file.len / 2);
+    must(loaded.code == ITCHSNAP_OK && loaded.next == 1, "a snapshot file");
+    must(itchsnap_market_load(&market, file.bytes, file.len).code == ITCHSNAP_IN_USE, "IN_USE of a snapshot file that is refused");
+    itchsnap_free(&market);
+}
+
+static void handles(void) {
+    uint8_t out[1];
+    itchsnap_handle market = ITCHSNAP_NONE;
+    must(itchsnap_snapshot(&market, 0, out, 0).code == ITCHSNAP_WRONG_HANDLE, "WRONG_HANDLE");
+    must(itchsnap_market_new(&market).code == ITCHSNAP_OK, "a new market");
+    must(itchsnap_joiner_new(&market, 1).code == ITCHSNAP_IN_USE, "IN_USE");
+    must(itchsnap_best(&market, 1, true).code == ITCHSNAP_ABSENT, "ABSENT of a locate");
+    must(itchsnap_order_by(&market, 1).code == ITCHSNAP_ABSENT, "ABSENT of a reference");
+    must(itchsnap_next_price(&market, 1, true, false, 0).code == ITCHSNAP_ABSENT, "ABSENT of a price");
+    must(itchsnap_snapshot(&market, 0, out, 0).code == ITCHSNAP_NO_NUMBER, "NO_NUMBER of 0");
+    must(itchsnap_snapshot(&market, most + 2, out, 0).code == ITCHSNAP_NO_NUMBER, "NO_NUMBER above 10^19");
+    itchsnap_written written = itchsnap_snapshot(&market, most + 1, out, 0);
+    must(written.code == ITCHSNAP_NO_ROOM && written.len == 23, "NO_ROOM");
+    itchsnap_free(&market);
+}
+
+static void joined(itchsnap_joined answer, uint32_t code, uint64_t number, const char *what) {
+    must(answer.code == code && answer.number == number, what);
+}
+
+static itchsnap_joined live(itchsnap_handle *joiner, uint64_t number, text payload) {
+    return itchsnap_joiner_live(joiner, number, payload.bytes, payload.len);
+}
+
+static itchsnap_joined snapshot(itchsnap_handle *joiner, text payload) {
+    return itchsnap_joiner_snapshot(joiner, payload.bytes, payload.len);
+}
+
+static void joiners(void) {
+    itchsnap_handle joiner = ITCHSNAP_NONE;
+    must(itchsnap_joiner_new(&joiner, 1).code == ITCHSNAP_OK, "a new joiner");
+    must(itchsnap_joiner_next(&joiner).code == ITCHSNAP_NOT_JOINED, "NOT_JOINED");
+    joined(live(&joiner, 2, order(1, 1, 'B', 5)), ITCHSNAP_KEPT, 0, "KEPT");
+    joined(live(&joiner, 2, order(1, 1, 'B', 6)), ITCHSNAP_CONFLICT, 2, "CONFLICT");
+    joined(live(&joiner, 3, order(1, 1, 'B', 5)), ITCHSNAP_FULL, 1, "FULL");
+    joined(live(&joiner, 0, end()), ITCHSNAP_BAD_MESSAGE_NUMBER, 0, "BAD_MESSAGE_NUMBER of 0");
+    joined(live(&joiner, most + 1, end()), ITCHSNAP_BAD_MESSAGE_NUMBER, 0, "BAD_MESSAGE_NUMBER above 10^19 - 1");
+    itchsnap_joined answer = snapshot(&joiner, order(1, 1, 'B', 5));
+    joined(answer, ITCHSNAP_BAD_SNAPSHOT, 1, "BAD_SNAPSHOT");
+    must(answer.cause == ITCHSNAP_UNKNOWN_LOCATE, "the cause of BAD_SNAPSHOT");
+    answers(itchsnap_joiner_restart(&joiner), ITCHSNAP_OK, 0, "a restart");
+    joined(snapshot(&joiner, directory(2, "MSFT    ")), ITCHSNAP_MORE, 0, "MORE");
+    joined(snapshot(&joiner, end()), ITCHSNAP_JOINED, 1, "JOINED");
+    joined(snapshot(&joiner, end()), ITCHSNAP_ALREADY_JOINED, 0, "ALREADY_JOINED");
+    joined(live(&joiner, 1, directory(1, "AAPL    ")), ITCHSNAP_APPLIED, 3, "APPLIED");
+    joined(live(&joiner, 2, order(1, 1, 'B', 5)), ITCHSNAP_OLD, 0, "OLD");
+    answer = live(&joiner, 3, cancel(1, 1, 6));
+    joined(answer, ITCHSNAP_HALTED, 3, "HALTED");
+    must(answer.cause == ITCHSNAP_TOO_MANY_SHARES && answer.detail == 5, "the cause of HALTED");
+    itchsnap_free(&joiner);
+}
+
+static void acts(itchsnap_act act, uint32_t code, uint64_t number, uint64_t detail, const char *what) {
+    must(act.code == code && act.number == number && act.detail == detail, what);
+}
+
+static itchsnap_act client_hears(itchsnap_handle *client, text packet) {
+    return itchsnap_client_packet(client, packet.bytes, packet.len, 0);
+}
+
+static itchsnap_act server_hears(itchsnap_handle *server, text packet) {
+    return itchsnap_server_packet(server, packet.bytes, packet.len, 0);
+}
+
+static itchsnap_login login_of(const char *texts) {
+    itchsnap_login login;
+    memcpy(&login, texts, sizeof login);
+    return login;
+}
+
+static void new_sessions(void) {
+    itchsnap_handle session = ITCHSNAP_NONE;
+    itchsnap_login good = login_of("desk  secret              "), bad = login_of("desk\n secret              ");
+    answers(itchsnap_client_new(&session, &bad, most + 2, 0), ITCHSNAP_BAD_TEXT, 0, "BAD_TEXT of a client");
+    answers(itchsnap_client_new(&session, &good, most + 2, 0), ITCHSNAP_NO_NUMBER, 0, "NO_NUMBER of a client");
+    answers(itchsnap_server_new(&session, &bad, most + 1, 0), ITCHSNAP_BAD_TEXT, 0, "BAD_TEXT of a server");
+    answers(itchsnap_server_new(&session, &good, most + 1, 0), ITCHSNAP_TOO_MANY_MESSAGES, 0, "TOO_MANY_MESSAGES of a server");
+    answers(itchsnap_server_new(&session, &good, most, 0), ITCHSNAP_OK, 0, "a new server");
+    answers(itchsnap_server_new(&session, &bad, 1, 0), ITCHSNAP_BAD_TEXT, 0, "BAD_TEXT before IN_USE");
+    answers(itchsnap_server_new(&session, &good, 1, 0), ITCHSNAP_IN_USE, 0, "IN_USE of a server");
+    must(itchsnap_server_accepted(&session, 0).code == ITCHSNAP_NO_NUMBER, "NO_NUMBER of an acceptance");
+    itchsnap_free(&session);
+}
+
+static void servers(const itchsnap_login *login) {
+    text request = spelled("Ldesk  secret                                 3");
+    itchsnap_handle server = ITCHSNAP_NONE;
+    must(itchsnap_server_new(&server, login, 5, 0).code == ITCHSNAP_OK, "a new server");
+    acts(server_hears(&server, spelled("")), ITCHSNAP_EMPTY, 0, 0, "EMPTY");
+    acts(server_hears(&server, spelled("L")), ITCHSNAP_WRONG_LENGTH, 0, 47, "WRONG_LENGTH");
+    acts(server_hears(&server, spelled("?")), ITCHSNAP_UNKNOWN_TYPE, 0, '?', "UNKNOWN_TYPE");
+    acts(server_hears(&server, spelled("H")), ITCHSNAP_WRONG_SIDE, 0, 'H', "WRONG_SIDE");
+    acts(server_hears(&server, request), ITCHSNAP_ACCEPTED, 3, 0, "ACCEPTED");
+    answers(itchsnap_session_tick(&server, 2000), ITCHSNAP_HEARTBEAT, 0, "HEARTBEAT");
+    acts(server_hears(&server, request), ITCHSNAP_SECOND_LOGIN, 0, 0, "SECOND_LOGIN");
+    itchsnap_free(&server);
+    must(itchsnap_server_new(&server, login, 5, 0).code == ITCHSNAP_OK, "a new server");
+    request.bytes[1] = 'x';
+    acts(server_hears(&server, request), ITCHSNAP_REJECTED, 0, 'A', "REJECTED");
+    acts(server_hears(&server, spelled("R")), ITCHSNAP_CLOSED, 0, 0, "CLOSED");
+    itchsnap_free(&server);
+    must(itchsnap_server_new(&server, login, 5, 0).code == ITCHSNAP_OK, "a new server");
+    acts(server_hears(&server, spelled("O")), ITCHSNAP_LOGGED_OUT, 0, 0, "LOGGED_OUT");
+    itchsnap_free(&server);
+}
+
+static void clients(const itchsnap_login *login) {
+    itchsnap_handle client = ITCHSNAP_NONE;
+    must(itchsnap_client_new(&client, login, 3, 0).code == ITCHSNAP_OK, "a new client");
+    acts(client_hears(&client, spelled("Sx")), ITCHSNAP_EARLY, 0, 'S', "EARLY");
+    itchsnap_free(&client);
+    must(itchsnap_client_new(&client, login, 3, 0).code == ITCHSNAP_OK, "a new client");
+    acts(client_hears(&client, spelled("A                             0")), ITCHSNAP_BAD_NUMBER, 0, 11, "BAD_NUMBER of a packet");
+    acts(client_hears(&client, spelled("A                             3")), ITCHSNAP_ACCEPTED, 3, 0, "ACCEPTED by a client");
+    acts(client_hears(&client, spelled("Sx")), ITCHSNAP_DATA, 3, 0, "DATA");
+    acts(client_hears(&client, spelled("Z")), ITCHSNAP_ENDED, 0, 0, "ENDED");
+    itchsnap_free(&client);
+    must(itchsnap_client_new(&client, login, 3, 0).code == ITCHSNAP_OK, "a new client");
+    acts(client_hears(&client, spelled("JS")), ITCHSNAP_REJECTED, 0, 'S', "REJECTED by a server");
+    itchsnap_free(&client);
+    must(itchsnap_client_new(&client, login, 3, 0).code == ITCHSNAP_OK, "a new client");
+    answers(itchsnap_session_tick(&client, 60000), ITCHSNAP_LOST, 0, "LOST");
+    itchsnap_free(&client);
+}
+
+int main(void) {
+    itchsnap_login login = login_of("desk  secret              ");
+    payloads();
+    rules();
+    files();
+    handles();
+    joiners();
+    new_sessions();
+    servers(&login);
+    clients(&login);
+    return 0;
+}

@@ -1,0 +1,124 @@
+"""Runs with long inputs and odd words: a list of many locates, the longest message, words that are no text.
+
+RUNS has a function for each run, named for what it shows; it is given the program, and yields what differs.
+"""
+import importlib
+import struct
+import subprocess
+import sys
+import tempfile
+from pathlib import Path
+
+import large
+
+TOP = Path(__file__).resolve().parent.parent.parent
+LONGEST = 65_535
+# Codes of itchsnap.h.
+OK, KEPT, JOINED, CONFLICT = 0, 64, 68, 73
+
+
+def ended(program, *words, **files):
+    """The status and both outputs of the program in a folder with these files, `day` being `day.itch`."""
+    with tempfile.TemporaryDirectory() as folder:
+        for name, data in files.items():
+            (Path(folder) / f"{name}.itch").write_bytes(data)
+        done = subprocess.run([program, *words], cwd=folder, capture_output=True, stdin=subprocess.DEVNULL, timeout=60)
+        return done.returncode, done.stdout, done.stderr
+
+
+def differs(label, got, wanted):
+    if got != wanted:
+        yield f"{label}: {repr(got)[:400]}, not {repr(wanted)[:400]}"
+
+
+def of_locates(snapshot, wanted):
+    """A snapshot cut down to some locates."""
+    kept, at = [], 0
+    while at < len(snapshot):
+        size, kind, locate = struct.unpack_from(">HcH", snapshot, at)
+        if kind == b"G" or locate in wanted:
+            kept.append(snapshot[at:at + 2 + size])
+        at += 2 + size
+    return b"".join(kept)
+
+
+def a_list_of_1000_locates_is_read(program):
+    day, snapshot = large.orders(20_000, symbols=2000)
+    wanted = range(2, 2001, 2)
+    cut = of_locates(snapshot, wanted)
+    words = ",".join(map(str, reversed(wanted)))
+    yield from differs("snap", ended(program, "snap", "day.itch", "--only", words, day=day), (0, cut, b""))
+    yield from differs("join", ended(program, "join", "start.itch", "day.itch", "--only", words, day=day, start=large.closing(1)), (0, cut, b""))
+    yield from differs("a list with an empty end", ended(program, "snap", "day.itch", "--only", words + ",", day=day),
+                       (2, b"", b"itchsnap: bad locate list\n"))
+
+
+def a_large_snapshot_of_all_market_categories_is_canonical(program):
+    entries = (large.block(b"R", it, large.stock(it) + b"QGSNAPZV "[it % 9:][:1] + large.ENTRY[1:]) for it in range(65_536))
+    snapshot = b"".join(entries) + large.closing(65_537)
+    yield from differs("canon", ended(program, "canon", "day.itch", day=snapshot), (0, snapshot, b""))
+    yield from differs("canon --check", ended(program, "canon", "--check", "day.itch", day=snapshot), (0, b"canonical\n", b""))
+    yield from differs("another end", ended(program, "canon", "--check", "day.itch", day=snapshot[:-20] + b"%020d" % 65_537), (1, b"not canonical\n", b""))
+
+
+def words_that_are_no_utf_8_are_refused(program):
+    login = ["--port", "1", "--user", b"\xff", "--pass", "p"]
+    for words in ([b"\xff"], ["check", b"\xff.itch"], ["check", b"--progress\xc3"], ["snap", "--only", b"1,\x80"], ["snap", b"--only=\xe2\x82"],
+                  ["book", b"\xf8", "day.itch"], ["fetch", *login], ["serve", "day.itch", "--count", "1", *login]):
+        status, output, error = ended(program, *words, day=b"")
+        yield from differs(words, (status, output, error.split(b"\n")[0]), (2, b"", b"error: a word is not UTF-8"))
+
+
+def a_word_of_100000_letters_is_refused(program):
+    word = "x" * 100_000
+    for words, status, line in (
+            (["check", word], 3, f"itchsnap: cannot open\n  {word}: File name too long (os error 36)".encode()),
+            (["snap", "--only", word], 2, b"itchsnap: bad locate list"),
+            (["fetch", "--port", "1", "--user", word, "--pass", "p"], 2, b"itchsnap: bad user"),
+            (["fetch", "--port", "1", "--user", "u", "--pass", word], 2, b"itchsnap: bad password")):
+        yield from differs(words[0], ended(program, *words), (status, b"", line + b"\n"))
+
+
+def the_longest_message_is_read(program):
+    longest = struct.pack(">H", LONGEST) + b"z" * LONGEST
+    entry = large.entry(1)
+    day = longest + entry + longest
+    snapshot = entry + large.closing(4)
+    shown = b"1 other 7a 65535\n", b"3 other 7a 65535\n"
+    yield from differs("check", ended(program, "check", "day.itch", day=day), (0, b"ok 3 messages\n", b""))
+    yield from differs("snap", ended(program, "snap", "day.itch", day=day), (0, snapshot, b""))
+    yield from differs("compare", ended(program, "compare", "day.itch", "other.itch", day=day, other=entry), (0, b"same\n", b""))
+    yield from differs("canon", ended(program, "canon", "day.itch", day=longest + snapshot), (0, snapshot, b""))
+    yield from differs("join", ended(program, "join", "snap.itch", "day.itch", snap=longest + large.closing(2), day=day), (0, snapshot, b""))
+    status, output, error = ended(program, "show", "day.itch", day=day)
+    lines = output.splitlines(keepends=True)
+    yield from differs("show", (status, tuple(lines[::2]), len(lines), error), (0, shown, 3, b""))
+    yield from differs("a byte less", ended(program, "check", "day.itch", day=day[:-1]),
+                       (1, b"", b"itchsnap: message 3: truncated, 65536 bytes held\n"))
+
+
+def the_longest_message_waits_in_a_joiner(_program):
+    """In the released C library, since the program's `join` has nothing wait."""
+    sys.path.insert(0, str(TOP / "c"))
+    itchsnap = importlib.import_module("itchsnap")
+    library, joiner = itchsnap.Library(str(TOP / "release/libitchsnap.so")), itchsnap.Handle()
+    longest, other, end = b"z" * LONGEST, b"z" * (LONGEST - 1) + b"y", b"G" + b"1".rjust(20)
+    yield from differs("a new joiner", library.joiner_new(joiner, 2).code, OK)
+    yield from differs("the second message", library.joiner_live(joiner, 2, longest, LONGEST).code, KEPT)
+    yield from differs("the second message again", library.joiner_live(joiner, 2, longest, LONGEST).code, KEPT)
+    yield from differs("with another last byte", library.joiner_live(joiner, 2, other, LONGEST).code, CONFLICT)
+    yield from differs("the first message", library.joiner_live(joiner, 1, other, LONGEST).code, KEPT)
+    joined = library.joiner_snapshot(joiner, end, len(end))
+    yield from differs("End of Snapshot", (joined.code, joined.number), (JOINED, 3))
+    yield from differs("what waits", library.joiner_waiting(joiner).count, 0)
+    library.free(joiner)
+
+
+RUNS = [
+    a_list_of_1000_locates_is_read,
+    a_large_snapshot_of_all_market_categories_is_canonical,
+    words_that_are_no_utf_8_are_refused,
+    a_word_of_100000_letters_is_refused,
+    the_longest_message_is_read,
+    the_longest_message_waits_in_a_joiner,
+]
