@@ -1,22 +1,22 @@
 /* itchsnap.h: market snapshots for Nasdaq TotalView-ITCH 5.0, for C99 and C++.
  *
- * Link libitchsnap.a, or libitchsnap.so; README.md beside this file has the commands. Every function here is proved to return,
- * for every input that keeps the promises below, what it says; FORMATS.md in docs/ has the bytes of messages and snapshots.
+ * Link libitchsnap.a, or libitchsnap.so; README.md beside this file has the commands. Every function here is proved to return
+ * what its comment says, for every input that keeps the promises below. FORMATS.md in docs/ has the bytes of messages and snapshots.
  *
  * What the caller promises, and nothing checks:
  *
  * - The declarations are these.
  * - A pointer with a length is readable, or without const writable, for that many elements. It is not null, even for length 0.
- * - What a call is given without const is given to nothing else of that call.
+ * - Memory that is passed without const does not overlap with another argument of the same call.
  * - A bool is 0 or 1.
- * - A handle is ITCHSNAP_NONE at first. Only these functions write it. It may be moved, where the old place is used no more,
- *   but never copied: two copies that are both freed are the one misuse of handles that is left.
+ * - A handle is ITCHSNAP_NONE at first. Only these functions write it. It may be moved, if the old place is no longer used,
+ *   but never copied: to free two copies is the one misuse of handles that is left.
  * - A handle stays on the thread that filled it.
  * - malloc, realloc and free come from one allocator, which aligns to 16. No call is made from a signal handler, or in the
  *   forked child of a process with threads.
  *
- * Calls may be made in any order. One on a handle that is empty, freed, or holds something else returns
- * ITCHSNAP_WRONG_HANDLE, and changes nothing. */
+ * Calls may be made in any order. A call on a handle that is empty or freed, or holds something else, returns
+ * ITCHSNAP_WRONG_HANDLE and changes nothing. */
 #ifndef ITCHSNAP_H
 #define ITCHSNAP_H
 
@@ -34,8 +34,8 @@ extern "C" {
 /* The version of the library that is linked: the two should be equal. */
 uint32_t itchsnap_version(void);
 
-/* The code of an answer. Every answer has one; the other fields have a meaning only where they are named here. "detail" is
- * 0 where nothing else is said. */
+/* The code of an answer. Every answer has one; the other fields have a meaning only if they are named here. "detail" is
+ * 0 unless something else is said. */
 enum itchsnap_code {
     ITCHSNAP_OK = 0,
 
@@ -59,7 +59,7 @@ enum itchsnap_code {
     /* A file is refused. */
     ITCHSNAP_TRUNCATED = 32, /* an unfinished block; detail: the bytes of it that are there */
     ITCHSNAP_TOO_MANY_MESSAGES = 33,
-    ITCHSNAP_UNREAD = 34,    /* a read failed: proved not to happen, since all files are in memory */
+    ITCHSNAP_UNREAD = 34,    /* a read failed: proved never to happen, since all files are in memory */
     ITCHSNAP_NO_END = 35,    /* a snapshot file without End of Snapshot */
     ITCHSNAP_AFTER_END = 36, /* a message after End of Snapshot */
     ITCHSNAP_SHORT = 37,     /* fewer messages than are wanted */
@@ -68,7 +68,7 @@ enum itchsnap_code {
     ITCHSNAP_OUT_OF_MEMORY = 48,
     ITCHSNAP_NO_ROOM = 49,      /* the caller's memory is too short, and is as it was; len: the bytes that are needed */
     ITCHSNAP_WRONG_HANDLE = 50, /* the handle does not hold what the call is about */
-    ITCHSNAP_IN_USE = 51,       /* the handle that a call would fill holds something already */
+    ITCHSNAP_IN_USE = 51,       /* the handle that a call would fill already holds something */
     ITCHSNAP_ABSENT = 52,       /* no such order or price */
     ITCHSNAP_NOT_JOINED = 53,   /* the joiner has not joined */
     ITCHSNAP_NO_NUMBER = 54,    /* a sequence number that is not from 1 to 10^19 */
@@ -76,27 +76,27 @@ enum itchsnap_code {
     /* What a joiner did. */
     ITCHSNAP_KEPT = 64,    /* the message waits */
     ITCHSNAP_APPLIED = 65, /* it was applied, and then what waited, up to the message before number */
-    ITCHSNAP_OLD = 66,     /* the market contains it already */
-    ITCHSNAP_MORE = 67,    /* a message of the snapshot was taken, and the snapshot goes on */
+    ITCHSNAP_OLD = 66,     /* the market already contains it */
+    ITCHSNAP_MORE = 67,    /* a message of the snapshot was taken, and more follow */
     ITCHSNAP_JOINED = 68,  /* the snapshot has ended, and what waited was applied, up to the message before number */
 
     /* What a joiner did not take. */
-    ITCHSNAP_FULL = 72,               /* as many messages wait as may: number */
+    ITCHSNAP_FULL = 72,               /* no more messages may wait; number: how many do */
     ITCHSNAP_CONFLICT = 73,           /* other bytes wait under this number */
     ITCHSNAP_BAD_MESSAGE_NUMBER = 74, /* the number is 0 or above 10^19 - 1 */
-    ITCHSNAP_HALTED = 75,             /* the message with this number is refused: cause and detail say why; so is every later one */
+    ITCHSNAP_HALTED = 75,             /* the message with this number is refused, and so is every later one: cause and detail say why */
     ITCHSNAP_ALREADY_JOINED = 76,     /* a message of a snapshot after joining */
-    ITCHSNAP_TAKEN_NO_MEMORY = 77,    /* memory was refused after the message was taken: itchsnap_joiner_resume goes on */
+    ITCHSNAP_TAKEN_NO_MEMORY = 77,    /* memory was refused after the message was taken: itchsnap_joiner_resume continues */
     ITCHSNAP_BAD_SNAPSHOT = 78,       /* the snapshot's message at place number is refused: cause and detail say why */
 
     /* What a session does. */
     ITCHSNAP_ACCEPTED = 80,  /* the login is accepted, and messages come from number on */
-    ITCHSNAP_REJECTED = 81,  /* the login is rejected; detail: with this code, A or S. The session is closed */
+    ITCHSNAP_REJECTED = 81,  /* the login is rejected; detail: the code, A or S. The session is closed */
     ITCHSNAP_DATA = 82,      /* a message with this number: the bytes of the packet after its first */
     ITCHSNAP_ENDED = 83,     /* the server has ended the session, which is closed */
     ITCHSNAP_LOGGED_OUT = 84, /* the client has logged out. The session is closed */
     ITCHSNAP_HEARTBEAT = 85, /* a heartbeat is to be sent */
-    ITCHSNAP_LOST = 86,      /* the other side is gone. The session is closed */
+    ITCHSNAP_LOST = 86,      /* the other side was silent for too long. The session is closed */
 
     /* How a session breaks the protocol. */
     ITCHSNAP_UNKNOWN_TYPE = 96, /* detail: the packet's type byte */
@@ -107,7 +107,7 @@ enum itchsnap_code {
     ITCHSNAP_BROKEN_SESSION = 101 /* does not happen in these calls */
 };
 
-/* What became of a call. */
+/* The result of a call. */
 typedef struct {
     uint64_t detail;
     uint32_t code;
@@ -128,12 +128,12 @@ typedef struct {
 
 #define ITCHSNAP_NONE {0}
 
-/* Frees what a handle holds, if it holds anything. It holds nothing then, and may be filled again. */
+/* Frees what a handle holds, if it holds anything. The handle is then empty, and may be filled again. */
 void itchsnap_free(itchsnap_handle *handle);
 
 /* Markets -------------------------------------------------------------- */
 
-/* Fills a handle with a market that no message has reached. Codes: OK, or the first that fits of IN_USE, OUT_OF_MEMORY. */
+/* Fills a handle with an empty market. Codes: OK, or the first that fits of IN_USE, OUT_OF_MEMORY. */
 itchsnap_answer itchsnap_market_new(itchsnap_handle *handle);
 
 typedef struct {
@@ -144,14 +144,14 @@ typedef struct {
     uint32_t code;
 } itchsnap_loaded;
 
-/* Fills a handle with the market of a snapshot file, whose messages stand in any order that follows the order rules. Codes:
+/* Fills a handle with the market of a snapshot file, whose messages may be in any order that follows the order rules. Codes:
  * IN_USE, or else 0 to 36, OUT_OF_MEMORY. */
 itchsnap_loaded itchsnap_market_load(itchsnap_handle *handle, const uint8_t *snapshot, size_t len);
 
-/* Applies the message of a payload; where it is refused, the market is as it was. Codes: 0 to 23, OUT_OF_MEMORY. */
+/* Applies the message of a payload; if it is refused, the market is as it was. Codes: 0 to 23, OUT_OF_MEMORY. */
 itchsnap_answer itchsnap_market_apply(itchsnap_handle *handle, const uint8_t *payload, size_t len);
 
-/* Look-ups: in a market, or in that of a joiner once it has joined; else they return WRONG_HANDLE ---------- */
+/* Look-ups: in a market, or in that of a joiner that has joined; otherwise they return WRONG_HANDLE -------- */
 
 typedef struct {
     uint64_t reference;
@@ -160,7 +160,7 @@ typedef struct {
     uint16_t locate;
     bool buy;
     bool attributed; /* whether it came with a market participant */
-    uint8_t mpid[4]; /* padded with spaces; zeros where there is none */
+    uint8_t mpid[4]; /* padded with spaces; zeros if there is none */
     uint32_t code;
 } itchsnap_order;
 
@@ -177,7 +177,7 @@ typedef struct {
     uint32_t code;
 } itchsnap_level_total;
 
-/* The shares and the orders at a price of a locate and side: 0 where no order has it. Codes: OK. */
+/* The shares and the orders at a price of a locate and side: 0 if no order has that price. Codes: OK. */
 itchsnap_level_total itchsnap_level(itchsnap_handle *handle, uint16_t locate, bool buy, uint32_t price);
 
 typedef struct {
@@ -185,7 +185,7 @@ typedef struct {
     uint32_t code;
 } itchsnap_price;
 
-/* The best price of a locate and side, or where after is true the best one that is worse than last. Codes: OK, ABSENT. */
+/* The best price of a locate and side or, if after is true, the best one that is worse than last. Codes: OK, ABSENT. */
 itchsnap_price itchsnap_next_price(itchsnap_handle *handle, uint16_t locate, bool buy, bool after, uint32_t last);
 
 typedef struct {
@@ -206,7 +206,7 @@ typedef struct {
  * OUT_OF_MEMORY, NO_ROOM. */
 itchsnap_written itchsnap_snapshot(itchsnap_handle *handle, uint64_t next, uint8_t *out, size_t len);
 
-/* The same of the market cut down to the locates of a list. */
+/* The same for the market cut down to the locates of a list. */
 itchsnap_written itchsnap_snapshot_only(itchsnap_handle *handle, uint64_t next, const uint16_t *locates, size_t count,
                                         uint8_t *out, size_t len);
 
@@ -222,23 +222,23 @@ typedef struct {
 /* Whether a day file follows the order rules. Codes: 0 to 33, OUT_OF_MEMORY. */
 itchsnap_outcome itchsnap_check(const uint8_t *day, size_t len);
 
-/* As many messages as itchsnap_snap takes, where it takes all. */
+/* The value of after with which itchsnap_snap takes all messages. */
 #define ITCHSNAP_ALL UINT64_MAX
 
 /* Writes the canonical snapshot after the first messages of a day file, or after all, to the front of out. Codes: 0 to 33,
  * SHORT, NO_ROOM, OUT_OF_MEMORY. */
 itchsnap_outcome itchsnap_snap(const uint8_t *day, size_t len, uint64_t after, uint8_t *out, size_t out_len);
 
-/* The same of the market cut down to the locates of a list. Every message follows the order rules all the same. */
+/* The same for the market cut down to the locates of a list. Still every message has to follow the order rules. */
 itchsnap_outcome itchsnap_snap_only(const uint8_t *day, size_t len, uint64_t after, const uint16_t *locates, size_t locates_len,
                                     uint8_t *out, size_t out_len);
 
 typedef struct {
-    uint64_t place; /* OK: 0 where the markets are the same, else the place, counted from 1, at which their snapshots differ */
-    uint64_t count; /* else as in itchsnap_outcome */
+    uint64_t place; /* OK: 0 if the markets are the same, otherwise the place, counted from 1, at which their snapshots differ */
+    uint64_t count; /* not OK: as in itchsnap_outcome */
     uint64_t detail;
     uint32_t code;
-    uint32_t file; /* else the file that is refused: 1 or 2 */
+    uint32_t file; /* not OK: the file that is refused, 1 or 2 */
 } itchsnap_comparison;
 
 /* Whether two day files leave the same market. The first is read wholly before the second. Codes: 0 to 33, OUT_OF_MEMORY. */
@@ -250,7 +250,7 @@ itchsnap_comparison itchsnap_compare(const uint8_t *first, size_t first_len, con
  * OUT_OF_MEMORY. */
 itchsnap_answer itchsnap_joiner_new(itchsnap_handle *handle, size_t cap);
 
-/* The same for the locates of a list: messages at all others are decoded and counted, and change nothing else. */
+/* The same for the locates of a list: messages at other locates are decoded and counted, and change nothing else. */
 itchsnap_answer itchsnap_joiner_new_only(itchsnap_handle *handle, size_t cap, const uint16_t *locates, size_t count);
 
 typedef struct {
@@ -260,18 +260,18 @@ typedef struct {
     uint32_t cause; /* HALTED and BAD_SNAPSHOT: why the message is refused, 1 to 23 or TOO_MANY_MESSAGES */
 } itchsnap_joined;
 
-/* Takes the message with this number of the live feed; they come in any order. Codes: KEPT, APPLIED, OLD, OUT_OF_MEMORY (not
- * taken), 72 to 77. */
+/* Takes the message with this number of the live feed; messages may come in any order. Codes: KEPT, APPLIED, OLD, OUT_OF_MEMORY
+ * (not taken), 72 to 77. */
 itchsnap_joined itchsnap_joiner_live(itchsnap_handle *handle, uint64_t number, const uint8_t *payload, size_t len);
 
-/* Takes a message of the snapshot; they come in their order, End of Snapshot last. Codes: MORE, JOINED, OUT_OF_MEMORY (not
+/* Takes a message of the snapshot; messages come in their order, End of Snapshot last. Codes: MORE, JOINED, OUT_OF_MEMORY (not
  * taken), 75 to 78. */
 itchsnap_joined itchsnap_joiner_snapshot(itchsnap_handle *handle, const uint8_t *payload, size_t len);
 
 /* Drops an unfinished or broken snapshot, and keeps what waits. Codes: OK. */
 itchsnap_answer itchsnap_joiner_restart(itchsnap_handle *handle);
 
-/* Applies what waits, as after a refusal of memory. Codes: APPLIED, NOT_JOINED, OUT_OF_MEMORY, HALTED. */
+/* Applies the messages that wait, for use after memory was refused. Codes: APPLIED, NOT_JOINED, OUT_OF_MEMORY, HALTED. */
 itchsnap_joined itchsnap_joiner_resume(itchsnap_handle *handle);
 
 /* The number of the next message of the feed. Codes: OK, NOT_JOINED. */
@@ -280,11 +280,11 @@ itchsnap_count itchsnap_joiner_next(itchsnap_handle *handle);
 /* The number of messages that wait. Codes: OK. */
 itchsnap_count itchsnap_joiner_waiting(itchsnap_handle *handle);
 
-/* Sessions: the two ends of SoupBinTCP 3.00. Packets go in and out without the length in front, moments are milliseconds
- * since a time of the caller's choice. A packet of one byte is spelled by that byte: the client's R (heartbeat) and O (logout),
- * the server's H (heartbeat) and Z (end of session); a rejection is J and its code, a message S and its bytes ---------- */
+/* Sessions: the two ends of SoupBinTCP 3.00. Packets go in and out without the length in front. Moments are milliseconds
+ * since a time of the caller's choice. Some packets are one byte: the client's R (heartbeat) and O (logout), the server's
+ * H (heartbeat) and Z (end of session). A rejection is J and its code, a message is S and its bytes ---------- */
 
-/* Texts padded with spaces: what a client logs in with, or whom a server lets in and what it serves. */
+/* Texts padded with spaces: what a client logs in with, or which login a server accepts and which session it serves. */
 typedef struct {
     uint8_t username[6];
     uint8_t password[10];
@@ -329,10 +329,10 @@ itchsnap_acceptance_packet itchsnap_server_accepted(itchsnap_handle *handle, uin
  * (nothing), ACCEPTED, REJECTED, LOGGED_OUT, 1 to 5, 96 to 100. */
 itchsnap_act itchsnap_server_packet(itchsnap_handle *handle, const uint8_t *packet, size_t len, uint64_t now_ms);
 
-/* What either end is to do at this moment, without a packet. A heartbeat counts as sent. Codes: OK (nothing), HEARTBEAT, LOST. */
+/* What either end has to do at this moment, without a packet. A heartbeat counts as sent. Codes: OK (nothing), HEARTBEAT, LOST. */
 itchsnap_answer itchsnap_session_tick(itchsnap_handle *handle, uint64_t now_ms);
 
-/* Takes note that either end sent something at this moment. Codes: OK. */
+/* Records that either end sent something at this moment. Codes: OK. */
 itchsnap_answer itchsnap_session_sent(itchsnap_handle *handle, uint64_t now_ms);
 
 #ifdef __cplusplus
