@@ -1,0 +1,74 @@
+//! What passes through a reader that is watched.
+
+use itch_input::{Amount, Progress, Tally, Watched};
+use std::io::Read;
+use std::test::Fail;
+use std::time::Duration;
+use test_kit::equal::{same, same_in};
+
+#[test]
+fn messages_are_counted_in_pieces(rt: HostRuntime) -> Result<(), Fail> {
+    let stream = [0, 2, 7, 7, 0, 0, 0, 1, 9, 1, 0];
+    for length in 1..stream.len() {
+        let mut tally = Tally::new();
+        for piece in stream.chunks(length) {
+            tally.pass(piece);
+        }
+        same_in(&rt, ("in pieces of", length), tally.messages(), 3);
+    }
+    Ok(())
+}
+
+#[test]
+fn a_watched_reader_reads_what_is_inside(rt: HostRuntime) -> Result<(), Fail> {
+    let stream = [0, 1, 9, 0];
+    let progress = Progress::begin(&rt);
+    let mut reader = Watched::new(&stream[..], progress.as_ref());
+    let mut bytes = [0; 3];
+    assert!(rt; matches!(reader.read(&mut bytes), Ok(3)));
+    assert!(rt; bytes == [0, 1, 9]);
+    assert!(rt; matches!(reader.read(&mut bytes), Ok(1)));
+    assert!(rt; matches!(reader.read(&mut bytes), Ok(0)));
+    Ok(())
+}
+
+#[test]
+fn an_amount_has_its_line(rt: HostRuntime) -> Result<(), Fail> {
+    let alloc = rt.alloc();
+    let rows = [
+        (
+            67_108_864,
+            2_127_521,
+            1_300_000,
+            "67108864 bytes, 2127521 messages,    51 MB/s",
+        ),
+        (
+            134_217_728,
+            1,
+            1_000_000,
+            "134217728 bytes, 1 messages,   134 MB/s",
+        ),
+        (
+            67_108_864,
+            0,
+            100_000_000,
+            "67108864 bytes, 0 messages,     0 MB/s",
+        ),
+        (
+            67_108_864,
+            7,
+            0,
+            "67108864 bytes, 7 messages, 67108864 MB/s",
+        ),
+    ];
+    for (bytes, messages, micros, line) in rows {
+        let elapsed = Duration::from_micros(micros);
+        let amount = Amount {
+            bytes,
+            messages,
+            elapsed,
+        };
+        same(&rt, format!(in alloc; "{amount}")?.as_str(), line);
+    }
+    Ok(())
+}

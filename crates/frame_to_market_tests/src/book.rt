@@ -1,0 +1,235 @@
+//! Books by what their calls return. The helpers take any book.
+use itch_book::{IndexedBook, ListBook, Order, OrderBook, Taken};
+use itch_codec::Side;
+use std::alloc::AllocError;
+use std::process::Abort;
+use std::test::Fail;
+use test_kit::equal::{same, same_in};
+
+// An order of locate 1.
+pub(super) fn order(reference: u64, side: Side, shares: u32, price: u32) -> Order {
+    Order {
+        reference,
+        locate: 1,
+        side,
+        shares,
+        price,
+        mpid: None,
+    }
+}
+
+pub(super) fn add<B: OrderBook>(
+    rt: &impl Abort,
+    book: &mut B,
+    order: Order,
+) -> Result<(), AllocError> {
+    assert!(rt; order.shares > 0);
+    assert!(rt; book.get(order.reference).is_none());
+    book.add(order)
+}
+
+pub(super) fn take<B: OrderBook>(
+    rt: &impl Abort,
+    book: &mut B,
+    reference: u64,
+    shares: u32,
+) -> Taken {
+    let Some(order) = book.get(reference).copied() else {
+        panic!(rt; "{reference} is not live");
+    };
+    assert!(rt; shares <= order.shares);
+    book.take(reference, shares)
+}
+
+pub(super) fn delete<B: OrderBook>(rt: &impl Abort, book: &mut B, reference: u64) -> Order {
+    assert!(rt; book.get(reference).is_some());
+    book.delete(reference)
+}
+
+pub(super) fn replace<B: OrderBook>(
+    rt: &impl Abort,
+    book: &mut B,
+    original: u64,
+    reference: u64,
+    shares: u32,
+    price: u32,
+) -> Result<(), AllocError> {
+    assert!(rt; book.get(original).is_some());
+    assert!(rt; shares > 0);
+    assert!(rt; book.get(reference).is_none());
+    book.replace(original, reference, shares, price)
+}
+
+// The reference of the next order of the same locate, or 0.
+fn next<B: OrderBook>(rt: &impl Abort, book: &B, reference: u64) -> u64 {
+    assert!(rt; book.get(reference).is_some());
+    match book.after(reference) {
+        Some(order) => order.reference,
+        None => 0,
+    }
+}
+
+// The reference of an order, or 0.
+pub(super) fn reference(order: Option<&Order>) -> u64 {
+    match order {
+        Some(order) => order.reference,
+        None => 0,
+    }
+}
+
+// Adds two levels to buy, two to sell, and the greatest order of another locate.
+fn fill<B: OrderBook>(rt: &impl Abort, book: &mut B) -> Result<(), AllocError> {
+    same(rt, book.len(), 0);
+    for (number, side, shares, price) in [
+        (1, Side::Buy, 100, 1500000),
+        (2, Side::Buy, 200, 1500100),
+        (3, Side::Buy, 300, 1500000),
+        (4, Side::Buy, 400, 1500100),
+        (5, Side::Sell, 500, 1500300),
+        (6, Side::Sell, 600, 1500200),
+    ] {
+        add(rt, book, order(number, side, shares, price))?;
+    }
+    let last = Order {
+        locate: u16::MAX,
+        ..order(u64::MAX, Side::Sell, u32::MAX, u32::MAX)
+    };
+    add(rt, book, last)?;
+    same(rt, book.len(), 7);
+    Ok(())
+}
+
+// Checks the order of the orders.
+fn check_order<B: OrderBook>(rt: &impl Abort, book: &B) {
+    same(rt, reference(book.first(1)), 2);
+    for (number, want) in [
+        (2, 4),
+        (4, 1),
+        (1, 3),
+        (3, 6),
+        (6, 5),
+        (5, 0),
+        (u64::MAX, 0),
+    ] {
+        same_in(rt, ("after", number), next(rt, book, number), want);
+    }
+    same(rt, reference(book.first(2)), 0);
+    same(rt, reference(book.front(1, Side::Buy)), 2);
+    same(rt, reference(book.front(1, Side::Sell)), 6);
+    same(rt, reference(book.front(u16::MAX, Side::Buy)), 0);
+}
+
+// Checks the prices and the totals of the levels.
+fn check_levels<B: OrderBook>(rt: &impl Abort, book: &B) {
+    for (side, last, want) in [
+        (Side::Buy, None, Some(1500100)),
+        (Side::Buy, Some(1500100), Some(1500000)),
+        (Side::Buy, Some(1500000), None),
+        (Side::Sell, None, Some(1500200)),
+        (Side::Sell, Some(1500200), Some(1500300)),
+        (Side::Sell, Some(1500300), None),
+    ] {
+        same_in(rt, ("after", last), book.next_price(1, side, last), want);
+    }
+    for (locate, side, price, want) in [
+        (1, Side::Buy, 1500100, (600, 2)),
+        (1, Side::Buy, 1500000, (400, 2)),
+        (1, Side::Sell, 1500000, (0, 0)),
+        (u16::MAX, Side::Sell, u32::MAX, (4294967295, 1)),
+    ] {
+        same(rt, book.level_total(locate, side, price), want);
+    }
+}
+
+// Takes shares of the orders 1 and 3.
+fn check_takes<B: OrderBook>(rt: &impl Abort, book: &mut B) {
+    same(rt, take(rt, book, 1, 40), Taken::Left(60));
+    same(rt, book.level_total(1, Side::Buy, 1500000), (360, 2));
+    same(rt, next(rt, book, 4), 1);
+    same(rt, take(rt, book, 1, 60), Taken::Gone);
+    assert!(rt; book.get(1).is_none());
+    same(rt, take(rt, book, 3, 0), Taken::Left(300));
+}
+
+fn check_delete<B: OrderBook>(rt: &impl Abort, book: &mut B) {
+    same(rt, delete(rt, book, 6), order(6, Side::Sell, 600, 1500200));
+    same(rt, book.next_price(1, Side::Sell, None), Some(1500300));
+}
+
+// Replaces order 2 by order 7, after order 3.
+fn check_replace<B: OrderBook>(rt: &impl Abort, book: &mut B) -> Result<(), AllocError> {
+    replace(rt, book, 2, 7, 50, 1500000)?;
+    assert!(rt; book.get(2).is_none());
+    same(
+        rt,
+        book.get(7).copied(),
+        Some(order(7, Side::Buy, 50, 1500000)),
+    );
+    same(rt, next(rt, book, 3), 7);
+    same(rt, book.level_total(1, Side::Buy, 1500100), (400, 1));
+    same(rt, book.len(), 5);
+    Ok(())
+}
+
+// Checks each call of a book that is empty.
+fn check_calls<B: OrderBook>(rt: &impl Abort, book: &mut B) -> Result<(), AllocError> {
+    fill(rt, book)?;
+    check_order(rt, book);
+    check_levels(rt, book);
+    check_takes(rt, book);
+    check_delete(rt, book);
+    check_replace(rt, book)
+}
+
+// Adds a level of a thousand orders.
+fn fill_level<B: OrderBook>(rt: &impl Abort, book: &mut B) -> Result<(), AllocError> {
+    for number in 1..1001 {
+        add(rt, book, order(number, Side::Buy, 10, 1500000))?;
+    }
+    Ok(())
+}
+
+// Checks a level of a thousand orders, of which three change.
+fn check_priority<B: OrderBook>(rt: &impl Abort, book: &mut B) -> Result<(), AllocError> {
+    fill_level(rt, book)?;
+    delete(rt, book, 500);
+    same(rt, take(rt, book, 1, 10), Taken::Gone);
+    replace(rt, book, 1000, 2000, 5, 1500000)?;
+    same(rt, book.level_total(1, Side::Buy, 1500000), (9975, 998));
+    same(rt, reference(book.front(1, Side::Buy)), 2);
+    for (number, want) in [(499, 501), (999, 2000), (2000, 0)] {
+        same(rt, next(rt, book, number), want);
+    }
+    Ok(())
+}
+
+#[test]
+fn list_book_calls(rt: HostRuntime) -> Result<(), Fail> {
+    let mut book: ListBook = ListBook::new(rt.alloc());
+    check_calls(&rt, &mut book)?;
+    Ok(())
+}
+
+#[test]
+fn indexed_book_calls(rt: HostRuntime) -> Result<(), Fail> {
+    let mut book: IndexedBook = IndexedBook::new(rt.alloc());
+    check_calls(&rt, &mut book)?;
+    Ok(())
+}
+
+#[test]
+fn list_book_keeps_priority(rt: HostRuntime) -> Result<(), Fail> {
+    let mut book: ListBook = ListBook::new(rt.alloc());
+    check_priority(&rt, &mut book)?;
+    Ok(())
+}
+
+#[test]
+fn indexed_book_keeps_priority(rt: HostRuntime) -> Result<(), Fail> {
+    let mut book: IndexedBook = IndexedBook::new(rt.alloc());
+    check_priority(&rt, &mut book)?;
+    Ok(())
+}
+
+mod many;
+mod side_by_side;

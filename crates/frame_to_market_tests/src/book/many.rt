@@ -1,0 +1,46 @@
+//! A book of more than a hundred thousand orders: with ample memory none is refused, and no replacement.
+//!
+//! The clauses of a list's book say where it is never refused any; it would take too long here.
+use super::{add, order, reference, replace};
+use itch_book::{IndexedBook, OrderBook};
+use itch_codec::Side;
+use std::alloc::AllocError;
+use std::process::Abort;
+use std::test::Fail;
+use test_kit::equal::same;
+
+const MANY: u32 = 110_000;
+
+// Adds many orders, each at a price of its own and after all others.
+fn fill<B: OrderBook>(rt: &impl Abort, book: &mut B) -> Result<(), AllocError> {
+    for number in 0..MANY {
+        let added = order(u64::from(number), Side::Sell, 10, 1000000 + number);
+        add(rt, book, added)?;
+    }
+    Ok(())
+}
+
+// Puts new orders, each at a price of its own, in place of the first hundred.
+fn replace_first<B: OrderBook>(rt: &impl Abort, book: &mut B) -> Result<(), AllocError> {
+    for number in 0..100u32 {
+        let original = u64::from(number);
+        replace(rt, book, original, 1000000 + original, 5, 2000000 + number)?;
+    }
+    Ok(())
+}
+
+fn check_many<B: OrderBook>(rt: &impl Abort, book: &mut B) -> Result<(), AllocError> {
+    fill(rt, book)?;
+    replace_first(rt, book)?;
+    same(rt, book.len(), MANY as usize);
+    same(rt, reference(book.front(1, Side::Sell)), 100);
+    same(rt, book.level_total(1, Side::Sell, 2000099), (5, 1));
+    Ok(())
+}
+
+#[test]
+fn indexed_book_of_many_orders(rt: HostRuntime) -> Result<(), Fail> {
+    let mut book: IndexedBook = IndexedBook::new(rt.alloc());
+    check_many(&rt, &mut book)?;
+    Ok(())
+}

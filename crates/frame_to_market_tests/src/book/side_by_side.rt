@@ -1,0 +1,164 @@
+//! Both books side by side: random calls return the same, and leave the same orders.
+use super::{add, delete, order, replace, take};
+use itch_book::{IndexedBook, ListBook, Order, OrderBook};
+use itch_codec::Side;
+use std::alloc::AllocError;
+use std::process::Abort;
+use std::test::Fail;
+use test_kit::equal::same;
+
+// Numbers without a pattern, the same at each run.
+#[derive(Drop)]
+struct Random {
+    state: u64,
+}
+
+impl Random {
+    // A number below a limit.
+    fn below(&mut self, limit: u32) -> u32 {
+        self.state = self
+            .state
+            .wrapping_mul(6364136223846793005)
+            .wrapping_add(1442695040888963407);
+        let high = (self.state >> 32) as u32;
+        high.checked_rem(limit).unwrap_or(0)
+    }
+
+    fn side(&mut self) -> Side {
+        match self.below(2) {
+            0 => Side::Buy,
+            _ => Side::Sell,
+        }
+    }
+
+    // One of a few prices.
+    fn price(&mut self) -> u32 {
+        1500000u32.wrapping_add(self.below(3).wrapping_mul(100))
+    }
+
+    fn locate(&mut self) -> u16 {
+        match self.below(2) {
+            0 => 1,
+            _ => u16::MAX,
+        }
+    }
+
+    // An order of 1 to 20 shares.
+    fn order(&mut self, reference: u64) -> Order {
+        let (side, shares, price) = (self.side(), self.below(20), self.price());
+        Order {
+            locate: self.locate(),
+            ..order(reference, side, shares.saturating_add(1), price)
+        }
+    }
+}
+
+// Adds a copy of an order.
+fn add_copy<B: OrderBook>(rt: &impl Abort, book: &mut B, order: &Order) -> Result<(), AllocError> {
+    add(rt, book, *order)
+}
+
+// Makes one random call of both books.
+fn call<B: OrderBook, C: OrderBook>(
+    rt: &impl Abort,
+    random: &mut Random,
+    one: &mut B,
+    other: &mut C,
+) -> Result<(), AllocError> {
+    let reference = u64::from(random.below(40));
+    let Some(order) = one.get(reference).copied() else {
+        let order = random.order(reference);
+        add_copy(rt, one, &order)?;
+        return add_copy(rt, other, &order);
+    };
+    let new = u64::from(random.below(40));
+    match random.below(4) {
+        0 if one.get(new).is_none() => {
+            let (shares, price) = (random.below(20).saturating_add(1), random.price());
+            replace(rt, one, reference, new, shares, price)?;
+            replace(rt, other, reference, new, shares, price)?;
+        }
+        1 => same(rt, delete(rt, one, reference), delete(rt, other, reference)),
+        _ => {
+            let shares = random.below(order.shares.saturating_add(1));
+            same(
+                rt,
+                take(rt, one, reference, shares),
+                take(rt, other, reference, shares),
+            );
+        }
+    }
+    Ok(())
+}
+
+// Checks that both books have the same orders of a locate, in the same order.
+fn check_orders<B: OrderBook, C: OrderBook>(rt: &impl Abort, one: &B, other: &C, locate: u16) {
+    let mut next = one.first(locate).copied();
+    assert_eq!(rt; other.first(locate).copied(), next);
+    for _ in 0..one.len() {
+        let Some(Order { reference, .. }) = next else {
+            break;
+        };
+        assert_eq!(rt; one.get(reference).copied(), next);
+        assert_eq!(rt; other.get(reference).copied(), next);
+        assert!(rt; one.get(reference).is_some());
+        assert!(rt; other.get(reference).is_some());
+        next = one.after(reference).copied();
+        assert_eq!(rt; other.after(reference).copied(), next);
+    }
+}
+
+// Checks that both books have the same first order, prices and totals of a side.
+fn check_side<B: OrderBook, C: OrderBook>(
+    rt: &impl Abort,
+    one: &B,
+    other: &C,
+    locate: u16,
+    side: Side,
+) {
+    same(
+        rt,
+        other.front(locate, side).copied(),
+        one.front(locate, side).copied(),
+    );
+    let mut last = None;
+    for _ in 0..4 {
+        let price = one.next_price(locate, side, last);
+        same(rt, other.next_price(locate, side, last), price);
+        let Some(price) = price else { break };
+        same(
+            rt,
+            other.level_total(locate, side, price),
+            one.level_total(locate, side, price),
+        );
+        last = Some(price);
+    }
+}
+
+// Makes random calls of both books, and checks both after each.
+fn check_calls<B: OrderBook, C: OrderBook>(
+    rt: &impl Abort,
+    one: &mut B,
+    other: &mut C,
+) -> Result<(), AllocError> {
+    let mut random = Random { state: 1 };
+    for _ in 0..100000 {
+        call(rt, &mut random, one, other)?;
+        same(rt, other.len(), one.len());
+        for locate in [1, 2, u16::MAX] {
+            check_orders(rt, one, other, locate);
+            check_side(rt, one, other, locate, Side::Buy);
+            check_side(rt, one, other, locate, Side::Sell);
+        }
+    }
+    assert!(rt; one.len() > 10);
+    Ok(())
+}
+
+#[test]
+fn both_books_stay_the_same(rt: HostRuntime) -> Result<(), Fail> {
+    let mut one: ListBook = ListBook::new(rt.alloc());
+    let mut other: IndexedBook = IndexedBook::new(rt.alloc());
+    check_calls(&rt, &mut one, &mut other)?;
+    Ok(())
+}

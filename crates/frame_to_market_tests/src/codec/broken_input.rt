@@ -1,0 +1,84 @@
+//! Each byte of each vector at each value.
+use super::vectors::*;
+use itch_codec::{CodecFault, Message, decode, encode};
+use std::process::Abort;
+use test_kit::equal::{holds_in, same};
+
+// Whether the fault is about this byte at this place.
+fn is_fault_at(fault: CodecFault, at: usize, byte: u8) -> bool {
+    match fault {
+        CodecFault::BadText { offset } => offset == at && !(0x20..=0x7e).contains(&byte),
+        CodecFault::BadSide { offset } => offset == at && byte != b'B' && byte != b'S',
+        CodecFault::BadNumber => at > 0,
+        CodecFault::WrongLength { kind, want, got } => at == 0 && kind == byte && want != got,
+        CodecFault::Empty => false,
+    }
+}
+
+// Sets each byte after the first to each value in turn, and counts the faults.
+fn faults_of_bytes(rt: &impl Abort, vector: &[u8]) -> u32 {
+    assert!(rt; vector.len() <= 48);
+    let mut payload = [0; 48];
+    let mut faults = 0u32;
+    for at in 1..vector.len() {
+        for byte in 0..=255u8 {
+            payload[..vector.len()].copy_from_slice(vector);
+            payload[at] = byte;
+            let spelled = &payload[..vector.len()];
+            match decode(spelled) {
+                Ok(Message::End { .. }) => {}
+                Ok(message) => same(rt, encode(&message).bytes(), spelled),
+                Err(fault) => {
+                    holds_in(rt, (fault, byte, at), is_fault_at(fault, at, byte));
+                    faults = faults.wrapping_add(1);
+                }
+            }
+        }
+    }
+    faults
+}
+
+// 161 values are not printable, and 254 are no side. End of Snapshot takes a space before its last two bytes,
+// a space or a digit in front of its last byte, and a digit from 1 on as its last.
+#[test]
+fn each_byte_at_each_value(rt: HostRuntime) {
+    let rows = [
+        (SYSTEM_EVENT, 0),
+        (STOCK_DIRECTORY, 8 * 161),
+        (TRADING_ACTION, 8 * 161),
+        (REG_SHO, 8 * 161),
+        (OPERATIONAL_HALT, 8 * 161),
+        (PARTICIPANT_POSITION, 12 * 161),
+        (ADD_ORDER, 254 + 8 * 161),
+        (GREATEST_ADD_ORDER, 254 + 8 * 161),
+        (ATTRIBUTED_ADD_ORDER, 254 + 12 * 161),
+        (ORDER_EXECUTED, 0),
+        (ORDER_EXECUTED_WITH_PRICE, 0),
+        (ORDER_CANCEL, 0),
+        (ORDER_DELETE, 0),
+        (ORDER_REPLACE, 0),
+        (TRADE, 254 + 8 * 161),
+        (CROSS_TRADE, 8 * 161),
+        (BROKEN_TRADE, 0),
+        (END, 18 * 255 + 245 + 247),
+        (UNDECODED, 0),
+    ];
+    for (vector, faults) in rows {
+        same(&rt, faults_of_bytes(&rt, vector), faults);
+    }
+}
+
+// A payload of another type is a message of that type, or has a fault.
+#[test]
+fn each_type(rt: HostRuntime) {
+    for byte in 0..=255u8 {
+        let payload = [byte, b'B'];
+        match decode(&payload) {
+            Ok(message) => {
+                assert!(rt; !b"SRHYhLAFECXDUPQBG".contains(&byte));
+                same(&rt, encode(&message).bytes(), payload.as_slice());
+            }
+            Err(fault) => holds_in(&rt, (fault, byte), is_fault_at(fault, 0, byte)),
+        }
+    }
+}

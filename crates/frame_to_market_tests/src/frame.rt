@@ -1,0 +1,419 @@
+//! Worked cases, each failure in turn, and the calls that take no memory.
+ghost use Rattle.std.specs.Prelude.{None, IsErr};
+
+use itch_frame::testing::{FuseWriter, PieceReader};
+use itch_frame::{
+    BlockReader, Buffered, Counted, CountedRead, CountedWrite, FrameFault, Splitter, laws,
+    write_block,
+};
+use linked_list_allocator::LocalHeap;
+use std::alloc::Allocator;
+use std::fs::File;
+use std::io::{self, BufReader, ErrorKind, Read, Write};
+use std::process::Abort;
+use std::test::Fail;
+use test_kit::Refusing;
+use test_kit::equal::{holds_in, same, same_in};
+
+// Five blocks, one of them empty.
+const STREAM: &[u8] = b"\x00\x01S\x00\x02RR\x00\x00\x00\x05AAAAA\x00\x01D";
+
+// The splitter takes `taken` of these bytes, and then holds `held` of its block, which is ready or not. This helper and those
+// below have no contract, so that a proof of a test need not carry what each call leaves.
+fn takes<A: Allocator>(
+    rt: &impl Abort,
+    splitter: &mut Splitter<A>,
+    bytes: &[u8],
+    (taken, held): (usize, usize),
+    ready: Option<&[u8]>,
+) {
+    same(rt, splitter.take(bytes), taken);
+    same(rt, splitter.ready(), ready);
+    same(rt, splitter.held(), held);
+}
+
+#[test]
+fn takes_up_to_the_end_of_a_block(rt: HostRuntime) -> Result<(), Fail> {
+    let mut splitter = Splitter::new(rt.alloc())?;
+    takes(&rt, &mut splitter, &[0], (1, 1), None);
+    takes(&rt, &mut splitter, &[1, 0x7a, 0, 0], (2, 3), Some(&[0x7a]));
+    takes(&rt, &mut splitter, &[0, 0], (0, 3), Some(&[0x7a]));
+    splitter.clear();
+    takes(&rt, &mut splitter, &[0, 0], (2, 2), Some(&[]));
+    Ok(())
+}
+
+#[test]
+fn the_laws_of_streams() {
+    laws::any_cut();
+    laws::one_block();
+    laws::one_reading();
+    laws::one_day();
+}
+
+// Cuts the blocks out of a piece, of at most eight, and writes them again.
+fn copy_piece<A: Allocator, W: CountedWrite>(
+    splitter: &mut Splitter<A>,
+    writer: &mut W,
+    piece: &[u8],
+) -> Result<(), FrameFault> {
+    let mut rest = piece;
+    for _ in 0..8 {
+        let taken = splitter.take(rest).min(rest.len());
+        rest = &rest[taken..];
+        if let Some(payload) = splitter.ready() {
+            write_block(writer, payload)?;
+            splitter.clear();
+        }
+    }
+    Ok(())
+}
+
+#[test]
+fn cuts_a_stream_the_same_in_any_pieces(rt: HostRuntime) -> Result<(), Fail> {
+    for size in 1..=STREAM.len() {
+        let mut splitter = Splitter::new(rt.alloc())?;
+        let mut writer = FuseWriter::new(rt.alloc(), 64, None);
+        for piece in STREAM.chunks(size) {
+            copy_piece(&mut splitter, &mut writer, piece)?;
+        }
+        same_in(&rt, ("in pieces of", size), writer.written(), STREAM);
+        same(&rt, splitter.held(), 0);
+    }
+    Ok(())
+}
+
+// The next block is this one, or there is none.
+fn gives<R: CountedRead, A: Allocator>(
+    rt: &impl Abort,
+    reader: &mut BlockReader<R, A>,
+    want: Option<&[u8]>,
+) -> Result<(), FrameFault> {
+    same(rt, reader.next_block()?, want);
+    Ok(())
+}
+
+fn fails<R: CountedRead, A: Allocator>(rt: &impl Abort, reader: &mut BlockReader<R, A>) {
+    assert!(rt; matches!(reader.next_block(), Err(FrameFault::Read(_))));
+}
+
+// The input ends inside a block, of which this many bytes are held, however often it is asked.
+fn is_truncated<R: CountedRead, A: Allocator>(
+    rt: &impl Abort,
+    reader: &mut BlockReader<R, A>,
+    want: usize,
+) {
+    for _ in 0..2 {
+        assert!(rt;
+            matches!(reader.next_block(), Err(FrameFault::Truncated { held }) if held == want)
+        );
+    }
+}
+
+// A writer that has the block of the longest payload takes none that is longer.
+fn is_too_long(rt: &impl Abort, writer: &mut FuseWriter, payload: &[u8]) {
+    same(rt, writer.written().len(), 65_537);
+    assert!(rt; writer.written().starts_with(&[0xff, 0xff, 0x7a]));
+    assert!(rt; matches!(write_block(writer, payload), Err(FrameFault::TooLong)));
+    same(rt, writer.written().len(), 65_537);
+}
+
+#[test]
+fn writes_the_longest_block_and_none_longer(rt: HostRuntime) -> Result<(), Fail> {
+    let long = vec![in rt.alloc(); 0x7a; 65_536]?;
+    let longest = &long[..65_535];
+    let mut writer = FuseWriter::new(rt.alloc(), 70_000, None);
+    write_block(&mut writer, longest)?;
+    is_too_long(&rt, &mut writer, &long);
+    let mut reader = BlockReader::new(rt.alloc(), PieceReader::new(writer.written(), 1000, None))?;
+    gives(&rt, &mut reader, Some(longest))?;
+    gives(&rt, &mut reader, None)?;
+    Ok(())
+}
+
+#[test]
+fn says_how_much_of_a_block_was_sent(rt: HostRuntime) -> Result<(), Fail> {
+    let whole = b"\x00\x05zzzzz";
+    for fail_at in 1..=8 {
+        let mut writer = FuseWriter::new(rt.alloc(), 1, Some(fail_at));
+        let outcome = write_block(&mut writer, b"zzzzz");
+        let sent = writer.written().len();
+        same(&rt, sent as u64, fail_at.min(8) - 1);
+        assert!(rt; whole.starts_with(writer.written()));
+        match outcome {
+            Ok(()) => same(&rt, fail_at, 8),
+            Err(fault) => assert!(rt;
+                matches!(fault, FrameFault::Write { sent: count, .. } if count == sent)
+            ),
+        }
+    }
+    Ok(())
+}
+
+#[test]
+fn reads_on_after_a_failure(rt: HostRuntime) -> Result<(), Fail> {
+    let mut reader = BlockReader::new(rt.alloc(), PieceReader::new(b"\x00\x01z", 1, Some(2)))?;
+    fails(&rt, &mut reader);
+    for want in [Some(b"z".as_slice()), None, None] {
+        gives(&rt, &mut reader, want)?;
+    }
+    Ok(())
+}
+
+// Reads blocks and writes them again, going on after each failed read, and returns how many reads failed.
+fn copy_blocks<R: CountedRead, W: CountedWrite, A: Allocator>(
+    reader: &mut BlockReader<R, A>,
+    writer: &mut W,
+) -> Result<u64, FrameFault> {
+    let mut failures = 0u64;
+    for _ in 0..64 {
+        match reader.next_block() {
+            Ok(Some(payload)) => write_block(writer, payload)?,
+            Ok(None) => return Ok(failures),
+            Err(FrameFault::Read(_)) => failures = failures.saturating_add(1),
+            Err(fault) => return Err(fault),
+        }
+    }
+    Ok(failures)
+}
+
+#[test]
+fn loses_nothing_whichever_read_fails(rt: HostRuntime) -> Result<(), Fail> {
+    for (piece, reads) in [(1, 20), (2, 12), (7, 10)] {
+        for fail_at in 1..=24 {
+            let source = PieceReader::new(STREAM, piece, Some(fail_at));
+            let mut reader = BlockReader::new(rt.alloc(), source)?;
+            let mut writer = FuseWriter::new(rt.alloc(), 64, None);
+            let failures = copy_blocks(&mut reader, &mut writer)?;
+            same_in(&rt, (fail_at, piece), writer.written(), STREAM);
+            same_in(&rt, (fail_at, piece), failures == 1, fail_at <= reads);
+        }
+    }
+    Ok(())
+}
+
+#[test]
+fn blocks_are_the_same_through_any_buffer(rt: HostRuntime) -> Result<(), Fail> {
+    for capacity in 1..=STREAM.len() + 1 {
+        for fail_at in 1..=24 {
+            let source = PieceReader::new(STREAM, 5, Some(fail_at));
+            let source = BufReader::with_capacity(rt.alloc(), capacity, source)?;
+            let mut reader = BlockReader::new(rt.alloc(), Buffered::new(source))?;
+            let mut writer = FuseWriter::new(rt.alloc(), 64, None);
+            let failures = copy_blocks(&mut reader, &mut writer)?;
+            same_in(&rt, (fail_at, capacity), writer.written(), STREAM);
+            holds_in(&rt, (fail_at, capacity), failures <= 1);
+        }
+    }
+    Ok(())
+}
+
+#[test]
+fn a_failed_read_below_a_buffer_is_counted(rt: HostRuntime) -> Result<(), Fail> {
+    let source = PieceReader::new(b"\x00\x01z\x00", 4, Some(2));
+    let source = Buffered::new(BufReader::with_capacity(rt.alloc(), 8, source)?);
+    let mut reader = BlockReader::new(rt.alloc(), source)?;
+    gives(&rt, &mut reader, Some(b"z"))?;
+    fails(&rt, &mut reader);
+    is_truncated(&rt, &mut reader, 1);
+    Ok(())
+}
+
+// What no clause can say: a standard reader's or writer's failure is not tried again, and its own error is passed on.
+fn fails_once<R: CountedRead>(rt: &impl Abort, reader: &mut R) -> Result<(), Fail> {
+    let mut byte = [0];
+    let error = reader.read_some(&mut byte).err().ok_or("an error")?;
+    same(rt, error.kind(), ErrorKind::Other);
+    same(rt, reader.read_some(&mut byte)?, 1);
+    same(rt, byte, *b"z");
+    Ok(())
+}
+
+#[test]
+fn a_failed_read_is_returned_at_once(rt: HostRuntime) -> Result<(), Fail> {
+    let mut reader = Counted::new(PieceReader::new(b"z", 1, Some(1)));
+    fails_once(&rt, &mut reader)?;
+    same(&rt, reader.failures().count(), 1);
+    let source = BufReader::with_capacity(rt.alloc(), 8, PieceReader::new(b"z", 1, Some(1)))?;
+    let mut reader = Buffered::new(source);
+    fails_once(&rt, &mut reader)?;
+    same(&rt, reader.failures().count(), 1);
+    Ok(())
+}
+
+// Fails each call, and counts them.
+#[derive(Drop)]
+struct Broken {
+    calls: u64,
+}
+
+impl Broken {
+    fn fail(&mut self) -> io::Result<usize>
+        ensures { IsErr result }
+    {
+        self.calls = self.calls.saturating_add(1);
+        Err(io::Error::from(ErrorKind::ConnectionReset))
+    }
+}
+
+impl Read for Broken {
+    ghost remaining = { λ _. None };
+
+    fn read(&mut self, _buf: &mut [u8]) -> io::Result<usize> {
+        self.fail()
+    }
+}
+
+impl Write for Broken {
+    ghost contents = { λ _. None };
+
+    fn write(&mut self, _buf: &[u8]) -> io::Result<usize> {
+        self.fail()
+    }
+
+    fn flush(&mut self) -> io::Result<()> {
+        Ok(())
+    }
+}
+
+fn is_reset(error: Option<io::Error>) -> bool {
+    error.is_some_and(|error| error.kind() == ErrorKind::ConnectionReset)
+}
+
+#[test]
+fn the_very_error_of_a_device_is_kept(rt: HostRuntime) -> Result<(), Fail> {
+    let mut reader = Counted::new(Broken { calls: 0 });
+    assert!(rt; is_reset(reader.read_some(&mut [0]).err()));
+    assert!(rt; is_reset(reader.failures().last()));
+    same(&rt, reader.get().calls, 1);
+    let mut writer = Counted::new(Broken { calls: 0 });
+    assert!(rt; is_reset(writer.write_some(b"z").err()));
+    assert!(rt; is_reset(writer.failures().last()));
+    same(&rt, writer.get().calls, 1);
+    let mut blocks = BlockReader::new(rt.alloc(), reader)?;
+    assert!(rt;
+        matches!(blocks.next_block(), Err(FrameFault::Read(error)) if is_reset(Some(error)))
+    );
+    let written = write_block(&mut writer, b"z");
+    assert!(rt;
+        matches!(written, Err(FrameFault::Write { sent: 0, error }) if is_reset(Some(error)))
+    );
+    same(&rt, writer.failures().count(), 2);
+    Ok(())
+}
+
+#[test]
+fn says_how_much_of_a_block_is_held(rt: HostRuntime) -> Result<(), Fail> {
+    for (bytes, want) in [
+        (b"\x00".as_slice(), 1),
+        (b"\x00\x03", 2),
+        (b"\x00\x03ab", 4),
+    ] {
+        let mut reader = BlockReader::new(rt.alloc(), PieceReader::new(bytes, 7, None))?;
+        is_truncated(&rt, &mut reader, want);
+    }
+    Ok(())
+}
+
+// The failure of a writer that has no more room says how much of a block was sent.
+fn has_no_room<W: CountedWrite>(rt: &impl Abort, writer: &mut W, want: usize) {
+    assert!(rt;
+        matches!(write_block(writer, b"abc"), Err(FrameFault::Write { sent, .. }) if sent == want)
+    );
+}
+
+#[test]
+fn counts_the_failures_of_standard_writers(rt: HostRuntime) {
+    let mut room = [0; 4];
+    let mut writer = Counted::new(&mut room[..]);
+    has_no_room(&rt, &mut writer, 4);
+    same(&rt, writer.get().len(), 0);
+    same(&rt, writer.into_inner().len(), 0);
+    same(&rt, room, *b"\x00\x03ab");
+}
+
+#[test]
+fn counts_the_failures_of_standard_readers(rt: HostRuntime) -> Result<(), Fail> {
+    let mut reader = BlockReader::new(rt.alloc(), Counted::new(STREAM))?;
+    gives(&rt, &mut reader, Some(b"S"))?;
+    let folder = File::open(&rt, "/")?;
+    let mut reader = BlockReader::new(rt.alloc(), Counted::new(folder))?;
+    fails(&rt, &mut reader);
+    Ok(())
+}
+
+// A splitter and a reader each make one allocation.
+fn takes_one_allocation<A: Allocator + Copy>(rt: &impl Abort, alloc: &Refusing<A>, nth: u64) {
+    alloc.arm(nth);
+    same(rt, Splitter::new(alloc).is_ok(), nth == 1);
+    same(rt, alloc.has_refused(), nth == 0);
+    alloc.arm(nth);
+    same(
+        rt,
+        BlockReader::new(alloc, Counted::new(STREAM)).is_ok(),
+        nth == 1,
+    );
+    same(rt, alloc.has_refused(), nth == 0);
+}
+
+#[test]
+fn each_allocation_may_be_refused(rt: HostRuntime) {
+    let alloc = Refusing::new(rt.alloc(), 0);
+    for nth in 0..2 {
+        takes_one_allocation(&rt, &alloc, nth);
+    }
+}
+
+#[test]
+fn a_writer_goes_on_after_want_of_memory(rt: HostRuntime) -> Result<(), Fail> {
+    let alloc = Refusing::new(rt.alloc(), 0);
+    let mut writer = FuseWriter::new(&alloc, 64, None);
+    has_no_room(&rt, &mut writer, 0);
+    assert!(rt; alloc.has_refused());
+    write_block(&mut writer, b"z")?;
+    same(&rt, writer.written(), b"\x00\x01z".as_slice());
+    Ok(())
+}
+
+// A splitter takes its 65,537 bytes and no more, beyond what a heap of its own needs for itself.
+#[test]
+fn a_splitter_takes_room_for_the_longest_block_alone(rt: HostRuntime) -> Result<(), Fail> {
+    let heap = LocalHeap::new(rt.alloc(), 66_000)?;
+    let splitter = Splitter::new(&heap)?;
+    same(&rt, splitter.held(), 0);
+    assert!(rt; Splitter::new(&heap).is_err());
+    Ok(())
+}
+
+#[test]
+fn blocks_take_no_memory(rt: HostRuntime) -> Result<(), Fail> {
+    let alloc = Refusing::new(rt.alloc(), 9);
+    let mut splitter = Splitter::new(&alloc)?;
+    let mut reader = BlockReader::new(&alloc, PieceReader::new(STREAM, 3, Some(2)))?;
+    let mut writer = FuseWriter::new(rt.alloc(), 2, None);
+    alloc.arm(0);
+    same(&rt, copy_blocks(&mut reader, &mut writer)?, 1);
+    takes(&rt, &mut splitter, STREAM, (3, 3), Some(b"S"));
+    splitter.clear();
+    same(&rt, splitter.held(), 0);
+    assert!(rt; !alloc.has_refused());
+    Ok(())
+}
+
+#[test]
+fn says_what_failed(rt: HostRuntime) -> Result<(), Fail> {
+    let error = std::io::Error::from(std::io::ErrorKind::Other);
+    for (fault, want) in [
+        (FrameFault::Read(error), "read failed"),
+        (
+            FrameFault::Truncated { held: 17 },
+            "truncated, 17 bytes held",
+        ),
+        (FrameFault::Write { sent: 5, error }, "write failed"),
+        (FrameFault::TooLong, "payload too long"),
+    ] {
+        let said = format!(in rt.alloc(); "{fault}")?;
+        same(&rt, said.as_str(), want);
+    }
+    Ok(())
+}

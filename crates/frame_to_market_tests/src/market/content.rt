@@ -1,0 +1,94 @@
+//! What a market holds, by its calls.
+use itch_book::{Order, OrderBook};
+use itch_codec::{Alpha, Directory};
+use itch_market::{Action, Market, Security};
+use std::alloc::{AllocError, Allocator, Global};
+use std::process::Abort;
+use test_kit::equal::same;
+
+/// The event, the securities with their locates, and the orders in snapshot order.
+#[derive(Debug, Drop, PartialEq)]
+pub(crate) struct Content {
+    pub(crate) phase: Option<u8>,
+    pub(crate) securities: Vec<Kept>,
+    pub(crate) orders: Vec<Order>,
+}
+
+/// What is kept of the security at a locate.
+#[derive(Debug, Drop, PartialEq)]
+pub(crate) struct Kept {
+    pub(crate) locate: u16,
+    pub(crate) entry: Directory,
+    pub(crate) action: Option<Action>,
+    pub(crate) sho: Option<u8>,
+    pub(crate) halts: Vec<(u8, u8)>,
+    pub(crate) positions: Vec<(Alpha<4>, [u8; 3])>,
+}
+
+fn kept_at<A: Allocator>(
+    alloc: Global,
+    locate: u16,
+    security: &Security<A>,
+) -> Result<Kept, AllocError> {
+    let halts = security.halts().collect(alloc)?;
+    let positions = security.positions().collect(alloc)?;
+    Ok(Kept {
+        locate,
+        entry: security.entry,
+        action: security.action,
+        sho: security.sho,
+        halts,
+        positions,
+    })
+}
+
+fn push_orders<B: OrderBook>(
+    rt: &impl Abort,
+    book: &B,
+    locate: u16,
+    orders: &mut Vec<Order>,
+) -> Result<(), AllocError> {
+    let mut next = book.first(locate).copied();
+    for _ in 0..book.len() {
+        let Some(order) = next else { return Ok(()) };
+        let reference = order.reference;
+        orders.push(order)?;
+        assert!(rt; book.get(reference).is_some());
+        next = book.after(reference).copied();
+    }
+    Ok(())
+}
+
+pub(crate) fn content_of<B: OrderBook>(
+    rt: &impl Abort,
+    alloc: Global,
+    market: &Market<B>,
+) -> Result<Content, AllocError> {
+    let mut securities = Vec::new(alloc);
+    let mut orders = Vec::new(alloc);
+    for locate in market.locates() {
+        if let Some(security) = market.security(locate) {
+            securities.push(kept_at(alloc, locate, security)?)?;
+        }
+        push_orders(rt, market.book(), locate, &mut orders)?;
+    }
+    same(rt, orders.len(), market.book().len());
+    Ok(Content {
+        phase: market.phase(),
+        securities,
+        orders,
+    })
+}
+
+/// The references of the orders in snapshot order.
+pub(crate) fn references<B: OrderBook>(
+    rt: &impl Abort,
+    alloc: Global,
+    market: &Market<B>,
+) -> Result<Vec<u64>, AllocError> {
+    let mut references = Vec::new(alloc);
+    for order in &content_of(rt, alloc, market)?.orders {
+        references.push(order.reference)?;
+    }
+    Ok(references)
+}

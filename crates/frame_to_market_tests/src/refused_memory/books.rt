@@ -1,0 +1,153 @@
+//! Orders added and replaced.
+use itch_book::{IndexedBook, ListBook, Order, OrderBook};
+use itch_codec::Side;
+use std::alloc::{AllocError, Global};
+use std::process::Abort;
+use std::test::Fail;
+use test_kit::Refusing;
+use test_kit::equal::same;
+
+// An order to buy at locate 1.
+fn bid(reference: u64, shares: u32, price: u32) -> Order {
+    Order {
+        reference,
+        locate: 1,
+        side: Side::Buy,
+        shares,
+        price,
+        mpid: None,
+    }
+}
+
+// A call that may grow a book.
+#[derive(Clone, Copy)]
+struct Growth {
+    // The order that is replaced, or none where one is added.
+    original: Option<u64>,
+    order: Order,
+}
+
+impl Growth {
+    fn call<B: OrderBook>(&self, rt: &impl Abort, book: &mut B) -> Result<(), AllocError> {
+        let order = self.order;
+        assert!(rt; order.shares > 0);
+        assert!(rt; book.get(order.reference).is_none());
+        match self.original {
+            None => book.add(order),
+            Some(original) => {
+                assert!(rt; book.get(original).is_some());
+                book.replace(original, order.reference, order.shares, order.price)
+            }
+        }
+    }
+}
+
+// The orders of locate 1, in snapshot order.
+fn listed<B: OrderBook>(
+    rt: &impl Abort,
+    alloc: Global,
+    book: &B,
+) -> Result<Vec<Order>, AllocError> {
+    let mut orders = Vec::new(alloc);
+    let mut next = book.first(1).copied();
+    for _ in 0..book.len() {
+        let Some(order) = next else { break };
+        let reference = order.reference;
+        orders.push(order)?;
+        assert!(rt; book.get(reference).is_some());
+        next = book.after(reference).copied();
+    }
+    Ok(orders)
+}
+
+// Makes a call with each of its allocations refused in turn, and then with memory. Returns how many were refused.
+fn refuse_each<B: OrderBook>(
+    rt: &impl Abort,
+    alloc: Global,
+    refusing: &Refusing<Global>,
+    book: &mut B,
+    growth: Growth,
+) -> Result<u64, AllocError> {
+    let order = growth.order;
+    let orders = listed(rt, alloc, book)?;
+    let best = book.next_price(1, order.side, None);
+    let total = book.level_total(1, order.side, order.price);
+    for nth in 0..16 {
+        refusing.arm(nth);
+        let answer = growth.call(rt, book);
+        if !refusing.has_refused() {
+            answer?;
+            same(rt, book.get(order.reference).copied(), Some(order));
+            return Ok(nth);
+        }
+        assert!(rt; answer.is_err());
+        same(rt, listed(rt, alloc, book)?.as_slice(), orders.as_slice());
+        assert!(rt; book.get(order.reference).is_none());
+        same(rt, book.next_price(1, order.side, None), best);
+        same(rt, book.level_total(1, order.side, order.price), total);
+    }
+    panic!(rt; "more than 16 allocations")
+}
+
+// Adds forty orders, each so far above the price before, and replaces every `every`-th by one as far above it.
+// Returns how many allocations of the additions and of the replacements were refused.
+fn grow<B: OrderBook>(
+    rt: &impl Abort,
+    alloc: Global,
+    refusing: &Refusing<Global>,
+    book: &mut B,
+    step: u32,
+    every: u64,
+) -> Result<(u64, u64), AllocError> {
+    let mut additions = 0u64;
+    let mut replacements = 0u64;
+    for number in 1..41u64 {
+        let price = 1500000u32.wrapping_add(step.wrapping_mul(2 * number as u32));
+        let added = Growth {
+            original: None,
+            order: bid(number, 10, price),
+        };
+        additions = additions.saturating_add(refuse_each(rt, alloc, refusing, book, added)?);
+        if number.checked_rem(every) != Some(0) {
+            continue;
+        }
+        let replaced = Growth {
+            original: Some(number),
+            order: bid(100 + number, 20, price.wrapping_add(step)),
+        };
+        replacements = replacements.saturating_add(refuse_each(
+            rt, alloc, refusing, book, replaced,
+        )?);
+        assert!(rt; book.get(number).is_none());
+    }
+    same(rt, book.len(), 40);
+    Ok((additions, replacements))
+}
+
+#[test]
+fn a_list_book_stays_as_it_was(rt: HostRuntime) -> Result<(), Fail> {
+    for (step, every) in [(0, 1), (0, 3), (100, 1), (100, 3)] {
+        let refusing = Refusing::new(rt.alloc(), 0);
+        let mut book: ListBook<&Refusing<Global>> = ListBook::new(&refusing);
+        let (additions, replacements) = grow(&rt, rt.alloc(), &refusing, &mut book, step, every)?;
+        assert!(rt; additions > 1);
+        // The order that is replaced leaves room.
+        same(&rt, replacements, 0);
+    }
+    Ok(())
+}
+
+// The first order takes four allocations. A replacement of every order takes the ones that follow,
+// a replacement of every third leaves them to the additions.
+#[test]
+fn an_indexed_book_stays_as_it_was(rt: HostRuntime) -> Result<(), Fail> {
+    for (step, every) in [(0, 1), (0, 3), (100, 1), (100, 3)] {
+        let refusing = Refusing::new(rt.alloc(), 0);
+        let mut book: IndexedBook<&Refusing<Global>> = IndexedBook::new(&refusing);
+        let (additions, replacements) = grow(&rt, rt.alloc(), &refusing, &mut book, step, every)?;
+        assert!(rt; additions >= 4);
+        assert!(rt; additions > 4 || every == 1);
+        assert!(rt; replacements > 4 || every == 3);
+    }
+    Ok(())
+}

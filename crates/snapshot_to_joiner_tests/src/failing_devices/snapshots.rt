@@ -1,0 +1,63 @@
+//! A snapshot written.
+use crate::files::{ONE_ORDER, ONE_ORDER_SNAPSHOT, blocks, market, seq};
+use itch_book::IndexedBook;
+use itch_frame::FrameFault;
+use itch_frame::testing::FuseWriter;
+use itch_market::Market;
+use itch_snapshot::{SnapFault, snapshot_len, write_snapshot};
+use std::process::Abort;
+use std::test::Fail;
+use test_kit::equal::{holds_in, same};
+
+// The first bytes of the four blocks.
+const STARTS: [usize; 4] = [0, 14, 55, 93];
+
+// After `written` bytes this many of the block at hand were written.
+fn says_its_block(fault: &SnapFault, written: usize) -> bool {
+    let start = STARTS.iter().rfind(|start| **start <= written).copied();
+    match fault {
+        SnapFault::Frame(FrameFault::Write { sent, .. }) => start == written.checked_sub(*sent),
+        _ => false,
+    }
+}
+
+// The write of byte `nth`, counted from 1, fails.
+fn fails_at(
+    rt: &impl Abort,
+    market: &Market<IndexedBook>,
+    writer: &mut FuseWriter,
+    nth: u64,
+    whole: &[u8],
+) {
+    assert!(rt; snapshot_len(market) < 10);
+    let fault = write_snapshot(market, seq(rt, 4), writer)
+        .err()
+        .expect(rt, "a failed write");
+    let written = writer.written();
+    same(rt, written.len() as u64, nth.saturating_sub(1));
+    assert!(rt; whole.starts_with(written));
+    holds_in(rt, ("write", nth), says_its_block(&fault, written.len()));
+}
+
+#[test]
+fn a_beginning_is_written(rt: HostRuntime) -> Result<(), Fail> {
+    let market: Market<IndexedBook> = market(rt.alloc(), rt.alloc(), ONE_ORDER)?;
+    let whole = blocks(rt.alloc(), ONE_ORDER_SNAPSHOT)?;
+    same(&rt, whole.written().len(), 116);
+    for nth in 1..=116u64 {
+        let mut writer = FuseWriter::new(rt.alloc(), 1, Some(nth));
+        fails_at(&rt, &market, &mut writer, nth, whole.written());
+    }
+    Ok(())
+}
+
+#[test]
+fn the_whole_is_written(rt: HostRuntime) -> Result<(), Fail> {
+    let market: Market<IndexedBook> = market(rt.alloc(), rt.alloc(), ONE_ORDER)?;
+    let whole = blocks(rt.alloc(), ONE_ORDER_SNAPSHOT)?;
+    let mut writer = FuseWriter::new(rt.alloc(), 1, Some(117));
+    assert!(rt; snapshot_len(&market) < 10);
+    same(&rt, write_snapshot(&market, seq(&rt, 4), &mut writer)?, 4);
+    same(&rt, writer.written(), whole.written());
+    Ok(())
+}

@@ -1,0 +1,97 @@
+//! A served session that the tables use: its login, its answers, and both of its ends over memory.
+use crate::files::{AAPL, ADD_1, ADD_2, EVENT, market, seq};
+use itch_book::{ListBook, OrderBook};
+use itch_codec::{Alpha, Seq};
+use itch_frame::testing::FuseWriter;
+use itch_frame::{BlockReader, CountedRead, CountedWrite};
+use itch_market::Market;
+use itch_snapshot::snapshot_len;
+use itch_soup::{Credentials, Served, ServerConfig, SoupFault, fetch_one, serve_one};
+use std::alloc::{Allocator, Global};
+use std::process::Abort;
+use std::test::Fail;
+use test_kit::equal::same;
+
+/// Logins for all messages and for those from the third on.
+pub(crate) const LOGIN_1: &[u8] = b"\0\x2fLuser  secret                                 1";
+
+pub(crate) const LOGIN_3: &[u8] = b"\0\x2fLuser  secret                                 3";
+
+/// Their answers: the acceptance, the messages, End of Snapshot, and the end of the session.
+pub(crate) const FROM_1: &[u8] = b"\0\x1fA  ITCHSNAP                   1\
+    \0\x0dSS\0\0\0\0\0\0\0\0\0\0O\
+    \0\x28SR\0\x01\0\0\0\0\0\0\0\0AAPL    QN\0\0\0dNCZ PNN1N\0\0\0\0N\
+    \0\x25SA\0\x01\0\0\0\0\0\0\0\0\0\0\0\0\0\0\0\x01B\0\0\0dAAPL    \0\x16\xe3\x60\
+    \0\x25SA\0\x01\0\0\0\0\0\0\0\0\0\0\0\0\0\0\0\x02B\0\0\0\xc8AAPL    \0\x16\xe3\x60\
+    \0\x16SG                   5\0\x01Z";
+
+pub(crate) const FROM_3: &[u8] = b"\0\x1fA  ITCHSNAP                   3\
+    \0\x25SA\0\x01\0\0\0\0\0\0\0\0\0\0\0\0\0\0\0\x01B\0\0\0dAAPL    \0\x16\xe3\x60\
+    \0\x25SA\0\x01\0\0\0\0\0\0\0\0\0\0\0\0\0\0\0\x02B\0\0\0\xc8AAPL    \0\x16\xe3\x60\
+    \0\x16SG                   5\0\x01Z";
+
+/// What is served: four messages, and then End of Snapshot with number 5.
+pub(crate) const SERVED: &[&[u8]] = &[EVENT, AAPL, ADD_1, ADD_2];
+
+pub(crate) fn alpha<const N: usize>(rt: &impl Abort, text: &str) -> Alpha<N> {
+    Alpha::from_text(text).expect(rt, "a text that fits")
+}
+
+pub(crate) fn config(rt: &impl Abort) -> ServerConfig {
+    ServerConfig {
+        username: alpha(rt, "user"),
+        password: alpha(rt, "secret"),
+        session: alpha(rt, "ITCHSNAP"),
+    }
+}
+
+pub(crate) fn credentials(rt: &impl Abort) -> Credentials {
+    Credentials {
+        username: alpha(rt, "user"),
+        password: alpha(rt, "secret"),
+        session: alpha(rt, ""),
+    }
+}
+
+/// The market that is served.
+pub(crate) fn served_market(alloc: Global) -> Result<Market<ListBook>, Fail> {
+    market(alloc, alloc, SERVED)
+}
+
+/// Serves one session of a market, with 5 in its End of Snapshot. This helper and those below have no contract, so that a proof of
+/// a test need not carry what the call leaves.
+pub(crate) fn serve<R: CountedRead, A: Allocator, W: CountedWrite, B: OrderBook>(
+    rt: &impl Abort,
+    reader: &mut BlockReader<R, A>,
+    writer: &mut W,
+    market: &Market<B>,
+) -> Result<Served, SoupFault> {
+    assert!(rt; snapshot_len(market) < 10);
+    serve_one(reader, writer, market, seq(rt, 5), &config(rt))
+}
+
+/// Fetches over a reader and a writer, and logs in for all messages.
+pub(crate) fn fetch<R: CountedRead, A: Allocator, B: OrderBook>(
+    rt: &impl Abort,
+    memory: B::Alloc,
+    reader: &mut BlockReader<R, A>,
+    writer: &mut FuseWriter,
+) -> Result<(Market<B>, Seq), SoupFault> {
+    fetch_one(memory, reader, writer, &credentials(rt))
+}
+
+/// What a fetch gives.
+pub(crate) type Fetched = Result<(Market<ListBook>, Seq), SoupFault>;
+
+/// A fetch of what this reader gives, which logs in for all messages.
+pub(crate) fn fetched<R: CountedRead + Drop>(
+    rt: &impl Abort,
+    alloc: Global,
+    reader: R,
+) -> Result<Fetched, Fail> {
+    let mut reader = BlockReader::new(alloc, reader)?;
+    let mut writer = FuseWriter::new(alloc, 64, None);
+    let result = fetch(rt, alloc, &mut reader, &mut writer);
+    same(rt, writer.written(), LOGIN_1);
+    Ok(result)
+}

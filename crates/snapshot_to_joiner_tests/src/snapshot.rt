@@ -1,0 +1,333 @@
+//! Worked days and snapshots: what is written of each, what is read, and how each is refused.
+use crate::files::{REPLACED, REPLACED_SNAPSHOT, blocks};
+use itch_book::{ListBook, OrderBook};
+use itch_codec::{CodecFault, Seq};
+use itch_frame::testing::{FuseWriter, PieceReader};
+use itch_frame::{BlockReader, FrameFault};
+use itch_market::{Market, Refusal};
+use itch_snapshot::{
+    SnapFault, SnapshotIter, SnapshotReader, laws, part_place, read_snapshot, same_market,
+    snapshot_len, write_snapshot,
+};
+use std::alloc::Global;
+use std::process::Abort;
+use std::test::Fail;
+use test_kit::equal::same;
+
+mod again;
+mod books;
+mod partial;
+
+const EVENT: &[u8] = b"S\0\0\0\0\0\0\0\0\0\0O";
+
+const AAPL: &[u8] = b"R\0\x01\0\0\0\0\0\0\0\0AAPL    QN\0\0\0dNCZ PNN1N\0\0\0\0N";
+// The same at the ninth nanosecond.
+const AAPL_LATER: &[u8] = b"R\0\x01\0\0\0\0\0\0\0\x09AAPL    QN\0\0\0dNCZ PNN1N\0\0\0\0N";
+
+const MSFT_AT_1: &[u8] = b"R\0\x01\0\0\0\0\0\0\0\0MSFT    QN\0\0\0dNCZ PNN1N\0\0\0\0N";
+
+const MSFT: &[u8] = b"R\0\x02\0\0\0\0\0\0\0\0MSFT    QN\0\0\0dNCZ PNN1N\0\0\0\0N";
+
+const TRADES: &[u8] = b"H\0\x01\0\0\0\0\0\0\0\0AAPL    T     ";
+// The same with other reserved bytes.
+const TRADES_0: &[u8] = b"H\0\x01\0\0\0\0\0\0\0\0AAPL    T\0    ";
+
+const TRADES_X: &[u8] = b"H\0\x01\0\0\0\0\0\0\0\0AAPL    TX    ";
+
+const RESTRICTS: &[u8] = b"Y\0\x01\0\0\0\0\0\0\0\0AAPL    0";
+
+const ADD_1: &[u8] = b"A\0\x01\0\0\0\0\0\0\0\0\0\0\0\0\0\0\0\x01B\0\0\0dAAPL    \0\x16\xe3\x60";
+
+const ADD_2: &[u8] = b"A\0\x01\0\0\0\0\0\0\0\0\0\0\0\0\0\0\0\x02B\0\0\0dAAPL    \0\x16\xe3\x60";
+
+const ADD_2_OF_200: &[u8] =
+    b"A\0\x01\0\0\0\0\0\0\0\0\0\0\0\0\0\0\0\x02B\0\0\0\xc8AAPL    \0\x16\xe3\x60";
+
+const ADD_2_HIGHER: &[u8] =
+    b"A\0\x01\0\0\0\0\0\0\0\0\0\0\0\0\0\0\0\x02B\0\0\0\xc8AAPL    \0\x16\xe3\xc4";
+
+const ADD_3: &[u8] =
+    b"A\0\x01\0\0\0\0\0\0\0\0\0\0\0\0\0\0\0\x03B\0\0\x01\x2cAAPL    \0\x16\xe3\x60";
+
+const ADD_4_HIGHER: &[u8] =
+    b"A\0\x01\0\0\0\0\0\0\0\0\0\0\0\0\0\0\0\x04B\0\0\x01\x90AAPL    \0\x16\xe3\xc4";
+
+const ADD_7: &[u8] =
+    b"A\0\x01\0\0\0\0\0\0\0\x05\0\0\0\0\0\0\0\x07B\0\0\x01\x2cAAPL    \0\x16\xe3\x60";
+
+const ADD_7_OF_150: &[u8] =
+    b"A\0\x01\0\0\0\0\0\0\0\0\0\0\0\0\0\0\0\x07B\0\0\0\x96AAPL    \0\x16\xe3\x60";
+
+const EXECUTE_7: &[u8] = b"E\0\x01\0\0\0\0\0\0\0\x06\0\0\0\0\0\0\0\x07\0\0\0d\0\0\0\0\0\0\0\x01";
+
+const CANCEL_7: &[u8] = b"X\0\x01\0\0\0\0\0\0\0\x07\0\0\0\0\0\0\0\x07\0\0\0\x32";
+
+const NAMED_1: &[u8] =
+    b"F\0\x01\0\0\0\0\0\0\0\0\0\0\0\0\0\0\0\x01B\0\0\0dAAPL    \0\x16\xe3\x60ABCD";
+
+const NAMED_3: &[u8] =
+    b"F\0\x01\0\0\0\0\0\0\0\0\0\0\0\0\0\0\0\x03B\0\0\0dAAPL    \0\x16\xe3\x60ABCD";
+
+const REPLACE_1: &[u8] =
+    b"U\0\x01\0\0\0\0\0\0\0\0\0\0\0\0\0\0\0\x01\0\0\0\0\0\0\0\x03\0\0\0d\0\x16\xe3\x60";
+
+const END_1: &[u8] = b"G                   1";
+
+const END_3: &[u8] = b"G                   3";
+
+const END_4: &[u8] = b"G                   4";
+
+const END_5: &[u8] = b"G                   5";
+
+const END_6: &[u8] = b"G                   6";
+
+// What a day with these payloads leaves, over one kind of book.
+fn market(alloc: Global, payloads: &[&[u8]]) -> Result<Market<ListBook>, Fail> {
+    crate::files::market(alloc, alloc, payloads)
+}
+
+#[test]
+fn the_laws_of_snapshots() {
+    laws::snapshot_replays();
+    laws::late_start();
+    laws::one_snapshot();
+    laws::short_snapshot();
+    laws::canonical();
+    laws::whole_snapshot();
+    laws::headline();
+}
+
+// The snapshot of a market, closed with the number `next` and written to an empty writer, has these payloads.
+fn check_snapshot<B: OrderBook>(
+    rt: &impl Abort,
+    alloc: Global,
+    market: &Market<B>,
+    next: u64,
+    mut writer: FuseWriter,
+    want: &[&[u8]],
+) -> Result<(), Fail> {
+    let next = Seq::new(next).expect(rt, "a sequence number");
+    let len = snapshot_len(market);
+    assert!(rt; len < 9);
+    same(rt, len + 1, want.len() as u128);
+    same(
+        rt,
+        write_snapshot(market, next, &mut writer)?,
+        want.len() as u64,
+    );
+    let want = blocks(alloc, want)?;
+    same(rt, writer.written(), want.written());
+    Ok(())
+}
+
+#[test]
+fn writes_the_snapshot_of_a_day(rt: HostRuntime) -> Result<(), Fail> {
+    let days: [(&[&[u8]], &[&[u8]], u64); 6] = [
+        (&[], &[END_1], 1),
+        (&[EVENT, AAPL, ADD_1], &[EVENT, AAPL, ADD_1, END_4], 4),
+        (REPLACED, REPLACED_SNAPSHOT, 5),
+        (
+            &[AAPL, TRADES_0, ADD_7, EXECUTE_7, CANCEL_7],
+            &[AAPL, TRADES, ADD_7_OF_150, END_6],
+            6,
+        ),
+        (
+            &[AAPL_LATER, TRADES_X, ADD_7_OF_150],
+            &[AAPL, TRADES, ADD_7_OF_150, END_4],
+            4,
+        ),
+        (
+            &[MSFT, EVENT, AAPL, RESTRICTS, TRADES],
+            &[EVENT, AAPL, TRADES, RESTRICTS, MSFT, END_6],
+            6,
+        ),
+    ];
+    for (day, want, next) in days {
+        let market = market(rt.alloc(), day)?;
+        let writer = FuseWriter::new(rt.alloc(), 1, None);
+        check_snapshot(&rt, rt.alloc(), &market, next, writer, want)?;
+    }
+    Ok(())
+}
+
+// `remaining` counts down with each message of a market's snapshot, to none.
+fn check_counts<B: OrderBook>(rt: &impl Abort, market: &Market<B>, wants: &[u64]) {
+    assert!(rt; snapshot_len(market) < 9);
+    let mut messages = SnapshotIter::new(market);
+    for want in wants {
+        same(rt, messages.remaining(), *want);
+        assert!(rt; messages.next().is_some());
+    }
+    same(rt, messages.remaining(), 0);
+    assert!(rt; messages.next().is_none());
+}
+
+#[test]
+fn counts_what_is_still_to_come(rt: HostRuntime) -> Result<(), Fail> {
+    check_counts(&rt, &market(rt.alloc(), &[])?, &[]);
+    check_counts(&rt, &market(rt.alloc(), REPLACED)?, &[3, 2, 1]);
+    Ok(())
+}
+
+// Whether two small markets are the same.
+fn are_same<A: OrderBook, B: OrderBook>(
+    rt: &impl Abort,
+    one: &Market<A>,
+    other: &Market<B>,
+) -> bool {
+    assert!(rt; snapshot_len(one) < 9);
+    same_market(one, other)
+}
+
+fn check_parting<A: OrderBook, B: OrderBook>(
+    rt: &impl Abort,
+    one: &Market<A>,
+    other: &Market<B>,
+    want: Option<u64>,
+) {
+    assert!(rt; snapshot_len(one) < 9);
+    same(rt, part_place(one, other), want);
+    same(rt, same_market(one, other), want.is_none());
+}
+
+#[test]
+fn says_where_snapshots_part(rt: HostRuntime) -> Result<(), Fail> {
+    let pairs: [(&[&[u8]], &[&[u8]], Option<u64>); 5] = [
+        (&[AAPL, ADD_1, ADD_2], &[AAPL, ADD_2, ADD_1], Some(2)),
+        (
+            &[AAPL, ADD_1, ADD_2_HIGHER, ADD_3, ADD_4_HIGHER],
+            &[AAPL, ADD_2_HIGHER, ADD_4_HIGHER, ADD_1, ADD_3],
+            None,
+        ),
+        (
+            &[AAPL, TRADES_0, ADD_7, EXECUTE_7, CANCEL_7],
+            &[AAPL_LATER, TRADES_X, ADD_7_OF_150],
+            None,
+        ),
+        (&[AAPL, ADD_1], &[AAPL], Some(2)),
+        (&[], &[AAPL], Some(1)),
+    ];
+    for (one, other, want) in pairs {
+        let one = market(rt.alloc(), one)?;
+        let other = market(rt.alloc(), other)?;
+        check_parting(&rt, &one, &other, want);
+    }
+    Ok(())
+}
+
+// What is read from these bytes: the number of messages of the market's snapshot and the number in End of Snapshot, or a fault as it is printed.
+fn outcome(alloc: Global, bytes: &[u8]) -> Result<Result<(u128, u64), String>, Fail> {
+    let mut reader = BlockReader::new(alloc, PieceReader::new(bytes, 1, None))?;
+    match read_snapshot::<_, _, ListBook>(alloc, &mut reader) {
+        Ok((market, next)) => Ok(Ok((snapshot_len(&market), next.value()))),
+        Err(fault) => Ok(Err(format!(in alloc; "{fault:?}")?)),
+    }
+}
+
+#[test]
+fn reads_snapshots(rt: HostRuntime) -> Result<(), Fail> {
+    let files: [(&[&[u8]], &[u8], Result<(u128, u64), &str>); 7] = [
+        (&[AAPL], b"", Err("NoEnd")),
+        (&[END_1, EVENT], b"", Err("AfterEnd")),
+        (&[END_1], b"\0", Err("Frame(Truncated { held: 1 })")),
+        (&[END_1], b"\0\0\xff", Ok((0, 1))),
+        (
+            &[AAPL, MSFT_AT_1, END_3],
+            b"",
+            Err("Rule { place: 2, reason: StockMismatch }"),
+        ),
+        (
+            &[AAPL, b"G"],
+            b"",
+            Err("Codec { place: 2, fault: WrongLength { kind: 71, want: 21, got: 1 } }"),
+        ),
+        (REPLACED_SNAPSHOT, b"", Ok((3, 5))),
+    ];
+    for (payloads, rest, want) in files {
+        let front = blocks(rt.alloc(), payloads)?;
+        let mut file = Vec::from_slice(rt.alloc(), front.written())?;
+        file.extend_from_slice(rest)?;
+        match (outcome(rt.alloc(), &file)?, want) {
+            (Ok(read), Ok(want)) => same(&rt, read, want),
+            (Err(said), Err(want)) => same(&rt, said.as_str(), want),
+            _ => assert!(rt; false, "read or refused by mistake"),
+        }
+    }
+    Ok(())
+}
+
+// Reads payloads of a snapshot, of which none ends it.
+fn check_more<B: OrderBook>(rt: &impl Abort, snapshot: &mut SnapshotReader<B>, payloads: &[&[u8]]) {
+    for payload in payloads {
+        assert!(rt; matches!(snapshot.message(payload), Ok(None)));
+    }
+}
+
+// Reads this End of Snapshot, and no second one.
+fn check_end<B: OrderBook>(rt: &impl Abort, snapshot: &mut SnapshotReader<B>, end: &[u8]) {
+    assert!(rt; matches!(snapshot.message(end), Ok(Some(_))));
+    assert!(rt; matches!(snapshot.message(end), Err(SnapFault::AfterEnd)));
+}
+
+// A market that is the same as another is handed out after its End of Snapshot, and not before.
+fn check_finish<A: OrderBook, B: OrderBook>(
+    rt: &impl Abort,
+    want: &Market<A>,
+    mut snapshot: SnapshotReader<B>,
+) {
+    check_more(rt, &mut snapshot, &[AAPL, ADD_2_OF_200, NAMED_3]);
+    assert!(rt; are_same(rt, want, snapshot.market()));
+    let Err(mut snapshot) = snapshot.finish() else {
+        panic!(rt; "handed out before its end");
+    };
+    check_end(rt, &mut snapshot, END_5);
+    let Ok((handed_out, next)) = snapshot.finish() else {
+        panic!(rt; "kept after its end");
+    };
+    same(rt, next.value(), 5);
+    assert!(rt; are_same(rt, want, &handed_out));
+}
+
+#[test]
+fn hands_a_market_out_at_its_end(rt: HostRuntime) -> Result<(), Fail> {
+    let want = market(rt.alloc(), REPLACED)?;
+    let snapshot: SnapshotReader<ListBook> = SnapshotReader::new(rt.alloc());
+    check_finish(&rt, &want, snapshot);
+    Ok(())
+}
+
+#[test]
+fn says_what_failed(rt: HostRuntime) -> Result<(), Fail> {
+    let fault = CodecFault::BadSide { offset: 19 };
+    for (fault, want) in [
+        (SnapFault::NoEnd, "no end of snapshot"),
+        (
+            SnapFault::Frame(FrameFault::Truncated { held: 1 }),
+            "truncated, 1 bytes held",
+        ),
+        (
+            SnapFault::Codec { place: 3, fault },
+            "message 3: bad side at 19",
+        ),
+        (
+            SnapFault::Rule {
+                place: 2,
+                reason: Refusal::TooManyShares { remain: 60 },
+            },
+            "message 2: too many shares, 60 remain",
+        ),
+        (
+            SnapFault::Rule {
+                place: 2,
+                reason: Refusal::OutOfMemory,
+            },
+            "out of memory",
+        ),
+        (SnapFault::AfterEnd, "message after end of snapshot"),
+        (SnapFault::TooManyMessages, "too many messages"),
+    ] {
+        let said = format!(in rt.alloc(); "{fault}")?;
+        same(&rt, said.as_str(), want);
+    }
+    Ok(())
+}
