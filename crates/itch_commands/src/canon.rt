@@ -5,10 +5,10 @@ ghost use Rattle.itch_commands.specs.Outputs.{Outputs, WritesOutput, closed_byte
 ghost use Rattle.itch_commands.specs.Readings.{ReadsSnap, FromReader};
 ghost use Rattle.itch_commands.specs.declared.fault.Source.TheVariants.{Only};
 
-use crate::book::Book;
 use crate::canonical::is_closed;
 use crate::fault::{Source, ToolFault};
 use crate::kept::{read_end, read_kept};
+use crate::order_book::Book;
 use crate::writing::{write_closed, write_text};
 use itch_book::OrderBook;
 use itch_codec::Seq;

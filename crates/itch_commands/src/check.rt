@@ -5,8 +5,8 @@ ghost use Rattle.itch_commands.specs.Outputs.{Outputs, WritesOutput, ok_line, ok
 ghost use Rattle.itch_commands.specs.Readings.{ReadsDay, FromReader};
 ghost use Rattle.itch_commands.specs.declared.fault.Source.TheVariants.{Only};
 
-use crate::book::Book;
 use crate::fault::{Source, ToolFault};
+use crate::order_book::Book;
 use crate::reading::read_market;
 use crate::writing::write_text;
 use arrayvec::ArrayVec;

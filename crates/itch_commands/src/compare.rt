@@ -6,8 +6,8 @@ ghost use Rattle.itch_commands.specs.Outputs.{Outputs, WritesOutput};
 ghost use Rattle.itch_commands.specs.Readings.{ReadsDay, FromReader};
 ghost use Rattle.itch_commands.specs.declared.fault.Source.TheVariants.{First, Second};
 
-use crate::book::Book;
 use crate::fault::{Source, ToolFault};
+use crate::order_book::Book;
 use crate::reading::day_market;
 use crate::writing::write_text;
 use arrayvec::ArrayVec;

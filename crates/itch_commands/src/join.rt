@@ -10,9 +10,9 @@ ghost use Rattle.itch_commands.specs.Joining.{ReadsStart, ReadsFeed, HasRoom, jo
 ghost use Rattle.itch_commands.specs.Outputs.{Outputs, closed_bytes};
 ghost use Rattle.itch_commands.specs.Readings.{FromReader, Then};
 
-use crate::book::Book;
 use crate::fault::ToolFault;
 use crate::feed::read_feed;
+use crate::order_book::Book;
 use crate::start::read_start;
 use crate::writing::write_closed;
 use itch_book::OrderBook;

@@ -13,7 +13,6 @@
 //! ```
 #![tactic(auto)]
 
-mod book;
 pub mod canon;
 mod canonical;
 mod cause;
@@ -27,6 +26,7 @@ mod kept;
 pub mod laws;
 pub mod levels;
 mod locates;
+mod order_book;
 mod performing;
 mod reading;
 mod request;
@@ -35,11 +35,11 @@ pub mod snap;
 mod start;
 mod writing;
 
-pub use book::Book;
 pub use cause::{Cause, Device};
 pub use closed_pipe::{ends_by_closed_pipe, final_status};
 pub use fault::{Source, ToolFault, status, system_fault};
 pub use locates::read_locates;
+pub use order_book::Book;
 pub use performing::perform;
 pub use reading::read_market;
 pub use request::{Request, path_of};

@@ -1,4 +1,4 @@
-//! The book that the program keeps its orders in.
+//! The book of orders that every command uses.
 
 use itch_book::IndexedBook;
 
