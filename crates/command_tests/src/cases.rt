@@ -2,11 +2,11 @@
 use super::blocks::*;
 use super::files::file;
 use itch_commands::ToolFault;
+use itch_commands::book::book;
 use itch_commands::canon::canon;
 use itch_commands::check::check;
 use itch_commands::compare::compare;
 use itch_commands::join::join;
-use itch_commands::levels::book;
 use itch_commands::show::show;
 use itch_commands::snap::snap;
 use itch_frame::CountedWrite;

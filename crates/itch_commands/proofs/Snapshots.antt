@@ -25,7 +25,7 @@ use Rattle.itch_snapshot.proofs.OneSnapshot.{snap_same, snap-laid}
 use Rattle.itch_snapshot.proofs.Sizes.{short_snap}
 use Rattle.itch_snapshot.proofs.Wires.{canon-laid}
 use Rattle.itch_commands.specs.Outputs.{snapshot_of, snapshot_in}
-use Rattle.itch_commands.proofs.Parts.{Applied}
+use Rattle.itch_commands.proofs.DayReadings.{Applied}
 
 -- what was taken from the empty market has no more messages than were taken
 pub taken_short : (ps : List (List ℕ)) (n : Content) → AllByRecursion Fits ps → NoCause empty ps → n ≡ laid (run (map message_of ps)) → length (snap n) ≤ length ps

@@ -32,14 +32,14 @@ CountsRefusal fault old new = new ≡ old
 abbrev pub CountsSnap : {X : Type 0} → Result X ToolFault → Failures → Failures → Type 0
 CountsSnap result old new = MatchResult result (λ _. new ≡ old) (λ fault. CountsRefusal fault old new)
 
--- The next message is taken, or End of Snapshot is, and the bytes of its block are kept; or it is refused; or memory for these
+-- The next message is taken, or End of Snapshot is, and the bytes of its block are copied; or it is refused; or memory for these
 -- bytes is, once it was taken.
-abbrev pub KeepsNext : ℕ → Content → Option (List ℕ) → Option (List ℕ) → List ℕ → Result (Option ℕ) ToolFault → Content → List ℕ → Type 0
-KeepsNext taken m old new kept (Ok found) n more =
-    ReadsNext taken m old new (Ok found) n × ((bytes : List ℕ) × Consumes old new bytes × (more ≡ kept ++ bytes))
-KeepsNext taken m old new kept (Err (tool.Snap at fault)) n more = (at ≡ Only) × ReadsNext taken m old new (Err fault) n
-KeepsNext taken m old new kept (Err tool.OutOfMemory) n more = (found : Option ℕ) × ReadsNext taken m old new (Ok found) n
-KeepsNext taken m old new kept (Err fault) n more = ⊥
+abbrev pub CopiesNext : ℕ → Content → Option (List ℕ) → Option (List ℕ) → List ℕ → Result (Option ℕ) ToolFault → Content → List ℕ → Type 0
+CopiesNext taken m old new copy (Ok found) n more =
+    ReadsNext taken m old new (Ok found) n × ((bytes : List ℕ) × Consumes old new bytes × (more ≡ copy ++ bytes))
+CopiesNext taken m old new copy (Err (tool.Snap at fault)) n more = (at ≡ Only) × ReadsNext taken m old new (Err fault) n
+CopiesNext taken m old new copy (Err tool.OutOfMemory) n more = (found : Option ℕ) × ReadsNext taken m old new (Ok found) n
+CopiesNext taken m old new copy (Err fault) n more = ⊥
 
 -- messages were taken, at least one, or End of Snapshot was after them: it was the last block for which memory was refused
 abbrev pub LacksRoom : Option (List ℕ) → Option (List ℕ) → Type 0
@@ -47,12 +47,12 @@ LacksRoom old new =
     ((payloads : List (List ℕ)) × (n : Content) × Takes empty old new payloads n × (0 < length payloads) × (length payloads ≤ 10 ^ 19 - 1))
     ⊎ ((next : ℕ) × (n : Content) × ReadsAll empty old new (Ok next) n)
 
--- the messages of a snapshot are taken up to its End of Snapshot, and all bytes up to there are kept
-abbrev pub KeepsAll : Option (List ℕ) → Option (List ℕ) → Result ℕ ToolFault → Content → List ℕ → Type 0
-KeepsAll old new (Ok next) n kept = ReadsAll empty old new (Ok next) n × Consumes old new kept
-KeepsAll old new (Err (tool.Snap at fault)) n kept = (at ≡ Only) × ReadsAll empty old new (Err fault) n
-KeepsAll old new (Err tool.OutOfMemory) n kept = LacksRoom old new
-KeepsAll old new (Err fault) n kept = ⊥
+-- the messages of a snapshot are taken up to its End of Snapshot, and all bytes up to there are copied
+abbrev pub CopiesAll : Option (List ℕ) → Option (List ℕ) → Result ℕ ToolFault → Content → List ℕ → Type 0
+CopiesAll old new (Ok next) n copy = ReadsAll empty old new (Ok next) n × Consumes old new copy
+CopiesAll old new (Err (tool.Snap at fault)) n copy = (at ≡ Only) × ReadsAll empty old new (Err fault) n
+CopiesAll old new (Err tool.OutOfMemory) n copy = LacksRoom old new
+CopiesAll old new (Err fault) n copy = ⊥
 
 -- after End of Snapshot the input is at its end, or an empty block comes off the front
 abbrev pub EndsFile : Option (List ℕ) → Option (List ℕ) → Result Bool ToolFault → Type 0
@@ -63,7 +63,7 @@ EndsFile old new (Err fault) = ⊥
 
 module _ {R : Type 0} (remaining : R → Option (List ℕ)) (failures : R → Failures) where
   -- What reading a snapshot file says of its bytes, and leaves of its reader. It is refused as any reading of it is; and
-  -- memory may be, for the bytes of the messages taken, all of which are kept.
+  -- memory may be, for the bytes of the messages taken, all of which are copied.
   abbrev pub ChecksSnap : Reading R → Reading R → Result Bool ToolFault → Type 0
   ChecksSnap old new (Ok canonical) =
       (done : Content × ℕ) × ReadsSnap remaining failures Only old new (Ok done)

@@ -5,11 +5,14 @@ ghost use Rattle.itch_commands.specs.Outputs.{Outputs, WritesOutput, closed_byte
 ghost use Rattle.itch_commands.specs.Readings.{ReadsSnap, FromReader};
 ghost use Rattle.itch_commands.specs.declared.fault.Source.TheVariants.{Only};
 
-use crate::canonical::is_closed;
+mod canonical;
+mod copying;
+
 use crate::fault::{Source, ToolFault};
-use crate::kept::{read_end, read_kept};
 use crate::order_book::Book;
 use crate::writing::{write_closed, write_text};
+use canonical::is_closed;
+use copying::{copy_snapshot, read_end};
 use itch_book::OrderBook;
 use itch_codec::Seq;
 use itch_frame::{BlockReader, CountedRead, CountedWrite};
@@ -93,13 +96,13 @@ fn is_canonical<R: CountedRead, A: Allocator, B: OrderBook>(
     ensures { ChecksSnap R.remaining R.failures reader.old reader.new result }
 {
     let mut loader: SnapshotReader<B> = SnapshotReader::new(alloc);
-    let mut kept = Vec::new(alloc);
-    let next = match read_kept(reader, &mut loader, &mut kept) {
+    let mut copy = Vec::new(alloc);
+    let next = match copy_snapshot(reader, &mut loader, &mut copy) {
         Ok(next) => next,
         Err(fault) => return Err(fault),
     };
     match read_end(reader) {
-        Ok(true) => Ok(is_closed(kept.as_slice(), loader.market(), next)),
+        Ok(true) => Ok(is_closed(copy.as_slice(), loader.market(), next)),
         Ok(false) => Ok(false),
         Err(fault) => Err(fault),
     }

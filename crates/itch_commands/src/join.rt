@@ -10,17 +10,20 @@ ghost use Rattle.itch_commands.specs.Joining.{ReadsStart, ReadsFeed, HasRoom, jo
 ghost use Rattle.itch_commands.specs.Outputs.{Outputs, closed_bytes};
 ghost use Rattle.itch_commands.specs.Readings.{FromReader, Then};
 
+mod feed;
+mod start;
+
 use crate::fault::ToolFault;
-use crate::feed::read_feed;
 use crate::order_book::Book;
-use crate::start::read_start;
 use crate::writing::write_closed;
+use feed::read_feed;
 use itch_book::OrderBook;
 use itch_codec::{MOST_MESSAGES, Seq};
 use itch_frame::{BlockReader, CountedRead, CountedWrite};
 use itch_join::Joiner;
 use itch_market::LocateSet;
 use itch_snapshot::snapshot_len;
+use start::read_start;
 use std::alloc::Allocator;
 
 /// Joins a feed to a snapshot, and writes the snapshot after both: the canonical bytes of the market that the snapshot's

@@ -13,18 +13,15 @@
 //! ```
 #![tactic(auto)]
 
+pub mod book;
 pub mod canon;
-mod canonical;
 mod cause;
 pub mod check;
 mod closed_pipe;
 pub mod compare;
 mod fault;
-mod feed;
 pub mod join;
-mod kept;
 pub mod laws;
-pub mod levels;
 mod locates;
 mod order_book;
 mod performing;
@@ -32,7 +29,6 @@ mod reading;
 mod request;
 pub mod show;
 pub mod snap;
-mod start;
 mod writing;
 
 pub use cause::{Cause, Device};

@@ -2,10 +2,10 @@
 ghost use Rattle.std.specs.Option.{option_copied};
 ghost use Rattle.itch_commands.specs.Requests.{IsOverOne, Performs};
 
+use crate::book::book_blocks;
 use crate::canon::canon_blocks;
 use crate::check::check_blocks;
 use crate::fault::ToolFault;
-use crate::levels::book_blocks;
 use crate::request::Request;
 use crate::show::show_blocks;
 use crate::snap::snap_blocks;

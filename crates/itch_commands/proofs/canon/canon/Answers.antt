@@ -3,7 +3,7 @@ use Rattle.itch_commands.specs.declared.fault.Source.TheVariants.{Only}
 use Rattle.itch_commands.specs.Canons.{ChecksSnap, canonical_line}
 use Rattle.itch_commands.specs.Outputs.{closed_bytes}
 use Rattle.itch_commands.specs.Readings.{ReadsSnap, FromReader}
-use Rattle.itch_commands.proofs.Parts.{Outputs-weaker}
+use Rattle.itch_commands.proofs.Outputs.{Outputs-weaker}
 use Rattle.itch_commands.proofs.canon.canon.Goals as goal
 
 pub returns-clause-writes : goal.returns-clause-writes

@@ -2,7 +2,7 @@ use Rattle.std.proofs.Common.{None, true, inr}
 use Rattle.itch_commands.specs.declared.fault.Source.TheVariants.{Only}
 use Rattle.itch_commands.specs.Outputs.{ok_line_of}
 use Rattle.itch_commands.specs.Readings.{ReadsDay, FromReader}
-use Rattle.itch_commands.proofs.Parts.{Outputs-weaker}
+use Rattle.itch_commands.proofs.Outputs.{Outputs-weaker}
 use Rattle.itch_commands.proofs.check.check.Goals as goal
 
 pub returns : goal.returns

@@ -3,7 +3,8 @@ use Rattle.itch_frame.specs.Reading.{bytes_left}
 use Rattle.itch_commands.specs.declared.fault.Source.TheVariants.{Only}
 use Rattle.itch_commands.specs.Outputs.{ok_line, ok_line_of}
 use Rattle.itch_commands.specs.Readings.{ReadsDay}
-use Rattle.itch_commands.proofs.Parts.{read_done, day_done, day_fails, read_writes}
+use Rattle.itch_commands.proofs.DayReadings.{read_done, day_done, day_fails}
+use Rattle.itch_commands.proofs.Outputs.{read_writes}
 use Rattle.itch_commands.proofs.check.check_over.Goals as goal
 
 pub returns-in-Err : goal.returns-in-Err

@@ -2,7 +2,7 @@ use Rattle.std.proofs.Common.{◌≡◌, None, is_none, inr}
 use Rattle.itch_commands.specs.declared.fault.Source.TheVariants.{First, Second}
 use Rattle.itch_commands.specs.Comparing.{ReadsBoth, PartsAt, place_line}
 use Rattle.itch_commands.specs.Readings.{ReadsDay, FromReader}
-use Rattle.itch_commands.proofs.Parts.{Outputs-weaker}
+use Rattle.itch_commands.proofs.Outputs.{Outputs-weaker}
 use Rattle.itch_commands.proofs.compare.compare.Goals as goal
 
 pub returns : goal.returns

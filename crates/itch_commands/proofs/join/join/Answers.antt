@@ -3,7 +3,7 @@ use Rattle.itch_commands.specs.AsRead.{read_by}
 use Rattle.itch_commands.specs.Joining.{ReadsStart, ReadsFeed, HasRoom, joined}
 use Rattle.itch_commands.specs.Outputs.{closed_bytes}
 use Rattle.itch_commands.specs.Readings.{FromReader, Then}
-use Rattle.itch_commands.proofs.Parts.{Outputs-weaker}
+use Rattle.itch_commands.proofs.Outputs.{Outputs-weaker}
 use Rattle.itch_commands.proofs.join.join.Goals as goal
 
 pub returns : goal.returns

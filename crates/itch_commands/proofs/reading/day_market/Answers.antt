@@ -1,6 +1,6 @@
 use Rattle.std.proofs.Common.{None}
 use Rattle.itch_frame.specs.Reading.{bytes_left}
-use Rattle.itch_commands.proofs.Parts.{read_done, day_done, day_fails}
+use Rattle.itch_commands.proofs.DayReadings.{read_done, day_done, day_fails}
 use Rattle.itch_commands.proofs.reading.day_market.Goals as goal
 
 pub returns-in-Err : goal.returns-in-Err

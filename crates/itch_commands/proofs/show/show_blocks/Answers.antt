@@ -1,6 +1,6 @@
 use Rattle.std.proofs.Common.{sym, subst}
 use Rattle.itch_commands.specs.Showing.{Shows}
-use Rattle.itch_commands.proofs.Showings.{shown_first, shown_on, shown_ends}
+use Rattle.itch_commands.proofs.ShownLines.{shown_first, shown_on, shown_ends}
 use Rattle.itch_commands.proofs.show.show_blocks.Goals as goal
 
 pub loop-count-init : goal.loop-count-init

@@ -1,4 +1,4 @@
-use Rattle.itch_commands.proofs.Showings.{Shown}
+use Rattle.itch_commands.proofs.ShownLines.{Shown}
 use Rattle.itch_commands.proofs.show.show_blocks.Given as goal
 
 abbrev pub invariant-loop-count : goal.invariant-loop-count

@@ -3,7 +3,7 @@ use Rattle.std.specs.Option.{option_copied}
 use Rattle.itch_commands.specs.declared.fault.Source.TheVariants.{Only}
 use Rattle.itch_commands.specs.Outputs.{snapshot_in}
 use Rattle.itch_commands.specs.Readings.{ReadsDay, FromReader}
-use Rattle.itch_commands.proofs.Parts.{Outputs-weaker}
+use Rattle.itch_commands.proofs.Outputs.{Outputs-weaker}
 use Rattle.itch_commands.proofs.snap.snap.Goals as goal
 
 pub returns : goal.returns

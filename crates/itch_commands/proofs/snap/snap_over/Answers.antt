@@ -7,7 +7,8 @@ use Rattle.itch_snapshot.specs.Bytes.{canon, closing}
 use Rattle.itch_commands.specs.declared.fault.Source.TheVariants.{Only}
 use Rattle.itch_commands.specs.Outputs.{Outputs, snapshot_in}
 use Rattle.itch_commands.specs.Readings.{ReadsDay}
-use Rattle.itch_commands.proofs.Parts.{read_done, day_done, day_fails, read_writes}
+use Rattle.itch_commands.proofs.DayReadings.{read_done, day_done, day_fails}
+use Rattle.itch_commands.proofs.Outputs.{read_writes}
 use Rattle.itch_commands.proofs.Snapshots.{applied_short, applied_snapshot, cut_short, cut_snapshot}
 use Rattle.itch_commands.proofs.snap.snap_over.Goals as goal
 

@@ -1,5 +1,5 @@
 use Rattle.std.proofs.Common.{true, refl}
-use Rattle.itch_commands.proofs.Written.{snapshot_cut}
+use Rattle.itch_commands.proofs.FailedWrites.{snapshot_cut}
 use Rattle.itch_commands.proofs.writing.write_closed.Goals as goal
 
 pub returns-in-Err-Frame-Write : goal.returns-in-Err-Frame-Write

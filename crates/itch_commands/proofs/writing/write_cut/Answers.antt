@@ -1,7 +1,7 @@
 use Rattle.std.proofs.Common.{true, refl}
 use Rattle.itch_market.specs.Partial.{only}
 use Rattle.itch_market.specs.Wanted.{has}
-use Rattle.itch_commands.proofs.Written.{snapshot_cut}
+use Rattle.itch_commands.proofs.FailedWrites.{snapshot_cut}
 use Rattle.itch_commands.proofs.writing.write_cut.Goals as goal
 
 pub returns-in-Err-Frame-Write : goal.returns-in-Err-Frame-Write

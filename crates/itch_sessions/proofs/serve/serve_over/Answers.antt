@@ -3,7 +3,7 @@ use Rattle.itch_frame.specs.Reading.{bytes_left}
 use Rattle.itch_commands.specs.declared.fault.Source.TheVariants.{Only}
 use Rattle.itch_commands.specs.Readings.{ReadsDay}
 use Rattle.itch_sessions.proofs.Lines.{day_served}
-use Rattle.itch_commands.proofs.Parts.{read_done, day_done, day_fails}
+use Rattle.itch_commands.proofs.DayReadings.{read_done, day_done, day_fails}
 use Rattle.itch_sessions.proofs.serve.serve_over.Goals as goal
 
 pub returns-in-Err : goal.returns-in-Err

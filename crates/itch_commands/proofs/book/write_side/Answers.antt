@@ -1,0 +1,34 @@
+use Rattle.std.proofs.Common.{Ok, Err, sym, subst, ◌∙◌}
+use Rattle.itch_commands.specs.Outputs.{WritesText}
+use Rattle.itch_commands.proofs.QueuePrices.{one_fewer}
+use Rattle.itch_commands.proofs.SideLines.{side_begun, side_more, side_fails, side_ends}
+use Rattle.itch_commands.proofs.book.write_side.Goals as goal
+
+pub loop-price-init : goal.loop-price-init
+loop-price-init g c = side_begun g.W.CountedWrite.contents g.W.CountedWrite.failures (g.B.OrderBook.orders c.args.book.now) c.args.locate c.args.side c.args.out.now
+
+pub loop-price-smaller : goal.loop-price-smaller
+loop-price-smaller g c =
+    one_fewer (g.B.OrderBook.orders c.args.book.now) c.args.locate c.args.side c.loop-price.last c.loop-price.invariant.done c.in-Some.price (g.met.B.OrderBook.is_book c.args.book.now)
+    c.loop-price.invariant.so_far (sym c.in-Some.ensures)
+
+pub loop-price-preserved : goal.loop-price-preserved
+loop-price-preserved g c =
+    side_more g.W.CountedWrite.contents g.W.CountedWrite.failures (g.B.OrderBook.orders c.args.book.now) c.args.locate c.args.side c.loop-price.last c.in-Some.price
+    c.level_total-shares.result c.args.out.now c.loop-price.out c.write_text.new.out (g.met.B.OrderBook.is_book c.args.book.now) c.loop-price.invariant (sym c.in-Some.ensures)
+    c.level_total-shares.ensures
+    (subst (λ text. WritesText g.W.CountedWrite.contents g.W.CountedWrite.failures text c.loop-price.out (Ok tt) c.write_text.new.out) (c.deref.ensures.0 ∙ c.level_line.ensures.line)
+    c.in-Ok.ensures)
+
+pub returns-in-Err : goal.returns-in-Err
+returns-in-Err g c =
+    side_fails g.W.CountedWrite.contents g.W.CountedWrite.failures (g.B.OrderBook.orders c.args.book.now) c.args.locate c.args.side c.loop-price.last c.in-Some.price
+    c.level_total-shares.result c.args.out.now c.loop-price.out c.write_text.new.out (g.met.B.OrderBook.is_book c.args.book.now) c.loop-price.invariant (sym c.in-Some.ensures)
+    c.level_total-shares.ensures c.in-Err.fault
+    (subst (λ text. WritesText g.W.CountedWrite.contents g.W.CountedWrite.failures text c.loop-price.out (Err c.in-Err.fault) c.write_text.new.out)
+    (c.deref.ensures.0 ∙ c.level_line.ensures.line) c.in-Err.ensures)
+
+pub returns : goal.returns
+returns g c =
+    side_ends g.W.CountedWrite.contents g.W.CountedWrite.failures (g.B.OrderBook.orders c.args.book.now) c.args.locate c.args.side c.loop-price.last c.args.out.now c.loop-price.out
+    (g.met.B.OrderBook.is_book c.args.book.now) c.loop-price.invariant (sym c.next_price.ensures ∙ c.in_default.is)
