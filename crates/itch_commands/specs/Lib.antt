@@ -9,6 +9,7 @@ pub mod Books
 pub mod AsRead
 pub mod Joining
 pub mod Joiners
+pub mod Commands
 pub mod Locates
 pub mod Requests
 pub mod Endings

@@ -118,6 +118,14 @@ LeavesMarket reads (Ok market) =
     (payloads : List (List ℕ)) × reads (Ok payloads) × AllByRecursion Fits payloads × (market ≡ laid (run (map message_of payloads)))
 LeavesMarket reads (Err fault) = reads (Err fault)
 
+-- of which reader this is read
+abbrev pub From : Type 0 → Type 0 → Type 1
+From R X = (Reading R → Reading R → Result X ToolFault → Type 0) → Result X ToolFault → Type 0
+
+-- what is read of a reader of blocks that is lent, from this state of it to that
+abbrev pub FromBlocks : {R X : Type 0} → Reading R → Reading R → (Reading R → Reading R → Result X ToolFault → Type 0) → Result X ToolFault → Type 0
+FromBlocks old new reads result = reads old new result
+
 -- what is read of a reader that is handed over: a reader of blocks is made of it first, for which memory may be refused
 abbrev pub FromReader : {R X : Type 0} → R → (Reading R → Reading R → Result X ToolFault → Type 0) → Result X ToolFault → Type 0
 FromReader reader reads result =

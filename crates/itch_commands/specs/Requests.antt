@@ -5,14 +5,12 @@ use Rattle.itch_frame.specs.declared.tally.Failures.{Failures}
 use Rattle.itch_market.specs.Wanted.{Wanted}
 use Rattle.itch_commands.specs.declared.fault.ToolFault.{ToolFault}
 use Rattle.itch_commands.specs.declared.fault.Source.{Source}
-use Rattle.itch_commands.specs.declared.fault.Source.TheVariants.{Only, Second, Snapshot}
+use Rattle.itch_commands.specs.declared.fault.Source.TheVariants.{Second, Snapshot}
 use Rattle.itch_commands.specs.declared.request.Request.{Request}
 use Rattle.itch_commands.specs.declared.request.Request.TheVariants.{Snap, Check, Show, Canon, Compare, Book, Join}
-use Rattle.itch_commands.specs.Readings.{ReadsDay, ReadsSnap}
-use Rattle.itch_commands.specs.Canons.{ChecksSnap, canonical_line}
+use Rattle.itch_commands.specs.Commands.{Snaps, Checks, WritesCanon, ChecksCanon, ListsBook}
+use Rattle.itch_commands.specs.Readings.{FromBlocks}
 use Rattle.itch_commands.specs.Showing.{Shows}
-use Rattle.itch_commands.specs.Outputs.{Outputs, ok_line_of, snapshot_in, closed_bytes}
-use Rattle.itch_commands.specs.Books.{ReadsListed, book_of}
 
 -- the path of the file that a fault of a request names so; none where it is standard input
 abbrev pub file_of : Request → Source → Option (List ℕ)
@@ -48,12 +46,11 @@ IsOverOne request = ⊤
 module _ {R W : Type 0} (remaining : R → Option (List ℕ)) (failed_reads : R → Failures) (contents : W → Option (List ℕ)) (failed_writes : W → Failures) where
   -- what a request over the blocks of one file reads, writes and returns, with the set of the locates that are wanted, if not all are
   abbrev pub Performs : Request → Option Wanted → Reading R → Reading R → W → Result Bool ToolFault → W → Type 0
-  Performs (Snap file after only) set old new = Outputs contents failed_writes (ReadsDay remaining failed_reads Only after old new) (snapshot_in set) (λ _. true)
-  Performs (Check file) set old new = Outputs contents failed_writes (ReadsDay remaining failed_reads Only None old new) ok_line_of (λ _. true)
+  Performs (Snap file after only) set old new = Snaps remaining failed_reads contents failed_writes after set (FromBlocks old new)
+  Performs (Check file) set old new = Checks remaining failed_reads contents failed_writes (FromBlocks old new)
   Performs (Show file) set old new = Shows contents failed_writes remaining failed_reads old new
-  Performs (Canon file false) set old new = Outputs contents failed_writes (ReadsSnap remaining failed_reads Only old new) closed_bytes (λ _. true)
-  Performs (Canon file true) set old new = Outputs contents failed_writes (ChecksSnap remaining failed_reads old new) canonical_line (λ canonical. canonical)
-  Performs (Book locate file) set old new =
-      Outputs contents failed_writes (ReadsListed locate (ReadsDay remaining failed_reads Only None old new)) (book_of locate) (λ _. true)
+  Performs (Canon file false) set old new = WritesCanon remaining failed_reads contents failed_writes (FromBlocks old new)
+  Performs (Canon file true) set old new = ChecksCanon remaining failed_reads contents failed_writes (FromBlocks old new)
+  Performs (Book locate file) set old new = ListsBook remaining failed_reads contents failed_writes locate (FromBlocks old new)
   Performs (Compare first second) set old new = λ out result written. ⊥
   Performs (Join snapshot feed only) set old new = λ out result written. ⊥

@@ -1,13 +1,13 @@
 //! `book`: the prices of a locate.
-ghost use Rattle.std.specs.Prelude.{◌≡◌, ◌≤◌, None, true, [], ◌∷◌, length};
+ghost use Rattle.std.specs.Prelude.{◌≡◌, ◌≤◌, [], ◌∷◌, length};
 ghost use Rattle.itch_codec.specs.Fields.{side_byte};
 ghost use Rattle.itch_codec.specs.Lines.{price_text};
 ghost use Rattle.arrayvec.specs.ArrayVec.{array_vec_len};
 ghost use Rattle.itch_book.specs.Orders.{queue};
-ghost use Rattle.itch_commands.specs.Books.{level_line, side_lines, title_line, book_lines, book_of, ReadsListed};
-ghost use Rattle.itch_commands.specs.Outputs.{Outputs, WritesText};
-ghost use Rattle.itch_commands.specs.Readings.{ReadsDay, FromReader};
-ghost use Rattle.itch_commands.specs.declared.fault.Source.TheVariants.{Only};
+ghost use Rattle.itch_commands.specs.Books.{level_line, side_lines, title_line, book_lines};
+ghost use Rattle.itch_commands.specs.Commands.{ListsBook};
+ghost use Rattle.itch_commands.specs.Outputs.{WritesText};
+ghost use Rattle.itch_commands.specs.Readings.{FromBlocks, FromReader};
 
 use crate::fault::{Source, ToolFault};
 use crate::order_book::Book;
@@ -31,8 +31,7 @@ pub fn book<R: CountedRead + Drop, A: Allocator + Copy, W: CountedWrite>(
     reader: R,
     out: &mut W,
 ) -> Result<bool, ToolFault>
-    ensures { Outputs W.contents W.failures (FromReader reader (λ a b. ReadsListed locate (ReadsDay R.remaining R.failures Only None a b))) (book_of locate) (λ _. true)
-        out.old result out.new }
+    ensures { ListsBook R.remaining R.failures W.contents W.failures locate (FromReader reader) out.old result out.new }
 {
     let mut reader = BlockReader::new(alloc, reader)?;
     book_blocks(alloc, locate, &mut reader, out)
@@ -45,8 +44,7 @@ pub fn book_blocks<R: CountedRead, B: Allocator, A: Allocator + Copy, W: Counted
     reader: &mut BlockReader<R, B>,
     out: &mut W,
 ) -> Result<bool, ToolFault>
-    ensures { Outputs W.contents W.failures (ReadsListed locate (ReadsDay R.remaining R.failures Only None reader.old reader.new)) (book_of locate) (λ _. true)
-        out.old result out.new }
+    ensures { ListsBook R.remaining R.failures W.contents W.failures locate (FromBlocks reader.old reader.new) out.old result out.new }
 {
     book_over::<R, B, Book<A>, W>(alloc, locate, reader, out)
 }
@@ -58,8 +56,7 @@ fn book_over<R: CountedRead, A: Allocator, B: OrderBook, W: CountedWrite>(
     reader: &mut BlockReader<R, A>,
     out: &mut W,
 ) -> Result<bool, ToolFault>
-    ensures { Outputs W.contents W.failures (ReadsListed locate (ReadsDay R.remaining R.failures Only None reader.old reader.new)) (book_of locate) (λ _. true)
-        out.old result out.new }
+    ensures { ListsBook R.remaining R.failures W.contents W.failures locate (FromBlocks reader.old reader.new) out.old result out.new }
 {
     let market: Market<B> = match day_market(alloc, reader, Source::Only) {
         Ok(market) => market,

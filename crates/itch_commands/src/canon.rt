@@ -1,9 +1,9 @@
 //! `canon`: a snapshot in canonical form.
 ghost use Rattle.std.specs.Prelude.{◌≡◌, true, false};
 ghost use Rattle.itch_commands.specs.Canons.{ChecksSnap, canonical_line};
-ghost use Rattle.itch_commands.specs.Outputs.{Outputs, WritesOutput, closed_bytes};
-ghost use Rattle.itch_commands.specs.Readings.{ReadsSnap, FromReader};
-ghost use Rattle.itch_commands.specs.declared.fault.Source.TheVariants.{Only};
+ghost use Rattle.itch_commands.specs.Commands.{ChecksCanon, WritesCanon};
+ghost use Rattle.itch_commands.specs.Outputs.{WritesOutput};
+ghost use Rattle.itch_commands.specs.Readings.{FromBlocks, FromReader};
 
 mod canonical;
 mod copying;
@@ -32,8 +32,8 @@ pub fn canon<R: CountedRead + Drop, A: Allocator + Copy, W: CountedWrite>(
     check: bool,
     out: &mut W,
 ) -> Result<bool, ToolFault>
-    ensures writes { check ≡ false → Outputs W.contents W.failures (FromReader reader (ReadsSnap R.remaining R.failures Only)) closed_bytes (λ _. true) out.old result out.new }
-    ensures checks { check ≡ true → Outputs W.contents W.failures (FromReader reader (ChecksSnap R.remaining R.failures)) canonical_line (λ canonical. canonical) out.old result out.new }
+    ensures writes { check ≡ false → WritesCanon R.remaining R.failures W.contents W.failures (FromReader reader) out.old result out.new }
+    ensures checks { check ≡ true → ChecksCanon R.remaining R.failures W.contents W.failures (FromReader reader) out.old result out.new }
 {
     let mut reader = BlockReader::new(alloc, reader)?;
     canon_blocks(alloc, &mut reader, check, out)
@@ -46,8 +46,8 @@ pub fn canon_blocks<R: CountedRead, B: Allocator, A: Allocator + Copy, W: Counte
     check: bool,
     out: &mut W,
 ) -> Result<bool, ToolFault>
-    ensures writes { check ≡ false → Outputs W.contents W.failures (ReadsSnap R.remaining R.failures Only reader.old reader.new) closed_bytes (λ _. true) out.old result out.new }
-    ensures checks { check ≡ true → Outputs W.contents W.failures (ChecksSnap R.remaining R.failures reader.old reader.new) canonical_line (λ canonical. canonical) out.old result out.new }
+    ensures writes { check ≡ false → WritesCanon R.remaining R.failures W.contents W.failures (FromBlocks reader.old reader.new) out.old result out.new }
+    ensures checks { check ≡ true → ChecksCanon R.remaining R.failures W.contents W.failures (FromBlocks reader.old reader.new) out.old result out.new }
 {
     if check {
         return check_canon::<R, B, Book<A>, W>(alloc, reader, out);
@@ -60,7 +60,7 @@ fn write_canon<R: CountedRead, A: Allocator, B: OrderBook, W: CountedWrite>(
     reader: &mut BlockReader<R, A>,
     out: &mut W,
 ) -> Result<bool, ToolFault>
-    ensures { Outputs W.contents W.failures (ReadsSnap R.remaining R.failures Only reader.old reader.new) closed_bytes (λ _. true) out.old result out.new }
+    ensures { WritesCanon R.remaining R.failures W.contents W.failures (FromBlocks reader.old reader.new) out.old result out.new }
 {
     let read: Result<(Market<B>, Seq), _> = read_snapshot(alloc, reader);
     let (market, next) = match read {
@@ -80,7 +80,7 @@ fn check_canon<R: CountedRead, A: Allocator, B: OrderBook, W: CountedWrite>(
     reader: &mut BlockReader<R, A>,
     out: &mut W,
 ) -> Result<bool, ToolFault>
-    ensures { Outputs W.contents W.failures (ChecksSnap R.remaining R.failures reader.old reader.new) canonical_line (λ canonical. canonical) out.old result out.new }
+    ensures { ChecksCanon R.remaining R.failures W.contents W.failures (FromBlocks reader.old reader.new) out.old result out.new }
 {
     match is_canonical::<R, A, B>(alloc, reader) {
         Ok(canonical) => write_verdict(canonical, out),

@@ -1,9 +1,9 @@
 //! `check`: whether a file follows the order rules.
-ghost use Rattle.std.specs.Prelude.{◌≡◌, ◌<◌, ◌≤◌, None, true};
+ghost use Rattle.std.specs.Prelude.{◌≡◌, ◌≤◌, true};
 ghost use Rattle.arrayvec.specs.ArrayVec.{array_vec_len};
-ghost use Rattle.itch_commands.specs.Outputs.{Outputs, WritesOutput, ok_line, ok_line_of};
-ghost use Rattle.itch_commands.specs.Readings.{ReadsDay, FromReader};
-ghost use Rattle.itch_commands.specs.declared.fault.Source.TheVariants.{Only};
+ghost use Rattle.itch_commands.specs.Commands.{Checks};
+ghost use Rattle.itch_commands.specs.Outputs.{WritesOutput, ok_line};
+ghost use Rattle.itch_commands.specs.Readings.{FromBlocks, FromReader};
 
 use crate::fault::{Source, ToolFault};
 use crate::order_book::Book;
@@ -22,7 +22,7 @@ pub fn check<R: CountedRead + Drop, A: Allocator + Copy, W: CountedWrite>(
     reader: R,
     out: &mut W,
 ) -> Result<bool, ToolFault>
-    ensures { Outputs W.contents W.failures (FromReader reader (ReadsDay R.remaining R.failures Only None)) ok_line_of (λ _. true) out.old result out.new }
+    ensures { Checks R.remaining R.failures W.contents W.failures (FromReader reader) out.old result out.new }
 {
     let mut reader = BlockReader::new(alloc, reader)?;
     check_blocks(alloc, &mut reader, out)
@@ -34,7 +34,7 @@ pub fn check_blocks<R: CountedRead, B: Allocator, A: Allocator + Copy, W: Counte
     reader: &mut BlockReader<R, B>,
     out: &mut W,
 ) -> Result<bool, ToolFault>
-    ensures { Outputs W.contents W.failures (ReadsDay R.remaining R.failures Only None reader.old reader.new) ok_line_of (λ _. true) out.old result out.new }
+    ensures { Checks R.remaining R.failures W.contents W.failures (FromBlocks reader.old reader.new) out.old result out.new }
 {
     check_over::<R, B, Book<A>, W>(alloc, reader, out)
 }
@@ -45,7 +45,7 @@ fn check_over<R: CountedRead, A: Allocator, B: OrderBook, W: CountedWrite>(
     reader: &mut BlockReader<R, A>,
     out: &mut W,
 ) -> Result<bool, ToolFault>
-    ensures { Outputs W.contents W.failures (ReadsDay R.remaining R.failures Only None reader.old reader.new) ok_line_of (λ _. true) out.old result out.new }
+    ensures { Checks R.remaining R.failures W.contents W.failures (FromBlocks reader.old reader.new) out.old result out.new }
 {
     let mut market: Market<B> = Market::new(alloc);
     let count = match read_market(reader, &mut market, None, Source::Only) {

@@ -1,10 +1,10 @@
 //! `compare`: whether two files leave the same market.
-ghost use Rattle.std.specs.Prelude.{◌≡◌, ◌≤◌, None, is_none};
+ghost use Rattle.std.specs.Prelude.{◌≡◌, ◌≤◌, is_none};
 ghost use Rattle.arrayvec.specs.ArrayVec.{array_vec_len};
-ghost use Rattle.itch_commands.specs.Comparing.{ReadsBoth, PartsAt, place_line};
-ghost use Rattle.itch_commands.specs.Outputs.{Outputs, WritesOutput};
-ghost use Rattle.itch_commands.specs.Readings.{ReadsDay, FromReader};
-ghost use Rattle.itch_commands.specs.declared.fault.Source.TheVariants.{First, Second};
+ghost use Rattle.itch_commands.specs.Commands.{Compares};
+ghost use Rattle.itch_commands.specs.Comparing.{place_line};
+ghost use Rattle.itch_commands.specs.Outputs.{WritesOutput};
+ghost use Rattle.itch_commands.specs.Readings.{FromBlocks, FromReader};
 
 use crate::fault::{Source, ToolFault};
 use crate::order_book::Book;
@@ -29,9 +29,7 @@ pub fn compare<R: CountedRead + Drop, S: CountedRead + Drop, A: Allocator + Copy
     second: S,
     out: &mut W,
 ) -> Result<bool, ToolFault>
-    ensures { Outputs W.contents W.failures (FromReader first (λ a b. FromReader second (λ c d.
-        PartsAt (ReadsBoth (ReadsDay R.remaining R.failures First None a b) (d ≡ c) (ReadsDay S.remaining S.failures Second None c d)))))
-        place_line is_none out.old result out.new }
+    ensures { Compares R.remaining R.failures S.remaining S.failures W.contents W.failures (FromReader first) (FromReader second) out.old result out.new }
 {
     let mut first = BlockReader::new(alloc, first)?;
     let mut second = BlockReader::new(alloc, second)?;
@@ -53,8 +51,8 @@ pub fn compare_blocks<
     second: &mut BlockReader<S, C>,
     out: &mut W,
 ) -> Result<bool, ToolFault>
-    ensures { Outputs W.contents W.failures (PartsAt (ReadsBoth (ReadsDay R.remaining R.failures First None first.old first.new) (second.new ≡ second.old)
-        (ReadsDay S.remaining S.failures Second None second.old second.new))) place_line is_none out.old result out.new }
+    ensures { Compares R.remaining R.failures S.remaining S.failures W.contents W.failures (FromBlocks first.old first.new) (FromBlocks second.old second.new)
+        out.old result out.new }
 {
     compare_over::<R, S, B, C, Book<A>, W>(alloc, first, second, out)
 }
@@ -73,8 +71,8 @@ fn compare_over<
     second: &mut BlockReader<S, C>,
     out: &mut W,
 ) -> Result<bool, ToolFault>
-    ensures { Outputs W.contents W.failures (PartsAt (ReadsBoth (ReadsDay R.remaining R.failures First None first.old first.new) (second.new ≡ second.old)
-        (ReadsDay S.remaining S.failures Second None second.old second.new))) place_line is_none out.old result out.new }
+    ensures { Compares R.remaining R.failures S.remaining S.failures W.contents W.failures (FromBlocks first.old first.new) (FromBlocks second.old second.new)
+        out.old result out.new }
 {
     let one: Market<B> = match day_market(alloc, first, Source::First) {
         Ok(market) => market,

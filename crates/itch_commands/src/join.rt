@@ -1,14 +1,13 @@
 //! `join`: a snapshot, and the feed that goes on after it.
-ghost use Rattle.std.specs.Prelude.{◌≡◌, true};
+ghost use Rattle.std.specs.Prelude.{◌≡◌};
 ghost use Rattle.itch_codec.specs.Widths.{IsSequence};
 ghost use Rattle.itch_market.specs.Wanted.{has};
 ghost use Rattle.itch_join.specs.Positions.{Position};
 ghost use Rattle.itch_join.specs.States.{new as fresh};
 ghost use Rattle.itch_commands.specs.AsRead.{as_read, read_by};
+ghost use Rattle.itch_commands.specs.Commands.{Joins};
 ghost use Rattle.itch_commands.specs.Joiners.{IsJoined, WritesRoom, position_of};
-ghost use Rattle.itch_commands.specs.Joining.{ReadsStart, ReadsFeed, HasRoom, joined};
-ghost use Rattle.itch_commands.specs.Outputs.{Outputs, closed_bytes};
-ghost use Rattle.itch_commands.specs.Readings.{FromReader, Then};
+ghost use Rattle.itch_commands.specs.Readings.{FromBlocks, FromReader};
 
 mod feed;
 mod start;
@@ -48,9 +47,7 @@ pub fn join<R: CountedRead + Drop, S: CountedRead + Drop, A: Allocator + Copy, W
     only: Option<LocateSet<A>>,
     out: &mut W,
 ) -> Result<bool, ToolFault>
-    ensures { Outputs W.contents W.failures (FromReader snapshot (λ a b. FromReader feed (λ c d.
-        HasRoom (Then (ReadsStart (read_by only) R.remaining R.failures a b) (d ≡ c) (ReadsFeed (read_by only) S.remaining S.failures c d)))))
-        (λ both. closed_bytes (joined both)) (λ _. true) out.old result out.new }
+    ensures { Joins R.remaining R.failures S.remaining S.failures W.contents W.failures (read_by only) (FromReader snapshot) (FromReader feed) out.old result out.new }
 {
     let mut snapshot = BlockReader::new(alloc, snapshot)?;
     let mut feed = BlockReader::new(alloc, feed)?;
@@ -73,8 +70,8 @@ pub fn join_blocks<
     only: Option<LocateSet<A>>,
     out: &mut W,
 ) -> Result<bool, ToolFault>
-    ensures { Outputs W.contents W.failures (HasRoom (Then (ReadsStart (read_by only) R.remaining R.failures snapshot.old snapshot.new) (feed.new ≡ feed.old)
-        (ReadsFeed (read_by only) S.remaining S.failures feed.old feed.new))) (λ both. closed_bytes (joined both)) (λ _. true) out.old result out.new }
+    ensures { Joins R.remaining R.failures S.remaining S.failures W.contents W.failures (read_by only) (FromBlocks snapshot.old snapshot.new) (FromBlocks feed.old feed.new)
+        out.old result out.new }
 {
     let mut joiner: Joiner<Book<A>> = new_joiner(alloc, only);
     join_with(&mut joiner, snapshot, feed, out)
@@ -106,8 +103,8 @@ fn join_with<
     out: &mut W,
 ) -> Result<bool, ToolFault>
     requires { joiner.old.state ≡ fresh }
-    ensures { Outputs W.contents W.failures (HasRoom (Then (ReadsStart (as_read (has joiner.old.set)) R.remaining R.failures snapshot.old snapshot.new) (feed.new ≡ feed.old)
-        (ReadsFeed (as_read (has joiner.old.set)) S.remaining S.failures feed.old feed.new))) (λ both. closed_bytes (joined both)) (λ _. true) out.old result out.new }
+    ensures { Joins R.remaining R.failures S.remaining S.failures W.contents W.failures (as_read (has joiner.old.set)) (FromBlocks snapshot.old snapshot.new)
+        (FromBlocks feed.old feed.new) out.old result out.new }
 {
     if let Err(fault) = read_start(snapshot, joiner) {
         return Err(fault);

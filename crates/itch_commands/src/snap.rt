@@ -1,9 +1,7 @@
 //! `snap`: the canonical snapshot of a file.
-ghost use Rattle.std.specs.Prelude.{true};
 ghost use Rattle.std.specs.Option.{option_copied};
-ghost use Rattle.itch_commands.specs.Outputs.{Outputs, snapshot_in};
-ghost use Rattle.itch_commands.specs.Readings.{ReadsDay, FromReader};
-ghost use Rattle.itch_commands.specs.declared.fault.Source.TheVariants.{Only};
+ghost use Rattle.itch_commands.specs.Commands.{Snaps};
+ghost use Rattle.itch_commands.specs.Readings.{FromBlocks, FromReader};
 
 use crate::fault::{Source, ToolFault};
 use crate::order_book::Book;
@@ -28,7 +26,7 @@ pub fn snap<R: CountedRead + Drop, A: Allocator + Copy, W: CountedWrite>(
     only: Option<&LocateSet<A>>,
     out: &mut W,
 ) -> Result<bool, ToolFault>
-    ensures { Outputs W.contents W.failures (FromReader reader (ReadsDay R.remaining R.failures Only after)) (snapshot_in (option_copied only.entry)) (λ _. true) out.old result out.new }
+    ensures { Snaps R.remaining R.failures W.contents W.failures after (option_copied only.entry) (FromReader reader) out.old result out.new }
 {
     let mut reader = BlockReader::new(alloc, reader)?;
     snap_blocks(alloc, &mut reader, after, only, out)
@@ -42,7 +40,7 @@ pub fn snap_blocks<R: CountedRead, B: Allocator, A: Allocator + Copy, W: Counted
     only: Option<&LocateSet<A>>,
     out: &mut W,
 ) -> Result<bool, ToolFault>
-    ensures { Outputs W.contents W.failures (ReadsDay R.remaining R.failures Only after reader.old reader.new) (snapshot_in (option_copied only.entry)) (λ _. true) out.old result out.new }
+    ensures { Snaps R.remaining R.failures W.contents W.failures after (option_copied only.entry) (FromBlocks reader.old reader.new) out.old result out.new }
 {
     snap_over::<R, B, Book<A>, W>(alloc, reader, after, only, out)
 }
@@ -55,7 +53,7 @@ fn snap_over<R: CountedRead, A: Allocator, B: OrderBook, W: CountedWrite>(
     only: Option<&LocateSet<B::Alloc>>,
     out: &mut W,
 ) -> Result<bool, ToolFault>
-    ensures { Outputs W.contents W.failures (ReadsDay R.remaining R.failures Only after reader.old reader.new) (snapshot_in (option_copied only.entry)) (λ _. true) out.old result out.new }
+    ensures { Snaps R.remaining R.failures W.contents W.failures after (option_copied only.entry) (FromBlocks reader.old reader.new) out.old result out.new }
 {
     let mut market: Market<B> = Market::new(alloc);
     let count = match read_market(reader, &mut market, after, Source::Only) {

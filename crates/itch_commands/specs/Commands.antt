@@ -1,0 +1,50 @@
+-- What each command reads, writes and returns: said once of it, for a reader of bytes and for a reader of blocks.
+use Rattle.std.specs.Prelude.{◌≡◌, ℕ, Bool, true, List, Option, None, is_none, Result}
+use Rattle.itch_frame.specs.Reading.{Reading}
+use Rattle.itch_frame.specs.declared.tally.Failures.{Failures}
+use Rattle.itch_market.specs.Content.{Content}
+use Rattle.itch_market.specs.Wanted.{Wanted}
+use Rattle.itch_commands.specs.declared.fault.Source.TheVariants.{Only, First, Second}
+use Rattle.itch_commands.specs.declared.fault.ToolFault.{ToolFault}
+use Rattle.itch_commands.specs.Books.{ReadsListed, book_of}
+use Rattle.itch_commands.specs.Canons.{ChecksSnap, canonical_line}
+use Rattle.itch_commands.specs.Comparing.{ReadsBoth, PartsAt, place_line}
+use Rattle.itch_commands.specs.Joining.{Start, ReadsStart, ReadsFeed, HasRoom, joined}
+use Rattle.itch_commands.specs.Outputs.{Outputs, ok_line_of, snapshot_in, closed_bytes}
+use Rattle.itch_commands.specs.Readings.{From, ReadsDay, ReadsSnap, Then}
+
+module _ {R W : Type 0} (remaining : R → Option (List ℕ)) (failed_reads : R → Failures) (contents : W → Option (List ℕ)) (failed_writes : W → Failures) where
+  -- `check`: the number of the messages of a day file
+  abbrev pub Checks : From R (List (List ℕ)) → W → Result Bool ToolFault → W → Type 0
+  Checks from = Outputs contents failed_writes (from (ReadsDay remaining failed_reads Only None)) ok_line_of (λ _. true)
+
+  -- `snap`: the snapshot after a day file's messages, or after the first ones; cut down to a set, where there is one
+  abbrev pub Snaps : Option ℕ → Option Wanted → From R (List (List ℕ)) → W → Result Bool ToolFault → W → Type 0
+  Snaps after set from = Outputs contents failed_writes (from (ReadsDay remaining failed_reads Only after)) (snapshot_in set) (λ _. true)
+
+  -- `book`: the prices of a locate after a day file's messages
+  abbrev pub ListsBook : ℕ → From R (List (List ℕ) × List ℕ) → W → Result Bool ToolFault → W → Type 0
+  ListsBook locate from =
+      Outputs contents failed_writes (from (λ old new. ReadsListed locate (ReadsDay remaining failed_reads Only None old new))) (book_of locate) (λ _. true)
+
+  -- `canon`: a snapshot in canonical form
+  abbrev pub WritesCanon : From R (Content × ℕ) → W → Result Bool ToolFault → W → Type 0
+  WritesCanon from = Outputs contents failed_writes (from (ReadsSnap remaining failed_reads Only)) closed_bytes (λ _. true)
+
+  -- `canon --check`: whether a snapshot file is in canonical form
+  abbrev pub ChecksCanon : From R Bool → W → Result Bool ToolFault → W → Type 0
+  ChecksCanon from = Outputs contents failed_writes (from (ChecksSnap remaining failed_reads)) canonical_line (λ canonical. canonical)
+
+module _ {R S W : Type 0} (remaining : R → Option (List ℕ)) (failed_reads : R → Failures) (remaining_then : S → Option (List ℕ)) (failed_then : S → Failures)
+    (contents : W → Option (List ℕ)) (failed_writes : W → Failures) where
+  -- `compare`: where the markets that two day files leave part
+  abbrev pub Compares : From R (Option ℕ) → From S (Option ℕ) → W → Result Bool ToolFault → W → Type 0
+  Compares first second =
+      Outputs contents failed_writes (first (λ a b. second (λ c d.
+      PartsAt (ReadsBoth (ReadsDay remaining failed_reads First None a b) (d ≡ c) (ReadsDay remaining_then failed_then Second None c d))))) place_line is_none
+
+  -- `join`: the snapshot after a snapshot and the feed that goes on after it, whose payloads are so read
+  abbrev pub Joins : (List ℕ → List ℕ) → From R (Start × List (List ℕ)) → From S (Start × List (List ℕ)) → W → Result Bool ToolFault → W → Type 0
+  Joins read snapshot feed =
+      Outputs contents failed_writes (snapshot (λ a b. feed (λ c d.
+      HasRoom (Then (ReadsStart read remaining failed_reads a b) (d ≡ c) (ReadsFeed read remaining_then failed_then c d))))) (λ both. closed_bytes (joined both)) (λ _. true)
