@@ -58,19 +58,14 @@ fn book_over<R: CountedRead, A: Allocator, B: OrderBook, W: CountedWrite>(
 ) -> Result<bool, ToolFault>
     ensures { ListsBook R.remaining R.failures W.contents W.failures locate (FromBlocks reader.old reader.new) out.old result out.new }
 {
-    let market: Market<B> = match day_market(alloc, reader, Source::Only) {
-        Ok(market) => market,
-        Err(fault) => return Err(fault),
-    };
+    let market: Market<B> = day_market(alloc, reader, Source::Only)?;
     let Some(security) = market.security(locate) else {
         return Err(ToolFault::UnknownLocate);
     };
     let stock = security.entry.stock;
     stock.recall_invariant();
-    match write_book(market.book(), locate, stock.text(), out) {
-        Ok(()) => Ok(true),
-        Err(fault) => Err(fault),
-    }
+    write_book(market.book(), locate, stock.text(), out)?;
+    Ok(true)
 }
 
 // Writes the title of a book and its prices.
@@ -83,14 +78,9 @@ fn write_book<B: OrderBook, W: CountedWrite>(
     requires { length stock.now ≤ 8 }
     ensures { WritesText W.contents W.failures (book_lines locate stock.now (B.orders book.now)) out.old result out.new }
 {
-    match write_text(&title_line(locate, stock), out) {
-        Ok(()) => {}
-        Err(fault) => return Err(fault),
-    }
-    match write_side(book, locate, Side::Buy, out) {
-        Ok(()) => write_side(book, locate, Side::Sell, out),
-        Err(fault) => Err(fault),
-    }
+    write_text(&title_line(locate, stock), out)?;
+    write_side(book, locate, Side::Buy, out)?;
+    write_side(book, locate, Side::Sell, out)
 }
 
 // Writes the line of each price of a side, the best price first.
@@ -105,10 +95,8 @@ fn write_side<B: OrderBook, W: CountedWrite>(
     let mut last = None;
     while let Some(price) = book.next_price(locate, side, last) {
         let (shares, orders) = book.level_total(locate, side, price);
-        match write_text(&level_line(side, price, shares, orders), out) {
-            Ok(()) => last = Some(price),
-            Err(fault) => return Err(fault),
-        }
+        write_text(&level_line(side, price, shares, orders), out)?;
+        last = Some(price);
     }
     Ok(())
 }

@@ -82,10 +82,8 @@ fn check_canon<R: CountedRead, A: Allocator, B: OrderBook, W: CountedWrite>(
 ) -> Result<bool, ToolFault>
     ensures { ChecksCanon R.remaining R.failures W.contents W.failures (FromBlocks reader.old reader.new) out.old result out.new }
 {
-    match is_canonical::<R, A, B>(alloc, reader) {
-        Ok(canonical) => write_verdict(canonical, out),
-        Err(fault) => Err(fault),
-    }
+    let canonical = is_canonical::<R, A, B>(alloc, reader)?;
+    write_verdict(canonical, out)
 }
 
 // Whether a snapshot file's bytes, all of them, are the canonical bytes of its market and the closing block of its number.
@@ -97,15 +95,11 @@ fn is_canonical<R: CountedRead, A: Allocator, B: OrderBook>(
 {
     let mut loader: SnapshotReader<B> = SnapshotReader::new(alloc);
     let mut copy = Vec::new(alloc);
-    let next = match copy_snapshot(reader, &mut loader, &mut copy) {
-        Ok(next) => next,
-        Err(fault) => return Err(fault),
-    };
-    match read_end(reader) {
-        Ok(true) => Ok(is_closed(copy.as_slice(), loader.market(), next)),
-        Ok(false) => Ok(false),
-        Err(fault) => Err(fault),
+    let next = copy_snapshot(reader, &mut loader, &mut copy)?;
+    if !read_end(reader)? {
+        return Ok(false);
     }
+    Ok(is_closed(copy.as_slice(), loader.market(), next))
 }
 
 fn write_verdict<W: CountedWrite>(canonical: bool, out: &mut W) -> Result<bool, ToolFault>
@@ -115,8 +109,6 @@ fn write_verdict<W: CountedWrite>(canonical: bool, out: &mut W) -> Result<bool, 
         true => "canonical\n",
         false => "not canonical\n",
     };
-    match write_text(line.as_bytes(), out) {
-        Ok(()) => Ok(canonical),
-        Err(fault) => Err(fault),
-    }
+    write_text(line.as_bytes(), out)?;
+    Ok(canonical)
 }

@@ -48,20 +48,15 @@ fn check_over<R: CountedRead, A: Allocator, B: OrderBook, W: CountedWrite>(
     ensures { Checks R.remaining R.failures W.contents W.failures (FromBlocks reader.old reader.new) out.old result out.new }
 {
     let mut market: Market<B> = Market::new(alloc);
-    let count = match read_market(reader, &mut market, None, Source::Only) {
-        Ok(count) => count,
-        Err(fault) => return Err(fault),
-    };
+    let count = read_market(reader, &mut market, None, Source::Only)?;
     write_count(count, out)
 }
 
 fn write_count<W: CountedWrite>(count: u64, out: &mut W) -> Result<bool, ToolFault>
     ensures { WritesOutput W.contents W.failures (ok_line count) true out.old result out.new }
 {
-    match write_text(&ok_line(count), out) {
-        Ok(()) => Ok(true),
-        Err(fault) => Err(fault),
-    }
+    write_text(&ok_line(count), out)?;
+    Ok(true)
 }
 
 fn ok_line(count: u64) -> ArrayVec<u8, 48>

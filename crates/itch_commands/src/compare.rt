@@ -74,24 +74,16 @@ fn compare_over<
     ensures { Compares R.remaining R.failures S.remaining S.failures W.contents W.failures (FromBlocks first.old first.new) (FromBlocks second.old second.new)
         out.old result out.new }
 {
-    let one: Market<B> = match day_market(alloc, first, Source::First) {
-        Ok(market) => market,
-        Err(fault) => return Err(fault),
-    };
-    let other: Market<B> = match day_market(alloc, second, Source::Second) {
-        Ok(market) => market,
-        Err(fault) => return Err(fault),
-    };
+    let one: Market<B> = day_market(alloc, first, Source::First)?;
+    let other: Market<B> = day_market(alloc, second, Source::Second)?;
     write_place(part_place(&one, &other), out)
 }
 
 fn write_place<W: CountedWrite>(place: Option<u64>, out: &mut W) -> Result<bool, ToolFault>
     ensures { WritesOutput W.contents W.failures (place_line place) (is_none place) out.old result out.new }
 {
-    match write_text(&place_text(place), out) {
-        Ok(()) => Ok(place.is_none()),
-        Err(fault) => Err(fault),
-    }
+    write_text(&place_text(place), out)?;
+    Ok(place.is_none())
 }
 
 fn place_text(place: Option<u64>) -> ArrayVec<u8, 48>

@@ -106,13 +106,9 @@ fn join_with<
     ensures { Joins R.remaining R.failures S.remaining S.failures W.contents W.failures (as_read (has joiner.old.set)) (FromBlocks snapshot.old snapshot.new)
         (FromBlocks feed.old feed.new) out.old result out.new }
 {
-    if let Err(fault) = read_start(snapshot, joiner) {
-        return Err(fault);
-    }
-    match read_feed(feed, joiner) {
-        Ok(()) => write_joined(joiner, out),
-        Err(fault) => Err(fault),
-    }
+    read_start(snapshot, joiner)?;
+    read_feed(feed, joiner)?;
+    write_joined(joiner, out)
 }
 
 // Writes the snapshot of a joiner's market, if it is one.

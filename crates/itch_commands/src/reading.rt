@@ -58,8 +58,6 @@ pub fn day_market<R: CountedRead, A: Allocator, B: OrderBook>(
     ensures { LeavesMarket (ReadsDay R.remaining R.failures file None reader.old reader.new) result }
 {
     let mut market = Market::new(alloc);
-    match read_market(reader, &mut market, None, file) {
-        Ok(_count) => Ok(market),
-        Err(fault) => Err(fault),
-    }
+    read_market(reader, &mut market, None, file)?;
+    Ok(market)
 }

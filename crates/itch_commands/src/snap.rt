@@ -56,10 +56,7 @@ fn snap_over<R: CountedRead, A: Allocator, B: OrderBook, W: CountedWrite>(
     ensures { Snaps R.remaining R.failures W.contents W.failures after (option_copied only.entry) (FromBlocks reader.old reader.new) out.old result out.new }
 {
     let mut market: Market<B> = Market::new(alloc);
-    let count = match read_market(reader, &mut market, after, Source::Only) {
-        Ok(count) => count,
-        Err(fault) => return Err(fault),
-    };
+    let count = read_market(reader, &mut market, after, Source::Only)?;
     let Some(next) = Seq::new(count + 1) else {
         unreachable!()
     };

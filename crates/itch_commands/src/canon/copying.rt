@@ -54,13 +54,9 @@ fn copy_next<R: CountedRead, C: Allocator, B: OrderBook, A: Allocator>(
             if payload.is_empty() {
                 return Err(refused(SnapFault::NoEnd));
             }
-            match loader.message(payload) {
-                Ok(found) => match copy_block(copy, payload) {
-                    Ok(()) => Ok(found),
-                    Err(_) => Err(ToolFault::OutOfMemory),
-                },
-                Err(fault) => Err(refused(fault)),
-            }
+            let found = loader.message(payload).map_err(refused)?;
+            copy_block(copy, payload)?;
+            Ok(found)
         }
         Ok(None) => Err(refused(SnapFault::NoEnd)),
         Err(fault) => Err(refused(SnapFault::Frame(fault))),

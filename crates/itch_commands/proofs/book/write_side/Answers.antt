@@ -1,4 +1,5 @@
 use Rattle.std.proofs.Common.{Ok, Err, sym, subst, ◌∙◌}
+use Rattle.std.proofs.lemmas.Result.{err_from_is_err_and}
 use Rattle.itch_commands.specs.Outputs.{WritesText}
 use Rattle.itch_commands.proofs.QueuePrices.{one_fewer}
 use Rattle.itch_commands.proofs.SideLines.{side_begun, side_more, side_fails, side_ends}
@@ -18,15 +19,16 @@ loop-price-preserved g c =
     c.level_total-shares.result c.args.out.now c.loop-price.out c.write_text.new.out (g.met.B.OrderBook.is_book c.args.book.now) c.loop-price.invariant (sym c.in-Some.ensures)
     c.level_total-shares.ensures
     (subst (λ text. WritesText g.W.CountedWrite.contents g.W.CountedWrite.failures text c.loop-price.out (Ok tt) c.write_text.new.out) (c.deref.ensures.0 ∙ c.level_line.ensures.line)
-    c.in-Ok.ensures)
+    c.in_ok-write_text.ensures)
 
-pub returns-in-Err : goal.returns-in-Err
-returns-in-Err g c =
-    side_fails g.W.CountedWrite.contents g.W.CountedWrite.failures (g.B.OrderBook.orders c.args.book.now) c.args.locate c.args.side c.loop-price.last c.in-Some.price
+pub returns-in_err-write_text : goal.returns-in_err-write_text
+returns-in_err-write_text g c =
+    let p = err_from_is_err_and c.from_residual.result c.from_residual.ensures.1 in
+    rw (p.1, p.2) (side_fails g.W.CountedWrite.contents g.W.CountedWrite.failures (g.B.OrderBook.orders c.args.book.now) c.args.locate c.args.side c.loop-price.last c.in-Some.price
     c.level_total-shares.result c.args.out.now c.loop-price.out c.write_text.new.out (g.met.B.OrderBook.is_book c.args.book.now) c.loop-price.invariant (sym c.in-Some.ensures)
-    c.level_total-shares.ensures c.in-Err.fault
-    (subst (λ text. WritesText g.W.CountedWrite.contents g.W.CountedWrite.failures text c.loop-price.out (Err c.in-Err.fault) c.write_text.new.out)
-    (c.deref.ensures.0 ∙ c.level_line.ensures.line) c.in-Err.ensures)
+    c.level_total-shares.ensures c.in_err-write_text.field-0.0
+    (subst (λ text. WritesText g.W.CountedWrite.contents g.W.CountedWrite.failures text c.loop-price.out (Err c.in_err-write_text.field-0.0) c.write_text.new.out)
+    (c.deref.ensures.0 ∙ c.level_line.ensures.line) c.in_err-write_text.ensures))
 
 pub returns : goal.returns
 returns g c =
