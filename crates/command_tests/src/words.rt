@@ -1,7 +1,7 @@
 //! What the words of the command line ask for.
 
 use itch_commands::Request;
-use itch_words::{Job, Peer, read_job};
+use itchsnap_cli::words::{Job, Peer, read_job};
 use std::alloc::{AllocError, Global};
 use std::test::Fail;
 

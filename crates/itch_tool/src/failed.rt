@@ -1,7 +1,7 @@
 //! What failed, in words.
 
 use itch_commands::Device;
-use itch_words::Job;
+use itchsnap_cli::words::Job;
 use std::fmt;
 
 /// A device as the second line of a fault names it.

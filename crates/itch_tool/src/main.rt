@@ -1,7 +1,7 @@
 //! `itchsnap`: market snapshots from day files of TotalView-ITCH 5.0 messages.
 //!
-//! `itch_words` reads the command line. The commands over files are those of `itch_commands`; `run` opens files and standard streams
-//! for them. `serve` and `fetch` are those of `itch_sessions`, over sockets of this machine.
+//! `itchsnap_cli::words` reads the command line. The commands over files are those of `itch_commands`; `run` opens files and standard
+//! streams for them. `serve` and `fetch` are those of `itchsnap_cli::sessions`, over sockets of this machine.
 #![tactic(auto)]
 
 mod failed;
@@ -14,7 +14,7 @@ use crate::run::run;
 use clap::Error;
 use clap::error::ErrorKind;
 use itch_commands::{Cause, ToolFault, ends_by_closed_pipe, final_status, system_fault};
-use itch_words::{Job, read_job, usage_fault};
+use itchsnap_cli::words::{Job, read_job, usage_fault};
 use std::alloc::{AllocError, Global};
 use std::env::{self, Args};
 use std::io::{self, IsTerminal};

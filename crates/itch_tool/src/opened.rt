@@ -1,7 +1,7 @@
 //! What a command reads, opened.
 
 use itch_commands::{Source, ToolFault, system_fault};
-use itch_input::{Opened, Progress, Watched};
+use itchsnap_cli::input::{Opened, Progress, Watched};
 use std::fs;
 use std::rt::Files;
 

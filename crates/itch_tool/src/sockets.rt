@@ -3,9 +3,9 @@
 use crate::opened::open;
 use itch_commands::{Source, ToolFault, system_fault};
 use itch_frame::{BlockReader, Buffered, Counted};
-use itch_input::Progress;
-use itch_sessions::{Login, PIECE, fetch, serve_blocks};
-use itch_words::Peer;
+use itchsnap_cli::input::Progress;
+use itchsnap_cli::sessions::{Login, PIECE, fetch, serve_blocks};
+use itchsnap_cli::words::Peer;
 use std::io::{self, BufReader, BufWriter, Write};
 use std::net::{Ipv4Addr, Net, TcpListener, TcpStream};
 use std::rt::{Clock, Files};

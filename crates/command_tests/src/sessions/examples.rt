@@ -1,7 +1,7 @@
 //! The examples of the crates' pages, run.
 
-use itch_input::Tally;
-use itch_sessions::Login;
+use itchsnap_cli::input::Tally;
+use itchsnap_cli::sessions::Login;
 use std::test::Fail;
 
 #[test]

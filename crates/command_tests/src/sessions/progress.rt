@@ -1,6 +1,6 @@
 //! What passes through a reader that is watched.
 
-use itch_input::{Amount, Progress, Tally, Watched};
+use itchsnap_cli::input::{Amount, Progress, Tally, Watched};
 use std::io::Read;
 use std::test::Fail;
 use std::time::Duration;

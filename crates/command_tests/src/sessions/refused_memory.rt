@@ -3,7 +3,7 @@ use super::{FROM_1, LOGIN_1, LOGIN_3, SNAPSHOT, client, serve_day};
 use itch_commands::{Book, ToolFault, status};
 use itch_frame::BlockReader;
 use itch_frame::testing::{FuseWriter, PieceReader};
-use itch_sessions::{Login, fetch};
+use itchsnap_cli::sessions::{Login, fetch};
 use std::alloc::Global;
 use std::net::TcpListener;
 use std::process::Abort;

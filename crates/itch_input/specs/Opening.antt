@@ -1,9 +1,0 @@
--- What is left of what was opened.
-use Rattle.std.specs.Prelude.{ℕ, List, Option}
-use Rattle.itch_input.specs.declared.opened.Opened.{Opened}
-use Rattle.itch_input.specs.declared.opened.Opened.TheVariants.{File, Standard}
-
--- the bytes that reads will give from here on: those of the file, or those of standard input
-abbrev pub opened_remaining : {F I : Type 0} → (F → Option (List ℕ)) → (I → Option (List ℕ)) → Opened F I → Option (List ℕ)
-opened_remaining of_file of_input (File file) = of_file file
-opened_remaining of_file of_input (Standard input) = of_input input

@@ -1,4 +1,0 @@
-pub mod Logins
-pub mod Patience
-pub mod Sessions
-pub mod Sides

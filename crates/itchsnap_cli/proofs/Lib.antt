@@ -1,0 +1,4 @@
+pub mod Endings
+pub mod Fetched
+pub mod Lines
+pub mod Tallying

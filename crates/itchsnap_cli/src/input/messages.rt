@@ -1,0 +1,82 @@
+//! The messages in a stream of blocks that comes in pieces, counted.
+ghost use Rattle.std.specs.Prelude.{◌≡◌, ℕ, List, [], ◌∷◌, ◌++◌};
+ghost use Rattle.itchsnap_cli.specs.Tallies.{IsWholeAfter, IsAt, Reaches, Counts, CountsOn};
+
+/// Where a stream of blocks is cut, as far as the rest of its last block depends on it.
+#[derive(Clone, Copy, Debug, PartialEq, Eq)]
+pub enum Place {
+    /// Between two blocks.
+    Border,
+    /// After the first of two length bytes, which is this one.
+    Length(u8),
+    /// Within a payload of which this many bytes are still to come.
+    Payload(u16),
+}
+
+impl Place {
+    // The place after one byte more.
+    fn after(self, byte: u8) -> Place
+        ensures { (bytes : List ℕ) → IsAt self bytes → Reaches result (bytes ++ byte ∷ []) }
+    {
+        match self {
+            Place::Border => Place::Length(byte),
+            Place::Length(high) => Place::in_payload(u16::from_be_bytes([high, byte])),
+            Place::Payload(count) => Place::in_payload(count.saturating_sub(1)),
+        }
+    }
+
+    // The place in a payload of which this many bytes are still to come.
+    fn in_payload(count: u16) -> Place
+        ensures { (bytes : List ℕ) → IsWholeAfter count bytes → Reaches result bytes }
+    {
+        if count > 0 {
+            Place::Payload(count)
+        } else {
+            Place::Border
+        }
+    }
+}
+
+/// Counts the whole blocks of a stream.
+#[derive(Clone, Copy, Debug, PartialEq, Eq)]
+pub struct Tally {
+    place: Place,
+    messages: u64,
+}
+
+impl Tally {
+    /// The tally of nothing.
+    pub fn new() -> Tally
+        ensures { Counts result [] }
+    {
+        Tally {
+            place: Place::Border,
+            messages: 0,
+        }
+    }
+
+    /// How many blocks were whole; from 2^64 - 1 on it counts no further.
+    pub fn messages(&self) -> u64
+        ensures { result ≡ self.now.messages }
+    {
+        self.messages
+    }
+
+    /// Goes on over the next piece of the stream.
+    pub fn pass(&mut self, piece: &[u8])
+        ensures { CountsOn self.old piece.now self.new }
+    {
+        for byte in piece {
+            self.step(*byte);
+        }
+    }
+
+    fn step(&mut self, byte: u8)
+        ensures { CountsOn self.old (byte ∷ []) self.new }
+    {
+        self.place = self.place.after(byte);
+        if matches!(self.place, Place::Border) {
+            self.messages = self.messages.saturating_add(1);
+        }
+    }
+}

@@ -1,0 +1,184 @@
+//! How far a command has read its files, shown on standard error.
+ghost use Rattle.std.specs.Prelude.{◌≡◌, ◌↔◌, [], take, IsNone, IfSome, IfOk};
+ghost use Rattle.std.specs.Io.{ReadsAtMost};
+ghost use Rattle.std.specs.Io.KnownBytes.{ReadConsumes};
+ghost use Rattle.itchsnap_cli.specs.Tallies.{Counts, CountsOn};
+ghost use Rattle.itchsnap_cli.specs.Watches.{Notes};
+
+use crate::input::messages::Tally;
+use std::cell::Cell;
+use std::fmt;
+use std::io::{self, Read};
+use std::rt::Clock;
+use std::time::{Duration, Instant};
+
+/// The line is updated whenever this many more bytes have been read: 64 MiB.
+const STEP: u64 = 1 << 26;
+
+/// How much was read, and in how much time. `Display` gives the line of it.
+#[derive(Clone, Copy, Debug)]
+pub struct Amount {
+    pub bytes: u64,
+    pub messages: u64,
+    pub elapsed: Duration,
+}
+
+impl fmt::Display for Amount {
+    fn fmt<W: fmt::Write>(&self, f: &mut fmt::Formatter<W>) -> fmt::Result {
+        let Amount {
+            bytes,
+            messages,
+            ..
+        } = self;
+        // Bytes in a microsecond are megabytes in a second.
+        let rate = u128::from(*bytes) / self.elapsed.as_micros().max(1);
+        write!(f, "{bytes} bytes, {messages} messages, {rate:>5} MB/s")
+    }
+}
+
+/// What a command has read of all its files, and since when.
+///
+/// A line on standard error is updated every 64 MiB, and ends where a file has been read to its end, or with the command.
+/// What standard error does not take is left out.
+pub struct Progress<'a, R: Eprint> {
+    rt: &'a R,
+    begun: Instant,
+    bytes: Cell<u64>,
+    messages: Cell<u64>,
+    is_open: Cell<bool>,
+}
+
+impl<'a, R: Eprint + Clock> Progress<'a, R> {
+    /// Begins now; or there is none, where the clock fails.
+    pub fn begin(rt: &'a R) -> Option<Progress<'a, R>> {
+        match Instant::now(rt) {
+            Ok(begun) => Some(Progress {
+                rt,
+                begun,
+                bytes: Cell::new(0),
+                messages: Cell::new(0),
+                is_open: Cell::new(false),
+            }),
+            Err(_) => None,
+        }
+    }
+
+    // Adds these bytes, and the messages that are whole by them.
+    fn add(&self, bytes: u64, messages: u64) {
+        let before = self.bytes.get();
+        let now = before.saturating_add(bytes);
+        self.bytes.set(now);
+        self.messages
+            .set(self.messages.get().saturating_add(messages));
+        if now / STEP > before / STEP {
+            self.show();
+        }
+    }
+
+    // Renews the line.
+    fn show(&self) {
+        let Ok(elapsed) = self.begun.elapsed(self.rt) else {
+            return;
+        };
+        let amount = Amount {
+            bytes: self.bytes.get(),
+            messages: self.messages.get(),
+            elapsed,
+        };
+        let _ = eprint!(self.rt; "\r{amount}");
+        self.is_open.set(true);
+    }
+}
+
+impl<R: Eprint> Drop for Progress<'_, R> {
+    fn drop(self) {
+        let Progress {
+            rt,
+            begun: _,
+            bytes: _,
+            messages: _,
+            is_open,
+        } = self;
+        end_line(rt, &is_open);
+    }
+}
+
+// Ends the line, if one was printed.
+fn end_line(rt: &impl Eprint, is_open: &Cell<bool>) {
+    if is_open.replace(false) {
+        let _ = rt.eprint("\n");
+    }
+}
+
+/// A reader of one of a command's files. It reads as the one inside does, and counts what it reads where that is wanted.
+#[derive(Drop)]
+pub struct Watched<'a, T, R: Eprint> {
+    inner: T,
+    watch: Option<Watch<'a, R>>,
+}
+
+impl<'a, T, R: Eprint> Watched<'a, T, R> {
+    /// A reader that is at the beginning of its file.
+    pub fn new(inner: T, progress: Option<&'a Progress<'a, R>>) -> Watched<'a, T, R>
+        ensures inner { result.inner ≡ inner }
+        ensures off { IsNone result.watch ↔ IsNone progress.entry }
+        ensures nothing { IfSome result.watch (λ watch. Counts watch.tally []) }
+    {
+        let watch = match progress {
+            Some(progress) => Some(Watch {
+                progress,
+                tally: Tally::new(),
+            }),
+            None => None,
+        };
+        Watched { inner, watch }
+    }
+}
+
+impl<T: Read, R: Eprint + Clock> Read for Watched<'_, T, R> {
+    ghost remaining = { λ w. T.remaining w.inner };
+
+    fn read(&mut self, buf: &mut [u8]) -> io::Result<usize>
+        ensures bound { ReadsAtMost result buf.new }
+        ensures bytes { ReadConsumes (T.remaining self.old.inner) (T.remaining self.new.inner) result buf.new }
+        ensures watch { IfOk result (λ count. Notes self.old.watch (take count buf.new) self.new.watch) }
+    {
+        let count = self.inner.read(buf)?;
+        self.note(&buf[..count]);
+        Ok(count)
+    }
+}
+
+impl<T, R: Eprint + Clock> Watched<'_, T, R> {
+    // Shows the watch what was read.
+    fn note(&mut self, piece: &[u8])
+        ensures inner { self.new.inner ≡ self.old.inner }
+        ensures watch { Notes self.old.watch piece.now self.new.watch }
+    {
+        if let Some(watch) = &mut self.watch {
+            watch.pass(piece);
+        }
+    }
+}
+
+// What has passed through a reader.
+#[derive(Drop)]
+struct Watch<'a, R: Eprint> {
+    progress: &'a Progress<'a, R>,
+    tally: Tally,
+}
+
+impl<R: Eprint + Clock> Watch<'_, R> {
+    // Counts what was read. Nothing is the end of the file.
+    fn pass(&mut self, piece: &[u8])
+        ensures { CountsOn self.old.tally piece.now self.new.tally }
+    {
+        let before = self.tally.messages();
+        self.tally.pass(piece);
+        let whole = self.tally.messages().saturating_sub(before);
+        self.progress.add(piece.len() as u64, whole);
+        if piece.is_empty() {
+            end_line(self.progress.rt, &self.progress.is_open);
+        }
+    }
+}

@@ -1,0 +1,29 @@
+//! The two ends of a SoupBinTCP 3.00 session over this machine's sockets: a market served, and a snapshot fetched. What the two ends
+//! say to each other is `itch_soup`'s.
+//!
+//! [`serve_blocks`] reads a day file and serves the snapshot of its market to one connection after another, with a line for each:
+//! the clauses say what is served, and how each connection ended by what its socket gave and took. No peer keeps the others waiting
+//! for longer than [`time_left`] allows. [`fetch`] logs in, receives a snapshot and writes it in canonical form. A [`Login`] is the
+//! user name and the password of both.
+//!
+//! ```
+//! let login = Login::new("desk", "secret")?;
+//! assert_eq!(login.config().session.text(), "ITCHSNAP");
+//! assert_eq!(login.credentials().username.text(), "desk");
+//! ```
+
+mod connection;
+mod ending;
+mod fetching;
+mod login;
+mod patient;
+mod sending;
+mod serve;
+
+pub use connection::{PIECE, serve_peer, serve_stream};
+pub use ending::{Ending, write_ending};
+pub use fetching::fetch;
+pub use login::Login;
+pub use patient::{Patient, time_left};
+pub use sending::Sending;
+pub use serve::{Listening, serve_blocks, serve_on};

@@ -1,0 +1,81 @@
+//! The user name and the password of the command line.
+ghost use Rattle.std.specs.Prelude.{◌≡◌, ◌↔◌, IsSome, IfSome, [], codes};
+ghost use Rattle.itch_codec.specs.Text.{padded_to};
+ghost use Rattle.itchsnap_cli.specs.Logins.{IsWord, ReadsLogin};
+
+use itch_codec::Alpha;
+use itch_commands::ToolFault;
+use itch_soup::{Credentials, ServerConfig};
+use std::fmt::{self, Debug, Formatter};
+
+/// A user name and a password, as a login has them.
+///
+/// `{:?}` leaves the password out.
+#[derive(Clone, Copy, PartialEq, Eq)]
+pub struct Login {
+    pub username: Alpha<6>,
+    pub password: Alpha<10>,
+}
+
+impl Debug for Login {
+    fn fmt<W: fmt::Write>(&self, f: &mut Formatter<W>) -> fmt::Result {
+        f.debug_struct("Login")
+            .field("username", &self.username)
+            .finish_non_exhaustive()
+    }
+}
+
+impl Login {
+    /// Takes a user name of 1 to 6 and a password of 1 to 10 printable characters; the user name is judged first.
+    pub fn new(user: &str, password: &str) -> Result<Login, ToolFault>
+        ensures { ReadsLogin user.now password.now result }
+    {
+        let Some(username) = word(user) else {
+            return Err(ToolFault::BadUser);
+        };
+        match word(password) {
+            Some(password) => Ok(Login { username, password }),
+            None => Err(ToolFault::BadPassword),
+        }
+    }
+
+    /// What a server of the session `ITCHSNAP` lets in.
+    pub fn config(&self) -> ServerConfig
+        ensures username { result.username ≡ self.now.username }
+        ensures password { result.password ≡ self.now.password }
+        ensures session { result.session ≡ padded_to 10 (codes "ITCHSNAP") }
+    {
+        ServerConfig {
+            username: self.username,
+            password: self.password,
+            session: Alpha::from_text("ITCHSNAP").unwrap(),
+        }
+    }
+
+    /// What a client logs in with, for whichever session is served.
+    pub fn credentials(&self) -> Credentials
+        ensures username { result.username ≡ self.now.username }
+        ensures password { result.password ≡ self.now.password }
+        ensures session { result.session ≡ padded_to 10 [] }
+    {
+        Credentials {
+            username: self.username,
+            password: self.password,
+            session: Alpha::from_text("").unwrap(),
+        }
+    }
+}
+
+// A text of at least one character that fits its field.
+fn word<const N: usize>(text: &str) -> Option<Alpha<N>>
+    ensures taken { IsSome result ↔ IsWord N text.now }
+    ensures padded { IfSome result (λ word. word ≡ padded_to N text.now) }
+{
+    if text.is_empty() {
+        return None;
+    }
+    match Alpha::from_text(text) {
+        Ok(word) => Some(word),
+        Err(_) => None,
+    }
+}

@@ -1,0 +1,171 @@
+//! `serve`: a market served to one connection after another.
+ghost use Rattle.std.specs.Prelude.{◌<◌, ◌-◌, ◌+◌, ◌^◌, length, None, IfErr};
+ghost use Rattle.itch_snapshot.specs.Snapshot.{snap};
+ghost use Rattle.itch_commands.specs.declared.fault.Source.TheVariants.{Only};
+ghost use Rattle.itchsnap_cli.specs.Sessions.{IsUnserved, ServesNext, ServesOn, ServesMarket, ServesDay};
+ghost use Rattle.itch_commands.specs.Readings.{ReadsDay};
+
+use crate::sessions::connection::serve_stream;
+use crate::sessions::ending::write_ending;
+use itch_book::OrderBook;
+use itch_codec::{MOST_MESSAGES, Seq};
+use itch_commands::{Book, Source, ToolFault, read_market, system_fault};
+use itch_frame::{BlockReader, CountedRead, CountedWrite};
+use itch_market::Market;
+use itch_snapshot::snapshot_len;
+use itch_soup::ServerConfig;
+use std::alloc::{Alloc, Allocator};
+use std::fmt::{self, Display, Formatter};
+use std::io;
+use std::net::{Ipv4Addr, Net, OpenListener, OpenStream, TcpListener};
+use std::rt::Clock;
+
+/// Serves the market of a day file on a port of 127.0.0.1, as [`serve_on`] does: the snapshot after all of its messages. Standard
+/// error is told once the port is listened on.
+///
+/// Nothing is served of a file that is refused, nor of one whose snapshot has too many messages, `TooMany`; `Socket` where
+/// the port cannot be listened on.
+pub fn serve_blocks<R, F: CountedRead, D: Allocator, A: Allocator + Copy, W: CountedWrite>(
+    rt: &R,
+    reader: &mut BlockReader<F, D>,
+    port: u16,
+    config: &ServerConfig,
+    count: u64,
+    out: &mut W,
+) -> Result<bool, ToolFault>
+where
+    R: Clock + Eprint + Alloc<A = A> + Net,
+    ensures { ServesDay R.Stream.remaining R.Stream.contents W.contents W.failures (ReadsDay F.remaining F.failures Only None reader.old reader.new) config.now count out.old result out.new }
+{
+    serve_over::<R, F, D, Book<A>, W>(rt, rt.alloc(), reader, port, config, count, out)
+}
+
+// The same with any book of orders.
+fn serve_over<R, F: CountedRead, D: Allocator, B: OrderBook, W: CountedWrite>(
+    rt: &R,
+    alloc: B::Alloc,
+    reader: &mut BlockReader<F, D>,
+    port: u16,
+    config: &ServerConfig,
+    count: u64,
+    out: &mut W,
+) -> Result<bool, ToolFault>
+where
+    R: Clock + Eprint + Alloc + Net,
+    ensures { ServesDay R.Stream.remaining R.Stream.contents W.contents W.failures (ReadsDay F.remaining F.failures Only None reader.old reader.new) config.now count out.old result out.new }
+{
+    let mut market: Market<B> = Market::new(alloc);
+    let read = match read_market(reader, &mut market, None, Source::Only) {
+        Ok(read) => read,
+        Err(fault) => return Err(fault),
+    };
+    let Some(next) = Seq::new(read + 1) else {
+        unreachable!()
+    };
+    serve_market(rt, &market, next, port, config, count, out)
+}
+
+// Serves a market on a port, if its snapshot has room for the End of Snapshot.
+fn serve_market<R, B: OrderBook, W: CountedWrite>(
+    rt: &R,
+    market: &Market<B>,
+    next: Seq,
+    port: u16,
+    config: &ServerConfig,
+    count: u64,
+    out: &mut W,
+) -> Result<bool, ToolFault>
+where
+    R: Clock + Eprint + Alloc + Net,
+    ensures { ServesMarket R.Stream.remaining R.Stream.contents W.contents W.failures market.now next config.now count out.old result out.new }
+{
+    if snapshot_len(market) >= u128::from(MOST_MESSAGES) {
+        return Err(ToolFault::TooMany);
+    }
+    match listen(rt, port) {
+        Ok(listener) => serve_on(rt, &listener, market, next, config, count, out),
+        Err(fault) => Err(fault),
+    }
+}
+
+// Listens on a port, and says so.
+fn listen<N: Net + Eprint>(net: &N, port: u16) -> Result<N::Listener, ToolFault>
+    ensures { IfErr result IsUnserved }
+{
+    match TcpListener::bind(net, (Ipv4Addr::LOCALHOST, port)) {
+        Ok(listener) => {
+            let _ = net.eprintln(&Listening(port));
+            Ok(listener)
+        }
+        Err(error) => Err(system_fault(error, ToolFault::Socket(error))),
+    }
+}
+
+/// The line that says that a port is listened on, without its line feed.
+#[derive(Clone, Copy, Debug)]
+pub struct Listening(pub u16);
+
+impl Display for Listening {
+    fn fmt<W: fmt::Write>(&self, f: &mut Formatter<W>) -> fmt::Result {
+        let port = self.0;
+        write!(f, "listening on 127.0.0.1:{port}")
+    }
+}
+
+/// Serves a market to `count` connections, one after the other, and writes a line for each: how it was answered, or that it
+/// had a fault, which ends nothing else. A peer has 15 seconds for its login, and as long for its answer and one more for each
+/// 64 KiB of it.
+///
+/// The caller keeps the snapshot below 10^19 - 1 messages: `snapshot_len` counts them.
+///
+/// # Faults
+///
+/// `Socket` where no connection could be accepted, `OutOfMemory` where there is no memory for one, and `Write` for its line:
+/// the lines of the connections before were written.
+pub fn serve_on<R: Clock + Alloc + Net, B: OrderBook, W: CountedWrite>(
+    rt: &R,
+    listener: &R::Listener,
+    market: &Market<B>,
+    next: Seq,
+    config: &ServerConfig,
+    count: u64,
+    out: &mut W,
+) -> Result<bool, ToolFault>
+    requires { length (snap market.now) < 10 ^ 19 - 1 }
+    ensures { ServesOn R.Stream.remaining R.Stream.contents W.contents W.failures market.now next config.now count out.old result out.new }
+{
+    for before in 0..count {
+        serve_next(rt, listener, market, next, config, before + 1, out)?;
+    }
+    Ok(true)
+}
+
+// Serves the next connection, and writes its line.
+fn serve_next<R: Clock + Alloc + Net, B: OrderBook, W: CountedWrite>(
+    rt: &R,
+    listener: &R::Listener,
+    market: &Market<B>,
+    next: Seq,
+    config: &ServerConfig,
+    number: u64,
+    out: &mut W,
+) -> Result<(), ToolFault>
+    requires { length (snap market.now) < 10 ^ 19 - 1 }
+    ensures { ServesNext R.Stream.remaining R.Stream.contents W.contents W.failures market.now next config.now number out.old result out.new }
+{
+    let (stream, answering) = match accept::<R>(listener) {
+        Ok(handles) => handles,
+        Err(error) => return Err(system_fault(error, ToolFault::Socket(error))),
+    };
+    match serve_stream(rt, stream, answering, market, next, config) {
+        Ok(ending) => write_ending(out, number, &ending),
+        Err(fault) => Err(fault),
+    }
+}
+
+// Accepts the next connection, and gives two handles of its socket.
+fn accept<N: Net>(listener: &N::Listener) -> io::Result<(N::Stream, N::Stream)> {
+    let (stream, _) = listener.accept()?;
+    let answering = stream.try_clone()?;
+    Ok((stream, answering))
+}

@@ -1,0 +1,100 @@
+//! Requests over files, out of what was matched of the words.
+
+use crate::words::commands::usage_fault;
+use clap::{ArgMatches, Error};
+use itch_commands::{Request, path_of};
+use std::alloc::Global;
+
+/// Reads what was matched of a request over files.
+///
+/// An error is a usage fault or that memory ran out: its kind says which.
+pub fn read_request<'a>(alloc: Global, matches: &ArgMatches<'a>) -> Result<Request<'a>, Error> {
+    match matches.subcommand() {
+        Some(("snap", options)) => read_snap(alloc, options),
+        Some(("check", options)) => Ok(Request::Check {
+            file: read_path(options, "FILE"),
+        }),
+        Some(("show", options)) => Ok(Request::Show {
+            file: read_path(options, "FILE"),
+        }),
+        Some(("canon", options)) => Ok(Request::Canon {
+            file: read_path(options, "SNAP"),
+            check: options.get_flag("check"),
+        }),
+        Some(("compare", options)) => read_compare(alloc, options),
+        Some(("book", options)) => read_book(alloc, options),
+        Some(("join", options)) => read_join(alloc, options),
+        _ => Err(usage_fault(alloc, "a command is missing")?),
+    }
+}
+
+fn read_snap<'a>(alloc: Global, options: &ArgMatches<'a>) -> Result<Request<'a>, Error> {
+    let after = read_after(alloc, options)?;
+    Ok(Request::Snap {
+        file: read_path(options, "FILE"),
+        after,
+        only: options.get_str("only"),
+    })
+}
+
+fn read_compare<'a>(alloc: Global, options: &ArgMatches<'a>) -> Result<Request<'a>, Error> {
+    let (first, second) = read_two(alloc, options, "A", "B")?;
+    Ok(Request::Compare { first, second })
+}
+
+fn read_join<'a>(alloc: Global, options: &ArgMatches<'a>) -> Result<Request<'a>, Error> {
+    let (snapshot, feed) = read_two(alloc, options, "SNAP", "FEED")?;
+    Ok(Request::Join {
+        snapshot,
+        feed,
+        only: options.get_str("only"),
+    })
+}
+
+// The two files of a command, of which one may be standard input.
+fn read_two<'a>(
+    alloc: Global,
+    options: &ArgMatches<'a>,
+    first: &str,
+    second: &str,
+) -> Result<(Option<&'a str>, Option<&'a str>), Error> {
+    match (read_path(options, first), read_path(options, second)) {
+        (None, None) => Err(usage_fault(alloc, "only one of the two files may be standard input")?),
+        paths => Ok(paths),
+    }
+}
+
+/// The path of a file among the words, or none where it is standard input.
+pub fn read_path<'a>(options: &ArgMatches<'a>, name: &str) -> Option<&'a str> {
+    path_of(options.get_str(name))
+}
+
+fn read_book<'a>(alloc: Global, options: &ArgMatches<'a>) -> Result<Request<'a>, Error> {
+    let locate = read_locate(alloc, options)?;
+    Ok(Request::Book {
+        locate,
+        file: read_path(options, "FILE"),
+    })
+}
+
+// The number after `--after`, in decimal digits alone.
+fn read_after<'a>(alloc: Global, options: &ArgMatches<'a>) -> Result<Option<u64>, Error> {
+    let Some(text) = options.get_str("after") else {
+        return Ok(None);
+    };
+    if !text.bytes().all(|byte| byte.is_ascii_digit()) {
+        return Err(usage_fault(alloc, "--after takes decimal digits")?);
+    }
+    Ok(options.get_one::<u64>("after"))
+}
+
+// The locate of a book, in decimal digits alone.
+fn read_locate<'a>(alloc: Global, options: &ArgMatches<'a>) -> Result<u16, Error> {
+    let digits = options
+        .get_str("LOCATE")
+        .is_some_and(|text| text.bytes().all(|byte| byte.is_ascii_digit()));
+    match options.get_one::<u16>("LOCATE") {
+        Some(locate) if digits => Ok(locate),
+        _ => Err(usage_fault(alloc, "LOCATE takes decimal digits")?),
+    }
+}
