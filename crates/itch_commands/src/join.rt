@@ -120,14 +120,10 @@ fn write_joined<B: OrderBook, W: CountedWrite>(
     requires number { IsSequence (Position.next (position_of joiner.now.state)) }
     ensures { WritesRoom W.contents W.failures (position_of joiner.now.state) out.old result out.new }
 {
-    let (Some(market), Some(next)) = (joiner.market(), joiner.next()) else {
-        unreachable!()
-    };
+    let market = joiner.market().unwrap();
     if snapshot_len(market) > u128::from(MOST_MESSAGES) {
         return Err(ToolFault::TooMany);
     }
-    let Some(next) = Seq::new(next) else {
-        unreachable!()
-    };
+    let next = Seq::new(joiner.next().unwrap()).unwrap();
     write_closed(market, next, out)
 }

@@ -57,9 +57,7 @@ fn snap_over<R: CountedRead, A: Allocator, B: OrderBook, W: CountedWrite>(
 {
     let mut market: Market<B> = Market::new(alloc);
     let count = read_market(reader, &mut market, after, Source::Only)?;
-    let Some(next) = Seq::new(count + 1) else {
-        unreachable!()
-    };
+    let next = Seq::new(count + 1).unwrap();
     match only {
         Some(set) => write_cut(&market, set, next, out),
         None => write_closed(&market, next, out),

@@ -1,6 +1,5 @@
 //! Whether bytes are those of a market's snapshot.
-ghost use Rattle.std.specs.Prelude.{◌≡◌, ◌↔◌, ◌<◌, ◌++◌, length, MatchOption, true};
-ghost use Rattle.std.specs.Int.{bytes_high_first};
+ghost use Rattle.std.specs.Prelude.{◌≡◌, ◌↔◌, ◌<◌, ◌++◌, true};
 ghost use Rattle.itch_codec.specs.Messages.{spelling};
 ghost use Rattle.itch_codec.specs.Widths.{IsMessage};
 ghost use Rattle.itch_frame.specs.Blocks.{IsPayload, block};
@@ -45,28 +44,13 @@ fn after_message<'a>(bytes: &'a [u8], message: &Message<'_>) -> Option<&'a [u8]>
 fn after_block<'a>(bytes: &'a [u8], payload: &[u8]) -> Option<&'a [u8]>
     ensures { IsPayload payload.now → StripsFront bytes.now (block payload.now) result }
 {
-    let len = match length_bytes(payload) {
-        Some(len) => len,
-        None => return None,
-    };
-    match after_front(bytes, &len) {
-        Some(rest) => after_front(rest, payload),
-        None => None,
-    }
+    let len = u16::try_from(payload.len()).ok()?;
+    let rest = after_front(bytes, &len.to_be_bytes())?;
+    after_front(rest, payload)
 }
 
 fn after_front<'a>(bytes: &'a [u8], front: &[u8]) -> Option<&'a [u8]>
     ensures { StripsFront bytes.now front.now result }
 {
     bytes.strip_prefix(front)
-}
-
-/// The two bytes that say how long the payload of a block is, unless it is longer than they can say.
-pub fn length_bytes(payload: &[u8]) -> Option<[u8; 2]>
-    ensures { MatchOption result (¬ IsPayload payload.now) (λ bytes. IsPayload payload.now × (bytes ≡ bytes_high_first 2 (length payload.now))) }
-{
-    match u16::try_from(payload.len()) {
-        Ok(len) => Some(len.to_be_bytes()),
-        Err(_) => None,
-    }
 }

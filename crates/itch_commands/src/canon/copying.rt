@@ -8,7 +8,6 @@ ghost use Rattle.itch_commands.specs.Canons.{CopiesNext, CopiesAll, EndsFile, Co
 ghost use Rattle.itch_commands.specs.declared.fault.Source.TheVariants.{Only};
 ghost use Rattle.itch_commands.specs.declared.fault.ToolFault.TheVariants.{Snap};
 
-use super::canonical::length_bytes;
 use crate::fault::{Source, ToolFault};
 use itch_book::OrderBook;
 use itch_codec::Seq;
@@ -68,10 +67,8 @@ fn copy_block<A: Allocator>(copy: &mut Vec<u8, A>, payload: &[u8]) -> Result<(),
     requires { IsPayload payload.now }
     ensures { OnOk result (copy.new.items ≡ copy.old.items ++ block payload.now) }
 {
-    let Some(len) = length_bytes(payload) else {
-        unreachable!()
-    };
-    copy.extend_from_slice(&len)?;
+    let len = payload.len() as u16;
+    copy.extend_from_slice(&len.to_be_bytes())?;
     copy.extend_from_slice(payload)
 }
 

@@ -29,23 +29,23 @@ write_cut-requires g c =
     let old = bytes_left g.R.CountedRead.remaining c.args.reader.now in
     let new = bytes_left g.R.CountedRead.remaining c.read_market.new.reader in
     let applied = read_done Only c.args.after old new c.new-market.result c.in_ok-count.count c.read_market.new.market c.new-market.ensures c.in_ok-count.ensures.reads in
-    omega (arith, applied.few, cut_short c.args.after old new c.in_ok-count.count c.read_market.new.market applied c.in-Some-only.set.now)
+    omega (arith, applied.few, cut_short c.args.after old new c.in_ok-count.count c.read_market.new.market applied c.in-Some.set.now)
 
-pub returns-in-Some-only : goal.returns-in-Some-only
-returns-in-Some-only g c =
+pub returns-in-Some : goal.returns-in-Some
+returns-in-Some g c =
     let old = c.args.reader.now in
     let new = c.read_market.new.reader in
     let from = bytes_left g.R.CountedRead.remaining old in
     let to = bytes_left g.R.CountedRead.remaining new in
-    let set = c.in-Some-only.set.now in
+    let set = c.in-Some.set.now in
     let reads = ReadsDay g.R.CountedRead.remaining g.R.CountedRead.failures Only c.args.after old new in
     let applied = read_done Only c.args.after from to c.new-market.result c.in_ok-count.count c.read_market.new.market c.new-market.ensures c.in_ok-count.ensures.reads in
     subst (λ o. Outputs g.W.CountedWrite.contents g.W.CountedWrite.failures reads (snapshot_in (option_copied o)) (λ _. true) c.args.out.now c.write_cut.result c.write_cut.new.out)
-    (sym c.in-Some-only.is)
+    (sym c.in-Some.is)
     (read_writes g.W.CountedWrite.contents g.W.CountedWrite.failures reads (snapshot_in (Some set)) (λ _. true)
     applied.payloads _ c.args.out.now c.write_cut.new.out c.write_cut.result
     (day_done g.R.CountedRead.remaining g.R.CountedRead.failures Only c.args.after old new c.in_ok-count.count c.read_market.new.market applied c.in_ok-count.ensures.failures c.in_ok-count.ensures.reader)
-    (ap (λ k. canon (only (has set) c.read_market.new.market) ++ closing k) c.in-Some.ensures.number
+    (ap (λ k. canon (only (has set) c.read_market.new.market) ++ closing k) (rw c.unwrap-next.ensures at c.new.ensures.number)
     ∙ cut_snapshot c.args.after from to c.in_ok-count.count c.read_market.new.market applied set)
     c.write_cut.ensures)
 
@@ -69,6 +69,6 @@ returns g c =
     (read_writes g.W.CountedWrite.contents g.W.CountedWrite.failures reads (snapshot_in None) (λ _. true)
     applied.payloads _ c.args.out.now c.write_closed.new.out c.write_closed.result
     (day_done g.R.CountedRead.remaining g.R.CountedRead.failures Only c.args.after old new c.in_ok-count.count c.read_market.new.market applied c.in_ok-count.ensures.failures c.in_ok-count.ensures.reader)
-    (ap (λ k. canon c.read_market.new.market ++ closing k) c.in-Some.ensures.number
+    (ap (λ k. canon c.read_market.new.market ++ closing k) (rw c.unwrap-next.ensures at c.new.ensures.number)
     ∙ applied_snapshot c.args.after from to c.in_ok-count.count c.read_market.new.market applied)
     c.write_closed.ensures)
