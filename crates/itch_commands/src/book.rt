@@ -1,8 +1,6 @@
 //! `book`: the prices of a locate.
 ghost use Rattle.std.specs.Prelude.{◌≡◌, ◌≤◌, [], ◌∷◌, length};
 ghost use Rattle.itch_codec.specs.Fields.{side_byte};
-ghost use Rattle.itch_codec.specs.Lines.{price_text};
-ghost use Rattle.arrayvec.specs.ArrayVec.{array_vec_len};
 ghost use Rattle.itch_book.specs.Orders.{queue};
 ghost use Rattle.itch_commands.specs.Books.{level_line, side_lines, title_line, book_lines};
 ghost use Rattle.itch_commands.specs.Commands.{ListsBook};
@@ -10,15 +8,14 @@ ghost use Rattle.itch_commands.specs.Outputs.{WritesText};
 ghost use Rattle.itch_commands.specs.Readings.{FromBlocks, FromReader};
 
 use crate::fault::{Source, ToolFault};
+use crate::line::Line;
 use crate::order_book::Book;
 use crate::reading::day_market;
 use crate::writing::write_text;
-use arrayvec::ArrayVec;
 use itch_book::OrderBook;
 use itch_codec::Side;
 use itch_frame::{BlockReader, CountedRead, CountedWrite};
 use itch_market::Market;
-use itoa::Buffer;
 use std::alloc::Allocator;
 
 /// Writes the book of a locate after a day file's messages: a line `LOCATE STOCK`, and then a line `SIDE PRICE SHARES ORDERS`
@@ -78,7 +75,7 @@ fn write_book<B: OrderBook, W: CountedWrite>(
     requires { length stock.now ≤ 8 }
     ensures { WritesText W.contents W.failures (book_lines locate stock.now (B.orders book.now)) out.old result out.new }
 {
-    write_text(&title_line(locate, stock), out)?;
+    write_text(title_line(locate, stock).as_bytes(), out)?;
     write_side(book, locate, Side::Buy, out)?;
     write_side(book, locate, Side::Sell, out)
 }
@@ -95,42 +92,35 @@ fn write_side<B: OrderBook, W: CountedWrite>(
     let mut last = None;
     while let Some(price) = book.next_price(locate, side, last) {
         let (shares, orders) = book.level_total(locate, side, price);
-        write_text(&level_line(side, price, shares, orders), out)?;
+        write_text(level_line(side, price, shares, orders).as_bytes(), out)?;
         last = Some(price);
     }
     Ok(())
 }
 
-fn title_line(locate: u16, stock: &str) -> ArrayVec<u8, 64>
+fn title_line(locate: u16, stock: &str) -> Line
     requires { length stock.now ≤ 8 }
-    ensures line { result.items ≡ title_line locate stock.now }
-    ensures short { array_vec_len result ≤ 64 }
+    ensures { result ≡ title_line locate stock.now }
 {
-    let mut digits = Buffer::new();
-    let mut line = ArrayVec::new();
-    line.try_extend_from_slice(digits.format(locate).as_bytes())
-        .unwrap();
-    line.try_extend_from_slice(b" ").unwrap();
-    line.try_extend_from_slice(stock.as_bytes()).unwrap();
-    line.try_extend_from_slice(b"\n").unwrap();
+    let mut line = Line::new();
+    line.number(locate);
+    line.text(b" ");
+    line.text(stock.as_bytes());
+    line.text(b"\n");
     line
 }
 
-fn level_line(side: Side, price: u32, shares: u128, orders: u64) -> ArrayVec<u8, 192>
-    ensures line { result.items ≡ level_line side price shares orders }
-    ensures short { array_vec_len result ≤ 192 }
+fn level_line(side: Side, price: u32, shares: u128, orders: u64) -> Line
+    ensures { result ≡ level_line side price shares orders }
 {
-    let mut digits = Buffer::new();
-    let mut line = ArrayVec::new();
-    line.try_extend_from_slice(side_text(side)).unwrap();
-    line.try_extend_from_slice(&price_text(price)).unwrap();
-    line.try_extend_from_slice(b" ").unwrap();
-    line.try_extend_from_slice(digits.format(shares).as_bytes())
-        .unwrap();
-    line.try_extend_from_slice(b" ").unwrap();
-    line.try_extend_from_slice(digits.format(orders).as_bytes())
-        .unwrap();
-    line.try_extend_from_slice(b"\n").unwrap();
+    let mut line = Line::new();
+    line.text(side_text(side));
+    line.price(price);
+    line.text(b" ");
+    line.number(shares);
+    line.text(b" ");
+    line.number(orders);
+    line.text(b"\n");
     line
 }
 
@@ -141,23 +131,4 @@ fn side_text(side: Side) -> &'static [u8]
         Side::Buy => b"B ",
         Side::Sell => b"S ",
     }
-}
-
-fn price_text(price: u32) -> ArrayVec<u8, 48>
-    ensures text { result.items ≡ price_text price }
-    ensures short { array_vec_len result ≤ 48 }
-{
-    let rest = [
-        b'.',
-        b'0' + (price / 1_000 % 10) as u8,
-        b'0' + (price / 100 % 10) as u8,
-        b'0' + (price / 10 % 10) as u8,
-        b'0' + (price % 10) as u8,
-    ];
-    let mut digits = Buffer::new();
-    let mut text = ArrayVec::new();
-    text.try_extend_from_slice(digits.format(price / 10_000).as_bytes())
-        .unwrap();
-    text.try_extend_from_slice(&rest).unwrap();
-    text
 }

@@ -1,19 +1,17 @@
 //! `check`: whether a file follows the order rules.
-ghost use Rattle.std.specs.Prelude.{◌≡◌, ◌≤◌, true};
-ghost use Rattle.arrayvec.specs.ArrayVec.{array_vec_len};
+ghost use Rattle.std.specs.Prelude.{◌≡◌, true};
 ghost use Rattle.itch_commands.specs.Commands.{Checks};
 ghost use Rattle.itch_commands.specs.Outputs.{WritesOutput, ok_line};
 ghost use Rattle.itch_commands.specs.Readings.{FromBlocks, FromReader};
 
 use crate::fault::{Source, ToolFault};
+use crate::line::Line;
 use crate::order_book::Book;
 use crate::reading::read_market;
 use crate::writing::write_text;
-use arrayvec::ArrayVec;
 use itch_book::OrderBook;
 use itch_frame::{BlockReader, CountedRead, CountedWrite};
 use itch_market::Market;
-use itoa::Buffer;
 use std::alloc::Allocator;
 
 /// Writes `ok N messages` where the file's N messages follow the order rules.
@@ -55,19 +53,16 @@ fn check_over<R: CountedRead, A: Allocator, B: OrderBook, W: CountedWrite>(
 fn write_count<W: CountedWrite>(count: u64, out: &mut W) -> Result<bool, ToolFault>
     ensures { WritesOutput W.contents W.failures (ok_line count) true out.old result out.new }
 {
-    write_text(&ok_line(count), out)?;
+    write_text(ok_line(count).as_bytes(), out)?;
     Ok(true)
 }
 
-fn ok_line(count: u64) -> ArrayVec<u8, 48>
-    ensures line { result.items ≡ ok_line count }
-    ensures short { array_vec_len result ≤ 48 }
+fn ok_line(count: u64) -> Line
+    ensures { result ≡ ok_line count }
 {
-    let mut digits = Buffer::new();
-    let mut line = ArrayVec::new();
-    line.try_extend_from_slice(b"ok ").unwrap();
-    line.try_extend_from_slice(digits.format(count).as_bytes())
-        .unwrap();
-    line.try_extend_from_slice(b" messages\n").unwrap();
+    let mut line = Line::new();
+    line.text(b"ok ");
+    line.number(count);
+    line.text(b" messages\n");
     line
 }

@@ -1,21 +1,19 @@
 //! `compare`: whether two files leave the same market.
-ghost use Rattle.std.specs.Prelude.{◌≡◌, ◌≤◌, is_none};
-ghost use Rattle.arrayvec.specs.ArrayVec.{array_vec_len};
+ghost use Rattle.std.specs.Prelude.{◌≡◌, is_none};
 ghost use Rattle.itch_commands.specs.Commands.{Compares};
 ghost use Rattle.itch_commands.specs.Comparing.{place_line};
 ghost use Rattle.itch_commands.specs.Outputs.{WritesOutput};
 ghost use Rattle.itch_commands.specs.Readings.{FromBlocks, FromReader};
 
 use crate::fault::{Source, ToolFault};
+use crate::line::Line;
 use crate::order_book::Book;
 use crate::reading::day_market;
 use crate::writing::write_text;
-use arrayvec::ArrayVec;
 use itch_book::OrderBook;
 use itch_frame::{BlockReader, CountedRead, CountedWrite};
 use itch_market::Market;
 use itch_snapshot::part_place;
-use itoa::Buffer;
 use std::alloc::Allocator;
 
 /// Writes `same` where two day files leave the same market, and returns true. Else it writes `different at N`, N being
@@ -82,23 +80,20 @@ fn compare_over<
 fn write_place<W: CountedWrite>(place: Option<u64>, out: &mut W) -> Result<bool, ToolFault>
     ensures { WritesOutput W.contents W.failures (place_line place) (is_none place) out.old result out.new }
 {
-    write_text(&place_text(place), out)?;
+    write_text(place_line(place).as_bytes(), out)?;
     Ok(place.is_none())
 }
 
-fn place_text(place: Option<u64>) -> ArrayVec<u8, 48>
-    ensures line { result.items ≡ place_line place }
-    ensures short { array_vec_len result ≤ 48 }
+fn place_line(place: Option<u64>) -> Line
+    ensures { result ≡ place_line place }
 {
-    let mut line = ArrayVec::new();
+    let mut line = Line::new();
     match place {
-        None => line.try_extend_from_slice(b"same\n").unwrap(),
+        None => line.text(b"same\n"),
         Some(place) => {
-            let mut digits = Buffer::new();
-            line.try_extend_from_slice(b"different at ").unwrap();
-            line.try_extend_from_slice(digits.format(place).as_bytes())
-                .unwrap();
-            line.try_extend_from_slice(b"\n").unwrap();
+            line.text(b"different at ");
+            line.number(place);
+            line.text(b"\n");
         }
     }
     line

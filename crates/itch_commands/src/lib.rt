@@ -22,6 +22,7 @@ pub mod compare;
 mod fault;
 pub mod join;
 pub mod laws;
+mod line;
 mod locates;
 mod order_book;
 mod performing;

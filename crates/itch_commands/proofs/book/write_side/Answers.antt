@@ -18,7 +18,7 @@ loop-price-preserved g c =
     side_more g.W.CountedWrite.contents g.W.CountedWrite.failures (g.B.OrderBook.orders c.args.book.now) c.args.locate c.args.side c.loop-price.last c.in-Some.price
     c.level_total-shares.result c.args.out.now c.loop-price.out c.write_text.new.out (g.met.B.OrderBook.is_book c.args.book.now) c.loop-price.invariant (sym c.in-Some.ensures)
     c.level_total-shares.ensures
-    (subst (λ text. WritesText g.W.CountedWrite.contents g.W.CountedWrite.failures text c.loop-price.out (Ok tt) c.write_text.new.out) (c.deref.ensures.0 ∙ c.level_line.ensures.line)
+    (subst (λ text. WritesText g.W.CountedWrite.contents g.W.CountedWrite.failures text c.loop-price.out (Ok tt) c.write_text.new.out) (c.as_bytes.ensures.bytes ∙ c.level_line.ensures)
     c.in_ok-write_text.ensures)
 
 pub returns-in_err-write_text : goal.returns-in_err-write_text
@@ -28,7 +28,7 @@ returns-in_err-write_text g c =
     c.level_total-shares.result c.args.out.now c.loop-price.out c.write_text.new.out (g.met.B.OrderBook.is_book c.args.book.now) c.loop-price.invariant (sym c.in-Some.ensures)
     c.level_total-shares.ensures c.in_err-write_text.field-0.0
     (subst (λ text. WritesText g.W.CountedWrite.contents g.W.CountedWrite.failures text c.loop-price.out (Err c.in_err-write_text.field-0.0) c.write_text.new.out)
-    (c.deref.ensures.0 ∙ c.level_line.ensures.line) c.in_err-write_text.ensures))
+    (c.as_bytes.ensures.bytes ∙ c.level_line.ensures) c.in_err-write_text.ensures))
 
 pub returns : goal.returns
 returns g c =

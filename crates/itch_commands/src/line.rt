@@ -1,0 +1,73 @@
+//! A line of output, made part by part.
+ghost use Rattle.std.specs.Prelude.{◌≡◌, ◌+◌, ◌≤◌, ◌++◌, [], length};
+ghost use Rattle.itch_codec.specs.Lines.{price_text};
+
+use arrayvec::ArrayVec;
+use itoa::{Buffer, Integer};
+use std::marker::Model;
+
+/// A line of at most 192 bytes. It lies in the value itself and takes no memory.
+#[derive(Drop)]
+pub struct Line {
+    bytes: ArrayVec<u8, 192>,
+}
+
+impl Model for Line {
+    ghost use Rattle.std.specs.Prelude.{ℕ, List};
+
+    ghost Value = { List ℕ };
+
+    ghost view = { λ l. l.bytes.items };
+}
+
+impl Line {
+    pub fn new() -> Line
+        ensures { result ≡ [] }
+    {
+        Line {
+            bytes: ArrayVec::new(),
+        }
+    }
+
+    /// The line so far.
+    pub fn as_bytes(&self) -> &[u8]
+        ensures bytes { result.now ≡ self.now }
+        ensures short { length result.now ≤ 192 }
+    {
+        self.bytes.as_slice()
+    }
+
+    /// Appends a text as it is.
+    pub fn text(&mut self, text: &[u8])
+        requires { length self.old + length text.now ≤ 192 }
+        ensures { self.new ≡ self.old ++ text.now }
+    {
+        self.bytes.try_extend_from_slice(text).unwrap();
+    }
+
+    /// Appends a number in decimal digits.
+    pub fn number<I: Integer>(&mut self, number: I)
+        requires { length self.old ≤ 152 }
+        ensures digits { self.new ≡ self.old ++ I.text number }
+        ensures short { length self.new ≤ length self.old + 40 }
+    {
+        self.text(Buffer::new().format(number).as_bytes());
+    }
+
+    /// Appends a price with its four decimals.
+    pub fn price(&mut self, price: u32)
+        requires { length self.old ≤ 147 }
+        ensures digits { self.new ≡ self.old ++ price_text price }
+        ensures short { length self.new ≤ length self.old + 45 }
+    {
+        let decimals = [
+            b'.',
+            b'0' + (price / 1_000 % 10) as u8,
+            b'0' + (price / 100 % 10) as u8,
+            b'0' + (price / 10 % 10) as u8,
+            b'0' + (price % 10) as u8,
+        ];
+        self.number(price / 10_000);
+        self.text(&decimals);
+    }
+}
