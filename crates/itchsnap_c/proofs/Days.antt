@@ -1,8 +1,10 @@
 -- What was read of a day file, written as a snapshot and compared.
 use mathlib.Core.Path.{fun_ext}
-use Rattle.std.proofs.Common.{◌≡◌, ◌≢◌, ℕ, ◌+◌, ◌≤◌, ◌⊎◌, inl, inr, Bool, not, List, ◌++◌, map, length, Option, None, Some, IsSome, IfSome, Err, sym, ap, ◌∙◌, subst, refl, arith}
+use Rattle.std.proofs.Common.{◌≡◌, ◌≢◌, ℕ, ◌+◌, ◌≤◌, ◌⊎◌, inl, inr, Bool, not, List, ◌++◌, map, length, Option, None, Some, IsSome, IfSome, IfOk, IfErr, Result, Ok, Err, sym, ap, ◌∙◌, subst, refl, arith}
 use Rattle.std.specs.List.{AllByRecursion}
 use Rattle.std.proofs.lemmas.List.Filters.{length-filter_both}
+use Rattle.std.specs.declared.alloc.Global.{Global}
+use Rattle.std.specs.declared.vec.Vec.{Vec}
 use Rattle.itch_codec.specs.Messages.{spelling}
 use Rattle.itch_codec.specs.declared.message.Message.{Message}
 use Rattle.itch_frame.specs.Blocks.{blocks}
@@ -39,7 +41,7 @@ use Rattle.itch_commands.proofs.Comparisons.{taken_good, taken_few}
 use Rattle.itchsnap_c.specs.declared.answers.Written.{Written}
 use Rattle.itchsnap_c.specs.Files.{market_of, outcome, RefusesDay, refused_day}
 use Rattle.itchsnap_c.specs.Codes.{stop_answer}
-use Rattle.itchsnap_c.specs.Snapshots.{is_listed, Writes, Puts}
+use Rattle.itchsnap_c.specs.Snapshots.{is_listed, Writes, Puts, Closes, Spells}
 
 -- a replay of a day file, or of its part, from the empty market stops so
 halts_first : (after : Option ℕ) (m n : Content) (day : List ℕ) (bytes new : Option (List ℕ)) (count : ℕ) (stop : Stop) → m ≡ empty → bytes ≡ Some day
@@ -124,6 +126,14 @@ module _ (wanted : ℕ → Bool) (m : Content) where
 pub same_cut : (set : Wanted) (locates : List ℕ) (m : Content) (next : ℕ) → ((locate : ℕ) → has set locate ≡ is_listed locates locate)
     → canon (only (has set) m) ++ closing next ≡ canon (only (is_listed locates) m) ++ closing next
 same_cut set locates m next same = ap (λ wanted. canon (only wanted m) ++ closing next) (fun_ext same)
+
+-- and what is written for such a set is the snapshot of the listed locates
+pub cut_spelled : (set : Wanted) (locates : List ℕ) (m : Content) (next number : ℕ) (made : Result (Vec ℕ Global) ℕ) → Closes m next (Ok number)
+    → ((locate : ℕ) → has set locate ≡ is_listed locates locate) → IfOk made (λ bytes. bytes.items ≡ canon (only (has set) m) ++ closing number)
+    → IfErr made (λ code. code ≡ 48) → Spells m (only (is_listed locates) m) next made
+cut_spelled set locates m next number (Ok bytes) closes same written refused =
+    (closes.1, closes.2, written ∙ ap (λ k. canon (only (has set) m) ++ closing k) closes.0 ∙ same_cut set locates m next same)
+cut_spelled set locates m next number (Err code) closes same written refused = inr (refused, closes.1, closes.2)
 
 module _ (after : Option ℕ) (ps : List (List ℕ)) (m : Content) (taken : AreTaken after ps) (fits : AllByRecursion Fits ps) (left : m ≡ laid (market_of ps)) where
   -- the market that was read has the bytes of its messages' market

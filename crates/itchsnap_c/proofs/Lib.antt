@@ -1,3 +1,4 @@
+pub mod Joining
 pub mod Values
 pub mod Pointers
 pub mod Days

@@ -10,11 +10,20 @@ use Rattle.itch_market.specs.declared.stop.Stop.TheVariants.{End, Frame, Codec, 
 use Rattle.itch_snapshot.specs.declared.fault.SnapFault.{SnapFault}
 use Rattle.itch_snapshot.specs.declared.fault.SnapFault.TheVariants as snap
 use Rattle.itchsnap_c.specs.declared.answers.Answer.{Answer}
+use Rattle.itchsnap_c.specs.declared.answers.Count.{Count}
 use Rattle.itchsnap_c.specs.declared.answers.Loaded.{Loaded}
 
 -- a code, and what it adds
 abbrev pub coded : ℕ → ℕ → Answer
 coded code detail = record { detail = detail; code = code }
+
+-- a number
+abbrev pub counted : ℕ → Count
+counted count = record { count = count; code = 0 }
+
+-- no number, for this reason
+abbrev pub no_count : ℕ → Count
+no_count code = record { count = 0; code = code }
 
 -- the call did what it says
 abbrev pub done : Answer

@@ -14,10 +14,10 @@ use Rattle.itchsnap_c.specs.declared.answers.Answer.{Answer}
 use Rattle.itchsnap_c.specs.declared.answers.Count.{Count}
 use Rattle.itchsnap_c.specs.declared.answers.Joined.{Joined}
 use Rattle.itchsnap_c.specs.declared.object.Object.{Object}
-use Rattle.itchsnap_c.specs.declared.object.Object.TheVariants.{Market, Joiner, Client, Server}
-use Rattle.itchsnap_c.specs.Codes.{done, no_memory, in_use}
+use Rattle.itchsnap_c.specs.declared.object.Object.TheVariants.{Joiner}
+use Rattle.itchsnap_c.specs.Codes.{counted, no_count, done, no_memory, in_use}
 use Rattle.itchsnap_c.specs.JoinCodes.{coded_number, live_answer, snap_answer, resumed_answer}
-use Rattle.itchsnap_c.specs.Objects.{Fills}
+use Rattle.itchsnap_c.specs.Objects.{Fills, joiner_of}
 use Rattle.itchsnap_c.specs.Snapshots.{is_listed}
 
 -- the handle holds no joiner
@@ -57,25 +57,19 @@ Restarts j answer k = (answer ≡ done) × Steps j CallRestart k
 abbrev pub Resumes : Joining → Joined → Joining → Type 0
 Resumes j answer k = (taken : Result (Option ℕ) JoinFault) × (answer ≡ resumed_answer taken) × Steps j (CallResume taken) k
 
-abbrev pub joiner_of : Object → Option Joining
-joiner_of (Market m) = None
-joiner_of (Joiner j) = Some j
-joiner_of (Client c) = None
-joiner_of (Server s) = None
-
 abbrev pub held_joiner : Option Object → Option Joining
 held_joiner held = option_and_then joiner_of held
 
 abbrev pub next_at : Option Position → Count
-next_at (Some at) = record { count = at.next; code = 0 }
-next_at None = record { count = 0; code = 53 }
+next_at (Some at) = counted at.next
+next_at None = no_count 53
 
 -- the number of the next message, once joined
 abbrev pub next_in : Option Joining → Count
 next_in (Some j) = next_at j.state.joined
-next_in None = record { count = 0; code = 50 }
+next_in None = no_count 50
 
 -- the number of messages that wait
 abbrev pub waiting_in : Option Joining → Count
-waiting_in (Some j) = record { count = map.len j.state.wait; code = 0 }
-waiting_in None = record { count = 0; code = 50 }
+waiting_in (Some j) = counted (map.len j.state.wait)
+waiting_in None = no_count 50

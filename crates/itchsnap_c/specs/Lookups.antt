@@ -9,6 +9,7 @@ use Rattle.itchsnap_c.specs.declared.answers.BookOrder.{BookOrder}
 use Rattle.itchsnap_c.specs.declared.answers.Level.{Level}
 use Rattle.itchsnap_c.specs.declared.answers.Price.{Price}
 use Rattle.itchsnap_c.specs.declared.answers.Count.{Count}
+use Rattle.itchsnap_c.specs.Codes.{counted, no_count}
 
 abbrev pub side_of : Bool → Side
 side_of true = Buy
@@ -50,12 +51,9 @@ order_in None reference = no_order 50
 abbrev pub level_answer : ℕ × ℕ → Level
 level_answer total = record { shares_low = total.0 % 2 ^ 64; shares_high = total.0 / 2 ^ 64; orders = total.1; code = 0 }
 
-abbrev pub no_level : Level
-no_level = record { shares_low = 0; shares_high = 0; orders = 0; code = 50 }
-
 abbrev pub level_in : Option Content → ℕ → Bool → ℕ → Level
 level_in (Some m) locate buy price = level_answer (book.level_total m.orders locate (side_of buy) price)
-level_in None locate buy price = no_level
+level_in None locate buy price = record { shares_low = 0; shares_high = 0; orders = 0; code = 50 }
 
 -- a price, or that there is none
 abbrev pub price_answer : Option ℕ → Price
@@ -67,10 +65,7 @@ abbrev pub price_in : Option Content → ℕ → Bool → Bool → ℕ → Price
 price_in (Some m) locate buy after last = price_answer (book.next_price m.orders locate (side_of buy) (if after then Some last else None))
 price_in None locate buy after last = record { price = 0; code = 50 }
 
-abbrev pub no_count : Count
-no_count = record { count = 0; code = 50 }
-
 -- the number of live orders
 abbrev pub count_in : Option Content → Count
-count_in (Some m) = record { count = length m.orders; code = 0 }
-count_in None = no_count
+count_in (Some m) = counted (length m.orders)
+count_in None = no_count 50

@@ -31,30 +31,45 @@ OnHandle wrong call (Some old) answer (Some new) = call old answer new
 OnHandle wrong call (Some old) answer None = ⊥
 OnHandle wrong call None answer new = (answer ≡ wrong) × (new ≡ None)
 
--- What a call on a market returns and leaves; every other object stays as it was.
+-- What a call on one part of an object returns and leaves; an object without that part stays as it was.
+abbrev pub AtPart : {A P : Type 0} → (P → Object) → A → (P → A → P → Type 0) → Option P → Object → A → Object → Type 0
+AtPart {A} {P} made wrong call (Some old_part) old answer new = (new_part : P) × call old_part answer new_part × (new ≡ made new_part)
+AtPart made wrong call None old answer new = (answer ≡ wrong) × (new ≡ old)
+
+-- a market that no joiner keeps
+abbrev pub plain_market_of : Object → Option Content
+plain_market_of (Market m) = Some m
+plain_market_of (Joiner j) = None
+plain_market_of (Client c) = None
+plain_market_of (Server s) = None
+
+abbrev pub joiner_of : Object → Option Joining
+joiner_of (Market m) = None
+joiner_of (Joiner j) = Some j
+joiner_of (Client c) = None
+joiner_of (Server s) = None
+
+abbrev pub client_of : Object → Option soup.Client
+client_of (Market m) = None
+client_of (Joiner j) = None
+client_of (Client c) = Some c
+client_of (Server s) = None
+
+abbrev pub server_of : Object → Option soup_server.Server
+server_of (Market m) = None
+server_of (Joiner j) = None
+server_of (Client c) = None
+server_of (Server s) = Some s
+
+-- what a call on a market, a joiner, a client's session or a server's returns and leaves
 abbrev pub AtMarket : {A : Type 0} → A → (Content → A → Content → Type 0) → Object → A → Object → Type 0
-AtMarket wrong call (Market m) answer new = (n : Content) × call m answer n × (new ≡ Market n)
-AtMarket wrong call (Joiner j) answer new = (answer ≡ wrong) × (new ≡ Joiner j)
-AtMarket wrong call (Client c) answer new = (answer ≡ wrong) × (new ≡ Client c)
-AtMarket wrong call (Server s) answer new = (answer ≡ wrong) × (new ≡ Server s)
+AtMarket wrong call old answer new = AtPart Market wrong call (plain_market_of old) old answer new
 
--- the same of a joiner
 abbrev pub AtJoiner : {A : Type 0} → A → (Joining → A → Joining → Type 0) → Object → A → Object → Type 0
-AtJoiner wrong call (Market m) answer new = (answer ≡ wrong) × (new ≡ Market m)
-AtJoiner wrong call (Joiner j) answer new = (k : Joining) × call j answer k × (new ≡ Joiner k)
-AtJoiner wrong call (Client c) answer new = (answer ≡ wrong) × (new ≡ Client c)
-AtJoiner wrong call (Server s) answer new = (answer ≡ wrong) × (new ≡ Server s)
+AtJoiner wrong call old answer new = AtPart Joiner wrong call (joiner_of old) old answer new
 
--- the same of a client's session
 abbrev pub AtClient : {A : Type 0} → A → (soup.Client → A → soup.Client → Type 0) → Object → A → Object → Type 0
-AtClient wrong call (Market m) answer new = (answer ≡ wrong) × (new ≡ Market m)
-AtClient wrong call (Joiner j) answer new = (answer ≡ wrong) × (new ≡ Joiner j)
-AtClient wrong call (Client c) answer new = (d : soup.Client) × call c answer d × (new ≡ Client d)
-AtClient wrong call (Server s) answer new = (answer ≡ wrong) × (new ≡ Server s)
+AtClient wrong call old answer new = AtPart Client wrong call (client_of old) old answer new
 
--- the same of a server's session
 abbrev pub AtServer : {A : Type 0} → A → (soup_server.Server → A → soup_server.Server → Type 0) → Object → A → Object → Type 0
-AtServer wrong call (Market m) answer new = (answer ≡ wrong) × (new ≡ Market m)
-AtServer wrong call (Joiner j) answer new = (answer ≡ wrong) × (new ≡ Joiner j)
-AtServer wrong call (Client c) answer new = (answer ≡ wrong) × (new ≡ Client c)
-AtServer wrong call (Server s) answer new = (t : soup_server.Server) × call s answer t × (new ≡ Server t)
+AtServer wrong call old answer new = AtPart Server wrong call (server_of old) old answer new

@@ -1,5 +1,5 @@
 -- What the calls on sessions return and leave.
-use Rattle.std.specs.Prelude.{◌≡◌, ◌⊎◌, ◌<◌, ◌≤◌, ◌^◌, ℕ, List, replicate, Option, Some, None, option_and_then}
+use Rattle.std.specs.Prelude.{◌≡◌, ◌⊎◌, ◌<◌, ◌≤◌, ◌-◌, ◌^◌, ℕ, List, replicate, Option, Some, None, option_and_then}
 use Rattle.itch_codec.specs.Text.{IsPrintable}
 use Rattle.itch_soup.specs.Clients as soup
 use Rattle.itch_soup.specs.Connections.{tick_answer as due}
@@ -8,6 +8,7 @@ use Rattle.itch_soup.specs.Servers as soup_server
 use Rattle.itch_soup.specs.declared.fault.SoupFault.{SoupFault}
 use Rattle.itch_soup.specs.declared.login.Credentials.{Credentials}
 use Rattle.itch_soup.specs.declared.login.ServerConfig.{ServerConfig}
+use Rattle.itch_soup.specs.declared.origin.Origin.{Origin}
 use Rattle.itch_soup.specs.declared.origin.Origin.TheVariants as from
 use Rattle.itch_soup.specs.declared.packet.Packet.{Packet}
 use Rattle.itch_soup.specs.declared.packet.Packet.TheVariants as is
@@ -19,7 +20,7 @@ use Rattle.itchsnap_c.specs.declared.answers.LoginPacket.{LoginPacket}
 use Rattle.itchsnap_c.specs.declared.object.Object.{Object}
 use Rattle.itchsnap_c.specs.declared.object.Object.TheVariants.{Market, Joiner, Client, Server}
 use Rattle.itchsnap_c.specs.Codes.{coded, done, wrong}
-use Rattle.itchsnap_c.specs.Objects.{Fills}
+use Rattle.itchsnap_c.specs.Objects.{Fills, client_of, server_of}
 use Rattle.itchsnap_c.specs.Snapshots.{IsNumber}
 use Rattle.itchsnap_c.specs.SoupCodes.{act, client_act, server_act, soup_fault_act, tick_answer}
 
@@ -37,31 +38,32 @@ credentials_of login = record { username = login.username; password = login.pass
 abbrev pub config_of : Login → ServerConfig
 config_of login = record { username = login.username; password = login.password; session = login.session }
 
--- a handle is filled with a new client's session, unless a text is none, or else the number is
-abbrev pub FillsClient : Login → ℕ → ℕ → Option Object → Answer → Option Object → Type 0
-FillsClient login number now old answer new =
-    (AreTexts login × (number ≤ 10 ^ 19) × Fills old (Client (soup.new_client (credentials_of login) number now)) answer new)
+-- a handle is filled with a new session, unless a text is none, or else the number is above the most, for which this is the code
+abbrev pub FillsSession : Login → ℕ → ℕ → ℕ → Object → Option Object → Answer → Option Object → Type 0
+FillsSession login number most code session old answer new =
+    (AreTexts login × (number ≤ most) × Fills old session answer new)
     ⊎ ((¬ AreTexts login) × (answer ≡ coded 3 0) × (new ≡ old))
-    ⊎ (AreTexts login × (10 ^ 19 < number) × (answer ≡ coded 54 0) × (new ≡ old))
+    ⊎ (AreTexts login × (most < number) × (answer ≡ coded code 0) × (new ≡ old))
 
--- a handle is filled with a new server's session, unless a text is none, or else there are too many messages
+-- so with a client's session and its number
+abbrev pub FillsClient : Login → ℕ → ℕ → Option Object → Answer → Option Object → Type 0
+FillsClient login number now = FillsSession login number (10 ^ 19) 54 (Client (soup.new_client (credentials_of login) number now))
+
+-- and with a server's session and its number of messages
 abbrev pub FillsServer : Login → ℕ → ℕ → Option Object → Answer → Option Object → Type 0
-FillsServer config total now old answer new =
-    (AreTexts config × (total < 10 ^ 19) × Fills old (Server (soup_server.new_server (config_of config) total now)) answer new)
-    ⊎ ((¬ AreTexts config) × (answer ≡ coded 3 0) × (new ≡ old))
-    ⊎ (AreTexts config × (10 ^ 19 ≤ total) × (answer ≡ coded 33 0) × (new ≡ old))
+FillsServer config total now = FillsSession config total (10 ^ 19 - 1) 33 (Server (soup_server.new_server (config_of config) total now))
 
--- a block is a server's packet, and is answered so; or it is none, and leaves the session
+-- a block is a packet of this side, and is answered so; or it is none, and leaves the session
+abbrev pub Hears : {S : Type 0} → Origin → (S → Packet → Act) → (S → Packet → S) → List ℕ → S → Act → S → Type 0
+Hears side answer_to after block s answer t =
+    ((packet : Packet) × PacketSpells packet block side × (answer ≡ answer_to s packet) × (t ≡ after s packet))
+    ⊎ ((fault : SoupFault) × (packet_fault block side ≡ Some fault) × (answer ≡ soup_fault_act fault) × (t ≡ s))
+
 abbrev pub ClientHears : List ℕ → ℕ → soup.Client → Act → soup.Client → Type 0
-ClientHears block now c answer d =
-    ((packet : Packet) × PacketSpells packet block from.Server × (answer ≡ client_act (soup.client_answer c packet)) × (d ≡ soup.client_after_packet c packet now))
-    ⊎ ((fault : SoupFault) × (packet_fault block from.Server ≡ Some fault) × (answer ≡ soup_fault_act fault) × (d ≡ c))
+ClientHears block now = Hears from.Server (λ c packet. client_act (soup.client_answer c packet)) (λ c packet. soup.client_after_packet c packet now) block
 
--- a block is a client's packet, and is answered so; or it is none, and leaves the session
 abbrev pub ServerHears : List ℕ → ℕ → soup_server.Server → Act → soup_server.Server → Type 0
-ServerHears block now s answer t =
-    ((packet : Packet) × PacketSpells packet block from.Client × (answer ≡ server_act (soup_server.server_answer s packet)) × (t ≡ soup_server.server_after_packet s packet now))
-    ⊎ ((fault : SoupFault) × (packet_fault block from.Client ≡ Some fault) × (answer ≡ soup_fault_act fault) × (t ≡ s))
+ServerHears block now = Hears from.Client (λ s packet. server_act (soup_server.server_answer s packet)) (λ s packet. soup_server.server_after_packet s packet now) block
 
 -- a session is asked what is due at a moment
 abbrev pub Ticks : ℕ → Object → Answer → Object → Type 0
@@ -77,20 +79,8 @@ Notes now (Joiner j) answer new = (answer ≡ wrong) × (new ≡ Joiner j)
 Notes now (Client c) answer new = (answer ≡ done) × (new ≡ Client (soup.client_after_sent c now))
 Notes now (Server s) answer new = (answer ≡ done) × (new ≡ Server (soup_server.server_after_sent s now))
 
-abbrev pub client_of : Object → Option soup.Client
-client_of (Market m) = None
-client_of (Joiner j) = None
-client_of (Client c) = Some c
-client_of (Server s) = None
-
 abbrev pub held_client : Option Object → Option soup.Client
 held_client held = option_and_then client_of held
-
-abbrev pub server_of : Object → Option soup_server.Server
-server_of (Market m) = None
-server_of (Joiner j) = None
-server_of (Client c) = None
-server_of (Server s) = Some s
 
 abbrev pub held_server : Option Object → Option soup_server.Server
 held_server held = option_and_then server_of held

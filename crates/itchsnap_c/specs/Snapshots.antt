@@ -1,5 +1,7 @@
 -- What a snapshot into C's memory leaves.
-use Rattle.std.specs.Prelude.{◌≡◌, ℕ, ◌<◌, ◌≤◌, ◌^◌, ◌⊎◌, Bool, nat_eq, List, ◌++◌, length, drop, Option, Some, None}
+use Rattle.std.specs.Prelude.{◌≡◌, ℕ, ◌<◌, ◌≤◌, ◌^◌, ◌⊎◌, Bool, nat_eq, List, ◌++◌, length, drop, Option, Some, None, Result, Ok, Err}
+use Rattle.std.specs.declared.alloc.Global.{Global}
+use Rattle.std.specs.declared.vec.Vec.{Vec}
 use Rattle.std.specs.List.{list_any}
 use Rattle.itch_market.specs.Content.{Content}
 use Rattle.itch_snapshot.specs.Bytes.{canon, closing}
@@ -40,3 +42,19 @@ Puts m cut next old written new =
 abbrev pub PutsHeld : (Content → Content) → Option Content → ℕ → List ℕ → Written → List ℕ → Type 0
 PutsHeld cut (Some m) next old written new = Puts m (cut m) next old written new
 PutsHeld cut None next old written new = (written ≡ unwritten 50) × (new ≡ old)
+
+-- The number that closes the snapshot of a market, or the code of why there is none: the number is none, or else the market has
+-- too many messages.
+abbrev pub Closes : Content → ℕ → Result ℕ ℕ → Type 0
+Closes m next (Ok number) = (number ≡ next) × IsNumber next × (length (snap m) < 10 ^ 19)
+Closes m next (Err code) = ((code ≡ 54) × (¬ IsNumber next)) ⊎ ((code ≡ 33) × IsNumber next × (10 ^ 19 ≤ length (snap m)))
+
+-- the snapshot of a market, or of what it was cut down to, closed with a number, or the code of why there is none
+abbrev pub Spells : Content → Content → ℕ → Result (Vec ℕ Global) ℕ → Type 0
+Spells m cut next (Ok bytes) = IsNumber next × (length (snap m) < 10 ^ 19) × (bytes.items ≡ canon cut ++ closing next)
+Spells m cut next (Err code) = Closes m next (Err code) ⊎ ((code ≡ 48) × IsNumber next × (length (snap m) < 10 ^ 19))
+
+-- the bytes are copied, where there are any
+abbrev pub Stores : Result (Vec ℕ Global) ℕ → List ℕ → Written → List ℕ → Type 0
+Stores (Ok bytes) old written new = Copies bytes.items old written new
+Stores (Err code) old written new = (written ≡ unwritten code) × (new ≡ old)

@@ -1,6 +1,6 @@
 //! What C gets: small structs, each with a code.
 //!
-//! A code is 0 where the call did what it says, and else the number of its refusal, as the table in [`codes`](crate::codes) has it.
+//! A code is 0 where the call did what it says, and else the number of its refusal, as `c/itchsnap.h` has it.
 
 /// What became of a call.
 #[repr(C)]

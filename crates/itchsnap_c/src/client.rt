@@ -1,15 +1,16 @@
 //! A client's sessions that C keeps.
-ghost use Rattle.std.specs.Prelude.{◌≡◌, IfOk, IfErr, None};
+ghost use Rattle.std.specs.Prelude.{◌≡◌};
 ghost use Rattle.itchsnap_c.specs.Objects.{OnHandle, AtClient};
-ghost use Rattle.itchsnap_c.specs.Sessions.{FillsClient, AreTexts, credentials_of, ClientHears, client_of, held_client, login_in, wrong_act};
+ghost use Rattle.itchsnap_c.specs.Sessions.{FillsClient, ClientHears, held_client, login_in, wrong_act};
 
 use crate::answers::{Act, Answer, Login, LoginPacket};
-use crate::codes::{BAD_TEXT, NO_NUMBER, WRONG_HANDLE, plain};
+use crate::codes::{BAD_TEXT, NO_NUMBER, WRONG_HANDLE, coded};
 use crate::handle::Handle;
 use crate::object::Object;
+use crate::session::credentials;
 use crate::soup_codes::{WRONG_ACT, client_act, soup_fault_act};
-use itch_codec::{Alpha, AlphaFault, GREATEST_SEQ};
-use itch_soup::{ClientSession, Credentials, Origin, parse_packet};
+use itch_codec::GREATEST_SEQ;
+use itch_soup::{ClientSession, Origin, parse_packet};
 use std::alloc::Global;
 
 /// Puts a client's session into a handle that holds nothing. It begins at this moment, in milliseconds, and asks for the
@@ -25,10 +26,10 @@ pub extern "C" fn itchsnap_client_new(
     ensures { FillsClient login.now from now_ms handle.old.kept.object result handle.new.kept.object }
 {
     let Ok(credentials) = credentials(login) else {
-        return plain(BAD_TEXT);
+        return coded(BAD_TEXT, 0);
     };
     if from > GREATEST_SEQ {
-        return plain(NO_NUMBER);
+        return coded(NO_NUMBER, 0);
     }
     handle.fill(
         alloc,
@@ -42,12 +43,14 @@ pub extern "C" fn itchsnap_client_login(alloc: Global, handle: &mut Handle) -> L
     ensures login { result ≡ login_in (held_client handle.old.kept.object) }
     ensures same { handle.new.kept.object ≡ handle.old.kept.object }
 {
-    let Some(object) = handle.take(alloc) else {
-        return no_login();
-    };
-    let packet = login_packet(&object);
-    handle.put(object);
-    packet
+    handle.with_client(
+        alloc,
+        NO_LOGIN,
+        |session| LoginPacket {
+            bytes: session.login(),
+            code: 0,
+        },
+    )
 }
 
 /// What a packet means that was heard at this moment, in milliseconds. A block that is no packet of a server is refused, and
@@ -61,24 +64,10 @@ pub extern "C" fn itchsnap_client_packet(
 ) -> Act
     ensures { OnHandle wrong_act (AtClient wrong_act (ClientHears packet.now now_ms)) handle.old.kept.object result handle.new.kept.object }
 {
-    let Some(mut object) = handle.take(alloc) else {
-        return WRONG_ACT;
-    };
-    let act = hear(&mut object, packet, now_ms);
-    handle.put(object);
-    act
+    handle.with_client(alloc, WRONG_ACT, |session| hear(session, packet, now_ms))
 }
 
-fn hear(object: &mut Object, block: &[u8], now_ms: u64) -> Act
-    ensures { AtClient wrong_act (ClientHears block.now now_ms) object.old result object.new }
-{
-    match object {
-        Object::Client(session) => hear_block(session, block, now_ms),
-        Object::Market(_) | Object::Joiner(_) | Object::Server(_) => WRONG_ACT,
-    }
-}
-
-fn hear_block(session: &mut ClientSession, block: &[u8], now_ms: u64) -> Act
+fn hear(session: &mut ClientSession, block: &[u8], now_ms: u64) -> Act
     ensures { ClientHears block.now now_ms session.old result session.new }
 {
     match parse_packet(block, Origin::Server) {
@@ -87,34 +76,8 @@ fn hear_block(session: &mut ClientSession, block: &[u8], now_ms: u64) -> Act
     }
 }
 
-fn login_packet(object: &Object) -> LoginPacket
-    ensures { result ≡ login_in (client_of object.now) }
-{
-    match object {
-        Object::Client(session) => LoginPacket {
-            bytes: session.login(),
-            code: 0,
-        },
-        Object::Market(_) | Object::Joiner(_) | Object::Server(_) => no_login(),
-    }
-}
-
-fn no_login() -> LoginPacket
-    ensures { result ≡ login_in None }
-{
-    LoginPacket {
-        bytes: [0; 47],
-        code: WRONG_HANDLE,
-    }
-}
-
-fn credentials(login: &Login) -> Result<Credentials, AlphaFault>
-    ensures taken { IfOk result (λ made. AreTexts login.now × (made ≡ credentials_of login.now)) }
-    ensures refused { IfErr result (λ fault. ¬ AreTexts login.now) }
-{
-    Ok(Credentials {
-        username: Alpha::from_bytes(&login.username)?,
-        password: Alpha::from_bytes(&login.password)?,
-        session: Alpha::from_bytes(&login.session)?,
-    })
-}
+// The answer where a handle holds no client's session.
+const NO_LOGIN: LoginPacket = LoginPacket {
+    bytes: [0; 47],
+    code: WRONG_HANDLE,
+};

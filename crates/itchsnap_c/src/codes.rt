@@ -1,15 +1,24 @@
 //! The numbers of refusals.
 ghost use Rattle.std.specs.Prelude.{◌≡◌};
-ghost use Rattle.itchsnap_c.specs.Codes.{codec_answer, refusal_answer, stop_answer, outcome_answer, not_loaded, snapshot_answer};
+ghost use Rattle.itchsnap_c.specs.Codes.{coded, counted, no_count, codec_answer, refusal_answer, stop_answer, outcome_answer, not_loaded, refused_at, snapshot_answer};
 
-use crate::answers::{Answer, Loaded};
+use crate::answers::{Answer, Count, Loaded};
 use itch_codec::CodecFault;
 use itch_frame::FrameFault;
 use itch_market::{Refusal, Stop};
 use itch_snapshot::SnapFault;
 
+/// There are no bytes.
+pub(crate) const EMPTY: u32 = 1;
+
+/// There are more or fewer bytes than the type has.
+pub(crate) const WRONG_LENGTH: u32 = 2;
+
 /// A byte of a text is not printable.
 pub(crate) const BAD_TEXT: u32 = 3;
+
+/// A field has no number.
+pub(crate) const BAD_NUMBER: u32 = 5;
 
 /// A market has more messages than a snapshot may have.
 pub(crate) const TOO_MANY_MESSAGES: u32 = 33;
@@ -59,11 +68,25 @@ pub(crate) const TAKEN: Answer = Answer {
     code: IN_USE,
 };
 
-/// A code that adds nothing.
-pub(crate) fn plain(code: u32) -> Answer
-    ensures { result ≡ record { detail = 0; code = code } }
+/// A code, and what it adds.
+pub(crate) fn coded(code: u32, detail: u64) -> Answer
+    ensures { result ≡ coded code detail }
 {
-    Answer { detail: 0, code }
+    Answer { detail, code }
+}
+
+/// A number.
+pub(crate) fn counted(count: u64) -> Count
+    ensures { result ≡ counted count }
+{
+    Count { count, code: 0 }
+}
+
+/// No number, for this reason.
+pub(crate) fn no_count(code: u32) -> Count
+    ensures { result ≡ no_count code }
+{
+    Count { count: 0, code }
 }
 
 /// What is returned for a message that was taken or not.
@@ -81,20 +104,11 @@ pub(crate) fn codec_answer(fault: &CodecFault) -> Answer
     ensures { result ≡ codec_answer fault.now }
 {
     match fault {
-        CodecFault::Empty => plain(1),
-        CodecFault::WrongLength { want, .. } => Answer {
-            detail: *want as u64,
-            code: 2,
-        },
-        CodecFault::BadText { offset } => Answer {
-            detail: *offset as u64,
-            code: 3,
-        },
-        CodecFault::BadSide { offset } => Answer {
-            detail: *offset as u64,
-            code: 4,
-        },
-        CodecFault::BadNumber => plain(5),
+        CodecFault::Empty => coded(EMPTY, 0),
+        CodecFault::WrongLength { want, .. } => coded(WRONG_LENGTH, *want as u64),
+        CodecFault::BadText { offset } => coded(BAD_TEXT, *offset as u64),
+        CodecFault::BadSide { offset } => coded(4, *offset as u64),
+        CodecFault::BadNumber => coded(BAD_NUMBER, 0),
     }
 }
 
@@ -104,14 +118,11 @@ pub(crate) fn stop_answer(stop: &Stop) -> Answer
 {
     match stop {
         Stop::End => DONE,
-        Stop::Frame(FrameFault::Truncated { held }) => Answer {
-            detail: *held as u64,
-            code: 32,
-        },
-        Stop::Frame(_) => plain(UNREAD),
+        Stop::Frame(FrameFault::Truncated { held }) => coded(32, *held as u64),
+        Stop::Frame(_) => coded(UNREAD, 0),
         Stop::Codec(fault) => codec_answer(fault),
         Stop::Rule(why) => refusal_answer(why),
-        Stop::TooManyMessages => plain(TOO_MANY_MESSAGES),
+        Stop::TooManyMessages => coded(TOO_MANY_MESSAGES, 0),
     }
 }
 
@@ -120,17 +131,14 @@ pub(crate) fn refusal_answer(why: &Refusal) -> Answer
     ensures { result ≡ refusal_answer why.now }
 {
     match why {
-        Refusal::UnknownLocate => plain(16),
-        Refusal::StockMismatch => plain(17),
-        Refusal::ZeroShares => plain(18),
-        Refusal::DuplicateRef => plain(19),
-        Refusal::UnknownRef => plain(20),
-        Refusal::LocateMismatch => plain(21),
-        Refusal::TooManyShares { remain } => Answer {
-            detail: u64::from(*remain),
-            code: 22,
-        },
-        Refusal::UnexpectedEnd => plain(23),
+        Refusal::UnknownLocate => coded(16, 0),
+        Refusal::StockMismatch => coded(17, 0),
+        Refusal::ZeroShares => coded(18, 0),
+        Refusal::DuplicateRef => coded(19, 0),
+        Refusal::UnknownRef => coded(20, 0),
+        Refusal::LocateMismatch => coded(21, 0),
+        Refusal::TooManyShares { remain } => coded(22, u64::from(*remain)),
+        Refusal::UnexpectedEnd => coded(23, 0),
         Refusal::OutOfMemory => NO_MEMORY,
     }
 }
@@ -149,7 +157,7 @@ pub(crate) fn not_loaded(code: u32) -> Loaded
 
 // What is returned for a message of a snapshot that is refused.
 fn refused_at(place: u64, answer: Answer) -> Loaded
-    ensures { result ≡ record { next = 0; place = place; detail = answer.detail; code = answer.code } }
+    ensures { result ≡ refused_at place answer }
 {
     Loaded {
         next: 0,

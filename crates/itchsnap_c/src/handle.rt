@@ -6,7 +6,10 @@ use crate::answers::Answer;
 use crate::codes::{DONE, NO_MEMORY, TAKEN};
 use crate::kept::{Kept, empty, seal, unseal};
 use crate::loose::Loose;
-use crate::object::Object;
+use crate::object::{Book, Object};
+use itch_join::Joiner;
+use itch_market::Market;
+use itch_soup::{ClientSession, ServerSession};
 use std::alloc::Global;
 use std::mem::replace;
 
@@ -22,7 +25,8 @@ pub struct Handle {
 
 impl Handle {
     ghost use Rattle.std.specs.Prelude.{◌≡◌, IsSome, Some, None, true, false, MatchOption};
-    ghost use Rattle.itchsnap_c.specs.Objects.{Fills};
+    ghost use Rattle.std.specs.Fn.{FnOnceReturnsAt, FnOnceReturnsAtMut};
+    ghost use Rattle.itchsnap_c.specs.Objects.{Fills, OnHandle, AtJoiner, AtClient, AtServer, held_market};
 
     /// Whether there is an object.
     pub(crate) fn is_live(&self) -> bool
@@ -32,8 +36,8 @@ impl Handle {
         self.live
     }
 
-    /// Takes the object out, if there is one.
-    pub(crate) fn take(&mut self, alloc: Global) -> Option<Box<Object>>
+    // Takes the object out, if there is one.
+    fn take(&mut self, alloc: Global) -> Option<Box<Object>>
         ensures taken { MatchOption result (self.old.kept.object ≡ None) (λ object. self.old.kept.object ≡ Some object.value) }
         ensures empty { self.new.kept.object ≡ None }
     {
@@ -64,6 +68,82 @@ impl Handle {
         };
         self.put(object);
         DONE
+    }
+
+    /// Makes a call on the object; where there is none, the answer is `wrong`.
+    pub(crate) fn with<R: Copy, F: FnOnce(&mut Object) -> R>(
+        &mut self,
+        alloc: Global,
+        wrong: R,
+        call: F,
+    ) -> R
+        requires { F.IsAlwaysCallable call }
+        ensures { OnHandle wrong (FnOnceReturnsAtMut F.FnOnce call) self.old.kept.object result self.new.kept.object }
+    {
+        let Some(mut object) = self.take(alloc) else {
+            return wrong;
+        };
+        let answer = call(&mut object);
+        self.put(object);
+        answer
+    }
+
+    /// Makes a call on the joiner; where there is none, the answer is `wrong`.
+    pub(crate) fn with_joiner<R: Copy, F: FnOnce(&mut Joiner<Book>) -> R>(
+        &mut self,
+        alloc: Global,
+        wrong: R,
+        call: F,
+    ) -> R
+        requires { F.IsAlwaysCallable call }
+        ensures { OnHandle wrong (AtJoiner wrong (FnOnceReturnsAtMut F.FnOnce call)) self.old.kept.object result self.new.kept.object }
+    {
+        self.with(alloc, wrong, |object| object.at_joiner(wrong, call))
+    }
+
+    /// The same of a client's session.
+    pub(crate) fn with_client<R: Copy, F: FnOnce(&mut ClientSession) -> R>(
+        &mut self,
+        alloc: Global,
+        wrong: R,
+        call: F,
+    ) -> R
+        requires { F.IsAlwaysCallable call }
+        ensures { OnHandle wrong (AtClient wrong (FnOnceReturnsAtMut F.FnOnce call)) self.old.kept.object result self.new.kept.object }
+    {
+        self.with(alloc, wrong, |object| object.at_client(wrong, call))
+    }
+
+    /// The same of a server's session.
+    pub(crate) fn with_server<R: Copy, F: FnOnce(&mut ServerSession) -> R>(
+        &mut self,
+        alloc: Global,
+        wrong: R,
+        call: F,
+    ) -> R
+        requires { F.IsAlwaysCallable call }
+        ensures { OnHandle wrong (AtServer wrong (FnOnceReturnsAtMut F.FnOnce call)) self.old.kept.object result self.new.kept.object }
+    {
+        self.with(alloc, wrong, |object| object.at_server(wrong, call))
+    }
+
+    /// Looks something up in the market; where there is none, the answer is `wrong`.
+    pub(crate) fn look_up<R: Drop, F: FnOnce(&Market<Book>) -> R>(
+        &mut self,
+        alloc: Global,
+        wrong: R,
+        call: F,
+    ) -> R
+        requires { F.IsAlwaysCallable call }
+        ensures answer { MatchOption (held_market self.old.kept.object) (result ≡ wrong) (λ market. FnOnceReturnsAt F.FnOnce call market result) }
+        ensures same { self.new.kept.object ≡ self.old.kept.object }
+    {
+        let Some(object) = self.take(alloc) else {
+            return wrong;
+        };
+        let answer = object.market().map_or(wrong, call);
+        self.put(object);
+        answer
     }
 }
 

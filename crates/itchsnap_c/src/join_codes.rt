@@ -4,9 +4,12 @@ ghost use Rattle.itchsnap_c.specs.JoinCodes.{coded_number, cause_answer, caused,
 
 use crate::answers::{Answer, Joined};
 use crate::codes::{
-    NOT_JOINED, OUT_OF_MEMORY, TOO_MANY_MESSAGES, WRONG_HANDLE, codec_answer, refusal_answer,
+    NOT_JOINED, OUT_OF_MEMORY, TOO_MANY_MESSAGES, WRONG_HANDLE, codec_answer, coded, refusal_answer,
 };
 use itch_join::{Cause, JoinFault, Live, Snap};
+
+// Messages were applied.
+const APPLIED: u32 = 65;
 
 /// The answer of a call on a handle that holds no joiner.
 pub(crate) const WRONG_JOINED: Joined = Joined {
@@ -22,7 +25,7 @@ pub(crate) fn live_answer(taken: &Result<Live, JoinFault>) -> Joined
 {
     match taken {
         Ok(Live::Kept) => numbered(64, 0),
-        Ok(Live::Applied { next }) => numbered(65, *next),
+        Ok(Live::Applied { next }) => numbered(APPLIED, *next),
         Ok(Live::Old) => numbered(66, 0),
         Err(fault) => join_fault_answer(fault),
     }
@@ -44,7 +47,7 @@ pub(crate) fn resumed_answer(taken: &Result<Option<u64>, JoinFault>) -> Joined
     ensures { result ≡ resumed_answer taken.now }
 {
     match taken {
-        Ok(Some(next)) => numbered(65, *next),
+        Ok(Some(next)) => numbered(APPLIED, *next),
         Ok(None) => numbered(NOT_JOINED, 0),
         Err(fault) => join_fault_answer(fault),
     }
@@ -94,9 +97,6 @@ fn cause_answer(cause: &Cause) -> Answer
     match cause {
         Cause::Codec(fault) => codec_answer(fault),
         Cause::Rule(why) => refusal_answer(why),
-        Cause::TooMany => Answer {
-            detail: 0,
-            code: TOO_MANY_MESSAGES,
-        },
+        Cause::TooMany => coded(TOO_MANY_MESSAGES, 0),
     }
 }

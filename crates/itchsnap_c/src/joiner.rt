@@ -2,10 +2,10 @@
 ghost use Rattle.std.specs.Prelude.{◌≡◌};
 ghost use Rattle.itchsnap_c.specs.Codes.{wrong};
 ghost use Rattle.itchsnap_c.specs.Objects.{OnHandle, AtJoiner};
-ghost use Rattle.itchsnap_c.specs.Joiners.{FillsAll, FillsListed, Delivers, TakesSnapshot, Restarts, Resumes, wrong_joined, held_joiner, joiner_of, next_in, waiting_in};
+ghost use Rattle.itchsnap_c.specs.Joiners.{FillsAll, FillsListed, Delivers, TakesSnapshot, Restarts, Resumes, wrong_joined, held_joiner, next_in, waiting_in};
 
 use crate::answers::{Answer, Count, Joined};
-use crate::codes::{DONE, NO_MEMORY, NOT_JOINED, TAKEN, WRONG, WRONG_HANDLE};
+use crate::codes::{DONE, NO_MEMORY, NOT_JOINED, TAKEN, WRONG, WRONG_HANDLE, counted, no_count};
 use crate::handle::Handle;
 use crate::join_codes::{WRONG_JOINED, live_answer, resumed_answer, snap_answer};
 use crate::object::Object;
@@ -52,12 +52,9 @@ pub extern "C" fn itchsnap_joiner_live(
 ) -> Joined
     ensures { OnHandle wrong_joined (AtJoiner wrong_joined (Delivers number payload.now)) handle.old.kept.object result handle.new.kept.object }
 {
-    let Some(mut object) = handle.take(alloc) else {
-        return WRONG_JOINED;
-    };
-    let answer = live(&mut object, number, payload);
-    handle.put(object);
-    answer
+    handle.with_joiner(alloc, WRONG_JOINED, |joiner| {
+        live_answer(&joiner.live(number, payload))
+    })
 }
 
 /// Takes a message of the snapshot; they come in their order, End of Snapshot last.
@@ -69,12 +66,9 @@ pub extern "C" fn itchsnap_joiner_snapshot(
 ) -> Joined
     ensures { OnHandle wrong_joined (AtJoiner wrong_joined (TakesSnapshot payload.now)) handle.old.kept.object result handle.new.kept.object }
 {
-    let Some(mut object) = handle.take(alloc) else {
-        return WRONG_JOINED;
-    };
-    let answer = snapshot(&mut object, payload);
-    handle.put(object);
-    answer
+    handle.with_joiner(alloc, WRONG_JOINED, |joiner| {
+        snap_answer(&joiner.snapshot(payload))
+    })
 }
 
 /// Drops an unfinished or broken snapshot, and keeps what waits. Once joined it changes nothing.
@@ -82,12 +76,10 @@ pub extern "C" fn itchsnap_joiner_snapshot(
 pub extern "C" fn itchsnap_joiner_restart(alloc: Global, handle: &mut Handle) -> Answer
     ensures { OnHandle wrong (AtJoiner wrong Restarts) handle.old.kept.object result handle.new.kept.object }
 {
-    let Some(mut object) = handle.take(alloc) else {
-        return WRONG;
-    };
-    let answer = restart(&mut object);
-    handle.put(object);
-    answer
+    handle.with_joiner(alloc, WRONG, |joiner| {
+        joiner.restart();
+        DONE
+    })
 }
 
 /// Applies what waits, as far as the numbers go on, as after a refusal of memory.
@@ -95,12 +87,9 @@ pub extern "C" fn itchsnap_joiner_restart(alloc: Global, handle: &mut Handle) ->
 pub extern "C" fn itchsnap_joiner_resume(alloc: Global, handle: &mut Handle) -> Joined
     ensures { OnHandle wrong_joined (AtJoiner wrong_joined Resumes) handle.old.kept.object result handle.new.kept.object }
 {
-    let Some(mut object) = handle.take(alloc) else {
-        return WRONG_JOINED;
-    };
-    let answer = resume(&mut object);
-    handle.put(object);
-    answer
+    handle.with_joiner(alloc, WRONG_JOINED, |joiner| {
+        resumed_answer(&joiner.resume())
+    })
 }
 
 /// The number of the next message of the feed, once joined.
@@ -109,12 +98,14 @@ pub extern "C" fn itchsnap_joiner_next(alloc: Global, handle: &mut Handle) -> Co
     ensures next { result ≡ next_in (held_joiner handle.old.kept.object) }
     ensures same { handle.new.kept.object ≡ handle.old.kept.object }
 {
-    let Some(object) = handle.take(alloc) else {
-        return no_count(WRONG_HANDLE);
-    };
-    let answer = next(&object);
-    handle.put(object);
-    answer
+    handle.with_joiner(
+        alloc,
+        no_count(WRONG_HANDLE),
+        |joiner| match joiner.next() {
+            Some(next) => counted(next),
+            None => no_count(NOT_JOINED),
+        },
+    )
 }
 
 /// The number of messages that wait.
@@ -123,82 +114,7 @@ pub extern "C" fn itchsnap_joiner_waiting(alloc: Global, handle: &mut Handle) ->
     ensures waiting { result ≡ waiting_in (held_joiner handle.old.kept.object) }
     ensures same { handle.new.kept.object ≡ handle.old.kept.object }
 {
-    let Some(object) = handle.take(alloc) else {
-        return no_count(WRONG_HANDLE);
-    };
-    let answer = waiting(&object);
-    handle.put(object);
-    answer
-}
-
-fn live(object: &mut Object, number: u64, payload: &[u8]) -> Joined
-    ensures { AtJoiner wrong_joined (Delivers number payload.now) object.old result object.new }
-{
-    match object {
-        Object::Joiner(joiner) => live_answer(&joiner.live(number, payload)),
-        Object::Market(_) | Object::Client(_) | Object::Server(_) => WRONG_JOINED,
-    }
-}
-
-fn snapshot(object: &mut Object, payload: &[u8]) -> Joined
-    ensures { AtJoiner wrong_joined (TakesSnapshot payload.now) object.old result object.new }
-{
-    match object {
-        Object::Joiner(joiner) => snap_answer(&joiner.snapshot(payload)),
-        Object::Market(_) | Object::Client(_) | Object::Server(_) => WRONG_JOINED,
-    }
-}
-
-fn restart(object: &mut Object) -> Answer
-    ensures { AtJoiner wrong Restarts object.old result object.new }
-{
-    match object {
-        Object::Joiner(joiner) => {
-            joiner.restart();
-            DONE
-        }
-        Object::Market(_) | Object::Client(_) | Object::Server(_) => WRONG,
-    }
-}
-
-fn resume(object: &mut Object) -> Joined
-    ensures { AtJoiner wrong_joined Resumes object.old result object.new }
-{
-    match object {
-        Object::Joiner(joiner) => resumed_answer(&joiner.resume()),
-        Object::Market(_) | Object::Client(_) | Object::Server(_) => WRONG_JOINED,
-    }
-}
-
-fn next(object: &Object) -> Count
-    ensures { result ≡ next_in (joiner_of object.now) }
-{
-    match object {
-        Object::Joiner(joiner) => match joiner.next() {
-            Some(next) => Count {
-                count: next,
-                code: 0,
-            },
-            None => no_count(NOT_JOINED),
-        },
-        Object::Market(_) | Object::Client(_) | Object::Server(_) => no_count(WRONG_HANDLE),
-    }
-}
-
-fn waiting(object: &Object) -> Count
-    ensures { result ≡ waiting_in (joiner_of object.now) }
-{
-    match object {
-        Object::Joiner(joiner) => Count {
-            count: joiner.waiting() as u64,
-            code: 0,
-        },
-        Object::Market(_) | Object::Client(_) | Object::Server(_) => no_count(WRONG_HANDLE),
-    }
-}
-
-fn no_count(code: u32) -> Count
-    ensures { result ≡ record { count = 0; code = code } }
-{
-    Count { count: 0, code }
+    handle.with_joiner(alloc, no_count(WRONG_HANDLE), |joiner| {
+        counted(joiner.waiting() as u64)
+    })
 }

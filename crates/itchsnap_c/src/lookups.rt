@@ -2,10 +2,10 @@
 ghost use Rattle.std.specs.Prelude.{◌≡◌, Option, Some, None};
 ghost use Rattle.std.specs.Option.{option_copied};
 ghost use Rattle.itchsnap_c.specs.Objects.{held_market};
-ghost use Rattle.itchsnap_c.specs.Lookups.{side_of, no_order, no_level, no_count, order_answer, best_in, order_in, level_in, price_answer, price_in, count_in};
+ghost use Rattle.itchsnap_c.specs.Lookups.{side_of, no_order, order_answer, best_in, order_in, level_answer, level_in, price_answer, price_in, count_in};
 
 use crate::answers::{BookOrder, Count, Level, Price};
-use crate::codes::{ABSENT, WRONG_HANDLE};
+use crate::codes::{ABSENT, WRONG_HANDLE, counted, no_count};
 use crate::handle::Handle;
 use itch_book::{Order, OrderBook};
 use itch_codec::Side;
@@ -22,15 +22,9 @@ pub extern "C" fn itchsnap_best(
     ensures best { result ≡ best_in (held_market handle.old.kept.object) locate buy }
     ensures same { handle.new.kept.object ≡ handle.old.kept.object }
 {
-    let Some(object) = handle.take(alloc) else {
-        return no_order(WRONG_HANDLE);
-    };
-    let answer = match object.market() {
-        Some(market) => order_answer(market.best(locate, side_of(buy))),
-        None => no_order(WRONG_HANDLE),
-    };
-    handle.put(object);
-    answer
+    handle.look_up(alloc, no_order(WRONG_HANDLE), |market| {
+        order_answer(market.best(locate, side_of(buy)))
+    })
 }
 
 /// The live order with this reference.
@@ -39,15 +33,9 @@ pub extern "C" fn itchsnap_order_by(alloc: Global, handle: &mut Handle, referenc
     ensures order { result ≡ order_in (held_market handle.old.kept.object) reference }
     ensures same { handle.new.kept.object ≡ handle.old.kept.object }
 {
-    let Some(object) = handle.take(alloc) else {
-        return no_order(WRONG_HANDLE);
-    };
-    let answer = match object.market() {
-        Some(market) => order_answer(market.book().get(reference)),
-        None => no_order(WRONG_HANDLE),
-    };
-    handle.put(object);
-    answer
+    handle.look_up(alloc, no_order(WRONG_HANDLE), |market| {
+        order_answer(market.book().get(reference))
+    })
 }
 
 /// The shares and the orders at a price of a locate and side: none where no order has the price.
@@ -62,23 +50,9 @@ pub extern "C" fn itchsnap_level(
     ensures level { result ≡ level_in (held_market handle.old.kept.object) locate buy price }
     ensures same { handle.new.kept.object ≡ handle.old.kept.object }
 {
-    let Some(object) = handle.take(alloc) else {
-        return no_level();
-    };
-    let answer = match object.market() {
-        Some(market) => {
-            let (shares, orders) = market.book().level_total(locate, side_of(buy), price);
-            Level {
-                shares_low: (shares % (1 << 64)) as u64,
-                shares_high: (shares / (1 << 64)) as u64,
-                orders,
-                code: 0,
-            }
-        }
-        None => no_level(),
-    };
-    handle.put(object);
-    answer
+    handle.look_up(alloc, NO_LEVEL, |market| {
+        level_answer(market.book().level_total(locate, side_of(buy), price))
+    })
 }
 
 /// The best price of a locate and side, or with `after` the best one that is worse than `last`.
@@ -94,16 +68,10 @@ pub extern "C" fn itchsnap_next_price(
     ensures price { result ≡ price_in (held_market handle.old.kept.object) locate buy after last }
     ensures same { handle.new.kept.object ≡ handle.old.kept.object }
 {
-    let Some(object) = handle.take(alloc) else {
-        return no_price(WRONG_HANDLE);
-    };
     let last = if after { Some(last) } else { None };
-    let answer = match object.market() {
-        Some(market) => price_answer(market.book().next_price(locate, side_of(buy), last)),
-        None => no_price(WRONG_HANDLE),
-    };
-    handle.put(object);
-    answer
+    handle.look_up(alloc, no_price(WRONG_HANDLE), |market| {
+        price_answer(market.book().next_price(locate, side_of(buy), last))
+    })
 }
 
 /// The number of live orders.
@@ -112,18 +80,9 @@ pub extern "C" fn itchsnap_order_count(alloc: Global, handle: &mut Handle) -> Co
     ensures count { result ≡ count_in (held_market handle.old.kept.object) }
     ensures same { handle.new.kept.object ≡ handle.old.kept.object }
 {
-    let Some(object) = handle.take(alloc) else {
-        return no_count();
-    };
-    let answer = match object.market() {
-        Some(market) => Count {
-            count: market.book().len() as u64,
-            code: 0,
-        },
-        None => no_count(),
-    };
-    handle.put(object);
-    answer
+    handle.look_up(alloc, no_count(WRONG_HANDLE), |market| {
+        counted(market.book().len() as u64)
+    })
 }
 
 fn side_of(buy: bool) -> Side
@@ -183,22 +142,22 @@ fn no_price(code: u32) -> Price
     Price { price: 0, code }
 }
 
-fn no_level() -> Level
-    ensures { result ≡ no_level }
+fn level_answer(total: (u128, u64)) -> Level
+    ensures { result ≡ level_answer total }
 {
+    let (shares, orders) = total;
     Level {
-        shares_low: 0,
-        shares_high: 0,
-        orders: 0,
-        code: WRONG_HANDLE,
+        shares_low: (shares % (1 << 64)) as u64,
+        shares_high: (shares / (1 << 64)) as u64,
+        orders,
+        code: 0,
     }
 }
 
-fn no_count() -> Count
-    ensures { result ≡ no_count }
-{
-    Count {
-        count: 0,
-        code: WRONG_HANDLE,
-    }
-}
+// The level where a handle holds no market.
+const NO_LEVEL: Level = Level {
+    shares_low: 0,
+    shares_high: 0,
+    orders: 0,
+    code: WRONG_HANDLE,
+};

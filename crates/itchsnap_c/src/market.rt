@@ -50,35 +50,24 @@ pub extern "C" fn itchsnap_market_apply(
 ) -> Answer
     ensures { OnHandle wrong (AtMarket wrong (Applies payload.now)) handle.old.kept.object result handle.new.kept.object }
 {
-    let Some(mut object) = handle.take(alloc) else {
-        return WRONG;
-    };
-    let answer = apply(&mut object, payload);
-    handle.put(object);
-    answer
+    handle.with(alloc, WRONG, |object| apply(object, payload))
 }
 
 fn apply(object: &mut Object, payload: &[u8]) -> Answer
     ensures { AtMarket wrong (Applies payload.now) object.old result object.new }
 {
     match object {
-        Object::Market(market) => outcome_answer(&take(market, payload)),
+        Object::Market(market) => outcome_answer(&take_payload(market, payload)),
         Object::Joiner(_) | Object::Client(_) | Object::Server(_) => WRONG,
     }
 }
 
 // Applies the message of a payload.
-fn take(market: &mut Market<Book>, payload: &[u8]) -> Result<(), Stop>
+fn take_payload(market: &mut Market<Book>, payload: &[u8]) -> Result<(), Stop>
     ensures { TakesOne market.old payload.now result market.new }
 {
-    let message = match decode(payload) {
-        Ok(message) => message,
-        Err(fault) => return Err(Stop::Codec(fault)),
-    };
-    match market.apply(&message) {
-        Ok(()) => Ok(()),
-        Err(why) => Err(Stop::Rule(why)),
-    }
+    let message = decode(payload).map_err(Stop::Codec)?;
+    market.apply(&message).map_err(Stop::Rule)
 }
 
 // Fills an empty handle with the market of a snapshot file.
@@ -106,17 +95,17 @@ fn read(alloc: Global, snapshot: &[u8]) -> Result<(Box<Object>, Seq), SnapFault>
     ensures fault { IfErr result (λ fault. IsRefusedFor snapshot.now fault) }
 {
     let Ok(mut reader) = BlockReader::new(alloc, SliceReader { rest: snapshot }) else {
-        return Err(OUT_OF_MEMORY);
+        return Err(MEMORY_REFUSED);
     };
     let (market, next) = read_snapshot(alloc, &mut reader)?;
     match Box::new(alloc, Object::Market(market)) {
         Ok(object) => Ok((object, next)),
-        Err(_) => Err(OUT_OF_MEMORY),
+        Err(_) => Err(MEMORY_REFUSED),
     }
 }
 
 // The fault where memory is refused before the first message, or after the last.
-const OUT_OF_MEMORY: SnapFault = SnapFault::Rule {
+const MEMORY_REFUSED: SnapFault = SnapFault::Rule {
     place: 0,
     reason: Refusal::OutOfMemory,
 };

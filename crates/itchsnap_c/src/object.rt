@@ -1,7 +1,8 @@
 //! What a handle holds.
 ghost use Rattle.std.specs.Prelude.{◌≡◌};
+ghost use Rattle.std.specs.Fn.{FnOnceReturnsAtMut};
 ghost use Rattle.std.specs.Option.{option_copied};
-ghost use Rattle.itchsnap_c.specs.Objects.{market_of};
+ghost use Rattle.itchsnap_c.specs.Objects.{AtJoiner, AtClient, AtServer, market_of};
 
 use itch_book::IndexedBook;
 use itch_join::Joiner;
@@ -30,6 +31,51 @@ impl Object {
             Object::Market(market) => Some(market),
             Object::Joiner(joiner) => joiner.market(),
             Object::Client(_) | Object::Server(_) => None,
+        }
+    }
+
+    /// Makes a call on a joiner; of any other object the answer is `wrong`.
+    pub(crate) fn at_joiner<R: Copy, F: FnOnce(&mut Joiner<Book>) -> R>(
+        &mut self,
+        wrong: R,
+        call: F,
+    ) -> R
+        requires { F.IsAlwaysCallable call }
+        ensures { AtJoiner wrong (FnOnceReturnsAtMut F.FnOnce call) self.old result self.new }
+    {
+        match self {
+            Object::Joiner(joiner) => call(joiner),
+            Object::Market(_) | Object::Client(_) | Object::Server(_) => wrong,
+        }
+    }
+
+    /// The same of a client's session.
+    pub(crate) fn at_client<R: Copy, F: FnOnce(&mut ClientSession) -> R>(
+        &mut self,
+        wrong: R,
+        call: F,
+    ) -> R
+        requires { F.IsAlwaysCallable call }
+        ensures { AtClient wrong (FnOnceReturnsAtMut F.FnOnce call) self.old result self.new }
+    {
+        match self {
+            Object::Client(session) => call(session),
+            Object::Market(_) | Object::Joiner(_) | Object::Server(_) => wrong,
+        }
+    }
+
+    /// The same of a server's session.
+    pub(crate) fn at_server<R: Copy, F: FnOnce(&mut ServerSession) -> R>(
+        &mut self,
+        wrong: R,
+        call: F,
+    ) -> R
+        requires { F.IsAlwaysCallable call }
+        ensures { AtServer wrong (FnOnceReturnsAtMut F.FnOnce call) self.old result self.new }
+    {
+        match self {
+            Object::Server(session) => call(session),
+            Object::Market(_) | Object::Joiner(_) | Object::Client(_) => wrong,
         }
     }
 }

@@ -1,15 +1,16 @@
 //! A server's sessions that C keeps.
-ghost use Rattle.std.specs.Prelude.{◌≡◌, IfOk, IfErr};
+ghost use Rattle.std.specs.Prelude.{◌≡◌, Some};
 ghost use Rattle.itchsnap_c.specs.Objects.{OnHandle, AtServer};
-ghost use Rattle.itchsnap_c.specs.Sessions.{FillsServer, AreTexts, config_of, ServerHears, server_of, held_server, Accepts, no_acceptance, wrong_act};
+ghost use Rattle.itchsnap_c.specs.Sessions.{FillsServer, ServerHears, held_server, Accepts, no_acceptance, wrong_act};
 
 use crate::answers::{AcceptancePacket, Act, Answer, Login};
-use crate::codes::{BAD_TEXT, NO_NUMBER, TOO_MANY_MESSAGES, WRONG_HANDLE, plain};
+use crate::codes::{BAD_TEXT, NO_NUMBER, TOO_MANY_MESSAGES, WRONG_HANDLE, coded};
 use crate::handle::Handle;
 use crate::object::Object;
+use crate::session::credentials;
 use crate::soup_codes::{WRONG_ACT, server_act, soup_fault_act};
-use itch_codec::{Alpha, AlphaFault, MOST_MESSAGES, Seq};
-use itch_soup::{Origin, ServerConfig, ServerSession, parse_packet};
+use itch_codec::{MOST_MESSAGES, Seq};
+use itch_soup::{Credentials, Origin, ServerConfig, ServerSession, parse_packet};
 use std::alloc::Global;
 
 /// Puts a server's session of `total` messages, which begins at this moment, in milliseconds, into a handle that holds nothing.
@@ -23,12 +24,24 @@ pub extern "C" fn itchsnap_server_new(
 ) -> Answer
     ensures { FillsServer config.now total now_ms handle.old.kept.object result handle.new.kept.object }
 {
-    let Ok(config) = config_of(config) else {
-        return plain(BAD_TEXT);
+    let Ok(
+        Credentials {
+            username,
+            password,
+            session,
+        },
+    ) = credentials(config)
+    else {
+        return coded(BAD_TEXT, 0);
     };
     if total > MOST_MESSAGES {
-        return plain(TOO_MANY_MESSAGES);
+        return coded(TOO_MANY_MESSAGES, 0);
     }
+    let config = ServerConfig {
+        username,
+        password,
+        session,
+    };
     handle.fill(
         alloc,
         Object::Server(ServerSession::new(config, total, now_ms)),
@@ -45,12 +58,9 @@ pub extern "C" fn itchsnap_server_accepted(
     ensures packet { Accepts (held_server handle.old.kept.object) next result }
     ensures same { handle.new.kept.object ≡ handle.old.kept.object }
 {
-    let Some(object) = handle.take(alloc) else {
-        return no_acceptance(WRONG_HANDLE);
-    };
-    let packet = accepted(&object, next);
-    handle.put(object);
-    packet
+    handle.with_server(alloc, no_acceptance(WRONG_HANDLE), |session| {
+        accepted(session, next)
+    })
 }
 
 /// What to do after a packet that was heard at this moment, in milliseconds. A block that is no packet of a client is refused,
@@ -64,24 +74,10 @@ pub extern "C" fn itchsnap_server_packet(
 ) -> Act
     ensures { OnHandle wrong_act (AtServer wrong_act (ServerHears packet.now now_ms)) handle.old.kept.object result handle.new.kept.object }
 {
-    let Some(mut object) = handle.take(alloc) else {
-        return WRONG_ACT;
-    };
-    let act = hear(&mut object, packet, now_ms);
-    handle.put(object);
-    act
+    handle.with_server(alloc, WRONG_ACT, |session| hear(session, packet, now_ms))
 }
 
-fn hear(object: &mut Object, block: &[u8], now_ms: u64) -> Act
-    ensures { AtServer wrong_act (ServerHears block.now now_ms) object.old result object.new }
-{
-    match object {
-        Object::Server(session) => hear_block(session, block, now_ms),
-        Object::Market(_) | Object::Joiner(_) | Object::Client(_) => WRONG_ACT,
-    }
-}
-
-fn hear_block(session: &mut ServerSession, block: &[u8], now_ms: u64) -> Act
+fn hear(session: &mut ServerSession, block: &[u8], now_ms: u64) -> Act
     ensures { ServerHears block.now now_ms session.old result session.new }
 {
     match parse_packet(block, Origin::Client) {
@@ -90,18 +86,15 @@ fn hear_block(session: &mut ServerSession, block: &[u8], now_ms: u64) -> Act
     }
 }
 
-fn accepted(object: &Object, next: u64) -> AcceptancePacket
-    ensures { Accepts (server_of object.now) next result }
+fn accepted(session: &ServerSession, next: u64) -> AcceptancePacket
+    ensures { Accepts (Some session.now) next result }
 {
-    match object {
-        Object::Server(session) => match Seq::new(next) {
-            Some(next) => AcceptancePacket {
-                bytes: session.accepted(next),
-                code: 0,
-            },
-            None => no_acceptance(NO_NUMBER),
+    match Seq::new(next) {
+        Some(next) => AcceptancePacket {
+            bytes: session.accepted(next),
+            code: 0,
         },
-        Object::Market(_) | Object::Joiner(_) | Object::Client(_) => no_acceptance(WRONG_HANDLE),
+        None => no_acceptance(NO_NUMBER),
     }
 }
 
@@ -112,15 +105,4 @@ fn no_acceptance(code: u32) -> AcceptancePacket
         bytes: [0; 31],
         code,
     }
-}
-
-fn config_of(login: &Login) -> Result<ServerConfig, AlphaFault>
-    ensures taken { IfOk result (λ made. AreTexts login.now × (made ≡ config_of login.now)) }
-    ensures refused { IfErr result (λ fault. ¬ AreTexts login.now) }
-{
-    Ok(ServerConfig {
-        username: Alpha::from_bytes(&login.username)?,
-        password: Alpha::from_bytes(&login.password)?,
-        session: Alpha::from_bytes(&login.session)?,
-    })
 }

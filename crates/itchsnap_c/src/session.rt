@@ -1,13 +1,16 @@
 //! What both ends of a session share.
+ghost use Rattle.std.specs.Prelude.{◌≡◌, IfOk, IfErr};
 ghost use Rattle.itchsnap_c.specs.Codes.{wrong};
 ghost use Rattle.itchsnap_c.specs.Objects.{OnHandle};
-ghost use Rattle.itchsnap_c.specs.Sessions.{Ticks, Notes};
+ghost use Rattle.itchsnap_c.specs.Sessions.{AreTexts, credentials_of, Ticks, Notes};
 
-use crate::answers::Answer;
+use crate::answers::{Answer, Login};
 use crate::codes::{DONE, WRONG};
 use crate::handle::Handle;
 use crate::object::Object;
 use crate::soup_codes::tick_answer;
+use itch_codec::{Alpha, AlphaFault};
+use itch_soup::Credentials;
 use std::alloc::Global;
 
 /// What a session is to do at this moment, in milliseconds, without a packet. A heartbeat counts as sent.
@@ -15,12 +18,7 @@ use std::alloc::Global;
 pub extern "C" fn itchsnap_session_tick(alloc: Global, handle: &mut Handle, now_ms: u64) -> Answer
     ensures { OnHandle wrong (Ticks now_ms) handle.old.kept.object result handle.new.kept.object }
 {
-    let Some(mut object) = handle.take(alloc) else {
-        return WRONG;
-    };
-    let answer = tick(&mut object, now_ms);
-    handle.put(object);
-    answer
+    handle.with(alloc, WRONG, |object| tick(object, now_ms))
 }
 
 /// Takes note that a session sent something at this moment, in milliseconds.
@@ -28,12 +26,7 @@ pub extern "C" fn itchsnap_session_tick(alloc: Global, handle: &mut Handle, now_
 pub extern "C" fn itchsnap_session_sent(alloc: Global, handle: &mut Handle, now_ms: u64) -> Answer
     ensures { OnHandle wrong (Notes now_ms) handle.old.kept.object result handle.new.kept.object }
 {
-    let Some(mut object) = handle.take(alloc) else {
-        return WRONG;
-    };
-    let answer = note(&mut object, now_ms);
-    handle.put(object);
-    answer
+    handle.with(alloc, WRONG, |object| note(object, now_ms))
 }
 
 fn tick(object: &mut Object, now_ms: u64) -> Answer
@@ -60,4 +53,16 @@ fn note(object: &mut Object, now_ms: u64) -> Answer
         }
         Object::Market(_) | Object::Joiner(_) => WRONG,
     }
+}
+
+/// The texts of a login.
+pub(crate) fn credentials(login: &Login) -> Result<Credentials, AlphaFault>
+    ensures taken { IfOk result (λ made. AreTexts login.now × (made ≡ credentials_of login.now)) }
+    ensures refused { IfErr result (λ fault. ¬ AreTexts login.now) }
+{
+    Ok(Credentials {
+        username: Alpha::from_bytes(&login.username)?,
+        password: Alpha::from_bytes(&login.password)?,
+        session: Alpha::from_bytes(&login.session)?,
+    })
 }

@@ -1,11 +1,11 @@
 //! Snapshots of the market of a handle.
-ghost use Rattle.std.specs.Prelude.{◌≡◌, ◌<◌, ◌^◌, ◌++◌, ℕ, length, IfSome};
+ghost use Rattle.std.specs.Prelude.{◌≡◌, ◌<◌, ◌^◌, ◌++◌, ℕ, length, IfSome, IfOk, IfErr};
 ghost use Rattle.itch_market.specs.Partial.{only};
 ghost use Rattle.itch_market.specs.Wanted.{has};
 ghost use Rattle.itch_snapshot.specs.Bytes.{canon, closing};
 ghost use Rattle.itch_snapshot.specs.Snapshot.{snap};
 ghost use Rattle.itchsnap_c.specs.Objects.{held_market};
-ghost use Rattle.itchsnap_c.specs.Snapshots.{is_listed, unwritten, Copies, Puts, PutsHeld};
+ghost use Rattle.itchsnap_c.specs.Snapshots.{is_listed, Closes, Copies, Puts, PutsHeld, Spells, Stores};
 
 use crate::answers::Written;
 use crate::codes::{NO_NUMBER, NO_ROOM, OUT_OF_MEMORY, TOO_MANY_MESSAGES, WRONG_HANDLE};
@@ -29,15 +29,10 @@ pub extern "C" fn itchsnap_snapshot(
     ensures put { PutsHeld (λ m. m) (held_market handle.old.kept.object) next out.old result out.new }
     ensures same { handle.new.kept.object ≡ handle.old.kept.object }
 {
-    let Some(object) = handle.take(alloc) else {
-        return unwritten(WRONG_HANDLE);
-    };
-    let written = match object.market() {
-        Some(market) => put_whole(alloc, market, next, out),
-        None => unwritten(WRONG_HANDLE),
-    };
-    handle.put(object);
-    written
+    let bytes = handle.look_up(alloc, Err(WRONG_HANDLE), |market| {
+        whole_bytes(alloc, market, next)
+    });
+    put(&bytes, out)
 }
 
 /// The same of the market cut down to the locates of a list.
@@ -52,31 +47,17 @@ pub extern "C" fn itchsnap_snapshot_only(
     ensures put { PutsHeld (only (is_listed locates.now)) (held_market handle.old.kept.object) next out.old result out.new }
     ensures same { handle.new.kept.object ≡ handle.old.kept.object }
 {
-    let Some(object) = handle.take(alloc) else {
-        return unwritten(WRONG_HANDLE);
-    };
-    let written = match object.market() {
-        Some(market) => put_partial(alloc, market, next, locates, out),
-        None => unwritten(WRONG_HANDLE),
-    };
-    handle.put(object);
-    written
+    let bytes = handle.look_up(alloc, Err(WRONG_HANDLE), |market| {
+        partial_bytes(alloc, market, next, locates)
+    });
+    put(&bytes, out)
 }
 
 /// Writes the snapshot of a market.
 pub(crate) fn put_whole(alloc: Global, market: &Market<Book>, next: u64, out: &mut [u8]) -> Written
     ensures { Puts market.now market.now next out.old result out.new }
 {
-    let Some(next) = Seq::new(next) else {
-        return unwritten(NO_NUMBER);
-    };
-    if snapshot_len(market) > u128::from(MOST_MESSAGES) {
-        return unwritten(TOO_MANY_MESSAGES);
-    }
-    match whole_bytes(alloc, market, next) {
-        Some(bytes) => copy(bytes.as_slice(), out),
-        None => unwritten(OUT_OF_MEMORY),
-    }
+    put(&whole_bytes(alloc, market, next), out)
 }
 
 /// Writes the snapshot of a market cut down to the locates of a list.
@@ -89,48 +70,60 @@ pub(crate) fn put_partial(
 ) -> Written
     ensures { Puts market.now (only (is_listed locates.now) market.now) next out.old result out.new }
 {
-    let Some(next) = Seq::new(next) else {
-        return unwritten(NO_NUMBER);
-    };
-    if snapshot_len(market) > u128::from(MOST_MESSAGES) {
-        return unwritten(TOO_MANY_MESSAGES);
-    }
-    let Some(set) = set_of(alloc, locates) else {
-        return unwritten(OUT_OF_MEMORY);
-    };
-    match partial_bytes(alloc, market, &set, next) {
-        Some(bytes) => copy(bytes.as_slice(), out),
-        None => unwritten(OUT_OF_MEMORY),
-    }
+    put(&partial_bytes(alloc, market, next, locates), out)
 }
 
-// The snapshot of a market, closed with this number.
-fn whole_bytes(alloc: Global, market: &Market<Book>, next: Seq) -> Option<Vec<u8>>
-    requires { length (snap market.now) < 10 ^ 19 }
-    ensures { IfSome result (λ bytes. bytes.items ≡ canon market.now ++ closing next) }
+// The snapshot of a market, closed with this number, or the code of why there is none.
+fn whole_bytes(alloc: Global, market: &Market<Book>, next: u64) -> Result<Vec<u8>, u32>
+    ensures { Spells market.now market.now next result }
 {
+    let next = closing_number(market, next)?;
     let mut writer = Counted::new(Vec::new(alloc));
-    match write_snapshot(market, next, &mut writer) {
-        Ok(_) => Some(writer.into_inner()),
-        Err(_) => None,
-    }
+    write_snapshot(market, next, &mut writer).map_err(|_| OUT_OF_MEMORY)?;
+    Ok(writer.into_inner())
+}
+
+// The same of the market cut down to the locates of a list.
+fn partial_bytes(
+    alloc: Global,
+    market: &Market<Book>,
+    next: u64,
+    locates: &[u16],
+) -> Result<Vec<u8>, u32>
+    ensures { Spells market.now (only (is_listed locates.now) market.now) next result }
+{
+    let next = closing_number(market, next)?;
+    let Some(set) = set_of(alloc, locates) else {
+        return Err(OUT_OF_MEMORY);
+    };
+    cut_bytes(alloc, market, &set, next)
 }
 
 // The same of the market cut down to a set.
-fn partial_bytes(
+fn cut_bytes(
     alloc: Global,
     market: &Market<Book>,
     set: &LocateSet<Global>,
     next: Seq,
-) -> Option<Vec<u8>>
+) -> Result<Vec<u8>, u32>
     requires { length (snap market.now) < 10 ^ 19 }
-    ensures { IfSome result (λ bytes. bytes.items ≡ canon (only (has set.now) market.now) ++ closing next) }
+    ensures bytes { IfOk result (λ bytes. bytes.items ≡ canon (only (has set.now) market.now) ++ closing next) }
+    ensures memory { IfErr result (λ code. code ≡ 48) }
 {
     let mut writer = Counted::new(Vec::new(alloc));
-    match write_partial(market, set, next, &mut writer) {
-        Ok(_) => Some(writer.into_inner()),
-        Err(_) => None,
+    write_partial(market, set, next, &mut writer).map_err(|_| OUT_OF_MEMORY)?;
+    Ok(writer.into_inner())
+}
+
+// The number that closes the snapshot of a market, or the code of why there is none.
+fn closing_number(market: &Market<Book>, next: u64) -> Result<Seq, u32>
+    ensures { Closes market.now next result }
+{
+    let next = Seq::new(next).ok_or(NO_NUMBER)?;
+    if snapshot_len(market) > u128::from(MOST_MESSAGES) {
+        return Err(TOO_MANY_MESSAGES);
     }
+    Ok(next)
 }
 
 /// The set of the locates of a list.
@@ -139,11 +132,22 @@ pub(crate) fn set_of(alloc: Global, locates: &[u16]) -> Option<LocateSet<Global>
 {
     let mut set = LocateSet::new(alloc);
     for locate in locates {
-        if set.insert(*locate).is_err() {
-            return None;
-        }
+        set.insert(*locate).ok()?;
     }
     Some(set)
+}
+
+// Writes the bytes to the front of `out`.
+fn put(bytes: &Result<Vec<u8>, u32>, out: &mut [u8]) -> Written
+    ensures { Stores bytes.now out.old result out.new }
+{
+    match bytes {
+        Ok(bytes) => copy(bytes.as_slice(), out),
+        Err(code) => Written {
+            len: 0,
+            code: *code,
+        },
+    }
 }
 
 fn copy(bytes: &[u8], out: &mut [u8]) -> Written
@@ -155,10 +159,4 @@ fn copy(bytes: &[u8], out: &mut [u8]) -> Written
     }
     out[..len].copy_from_slice(bytes);
     Written { len, code: 0 }
-}
-
-fn unwritten(code: u32) -> Written
-    ensures { result ≡ unwritten code }
-{
-    Written { len: 0, code }
 }

@@ -7,5 +7,5 @@ use Rattle.itchsnap_c.proofs.market.apply.Goals as goal
 
 pub returns-in-Market : goal.returns-in-Market
 returns-in-Market c =
-    subst (λ old. AtMarket wrong (Applies c.args.payload.now) old c.outcome_answer.result (Market c.take.new.market)) (sym c.in-Market.is)
-    (c.take.new.market, (c.take.result, c.outcome_answer.ensures, c.take.ensures), refl)
+    subst (λ old. AtMarket wrong (Applies c.args.payload.now) old c.outcome_answer.result (Market c.take_payload.new.market)) (sym c.in-Market.is)
+    (c.take_payload.new.market, (c.take_payload.result, c.outcome_answer.ensures, c.take_payload.ensures), refl)

@@ -1,7 +1,7 @@
-use Rattle.std.proofs.Common.{arith}
-use Rattle.itch_market.specs.Wanted.{has}
-use Rattle.itchsnap_c.proofs.Days.{cut_shorter}
+use Rattle.itchsnap_c.proofs.Days.{cut_spelled}
 use Rattle.itchsnap_c.proofs.snapshots.partial_bytes.Goals as goal
 
-pub write_partial-requires : goal.write_partial-requires
-write_partial-requires c = omega (arith, c.requires, cut_shorter (has c.args.set.now) c.args.market.now)
+pub returns : goal.returns
+returns c =
+    cut_spelled c.in-Some.set c.args.locates.now c.args.market.now c.args.next c.in_ok-next.next c.cut_bytes.result
+    c.in_ok-next.ensures c.in-Some.ensures c.cut_bytes.ensures.bytes c.cut_bytes.ensures.memory
