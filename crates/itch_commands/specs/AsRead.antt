@@ -11,7 +11,7 @@ use Rattle.itch_market.specs.Runs.{run}
 use Rattle.itch_market.specs.Replays.{Fits, NoCause, Refuses, TakesOff, Halts}
 use Rattle.itch_market.specs.Wanted.{Wanted, has}
 use Rattle.itch_market.specs.declared.stop.Stop.{Stop}
-use Rattle.itch_market.specs.declared.stop.Stop.TheVariants.{Frame, Codec, Rule}
+use Rattle.itch_market.specs.declared.stop.Stop.TheVariants.{Codec, Rule}
 use Rattle.itch_snapshot.specs.declared.fault.SnapFault.{SnapFault}
 use Rattle.itch_snapshot.specs.declared.fault.SnapFault.TheVariants as snapshot
 use Rattle.itch_snapshot.specs.Files.{IsFaultOf}

@@ -1,6 +1,5 @@
 -- What each command reads, writes and returns: said once of it, for a reader of bytes and for a reader of blocks.
 use Rattle.std.specs.Prelude.{◌≡◌, ℕ, Bool, true, List, Option, None, is_none, Result}
-use Rattle.itch_frame.specs.Reading.{Reading}
 use Rattle.itch_frame.specs.declared.tally.Failures.{Failures}
 use Rattle.itch_market.specs.Content.{Content}
 use Rattle.itch_market.specs.Wanted.{Wanted}

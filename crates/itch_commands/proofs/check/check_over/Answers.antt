@@ -12,12 +12,12 @@ pub returns-in_err-count : goal.returns-in_err-count
 returns-in_err-count g c =
     let p = err_from_is_err_and c.from_residual.result c.from_residual.ensures.1 in
     rw (p.1, p.2) (inl (
-  _,
-  refl,
-  day_fails g.R.CountedRead.remaining g.R.CountedRead.failures Only None c.args.reader.now c.read_market.new.reader _ c.new-market.result c.read_market.new.market
-      c.new-market.ensures c.in_err-count.ensures.reads c.in_err-count.ensures.failures c.in_err-count.ensures.reader,
-  refl,
-))
+      _,
+      refl,
+      day_fails g.R.CountedRead.remaining g.R.CountedRead.failures Only None c.args.reader.now c.read_market.new.reader _ c.new-market.result c.read_market.new.market
+          c.new-market.ensures c.in_err-count.ensures.reads c.in_err-count.ensures.failures c.in_err-count.ensures.reader,
+      refl,
+    ))
 
 pub returns : goal.returns
 returns g c =
