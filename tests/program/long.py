@@ -66,7 +66,7 @@ def words_that_are_no_utf_8_are_refused(program):
     for words in ([b"\xff"], ["check", b"\xff.itch"], ["check", b"--progress\xc3"], ["snap", "--only", b"1,\x80"], ["snap", b"--only=\xe2\x82"],
                   ["book", b"\xf8", "day.itch"], ["fetch", *login], ["serve", "day.itch", "--count", "1", *login]):
         status, output, error = ended(program, *words, day=b"")
-        yield from differs(words, (status, output, error.split(b"\n")[0]), (2, b"", b"error: a word is not UTF-8"))
+        yield from differs(words, (status, output, error.split(b"\n")[0]), (2, b"", b"error: an argument is not UTF-8"))
 
 
 def a_word_of_100000_letters_is_refused(program):

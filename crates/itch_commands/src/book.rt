@@ -18,10 +18,10 @@ use itch_frame::{BlockReader, CountedRead, CountedWrite};
 use itch_market::Market;
 use std::alloc::Allocator;
 
-/// Writes the book of a locate after a day file's messages: a line `LOCATE STOCK`, and then a line `SIDE PRICE SHARES ORDERS`
-/// for each price, bids before asks, the best price first. A price has four decimals.
+/// Writes the price levels of a locate after a day file's messages: a line `LOCATE STOCK`, and then a line
+/// `SIDE PRICE SHARES ORDERS` for each price, bids before asks, the best price first. A price has four decimals.
 ///
-/// `UnknownLocate` where the directory has no such locate.
+/// `UnknownLocate` if the directory has no such locate.
 pub fn book<R: CountedRead + Drop, A: Allocator + Copy, W: CountedWrite>(
     alloc: A,
     locate: u16,

@@ -23,9 +23,9 @@ use std::alloc::Allocator;
 /// Writes a snapshot file in canonical form: the canonical bytes of the market that its messages leave, and an End of
 /// Snapshot with the file's number.
 ///
-/// With `check` it only says whether the file is so already: it writes `canonical` and returns true where the file's bytes are
-/// exactly these, else it writes `not canonical` and returns false, as for a file with a block of length 0 at its end. The
-/// bytes of the file up to its End of Snapshot are held for it.
+/// With `check` it only reports whether the file is already in this form: if the file's bytes are exactly these, it writes
+/// `canonical` and returns true; otherwise, as for a file with a block of length 0 at its end, it writes `not canonical` and
+/// returns false. To do so it holds the bytes of the file up to its End of Snapshot.
 pub fn canon<R: CountedRead + Drop, A: Allocator + Copy, W: CountedWrite>(
     alloc: A,
     reader: R,
@@ -39,7 +39,7 @@ pub fn canon<R: CountedRead + Drop, A: Allocator + Copy, W: CountedWrite>(
     canon_blocks(alloc, &mut reader, check, out)
 }
 
-/// The same over a reader of blocks, which is left where the reading ended.
+/// The same over a reader of blocks, which is left at the place where reading ended.
 pub fn canon_blocks<R: CountedRead, B: Allocator, A: Allocator + Copy, W: CountedWrite>(
     alloc: A,
     reader: &mut BlockReader<R, B>,

@@ -1,4 +1,4 @@
-//! What the system said where a command failed at a file, at its output or at a socket.
+//! The system's error where a command failed at a file, at its output or at a socket.
 ghost use Rattle.std.specs.Prelude.{◌≡◌};
 ghost use Rattle.itch_commands.specs.Causes.{device_cause, stop_cause, snapshot_cause, cause_of};
 
@@ -28,7 +28,7 @@ pub struct Cause {
 }
 
 impl ToolFault {
-    /// The device that failed, with the system's own error: none where no device did, or where memory ran out.
+    /// The device that failed, with the system's own error: none if no device failed, or if memory ran out.
     pub fn cause(&self) -> Option<Cause>
         ensures { result ≡ cause_of self.now }
     {

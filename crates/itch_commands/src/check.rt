@@ -14,7 +14,7 @@ use itch_frame::{BlockReader, CountedRead, CountedWrite};
 use itch_market::Market;
 use std::alloc::Allocator;
 
-/// Writes `ok N messages` where the file's N messages follow the order rules.
+/// Writes `ok N messages` if the file's N messages follow the order rules.
 pub fn check<R: CountedRead + Drop, A: Allocator + Copy, W: CountedWrite>(
     alloc: A,
     reader: R,

@@ -1,4 +1,4 @@
-//! The end of the program where nobody reads what it writes.
+//! How the program ends if its output pipe was closed.
 ghost use Rattle.std.specs.Prelude.{◌≡◌, ◌↔◌, IsTrue};
 ghost use Rattle.itch_commands.specs.Statuses.{exit_status};
 ghost use Rattle.itch_commands.specs.Endings.{EndsByClosedPipe};
@@ -6,10 +6,10 @@ ghost use Rattle.itch_commands.specs.Endings.{EndsByClosedPipe};
 use crate::fault::{ToolFault, status};
 use std::io::ErrorKind;
 
-/// The status that a shell gives a program which SIGPIPE ended: 128 and the signal's number.
+/// The status that a shell gives a program that SIGPIPE ended: 128 plus the signal's number.
 const CLOSED_PIPE: u8 = 141;
 
-/// Whether a command failed because nobody reads the pipe that it writes to.
+/// Whether a command failed because the pipe that it writes to was closed.
 pub fn ends_by_closed_pipe(outcome: &Result<bool, ToolFault>) -> bool
     ensures { IsTrue result ↔ EndsByClosedPipe outcome.now }
 {
@@ -19,7 +19,7 @@ pub fn ends_by_closed_pipe(outcome: &Result<bool, ToolFault>) -> bool
     }
 }
 
-/// The status of the program: 141 where nobody reads the pipe that it writes to, else that of its outcome.
+/// The status of the program: 141 if the pipe that it writes to was closed, otherwise that of its outcome.
 pub fn final_status(outcome: &Result<bool, ToolFault>) -> u8
     ensures closed { EndsByClosedPipe outcome.now → result ≡ 141 }
     ensures other { (¬ EndsByClosedPipe outcome.now) → result ≡ exit_status outcome.now }

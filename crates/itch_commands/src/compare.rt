@@ -16,9 +16,9 @@ use itch_market::Market;
 use itch_snapshot::part_place;
 use std::alloc::Allocator;
 
-/// Writes `same` where two day files leave the same market, and returns true. Else it writes `different at N`, N being
-/// the place of the first message, counted from 1, in which the snapshots of the two markets differ, or the shorter length
-/// and 1.
+/// Writes `same` if two day files leave the same market, and returns true. Otherwise it writes `different at N`, and returns
+/// false: N is the place of the first message, counted from 1, in which the snapshots of the two markets differ; if one is the
+/// beginning of the other, its length plus 1.
 ///
 /// The first file is read wholly before the second.
 pub fn compare<R: CountedRead + Drop, S: CountedRead + Drop, A: Allocator + Copy, W: CountedWrite>(
@@ -34,8 +34,8 @@ pub fn compare<R: CountedRead + Drop, S: CountedRead + Drop, A: Allocator + Copy
     compare_blocks(alloc, &mut first, &mut second, out)
 }
 
-/// The same over readers of blocks, which are left where the reading ended. Where the first file is refused, nothing is read
-/// of the second.
+/// The same over readers of blocks, which are left where the reading ended. If the first file is refused, nothing is read of the
+/// second.
 pub fn compare_blocks<
     R: CountedRead,
     S: CountedRead,

@@ -12,7 +12,7 @@ use std::error::Error;
 use std::fmt;
 use std::io::{self, ErrorKind};
 
-/// Which of a command's files a fault is in.
+/// Which of a command's files has the fault.
 #[derive(Clone, Copy, Debug, PartialEq, Eq)]
 pub enum Source {
     /// The only one.
@@ -35,7 +35,8 @@ impl fmt::Display for Source {
     }
 }
 
-/// Why a command failed. `Write` leaves a beginning of the output; else only `show` and `serve` leave any, the lines before.
+/// Why a command failed. `Write` leaves a beginning of the output; with other faults only `show` and `serve` leave any, the lines
+/// before.
 ///
 /// `Display` gives the line for standard error, without its line feed, and takes no memory.
 #[derive(Debug, Drop)]
@@ -44,7 +45,7 @@ pub enum ToolFault {
     Stopped { file: Source, end: ReplayEnd },
     /// A snapshot file was refused.
     Snap { file: Source, fault: SnapFault },
-    /// A file has only this many messages.
+    /// A file has only this many messages, fewer than are wanted.
     Short { count: u64 },
     /// The directory has no such locate.
     UnknownLocate,
@@ -87,7 +88,7 @@ impl ToolFault {
     }
 }
 
-/// The status of a command: 0 where it returns true, 1 where it returns false, else that of its fault.
+/// The status of a command: 0 if it returns true, 1 if it returns false, otherwise that of its fault.
 pub fn status(outcome: &Result<bool, ToolFault>) -> u8
     ensures { result ≡ exit_status outcome.now }
 {
@@ -98,7 +99,7 @@ pub fn status(outcome: &Result<bool, ToolFault>) -> u8
     }
 }
 
-/// The fault of a call of the system: `OutOfMemory` where the error says so, else `otherwise`.
+/// The fault of a system call: `OutOfMemory` if the error says so, otherwise `otherwise`.
 pub fn system_fault(error: io::Error, otherwise: ToolFault) -> ToolFault
     ensures memory { error_kind error ≡ ErrorKind.OutOfMemory → result ≡ ToolFault.OutOfMemory }
     ensures otherwise { error_kind error ≢ ErrorKind.OutOfMemory → result ≡ otherwise }

@@ -1,4 +1,4 @@
-//! `join`: a snapshot, and the feed that goes on after it.
+//! `join`: a snapshot, and the feed that continues after it.
 ghost use Rattle.std.specs.Prelude.{◌≡◌};
 ghost use Rattle.itch_codec.specs.Widths.{IsSequence};
 ghost use Rattle.itch_market.specs.Wanted.{has};
@@ -37,9 +37,9 @@ use std::alloc::Allocator;
 ///
 /// # Faults
 ///
-/// `Snap` for the snapshot, `Stopped` for the feed, with the count of the messages before; in both, memory that runs out at
-/// a message is the rule `OutOfMemory`. `TooMany` where the market has more than 10^19 - 1 messages. `OutOfMemory` where there is no
-/// memory for a block of each file.
+/// `Snap` for the snapshot; `Stopped` for the feed, with the number of messages before. In both, out of memory at a message is
+/// the rule `OutOfMemory`. `TooMany` if the market has more than 10^19 - 1 messages. `OutOfMemory` if there is no memory for a
+/// block of each file.
 pub fn join<R: CountedRead + Drop, S: CountedRead + Drop, A: Allocator + Copy, W: CountedWrite>(
     alloc: A,
     snapshot: R,
@@ -55,7 +55,7 @@ pub fn join<R: CountedRead + Drop, S: CountedRead + Drop, A: Allocator + Copy, W
 }
 
 /// The same over readers of blocks, which are left where the reading ended: that of the snapshot after its End of Snapshot.
-/// Where the snapshot is refused, nothing is read of the feed.
+/// If the snapshot is refused, nothing is read of the feed.
 pub fn join_blocks<
     R: CountedRead,
     S: CountedRead,

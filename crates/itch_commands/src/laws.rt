@@ -16,9 +16,9 @@ ghost use Rattle.itch_join.specs.Rules.{Rules, market_rules, rules_of, bad, run 
 ghost use Rattle.itch_commands.specs.AsRead.{as_read};
 ghost use Rattle.itch_commands.specs.Joining.{from_number, joined_market};
 
-/// A payload as it is read with a set is to the rules of markets what the payload itself is to the rules of the set: it is
-/// refused for the same cause, has the same effect, takes memory where that does, and ends a snapshot where that does. So a
-/// feed has the same first bad message, and payloads leave the same market.
+/// Under the rules of markets, a payload as it is read with a set acts as the payload itself does under the rules of the set: it
+/// is refused for the same cause, has the same effect, takes memory if and only if that does, and ends a snapshot if and only if
+/// that does. So a feed has the same first bad message, and payloads leave the same market.
 pub fn reading_for_a_set()
     ensures refused { (wanted : ℕ → Bool) → (m : Content) → (p : List ℕ) → Rules.refused market_rules m (as_read wanted p) ≡ Rules.refused (rules_of wanted) m p }
     ensures effect { (wanted : ℕ → Bool) → (m : Content) → (p : List ℕ) → Rules.effect market_rules m (as_read wanted p) ≡ Rules.effect (rules_of wanted) m p }
@@ -28,9 +28,9 @@ pub fn reading_for_a_set()
     ensures leaves { (wanted : ℕ → Bool) → (ps : List (List ℕ)) → run (map message_of (map (as_read wanted) ps)) ≡ run_by (rules_of wanted) ps }
 {}
 
-/// Where none of a file's payloads is faulty or refused, none is as they are read with a set, and they leave the market that
-/// all of them leave, cut down to the set. So of a feed after a snapshot: from a market that is the same as the snapshot's cut
-/// down, it leaves one that is the same as what the whole feed leaves, cut down.
+/// If none of a file's payloads is faulty or refused, none is as it is read with a set, and as they are read they leave the
+/// market that all of them leave, cut down to the set. The same holds for a feed after a snapshot: from a market that is the same
+/// as the snapshot's, cut down, it leaves one that is the same as what the whole feed leaves, cut down.
 pub fn restricted_reading()
     ensures follows { (wanted : ℕ → Bool) → (ps : List (List ℕ)) → AllByRecursion AreBytes ps → NoCause empty ps → NoCause empty (map (as_read wanted) ps) }
     ensures leaves { (wanted : ℕ → Bool) → (ps : List (List ℕ)) → AllByRecursion AreBytes ps → NoCause empty ps

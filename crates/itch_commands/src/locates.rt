@@ -11,7 +11,7 @@ use std::alloc::Allocator;
 ///
 /// # Faults
 ///
-/// `BadLocates` where the text is no such list, and `OutOfMemory` where memory is refused before that is known.
+/// `BadLocates` if the text is no such list, and `OutOfMemory` if memory is refused before that is known.
 pub fn read_locates<A: Allocator + Copy>(alloc: A, text: &str) -> Result<LocateSet<A>, ToolFault>
     ensures { ReadsLocates text.now result }
 {

@@ -4,16 +4,16 @@ ghost use Rattle.itch_commands.specs.Requests.{file_of, is_binary, only_of};
 
 use crate::fault::Source;
 
-/// What the program is asked to do. A file is the path of one, or none for standard input.
+/// What the program is asked to do. A file is its path, or none for standard input.
 #[derive(Clone, Copy, Debug, PartialEq, Eq)]
 pub enum Request<'a> {
-    /// Write the snapshot after the whole file, or after its first messages; or of it what a list of locates wants.
+    /// Write the snapshot after the whole file, or after its first messages; with a list, cut down to its locates.
     Snap {
         file: Option<&'a str>,
         after: Option<u64>,
         only: Option<&'a str>,
     },
-    /// Count the messages of a file that follows the order rules.
+    /// Check that a file follows the order rules, and count its messages.
     Check {
         file: Option<&'a str>,
     },
@@ -21,22 +21,22 @@ pub enum Request<'a> {
     Show {
         file: Option<&'a str>,
     },
-    /// Write a snapshot in canonical form, or only check whether it is so.
+    /// Write a snapshot in canonical form, or only check whether it is in that form.
     Canon {
         file: Option<&'a str>,
         check: bool,
     },
-    /// Say whether two files leave the same market.
+    /// Check whether two files leave the same market.
     Compare {
         first: Option<&'a str>,
         second: Option<&'a str>,
     },
-    /// Write the prices of a locate.
+    /// Write the price levels of a locate.
     Book {
         locate: u16,
         file: Option<&'a str>,
     },
-    /// Join a feed to a snapshot, and write the snapshot after both; or do so for a list of locates.
+    /// Join a feed to a snapshot, and write the snapshot after both; with a list, for its locates only.
     Join {
         snapshot: Option<&'a str>,
         feed: Option<&'a str>,
@@ -45,7 +45,7 @@ pub enum Request<'a> {
 }
 
 impl<'a> Request<'a> {
-    /// The path of the file that a fault names so, or none where it is standard input.
+    /// The path of the file that a fault names, or none if that is standard input.
     pub fn file(&self, source: Source) -> Option<&'a str>
         ensures { option_map (λ path. path.now) result ≡ file_of self.now source }
     {
@@ -66,7 +66,7 @@ impl<'a> Request<'a> {
         }
     }
 
-    /// Whether the output is a snapshot, which is no text.
+    /// Whether the output is a snapshot, not text.
     pub fn is_binary(&self) -> bool
         ensures { result ≡ is_binary self.now }
     {
@@ -76,7 +76,7 @@ impl<'a> Request<'a> {
         )
     }
 
-    /// The list of the locates that are wanted, where not all are.
+    /// The list of the locates that are wanted, if not all are.
     pub fn only(&self) -> Option<&'a str>
         ensures { option_map (λ list. list.now) result ≡ only_of self.now }
     {
@@ -87,7 +87,7 @@ impl<'a> Request<'a> {
     }
 }
 
-/// The path of a file that is named so, or none where that is standard input: it is `-`, or no name is there.
+/// The path of a file with this name, or none if that is standard input: the name is `-`, or there is no name.
 pub fn path_of<'a>(name: Option<&'a str>) -> Option<&'a str>
     ensures standard { IsNone result ↔ IfSome name.entry (λ path. path.now ≡ codes "-") }
     ensures path { IfSome result (λ path. name.entry ≡ Some path) }

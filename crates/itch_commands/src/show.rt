@@ -15,7 +15,7 @@ use std::alloc::Allocator;
 
 /// Writes a line for each message of a day file or a snapshot file, in the form of [`itch_codec::show`].
 ///
-/// An error is that of [`show_blocks`]; memory is wanted for one block alone, before anything is read.
+/// The errors are those of [`show_blocks`]. Memory is needed for one block only, before anything is read.
 pub fn show<R: CountedRead + Drop, A: Allocator, W: CountedWrite>(
     alloc: A,
     reader: R,
@@ -30,8 +30,8 @@ pub fn show<R: CountedRead + Drop, A: Allocator, W: CountedWrite>(
 
 /// The same over a reader of blocks, which is left after the block that ended it.
 ///
-/// No order rule is applied, and an End of Snapshot is shown as any other message. The file is never held: each line is
-/// written as its message is read. Where a block spells no message, the lines before it stand.
+/// No order rule is applied, and an End of Snapshot is shown as any other message. The file is never held: each line is written
+/// as its message is read. If a block spells no message, the lines before it have been written.
 pub fn show_blocks<R: CountedRead, A: Allocator, W: CountedWrite>(
     reader: &mut BlockReader<R, A>,
     out: &mut W,

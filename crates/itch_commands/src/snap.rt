@@ -18,7 +18,7 @@ use std::alloc::Allocator;
 ///
 /// With `after`, reading stops after that many messages. A fault before that is returned as it is, and an earlier end as `Short`.
 ///
-/// With a set, the snapshot is cut down to its locates. Every message follows the order rules all the same.
+/// With a set, the snapshot is cut down to its locates. Still, every message has to follow the order rules.
 pub fn snap<R: CountedRead + Drop, A: Allocator + Copy, W: CountedWrite>(
     alloc: A,
     reader: R,
@@ -32,7 +32,8 @@ pub fn snap<R: CountedRead + Drop, A: Allocator + Copy, W: CountedWrite>(
     snap_blocks(alloc, &mut reader, after, only, out)
 }
 
-/// The same over a reader of blocks, which is left where the reading ended: after the first messages, where those are wanted.
+/// The same over a reader of blocks, which is left at the place where reading ended: after the first messages, if only those are
+/// wanted.
 pub fn snap_blocks<R: CountedRead, B: Allocator, A: Allocator + Copy, W: CountedWrite>(
     alloc: A,
     reader: &mut BlockReader<R, B>,

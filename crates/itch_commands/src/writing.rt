@@ -29,7 +29,7 @@ pub fn write_closed<B: OrderBook, W: CountedWrite>(
     }
 }
 
-/// The same of a market cut down to the locates of a set.
+/// The same for a market cut down to the locates of a set.
 pub fn write_cut<B: OrderBook, W: CountedWrite>(
     market: &Market<B>,
     set: &LocateSet<B::Alloc>,

@@ -4,7 +4,7 @@ use itch_commands::Device;
 use itchsnap_cli::words::Job;
 use std::fmt;
 
-/// A device as the second line of a fault names it.
+/// A device, with its name in the second line of a fault.
 #[derive(Drop)]
 pub enum DeviceName<'a> {
     Path(&'a str),
@@ -15,7 +15,7 @@ pub enum DeviceName<'a> {
 }
 
 impl<'a> DeviceName<'a> {
-    /// The name of a device of a job. What fails before there is a job is standard output.
+    /// The name of a device of a job. Before there is a job, only standard output can fail.
     pub fn of(job: Option<&Job<'a>>, device: Device) -> DeviceName<'a> {
         match (job, device) {
             (Some(job), Device::File(source)) => match job.file(source) {

@@ -40,7 +40,7 @@ fn read_words(alloc: Global, args: io::Result<Args>) -> Result<Vec<String>, Erro
         Err(error) if matches!(error.kind(), io::ErrorKind::OutOfMemory) => {
             Err(Error::from(AllocError))
         }
-        Err(_) => Err(usage_fault(alloc, "a word is not UTF-8")?),
+        Err(_) => Err(usage_fault(alloc, "an argument is not UTF-8")?),
     }
 }
 

@@ -5,10 +5,10 @@ use itchsnap_cli::input::{Opened, Progress, Watched};
 use std::fs;
 use std::rt::Files;
 
-/// Opens the file of a path, or standard input where there is none. `progress` counts what is read of it, and `source` is the
-/// file's name in a fault.
+/// Opens the file of a path, or standard input if there is no path. `progress` counts what is read of it, and `source` says in a
+/// fault which file it is.
 ///
-/// An error is `Open`, or `OutOfMemory` where the system has no memory for it.
+/// An error is `Open`, or `OutOfMemory` if the system has no memory for it.
 pub fn open<'a, R: Files + Input + Eprint>(
     rt: &R,
     path: Option<&str>,

@@ -16,7 +16,7 @@ use std::io::{self, BufReader, BufWriter, Read, Write};
 use std::net::{Net, TcpListener, TcpStream};
 use std::rt::{Clock, Files};
 
-/// Does what is asked for, with its output on standard output. True is status 0, and false status 1 with the output written.
+/// Performs the job, with its output on standard output. True is status 0, and false is status 1 with the output written.
 pub fn run<R>(rt: &R, job: Job<'_>) -> Result<bool, ToolFault>
 where
     R: Files + Input + Print + Eprint + AllocGlobal + Clock,

@@ -2,12 +2,12 @@
 //!
 //! A code is 0 where the call did what it says, and else the number of its refusal, as `c/itchsnap.h` has it.
 
-/// What became of a call.
+/// The result of a call.
 #[repr(C)]
 #[derive(Clone, Copy, Drop)]
 pub struct Answer {
-    /// What the refusal adds, 0 where it adds nothing: the offset of a bad byte, the length that is wanted, the shares that
-    /// remain, or the bytes of an unfinished block.
+    /// The detail of the refusal, 0 if it has none: the offset of a bad byte, the length that is wanted, the shares that remain,
+    /// or the bytes of an unfinished block.
     pub detail: u64,
     pub code: u32,
 }
@@ -25,7 +25,7 @@ pub struct BookOrder {
     pub buy: bool,
     /// Whether it came with a market participant.
     pub attributed: bool,
-    /// The market participant, padded with spaces; zeros where there is none.
+    /// The market participant, padded with spaces; zeros if there is none.
     pub mpid: [u8; 4],
     pub code: u32,
 }
@@ -64,18 +64,18 @@ pub struct Count {
 #[repr(C)]
 #[derive(Clone, Copy, Drop)]
 pub struct Written {
-    /// How many bytes the snapshot has, where it was written or there is no room for it.
+    /// How many bytes the snapshot has, if it was written or there is no room for it.
     pub len: usize,
     pub code: u32,
 }
 
-/// What became of a snapshot that was read.
+/// The result of reading a snapshot.
 #[repr(C)]
 #[derive(Clone, Copy, Drop)]
 pub struct Loaded {
     /// The number of the first message that the snapshot does not contain.
     pub next: u64,
-    /// The place of the message that is refused, or that memory is refused for, counted from 1; 0 where none is.
+    /// The place of the message that is refused, or that memory is refused for, counted from 1; 0 if there is none.
     pub place: u64,
     /// As in `Answer`.
     pub detail: u64,
@@ -86,13 +86,13 @@ pub struct Loaded {
 #[repr(C)]
 #[derive(Clone, Copy, Drop)]
 pub struct Joined {
-    /// The number of the next message, of the message that is refused, or of the place in the snapshot; the number of
-    /// messages that may wait, where as many do.
+    /// The number of the next message, of the message that is refused, or of the place in the snapshot; or the number of messages
+    /// that may wait, if as many do.
     pub number: u64,
     /// As in `Answer`, of the cause.
     pub detail: u64,
     pub code: u32,
-    /// The code of why a message is refused; 0 where none is.
+    /// The code of the reason why a message is refused; 0 if none is.
     pub cause: u32,
 }
 
@@ -102,12 +102,13 @@ pub struct Joined {
 pub struct Act {
     /// The number of the message, or of the first one that will come.
     pub number: u64,
-    /// The code of a rejection; else as in `Answer`, or the type byte of a packet that is out of place.
+    /// The code of a rejection; otherwise as in `Answer`, or the type byte of a packet that is out of place.
     pub detail: u64,
     pub code: u32,
 }
 
-/// What a client logs in with, or whom a server lets in and the session that it serves. Each text is padded with spaces.
+/// What a client logs in with, or the login that a server accepts and the session that it serves. Each text is padded with
+/// spaces.
 #[repr(C)]
 #[derive(Clone, Copy, Drop)]
 pub struct Login {
@@ -138,7 +139,7 @@ pub struct AcceptancePacket {
 pub struct Outcome {
     /// How many messages were taken. The place of the one that is refused, counted from 1, is one more.
     pub count: u64,
-    /// How many bytes the snapshot has, where it was written or there is no room for it.
+    /// How many bytes the snapshot has, if it was written or there is no room for it.
     pub len: usize,
     /// As in `Answer`.
     pub detail: u64,
@@ -149,13 +150,13 @@ pub struct Outcome {
 #[repr(C)]
 #[derive(Clone, Copy, Drop)]
 pub struct Comparison {
-    /// 0 where the markets are the same, else the place of the first message, counted from 1, in which their snapshots differ.
+    /// 0 if the markets are the same, otherwise the place of the first message, counted from 1, in which their snapshots differ.
     pub place: u64,
     /// How many messages of the file that is refused were taken.
     pub count: u64,
     /// As in `Answer`.
     pub detail: u64,
     pub code: u32,
-    /// The file that is refused: 1 or 2, and 0 where none is.
+    /// The file that is refused: 1 or 2, and 0 if none is.
     pub file: u32,
 }

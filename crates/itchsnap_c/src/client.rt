@@ -1,4 +1,4 @@
-//! A client's sessions that C keeps.
+//! The sessions of clients that C keeps.
 ghost use Rattle.std.specs.Prelude.{◌≡◌};
 ghost use Rattle.itchsnap_c.specs.Objects.{OnHandle, AtClient};
 ghost use Rattle.itchsnap_c.specs.Sessions.{FillsClient, ClientHears, held_client, login_in, wrong_act};
@@ -13,8 +13,8 @@ use itch_codec::GREATEST_SEQ;
 use itch_soup::{ClientSession, Origin, parse_packet};
 use std::alloc::Global;
 
-/// Puts a client's session into a handle that holds nothing. It begins at this moment, in milliseconds, and asks for the
-/// messages from number `from` on; 0 asks for all of them.
+/// Puts a client's session into an empty handle. It begins at this moment, in milliseconds, and asks for the messages from number
+/// `from` on; 0 asks for all of them.
 #[unsafe(no_mangle)]
 pub extern "C" fn itchsnap_client_new(
     alloc: Global,

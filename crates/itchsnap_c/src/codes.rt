@@ -35,7 +35,7 @@ pub(crate) const NO_ROOM: u32 = 49;
 /// The handle does not hold what the call is about.
 pub(crate) const WRONG_HANDLE: u32 = 50;
 
-/// The handle holds something already.
+/// The handle already holds something.
 pub(crate) const IN_USE: u32 = 51;
 
 /// There is no such order or price.
@@ -47,7 +47,7 @@ pub(crate) const NOT_JOINED: u32 = 53;
 /// The number is not from 1 to 10^19.
 pub(crate) const NO_NUMBER: u32 = 54;
 
-/// The call did what it says.
+/// The call did its work.
 pub(crate) const DONE: Answer = Answer { detail: 0, code: 0 };
 
 /// The answer of a call on a handle that does not hold what the call is about.
@@ -56,7 +56,7 @@ pub(crate) const WRONG: Answer = Answer {
     code: WRONG_HANDLE,
 };
 
-/// The answer where memory was refused.
+/// The answer if memory was refused.
 pub(crate) const NO_MEMORY: Answer = Answer {
     detail: 0,
     code: OUT_OF_MEMORY,
@@ -143,7 +143,7 @@ pub(crate) fn refusal_answer(why: &Refusal) -> Answer
     }
 }
 
-/// What is returned where no snapshot was read.
+/// What is returned if no snapshot was read.
 pub(crate) fn not_loaded(code: u32) -> Loaded
     ensures { result ≡ not_loaded code }
 {

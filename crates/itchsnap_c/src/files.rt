@@ -18,7 +18,7 @@ use std::alloc::Global;
 /// A file has fewer messages than are wanted.
 const SHORT: u32 = 37;
 
-/// As many messages as are wanted of a file, where all are.
+/// The number that means all messages of a file.
 const ALL: u64 = u64::MAX;
 
 /// Whether a day file follows the order rules: its number of messages, or where and why the first is refused.
@@ -43,7 +43,7 @@ pub extern "C" fn itchsnap_snap(alloc: Global, day: &[u8], after: u64, out: &mut
     }
 }
 
-/// The same of the market cut down to the locates of a list. Every message follows the order rules all the same.
+/// The same for the market cut down to the locates of a list. Still, every message has to follow the order rules.
 #[unsafe(no_mangle)]
 pub extern "C" fn itchsnap_snap_only(
     alloc: Global,

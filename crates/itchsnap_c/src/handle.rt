@@ -13,7 +13,7 @@ use itch_soup::{ClientSession, ServerSession};
 use std::alloc::Global;
 use std::mem::replace;
 
-/// An object that C holds, or none: all zero is none.
+/// An object that C holds, or none: all zeros mean none.
 #[repr(C)]
 #[derive(Drop)]
 pub struct Handle {
@@ -56,7 +56,7 @@ impl Handle {
         self.live = true;
     }
 
-    /// Puts an object into a handle that holds none.
+    /// Puts an object into an empty handle.
     pub(crate) fn fill(&mut self, alloc: Global, object: Object) -> Answer
         ensures { Fills self.old.kept.object object result self.new.kept.object }
     {
@@ -147,7 +147,7 @@ impl Handle {
     }
 }
 
-/// Frees what a handle holds, if it holds anything. It holds nothing then.
+/// Frees what a handle holds, if it holds anything. The handle is then empty.
 #[unsafe(no_mangle)]
 pub extern "C" fn itchsnap_free(alloc: Global, handle: &mut Handle)
     ensures { handle.new.kept.object ≡ None }

@@ -42,7 +42,7 @@ pub(crate) fn snap_answer(taken: &Result<Snap, JoinFault>) -> Joined
     }
 }
 
-/// What is returned for a joiner that went on.
+/// What is returned after a resume.
 pub(crate) fn resumed_answer(taken: &Result<Option<u64>, JoinFault>) -> Joined
     ensures { result ≡ resumed_answer taken.now }
 {

@@ -14,7 +14,7 @@ use itch_join::Joiner;
 use itch_market::LocateSet;
 use std::alloc::Global;
 
-/// Puts a new joiner, in which at most `cap` messages will wait, into a handle that holds nothing.
+/// Puts a new joiner, in which at most `cap` messages will wait, into an empty handle.
 #[unsafe(no_mangle)]
 pub extern "C" fn itchsnap_joiner_new(alloc: Global, handle: &mut Handle, cap: usize) -> Answer
     ensures { FillsAll cap handle.old.kept.object result handle.new.kept.object }
@@ -23,7 +23,7 @@ pub extern "C" fn itchsnap_joiner_new(alloc: Global, handle: &mut Handle, cap: u
     handle.fill(alloc, Object::Joiner(joiner))
 }
 
-/// The same for the locates of a list: messages at all others are decoded and counted, and change nothing else.
+/// The same for the locates of a list: messages at other locates are decoded and counted, and change nothing else.
 #[unsafe(no_mangle)]
 pub extern "C" fn itchsnap_joiner_new_only(
     alloc: Global,
@@ -57,7 +57,7 @@ pub extern "C" fn itchsnap_joiner_live(
     })
 }
 
-/// Takes a message of the snapshot; they come in their order, End of Snapshot last.
+/// Takes a message of the snapshot; messages come in their order, End of Snapshot last.
 #[unsafe(no_mangle)]
 pub extern "C" fn itchsnap_joiner_snapshot(
     alloc: Global,
@@ -82,7 +82,7 @@ pub extern "C" fn itchsnap_joiner_restart(alloc: Global, handle: &mut Handle) ->
     })
 }
 
-/// Applies what waits, as far as the numbers go on, as after a refusal of memory.
+/// Applies what waits, up to the first missing number, for use after memory was refused.
 #[unsafe(no_mangle)]
 pub extern "C" fn itchsnap_joiner_resume(alloc: Global, handle: &mut Handle) -> Joined
     ensures { OnHandle wrong_joined (AtJoiner wrong_joined Resumes) handle.old.kept.object result handle.new.kept.object }

@@ -10,7 +10,7 @@ use crate::object::Object;
 use std::alloc::Global;
 use std::marker::Model;
 
-/// The block of an object, or none: one pointer, which is null where there is none.
+/// The block of an object, or none: one pointer, which is null if there is none.
 #[repr(C)]
 #[derive(Drop)]
 pub struct Kept {
@@ -39,7 +39,7 @@ pub(crate) fn seal(loose: Loose<Object, Global>) -> Kept
     Kept { at: at as *mut u8 }
 }
 
-/// The block of an object, as a pointer to it again.
+/// The block of an object, as a typed pointer again.
 pub(crate) fn unseal(alloc: Global, kept: Kept) -> Loose<Object, Global>
     requires { IsSome kept.object }
     ensures { kept.object ≡ Some result.value }

@@ -12,7 +12,7 @@
 //! itchsnap_free(&market);
 //! ```
 //!
-//! `c/demo.c` calls every export so.
+//! `c/demo.c` calls every export in this way.
 #![tactic(auto)]
 
 ghost use Rattle.std.specs.Prelude.{◌≡◌};

@@ -38,7 +38,7 @@ pub extern "C" fn itchsnap_order_by(alloc: Global, handle: &mut Handle, referenc
     })
 }
 
-/// The shares and the orders at a price of a locate and side: none where no order has the price.
+/// The shares and the orders at a price of a locate and side: 0 if no order has the price.
 #[unsafe(no_mangle)]
 pub extern "C" fn itchsnap_level(
     alloc: Global,

@@ -17,7 +17,7 @@ use itch_market::{Market, Refusal, Stop};
 use itch_snapshot::{SnapFault, read_snapshot};
 use std::alloc::Global;
 
-/// Puts a new market, which no message has reached, into a handle that holds nothing.
+/// Puts an empty market into an empty handle.
 #[unsafe(no_mangle)]
 pub extern "C" fn itchsnap_market_new(alloc: Global, handle: &mut Handle) -> Answer
     ensures { Fills handle.old.kept.object (Object.Market content.empty) result handle.new.kept.object }
@@ -25,8 +25,8 @@ pub extern "C" fn itchsnap_market_new(alloc: Global, handle: &mut Handle) -> Ans
     handle.fill(alloc, Object::Market(Market::new(alloc)))
 }
 
-/// Puts the market of a snapshot file into a handle that holds nothing. The messages of the file stand in any order that
-/// follows the order rules.
+/// Puts the market of a snapshot file into an empty handle. The messages of the file may be in any order that follows the order
+/// rules.
 #[unsafe(no_mangle)]
 pub extern "C" fn itchsnap_market_load(
     alloc: Global,
@@ -41,7 +41,7 @@ pub extern "C" fn itchsnap_market_load(
     load(alloc, handle, snapshot)
 }
 
-/// Applies the message of a payload to a market, or says why not; then the market is as it was.
+/// Applies the message of a payload to a market, or returns why not; then the market is as it was.
 #[unsafe(no_mangle)]
 pub extern "C" fn itchsnap_market_apply(
     alloc: Global,

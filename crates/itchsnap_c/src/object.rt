@@ -10,7 +10,7 @@ use itch_market::Market;
 use itch_soup::{ClientSession, ServerSession};
 use std::alloc::Global;
 
-/// The book that every market of a handle keeps its orders in.
+/// The type of book in which every market of a handle keeps its orders.
 pub(crate) type Book = IndexedBook<Global>;
 
 /// What a handle holds.
@@ -23,7 +23,7 @@ pub(crate) enum Object {
 }
 
 impl Object {
-    /// The market that look-ups are made in: of a joiner the one that it keeps once it has joined.
+    /// The market in which look-ups are made: for a joiner the one that it keeps once it has joined.
     pub(crate) fn market(&self) -> Option<&Market<Book>>
         ensures { option_copied result ≡ market_of self.now }
     {

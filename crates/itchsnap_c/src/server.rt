@@ -1,4 +1,4 @@
-//! A server's sessions that C keeps.
+//! The sessions of servers that C keeps.
 ghost use Rattle.std.specs.Prelude.{◌≡◌, Some};
 ghost use Rattle.itchsnap_c.specs.Objects.{OnHandle, AtServer};
 ghost use Rattle.itchsnap_c.specs.Sessions.{FillsServer, ServerHears, held_server, Accepts, no_acceptance, wrong_act};
@@ -13,7 +13,7 @@ use itch_codec::{MOST_MESSAGES, Seq};
 use itch_soup::{Credentials, Origin, ServerConfig, ServerSession, parse_packet};
 use std::alloc::Global;
 
-/// Puts a server's session of `total` messages, which begins at this moment, in milliseconds, into a handle that holds nothing.
+/// Puts a server's session of `total` messages, which begins at this moment, in milliseconds, into an empty handle.
 #[unsafe(no_mangle)]
 pub extern "C" fn itchsnap_server_new(
     alloc: Global,

@@ -13,7 +13,7 @@ use itch_codec::{Alpha, AlphaFault};
 use itch_soup::Credentials;
 use std::alloc::Global;
 
-/// What a session is to do at this moment, in milliseconds, without a packet. A heartbeat counts as sent.
+/// What is due in a session at this moment, in milliseconds, without a packet. A heartbeat counts as sent.
 #[unsafe(no_mangle)]
 pub extern "C" fn itchsnap_session_tick(alloc: Global, handle: &mut Handle, now_ms: u64) -> Answer
     ensures { OnHandle wrong (Ticks now_ms) handle.old.kept.object result handle.new.kept.object }
@@ -21,7 +21,7 @@ pub extern "C" fn itchsnap_session_tick(alloc: Global, handle: &mut Handle, now_
     handle.with(alloc, WRONG, |object| tick(object, now_ms))
 }
 
-/// Takes note that a session sent something at this moment, in milliseconds.
+/// Records that a session sent something at this moment, in milliseconds.
 #[unsafe(no_mangle)]
 pub extern "C" fn itchsnap_session_sent(alloc: Global, handle: &mut Handle, now_ms: u64) -> Answer
     ensures { OnHandle wrong (Notes now_ms) handle.old.kept.object result handle.new.kept.object }

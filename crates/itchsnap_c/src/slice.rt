@@ -1,4 +1,4 @@
-//! Bytes in memory, which no read fails to give.
+//! A reader of bytes in memory, which never fails.
 ghost use Rattle.std.specs.Prelude.{Some, None};
 
 use itch_frame::CountedRead;

@@ -17,8 +17,8 @@ use itch_market::{LocateSet, Market};
 use itch_snapshot::{snapshot_len, write_partial, write_snapshot};
 use std::alloc::Global;
 
-/// Writes the canonical snapshot of a market to the front of `out`, closed with this number of the next message. Where there
-/// is no room for it, `out` stays as it was.
+/// Writes the canonical snapshot of a market to the front of `out`, closed with this number of the next message. If there is no
+/// room for it, `out` stays as it was.
 #[unsafe(no_mangle)]
 pub extern "C" fn itchsnap_snapshot(
     alloc: Global,
@@ -35,7 +35,7 @@ pub extern "C" fn itchsnap_snapshot(
     put(&bytes, out)
 }
 
-/// The same of the market cut down to the locates of a list.
+/// The same for the market cut down to the locates of a list.
 #[unsafe(no_mangle)]
 pub extern "C" fn itchsnap_snapshot_only(
     alloc: Global,

@@ -1,8 +1,7 @@
 //! What a command reads, a file or standard input, and how far it has read its files, shown on standard error.
 //!
-//! [`Opened`] is one of both. A [`Watched`] reader reads as the one inside it does. What passes through it is counted by a [`Tally`]:
-//! its bytes, and the messages that are whole by them. [`Progress`] sums up all files of a command, and updates its line
-//! every 64 MiB.
+//! [`Opened`] is either. A [`Watched`] reader reads as the one inside it does. A [`Tally`] counts what passes through it: the
+//! bytes, and the whole messages in them. [`Progress`] sums up all files of a command, and updates its line every 64 MiB.
 //!
 //! ```
 //! let mut tally = Tally::new();

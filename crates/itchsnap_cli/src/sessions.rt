@@ -2,9 +2,9 @@
 //! say to each other is `itch_soup`'s.
 //!
 //! [`serve_blocks`] reads a day file and serves the snapshot of its market to one connection after another, with a line for each:
-//! the clauses say what is served, and how each connection ended by what its socket gave and took. No peer keeps the others waiting
-//! for longer than [`time_left`] allows. [`fetch`] logs in, receives a snapshot and writes it in canonical form. A [`Login`] is the
-//! user name and the password of both.
+//! the clauses say what is served and how each connection ended, in terms of what its socket gave and took. No peer keeps the
+//! others waiting for longer than [`time_left`] allows. [`fetch`] logs in, receives a snapshot and writes it in canonical form. A
+//! [`Login`] is the user name and the password of both.
 //!
 //! ```
 //! let login = Login::new("desk", "secret")?;

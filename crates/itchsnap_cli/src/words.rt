@@ -1,7 +1,7 @@
 //! The words of the command line of `itchsnap`, and what they ask for.
 //!
-//! [`read_job`] makes a [`Job`] of them: a request over files, or a session with a [`Peer`] on this machine. Anything else is a
-//! usage fault, or a request for help or the version.
+//! [`read_job`] makes a [`Job`] of them: a request over files, or a session with a [`Peer`] on this machine. Otherwise it returns
+//! a usage fault, or a request for help or the version.
 //!
 //! ```
 //! // of `itchsnap check day.itch`

@@ -9,7 +9,7 @@ use std::cell::Cell;
 
 /// Passes each call on to another allocator, and refuses one allocation.
 ///
-/// A `&Refusing<B>` is an allocator too, and `Copy`: a test keeps the device and lends it to what it tests.
+/// A `&Refusing<B>` is an allocator too, and `Copy`: a test keeps the allocator and lends it to what it tests.
 pub struct Refusing<B: Allocator> {
     inner: B,
     // How many allocations go through before the one that is refused, while it is not refused.
@@ -25,12 +25,12 @@ impl<B: Allocator> Refusing<B> {
         }
     }
 
-    /// The same from here on: `nth` allocations go through, and the next one is refused.
+    /// Starts again: from here on `nth` allocations go through, and the next one is refused.
     pub fn arm(&self, nth: u64) {
         self.before.set(Some(nth));
     }
 
-    /// Whether the allocation was refused. After `arm(0)`: whether any was asked for.
+    /// Whether the allocation was refused. After `arm(0)`: whether there was any allocation.
     pub fn has_refused(&self) -> bool {
         self.before.get().is_none()
     }

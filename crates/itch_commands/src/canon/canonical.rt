@@ -1,4 +1,4 @@
-//! Whether bytes are those of a market's snapshot.
+//! Checks whether bytes are those of a market's snapshot.
 ghost use Rattle.std.specs.Prelude.{◌≡◌, ◌↔◌, ◌<◌, ◌++◌, true};
 ghost use Rattle.itch_codec.specs.Messages.{spelling};
 ghost use Rattle.itch_codec.specs.Widths.{IsMessage};
@@ -13,7 +13,7 @@ use itch_snapshot::SnapshotIter;
 
 /// Whether bytes are exactly the canonical bytes of a market and the block of an End of Snapshot with this number.
 ///
-/// No snapshot is made for it: each message is spelled, and compared where it should stand.
+/// It makes no snapshot: it spells each message, and compares it with the bytes at its place.
 pub fn is_closed<B: OrderBook>(bytes: &[u8], market: &Market<B>, next: Seq) -> bool
     ensures { (result ≡ true) ↔ (bytes.now ≡ canon market.now ++ closing next) }
 {

@@ -72,7 +72,7 @@ fn copy_block<A: Allocator>(copy: &mut Vec<u8, A>, payload: &[u8]) -> Result<(),
     copy.extend_from_slice(payload)
 }
 
-/// Reads what follows an End of Snapshot: nothing, and true is returned, or an empty block, and false is.
+/// Reads what follows an End of Snapshot. Returns true at the end of the input, and false at an empty block.
 pub fn read_end<R: CountedRead, C: Allocator>(
     reader: &mut BlockReader<R, C>,
 ) -> Result<bool, ToolFault>

@@ -1,4 +1,4 @@
-//! The feed that goes on after a snapshot.
+//! The feed that continues after a snapshot.
 ghost use Rattle.std.specs.Prelude.{◌≡◌, ◌<◌, ◌≤◌, ◌-◌, ◌+◌, ◌^◌, None, Some, OnOk, MatchResult};
 ghost use Rattle.itch_frame.specs.Reading.{bytes_left};
 ghost use Rattle.itch_market.specs.Replays.{Counts, LeavesReaderFirst};

@@ -17,7 +17,8 @@ use itch_market::Refusal;
 use itch_snapshot::SnapFault;
 use std::alloc::Allocator;
 
-/// Gives a joiner the messages of a snapshot, up to its End of Snapshot. The joiner's set says how they are read.
+/// Gives a joiner the messages of a snapshot, up to its End of Snapshot. The joiner skips those at locates that its set does not
+/// have.
 pub fn read_start<R: CountedRead, A: Allocator, B: OrderBook>(
     reader: &mut BlockReader<R, A>,
     joiner: &mut Joiner<B>,

@@ -2,14 +2,14 @@
 ghost use Rattle.std.specs.Prelude.{◌≡◌, ℕ, List, [], ◌∷◌, ◌++◌};
 ghost use Rattle.itchsnap_cli.specs.Tallies.{IsWholeAfter, IsAt, Reaches, Counts, CountsOn};
 
-/// Where a stream of blocks is cut, as far as the rest of its last block depends on it.
+/// Where a stream of blocks is cut: what is needed to find the rest of its last block.
 #[derive(Clone, Copy, Debug, PartialEq, Eq)]
 pub enum Place {
     /// Between two blocks.
     Border,
     /// After the first of two length bytes, which is this one.
     Length(u8),
-    /// Within a payload of which this many bytes are still to come.
+    /// Within a payload, with this many bytes still to come.
     Payload(u16),
 }
 
@@ -55,14 +55,14 @@ impl Tally {
         }
     }
 
-    /// How many blocks were whole; from 2^64 - 1 on it counts no further.
+    /// How many whole blocks there were; the count stops at 2^64 - 1.
     pub fn messages(&self) -> u64
         ensures { result ≡ self.now.messages }
     {
         self.messages
     }
 
-    /// Goes on over the next piece of the stream.
+    /// Counts the next piece of the stream.
     pub fn pass(&mut self, piece: &[u8])
         ensures { CountsOn self.old piece.now self.new }
     {

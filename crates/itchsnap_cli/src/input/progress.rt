@@ -15,7 +15,7 @@ use std::time::{Duration, Instant};
 /// The line is updated whenever this many more bytes have been read: 64 MiB.
 const STEP: u64 = 1 << 26;
 
-/// How much was read, and in how much time. `Display` gives the line of it.
+/// How much was read, and in how much time. `Display` gives the progress line.
 #[derive(Clone, Copy, Debug)]
 pub struct Amount {
     pub bytes: u64,
@@ -38,8 +38,8 @@ impl fmt::Display for Amount {
 
 /// What a command has read of all its files, and since when.
 ///
-/// A line on standard error is updated every 64 MiB, and ends where a file has been read to its end, or with the command.
-/// What standard error does not take is left out.
+/// A line on standard error is updated every 64 MiB, and ends when a file has been read to its end, or with the command. What
+/// standard error does not take is left out.
 pub struct Progress<'a, R: Eprint> {
     rt: &'a R,
     begun: Instant,
@@ -49,7 +49,7 @@ pub struct Progress<'a, R: Eprint> {
 }
 
 impl<'a, R: Eprint + Clock> Progress<'a, R> {
-    /// Begins now; or there is none, where the clock fails.
+    /// Begins now; there is none if the clock fails.
     pub fn begin(rt: &'a R) -> Option<Progress<'a, R>> {
         match Instant::now(rt) {
             Ok(begun) => Some(Progress {
@@ -110,7 +110,7 @@ fn end_line(rt: &impl Eprint, is_open: &Cell<bool>) {
     }
 }
 
-/// A reader of one of a command's files. It reads as the one inside does, and counts what it reads where that is wanted.
+/// A reader of one of a command's files. It reads as the one inside does, and counts what it reads if there is a progress line.
 #[derive(Drop)]
 pub struct Watched<'a, T, R: Eprint> {
     inner: T,

@@ -21,8 +21,8 @@ use std::rt::Clock;
 /// Files, streams and sockets are read and written in pieces of this many bytes.
 pub const PIECE: usize = 1 << 16;
 
-/// Serves the connection of a socket, which it reads by one handle, `stream`, and writes to by another, `answering`. An error is want
-/// of memory.
+/// Serves the connection of a socket, which it reads by one handle, `stream`, and writes to by another, `answering`. The only
+/// error is out of memory.
 pub fn serve_stream<R: Clock + Alloc, S: Read + Write + OpenStream + Drop, B: OrderBook>(
     rt: &R,
     stream: S,
@@ -83,7 +83,7 @@ fn serve_sides<R: CountedRead, A: Allocator, W: Write, B: OrderBook>(
     serve_peer(reader, writer, market, next, config)
 }
 
-/// Serves one peer over any reader and writer, and flushes what was written to it. `None` where either had a fault.
+/// Serves one peer over any reader and writer, and flushes what was written to it. `None` if either had a fault.
 pub fn serve_peer<R: CountedRead, A: Allocator, W: Write, B: OrderBook>(
     reader: &mut BlockReader<R, A>,
     writer: &mut Sending<W>,

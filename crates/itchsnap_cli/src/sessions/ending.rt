@@ -10,7 +10,7 @@ use itch_frame::CountedWrite;
 use itch_soup::Served;
 use itoa::Buffer;
 
-/// How a connection ended, or `None` where it had a fault.
+/// How a connection ended, or `None` if it had a fault.
 pub type Ending = Option<Served>;
 
 /// Writes the line of a connection.

@@ -14,7 +14,7 @@ use std::alloc::Allocator;
 /// Logs in for all messages of the snapshot that a server has, and writes it in canonical form, closed with its number.
 ///
 /// The login goes to `writer`; the answer is read from `reader`, up to the End of Snapshot and no further. The snapshot is
-/// written once it was received whole: a fault of the session, `Soup`, leaves nothing on the output.
+/// written after it was received whole: if the session has a fault, `Soup`, nothing is written to the output.
 pub fn fetch<R: CountedRead, B: Allocator, A: Allocator + Copy, V: CountedWrite, W: CountedWrite>(
     alloc: A,
     reader: &mut BlockReader<R, B>,

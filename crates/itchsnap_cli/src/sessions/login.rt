@@ -26,7 +26,7 @@ impl Debug for Login {
 }
 
 impl Login {
-    /// Takes a user name of 1 to 6 and a password of 1 to 10 printable characters; the user name is judged first.
+    /// Takes a user name of 1 to 6 and a password of 1 to 10 printable characters; the user name is checked first.
     pub fn new(user: &str, password: &str) -> Result<Login, ToolFault>
         ensures { ReadsLogin user.now password.now result }
     {
@@ -39,7 +39,7 @@ impl Login {
         }
     }
 
-    /// What a server of the session `ITCHSNAP` lets in.
+    /// The login that a server of the session `ITCHSNAP` accepts.
     pub fn config(&self) -> ServerConfig
         ensures username { result.username ≡ self.now.username }
         ensures password { result.password ≡ self.now.password }

@@ -1,4 +1,4 @@
-//! Sockets with patience: a peer that says nothing, or takes little, holds nobody for long.
+//! Sockets with a deadline: a peer that is silent, or takes little, cannot block the server for long.
 ghost use Rattle.std.specs.Prelude.{◌≡◌, ◌+◌, ◌≤◌, ◌<◌, MatchOption};
 ghost use Rattle.std.specs.Duration.{as_nanos};
 ghost use Rattle.itchsnap_cli.specs.Patience.{patience};
@@ -14,7 +14,7 @@ const FIRST_SECONDS: u64 = 15;
 // A peer that takes less than this of a long answer in a second is cut off.
 const BYTES_A_SECOND: u64 = 1 << 16;
 
-/// How much longer a peer may take that took this many bytes of its answer in this time, or `None` where its time is over.
+/// How much longer a peer may take that took this many bytes of its answer in this time, or `None` if its time is over.
 ///
 /// It has 15 seconds, and one more for each 64 KiB.
 pub fn time_left(taken: u64, spent: Duration) -> Option<Duration>
@@ -90,11 +90,11 @@ impl<S: Write + OpenStream, C: Clock> Write for Patient<'_, S, C> {
 }
 
 impl<S: Read + OpenStream, C: Clock> Patient<'_, S, C> {
-    /// Ends what is sent, and passes over what the peer says until it has ended too, or its time is over. A peer that took nothing
-    /// is not waited for.
+    /// Ends the sending side, and ignores what the peer sends until the peer has ended too, or its time is over. It does not wait
+    /// for a peer that took nothing.
     ///
-    /// A socket that is closed with bytes unread, or to which some come later, resets its connection, and the peer may lose the end
-    /// of what it was sent.
+    /// If a socket is closed with bytes unread, or if bytes arrive later, its connection is reset, and the peer may lose the end
+    /// of its answer.
     pub fn hang_up(&mut self) {
         let _ = self.stream.shutdown(Shutdown::Write);
         if self.taken == 0 {

@@ -1,4 +1,4 @@
-//! A writer of which every failure is counted.
+//! A writer that counts every failure.
 ghost use Rattle.std.specs.Prelude.{◌≡◌, None};
 ghost use Rattle.std.specs.Io.KnownBytes.{Keeps};
 ghost use Rattle.itch_frame.specs.Counting.{CountsErr};
@@ -27,7 +27,7 @@ impl<W: Write> Sending<W> {
         }
     }
 
-    /// Hands on what the writer inside still holds. An `Err` is counted.
+    /// Flushes what the writer inside still holds. An `Err` is counted.
     pub fn flush(&mut self) -> io::Result<()>
         ensures bytes { Keeps (W.contents self.old.inner) (W.contents self.new.inner) }
         ensures count { CountsErr result self.old.failures self.new.failures }

@@ -20,11 +20,11 @@ use std::io;
 use std::net::{Ipv4Addr, Net, OpenListener, OpenStream, TcpListener};
 use std::rt::Clock;
 
-/// Serves the market of a day file on a port of 127.0.0.1, as [`serve_on`] does: the snapshot after all of its messages. Standard
-/// error is told once the port is listened on.
+/// Serves the market of a day file on a port of 127.0.0.1, as [`serve_on`] does: the snapshot after all of its messages. A line
+/// on standard error says when the port is listened on.
 ///
-/// Nothing is served of a file that is refused, nor of one whose snapshot has too many messages, `TooMany`; `Socket` where
-/// the port cannot be listened on.
+/// If the file is refused, or its snapshot has too many messages (`TooMany`), nothing is served. `Socket` if the port cannot be
+/// listened on.
 pub fn serve_blocks<R, F: CountedRead, D: Allocator, A: Allocator + Copy, W: CountedWrite>(
     rt: &R,
     reader: &mut BlockReader<F, D>,
@@ -101,7 +101,7 @@ fn listen<N: Net + Eprint>(net: &N, port: u16) -> Result<N::Listener, ToolFault>
     }
 }
 
-/// The line that says that a port is listened on, without its line feed.
+/// The line that reports that the server listens on a port, without its line feed.
 #[derive(Clone, Copy, Debug)]
 pub struct Listening(pub u16);
 
@@ -112,16 +112,16 @@ impl Display for Listening {
     }
 }
 
-/// Serves a market to `count` connections, one after the other, and writes a line for each: how it was answered, or that it
-/// had a fault, which ends nothing else. A peer has 15 seconds for its login, and as long for its answer and one more for each
-/// 64 KiB of it.
+/// Serves a market to `count` connections, one after another, and writes a line for each: how it was answered, or that it had a
+/// fault. A fault ends that connection alone. A peer has 15 seconds for its login, and as long for its answer and one more for
+/// each 64 KiB of it.
 ///
 /// The caller keeps the snapshot below 10^19 - 1 messages: `snapshot_len` counts them.
 ///
 /// # Faults
 ///
-/// `Socket` where no connection could be accepted, `OutOfMemory` where there is no memory for one, and `Write` for its line:
-/// the lines of the connections before were written.
+/// `Socket` if a connection cannot be accepted, `OutOfMemory` if there is no memory for one, and `Write` if its line cannot be
+/// written: the lines of the connections before were written.
 pub fn serve_on<R: Clock + Alloc + Net, B: OrderBook, W: CountedWrite>(
     rt: &R,
     listener: &R::Listener,

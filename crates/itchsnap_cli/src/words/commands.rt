@@ -1,18 +1,19 @@
-//! The words of the command line: the commands, and what each takes.
+//! The words of the command line: the commands and their arguments.
 
 use clap::error::ErrorKind;
 use clap::{Arg, ArgAction, Command, Error};
 use std::alloc::{AllocError, Global};
 
-/// The program's version, the toolchain that it is proved with, as `rt version` prints it, and whether it is a released build: in
-/// the released program `./make-release` has the last words replaced by as many, `release` and the beginning of the hash of the sources.
+/// The program's version, the toolchain that it is proved with, as `rt version` prints it, and whether it is a released build. In
+/// the released program `./make-release` replaces the last words by a text of the same length: `release` and the beginning of the
+/// hash of the sources.
 const VERSION: &str =
     "0.1.0 (proved with rattle-kit-13b logic dac8208d650f15bf, not a released build)";
 
-/// The most that `--after` takes.
+/// The greatest number that `--after` takes.
 const MOST_AFTER: i64 = 999_999_999_999;
 
-/// A command: its name, what it does, and what it takes, in the order of the help.
+/// A command: its name, what it does, and its arguments, in the order of the help.
 struct Entry {
     name: &'static str,
     about: &'static str,
@@ -48,7 +49,7 @@ enum Argument {
 const COMMANDS: [Entry; 9] = [
     Entry {
         name: "snap",
-        about: "Write the snapshot of a file of messages",
+        about: "Write the snapshot of the market that a day file leaves",
         takes: &[
             Argument::File,
             Argument::After,
@@ -63,7 +64,7 @@ const COMMANDS: [Entry; 9] = [
     },
     Entry {
         name: "compare",
-        about: "Say whether two files leave the same market",
+        about: "Check whether two files leave the same market",
         takes: &[Argument::First, Argument::Second, Argument::Progress],
     },
     Entry {
@@ -83,12 +84,12 @@ const COMMANDS: [Entry; 9] = [
     },
     Entry {
         name: "show",
-        about: "Show each message of a file as a line of text",
+        about: "Print each message of a file as a line of text",
         takes: &[Argument::File],
     },
     Entry {
         name: "book",
-        about: "Write the prices of a locate",
+        about: "Print the price levels of a locate",
         takes: &[Argument::Locate, Argument::File],
     },
     Entry {
@@ -110,7 +111,7 @@ const COMMANDS: [Entry; 9] = [
     },
 ];
 
-/// The program's words.
+/// The program's commands and their arguments.
 pub fn command<'a>(alloc: Global) -> Result<Command<'a>, AllocError> {
     let mut program = program(alloc)?;
     for entry in &COMMANDS {
@@ -119,7 +120,7 @@ pub fn command<'a>(alloc: Global) -> Result<Command<'a>, AllocError> {
     Ok(program)
 }
 
-/// The usage fault that says so.
+/// The usage fault with this message.
 pub fn usage_fault(alloc: Global, message: &str) -> Result<Error, AllocError> {
     command(alloc)?.error(ErrorKind::ValueValidation, message)
 }
@@ -151,7 +152,7 @@ impl Argument {
             Argument::After => after(alloc),
             Argument::Only => only(alloc),
             Argument::Progress => progress(alloc),
-            Argument::First => named(alloc, "A", "The first file, `-` for standard input"),
+            Argument::First => named(alloc, "A", "The first file; `-` for standard input"),
             Argument::Second => named(alloc, "B", "The second file, or `-`"),
             Argument::Snapshot => snapshot(alloc),
             Argument::Check => only_check(alloc),
@@ -165,7 +166,7 @@ impl Argument {
             Argument::Served => named(
                 alloc,
                 "FILE",
-                "The file of messages whose market is served, `-` for standard input",
+                "The day file whose market is served; `-` for standard input",
             ),
             Argument::Count => count(alloc),
             Argument::Port => port(alloc),
@@ -184,13 +185,13 @@ fn after<'a>(alloc: Global) -> Arg<'a> {
 }
 
 fn snapshot<'a>(alloc: Global) -> Arg<'a> {
-    Arg::new(alloc, "SNAP").help("The snapshot to read: standard input where it is `-` or left out")
+    Arg::new(alloc, "SNAP").help("The snapshot to read; standard input if it is `-` or left out")
 }
 
 fn only_check<'a>(alloc: Global) -> Arg<'a> {
     Arg::new(alloc, "check")
         .long("check")
-        .help("Only say whether the snapshot is in canonical form")
+        .help("Only report whether the snapshot is in canonical form")
         .action(ArgAction::SetTrue)
 }
 
@@ -205,13 +206,13 @@ fn only<'a>(alloc: Global) -> Arg<'a> {
     Arg::new(alloc, "only")
         .long("only")
         .value_name("LIST")
-        .help("Keep only these locates, as 1,2,40")
+        .help("Keep only these locates, such as 1,2,40")
 }
 
 fn progress<'a>(alloc: Global) -> Arg<'a> {
     Arg::new(alloc, "progress")
         .long("progress")
-        .help("Show on standard error how much was read so far, every 64 MiB")
+        .help("Show every 64 MiB, on standard error, how much was read so far")
         .action(ArgAction::SetTrue)
 }
 
@@ -220,7 +221,7 @@ fn named<'a>(alloc: Global, name: &'a str, help: &'a str) -> Arg<'a> {
 }
 
 fn file<'a>(alloc: Global) -> Arg<'a> {
-    Arg::new(alloc, "FILE").help("The file to read: standard input where it is `-` or left out")
+    Arg::new(alloc, "FILE").help("The file to read; standard input if it is `-` or left out")
 }
 
 fn count<'a>(alloc: Global) -> Arg<'a> {
@@ -228,7 +229,7 @@ fn count<'a>(alloc: Global) -> Arg<'a> {
         .long("count")
         .value_name("N")
         .required(true)
-        .help("Serve N connections, one after the other")
+        .help("Serve N connections, one after another")
         .value_parser(clap::value_parser!(u64).range(1..=1_000_000))
 }
 

@@ -9,7 +9,7 @@ use itch_commands::{Request, Source};
 use std::alloc::Global;
 use std::fmt::{self, Debug, Formatter};
 
-/// What the words of the command line ask for; with `progress` standard error shows how much was read so far.
+/// What the command line asks for; with `progress`, standard error shows how much was read so far.
 #[derive(Clone, Copy, Debug, PartialEq, Eq)]
 pub enum Job<'a> {
     /// A request over files and standard streams.
@@ -29,7 +29,7 @@ pub enum Job<'a> {
 }
 
 impl<'a> Job<'a> {
-    /// The path of the file that a fault names so, or none where it is standard input.
+    /// The path of the file that a fault names, or none if that is standard input.
     pub fn file(&self, source: Source) -> Option<&'a str>
         ensures { option_map (λ path. path.now) result ≡ file_of self.now source }
     {
@@ -40,7 +40,7 @@ impl<'a> Job<'a> {
         }
     }
 
-    /// The port of the session, where the job has one.
+    /// The port of the session, if the job has one.
     pub fn port(&self) -> Option<u16>
         ensures { result ≡ port_of self.now }
     {
@@ -62,7 +62,7 @@ fn writes_snapshot(job: &Job<'_>) -> bool
     }
 }
 
-/// The port that a server listens on, and the user name and password of a login to it, as the words have them.
+/// The port that a server listens on, and the user name and password of a login to it, as on the command line.
 ///
 /// `{:?}` leaves the password out.
 #[derive(Clone, Copy, PartialEq, Eq)]
@@ -81,9 +81,10 @@ impl Debug for Peer<'_> {
     }
 }
 
-/// Reads the words, of which the first is the program's name. A snapshot is refused where standard output is a terminal.
+/// Reads the words of the command line; the first is the program's name. A command that writes a snapshot is refused if standard
+/// output is a terminal.
 ///
-/// An error is a usage fault, a request for help, or that memory ran out: its kind says which.
+/// An error is a usage fault, a request for help, or out of memory: its kind says which.
 pub fn read_job<'a>(alloc: Global, words: &'a [String], terminal: bool) -> Result<Job<'a>, Error> {
     let matches = command(alloc)?.try_get_matches_from(words)?;
     let job = match matches.subcommand() {
@@ -98,7 +99,7 @@ pub fn read_job<'a>(alloc: Global, words: &'a [String], terminal: bool) -> Resul
     if terminal && writes_snapshot(&job) {
         return Err(usage_fault(
             alloc,
-            "a snapshot is not written to a terminal: redirect it",
+            "a snapshot is not written to a terminal: redirect the output",
         )?);
     }
     Ok(job)
@@ -115,7 +116,7 @@ fn read_serve<'a>(alloc: Global, options: &ArgMatches<'a>) -> Result<Job<'a>, Er
 
 fn read_peer<'a>(alloc: Global, options: &ArgMatches<'a>) -> Result<Peer<'a>, Error> {
     let Ok(port) = u16::try_from(read_number(alloc, options, "port")?) else {
-        return Err(usage_fault(alloc, "a port is from 1 to 65535")?);
+        return Err(usage_fault(alloc, "the port must be from 1 to 65535")?);
     };
     match (options.get_str("user"), options.get_str("pass")) {
         (Some(user), Some(password)) => Ok(Peer {
@@ -131,6 +132,6 @@ fn read_peer<'a>(alloc: Global, options: &ArgMatches<'a>) -> Result<Peer<'a>, Er
 fn read_number<'a>(alloc: Global, options: &ArgMatches<'a>, name: &str) -> Result<u64, Error> {
     match (options.get_str(name), options.get_one::<u64>(name)) {
         (Some(text), Some(number)) if text.bytes().all(|byte| byte.is_ascii_digit()) => Ok(number),
-        _ => Err(usage_fault(alloc, "a number has decimal digits alone")?),
+        _ => Err(usage_fault(alloc, "a number must have decimal digits only")?),
     }
 }

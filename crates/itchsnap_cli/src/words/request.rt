@@ -1,13 +1,13 @@
-//! Requests over files, out of what was matched of the words.
+//! Requests over files, made from the matched words of the command line.
 
 use crate::words::commands::usage_fault;
 use clap::{ArgMatches, Error};
 use itch_commands::{Request, path_of};
 use std::alloc::Global;
 
-/// Reads what was matched of a request over files.
+/// Reads the matched words of a request over files.
 ///
-/// An error is a usage fault or that memory ran out: its kind says which.
+/// An error is a usage fault or out of memory: its kind says which.
 pub fn read_request<'a>(alloc: Global, matches: &ArgMatches<'a>) -> Result<Request<'a>, Error> {
     match matches.subcommand() {
         Some(("snap", options)) => read_snap(alloc, options),
@@ -64,7 +64,7 @@ fn read_two<'a>(
     }
 }
 
-/// The path of a file among the words, or none where it is standard input.
+/// The path of a file on the command line, or none if that is standard input.
 pub fn read_path<'a>(options: &ArgMatches<'a>, name: &str) -> Option<&'a str> {
     path_of(options.get_str(name))
 }
