@@ -4,9 +4,9 @@
 say_how_long() {
     local seconds
     if read -r seconds 2>/dev/null <"$(dirname "$built")/seconds"; then
-        echo "which took $((seconds / 60)) min $((seconds % 60)) s the last time" >&2
+        echo "took $((seconds / 60)) min $((seconds % 60)) s the last time" >&2
     else
-        echo "which takes 15 to 40 minutes on four cores" >&2
+        echo "takes 15 to 40 minutes on four cores" >&2
     fi
 }
 
@@ -42,13 +42,13 @@ build() {
         return
     fi
     if ! command -v rt >/dev/null; then
-        echo "itchsnap: $why, and to prove and build it the Rattle toolchain is needed: there is no command rt on the path" >&2
+        echo "itchsnap: $why. Proving and building it needs the Rattle toolchain: there is no command rt on the path" >&2
         exit 1
     fi
     exec 9<"$top/crates.txt"
     flock 9
     if is_stale "$built" itch_tool; then
-        echo -n "itchsnap: $why: it is proved and built from these, " >&2
+        echo -n "itchsnap: $why. Proving and building it " >&2
         say_how_long
         prove_and_build
     fi

@@ -103,7 +103,7 @@ def the_released_version_has_the_records_hash(_program):
 
 
 def a_changed_source_needs_the_toolchain(_program):
-    needed = f"{OTHER}, and to prove and build it the Rattle toolchain is needed: there is no command rt on the path\n"
+    needed = f"{OTHER}. Proving and building it needs the Rattle toolchain: there is no command rt on the path\n"
     with checkout() as copy:
         copy.change()
         yield from differs("no toolchain", copy.start("check"), (1, "", needed))
@@ -111,7 +111,7 @@ def a_changed_source_needs_the_toolchain(_program):
 
 
 def a_changed_source_is_proved_and_built(_program):
-    says = f"{OTHER}: it is proved and built from these, which "
+    says = f"{OTHER}. Proving and building it "
     crates = "".join(f"itchsnap: proving {name} ({number} of {len(NAMES)}), 0 min so far ..\n" for number, name in enumerate(NAMES, 1))
     first = f"{says}takes 15 to 40 minutes on four cores\n"
     with checkout() as copy:
