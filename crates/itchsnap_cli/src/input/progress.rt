@@ -51,16 +51,14 @@ pub struct Progress<'a, R: Eprint> {
 impl<'a, R: Eprint + Clock> Progress<'a, R> {
     /// Begins now; there is none if the clock fails.
     pub fn begin(rt: &'a R) -> Option<Progress<'a, R>> {
-        match Instant::now(rt) {
-            Ok(begun) => Some(Progress {
-                rt,
-                begun,
-                bytes: Cell::new(0),
-                messages: Cell::new(0),
-                is_open: Cell::new(false),
-            }),
-            Err(_) => None,
-        }
+        let begun = Instant::now(rt).ok()?;
+        Some(Progress {
+            rt,
+            begun,
+            bytes: Cell::new(0),
+            messages: Cell::new(0),
+            is_open: Cell::new(false),
+        })
     }
 
     // Adds these bytes, and the messages that are whole by them.
@@ -124,13 +122,10 @@ impl<'a, T, R: Eprint> Watched<'a, T, R> {
         ensures off { IsNone result.watch ↔ IsNone progress.entry }
         ensures nothing { IfSome result.watch (λ watch. Counts watch.tally []) }
     {
-        let watch = match progress {
-            Some(progress) => Some(Watch {
-                progress,
-                tally: Tally::new(),
-            }),
-            None => None,
-        };
+        let watch = progress.map(|progress| Watch {
+            progress,
+            tally: Tally::new(),
+        });
         Watched { inner, watch }
     }
 }

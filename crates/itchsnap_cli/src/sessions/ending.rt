@@ -1,8 +1,8 @@
 //! How a served connection ended, and its line.
-ghost use Rattle.std.specs.Prelude.{◌≡◌, ◌≤◌};
+ghost use Rattle.std.specs.Prelude.{◌≡◌, ◌≤◌, ◌+◌, ◌++◌, length, decimal};
 ghost use Rattle.arrayvec.specs.ArrayVec.{array_vec_len};
 ghost use Rattle.itch_commands.specs.Outputs.{WritesText};
-ghost use Rattle.itchsnap_cli.specs.Sessions.{accepted_words, ending_words, connection_line};
+ghost use Rattle.itchsnap_cli.specs.Sessions.{ending_words, connection_line};
 
 use arrayvec::ArrayVec;
 use itch_commands::{ToolFault, write_text};
@@ -28,14 +28,12 @@ fn line(number: u64, ending: &Ending) -> ArrayVec<u8, 128>
     ensures line { result.items ≡ connection_line number ending.now }
     ensures short { array_vec_len result ≤ 128 }
 {
-    let mut digits = Buffer::new();
     let mut line = ArrayVec::new();
-    line.try_extend_from_slice(b"connection ").unwrap();
-    line.try_extend_from_slice(digits.format(number).as_bytes())
-        .unwrap();
-    line.try_extend_from_slice(b": ").unwrap();
-    line.try_extend_from_slice(&words(ending)).unwrap();
-    line.try_extend_from_slice(b"\n").unwrap();
+    push(&mut line, b"connection ");
+    push_number(&mut line, number);
+    push(&mut line, b": ");
+    push(&mut line, &words(ending));
+    push(&mut line, b"\n");
     line
 }
 
@@ -45,31 +43,37 @@ fn words(ending: &Ending) -> ArrayVec<u8, 64>
 {
     let mut words = ArrayVec::new();
     match ending {
-        Some(Served::Accepted { from, packets }) => return accepted(from.value(), *packets),
-        Some(Served::Rejected(code)) => {
-            words.try_extend_from_slice(b"rejected ").unwrap();
-            words.try_push(*code).unwrap();
+        Some(Served::Accepted { from, packets }) => {
+            push(&mut words, b"accepted from ");
+            push_number(&mut words, from.value());
+            push(&mut words, b", ");
+            push_number(&mut words, *packets);
+            push(&mut words, b" packets");
         }
-        Some(Served::Left) => words.try_extend_from_slice(b"left").unwrap(),
-        None => words.try_extend_from_slice(b"fault").unwrap(),
+        Some(Served::Rejected(code)) => {
+            push(&mut words, b"rejected ");
+            push(&mut words, &[*code]);
+        }
+        Some(Served::Left) => push(&mut words, b"left"),
+        None => push(&mut words, b"fault"),
     }
     words
 }
 
-fn accepted(from: u64, packets: u64) -> ArrayVec<u8, 64>
-    ensures words { result.items ≡ accepted_words from packets }
-    ensures short { array_vec_len result ≤ 64 }
+// Appends bytes to a line that has room for them.
+fn push<const N: usize>(line: &mut ArrayVec<u8, N>, bytes: &[u8])
+    requires { array_vec_len line.old + length bytes.now ≤ N }
+    ensures items { line.new.items ≡ line.old.items ++ bytes.now }
+    ensures len { array_vec_len line.new ≡ array_vec_len line.old + length bytes.now }
 {
-    let mut digits = Buffer::new();
-    let mut words = ArrayVec::new();
-    words.try_extend_from_slice(b"accepted from ").unwrap();
-    words
-        .try_extend_from_slice(digits.format(from).as_bytes())
-        .unwrap();
-    words.try_extend_from_slice(b", ").unwrap();
-    words
-        .try_extend_from_slice(digits.format(packets).as_bytes())
-        .unwrap();
-    words.try_extend_from_slice(b" packets").unwrap();
-    words
+    line.try_extend_from_slice(bytes).unwrap();
+}
+
+// Appends a number in decimal digits, of which it has twenty at most.
+fn push_number<const N: usize>(line: &mut ArrayVec<u8, N>, number: u64)
+    requires { array_vec_len line.old + 20 ≤ N }
+    ensures items { line.new.items ≡ line.old.items ++ decimal number }
+    ensures len { array_vec_len line.new ≤ array_vec_len line.old + 20 }
+{
+    push(line, Buffer::new().format(number).as_bytes());
 }

@@ -74,8 +74,5 @@ fn word<const N: usize>(text: &str) -> Option<Alpha<N>>
     if text.is_empty() {
         return None;
     }
-    match Alpha::from_text(text) {
-        Ok(word) => Some(word),
-        Err(_) => None,
-    }
+    Alpha::from_text(text).ok()
 }

@@ -56,10 +56,7 @@ impl<'a, S, C: Clock> Patient<'a, S, C> {
     {
         let now = Instant::now(self.clock)?;
         let begun = *self.begun.get_or_insert(now);
-        match time_left(self.taken, now.duration_since(begun)) {
-            Some(left) => Ok(left),
-            None => Err(io::Error::from(ErrorKind::TimedOut)),
-        }
+        time_left(self.taken, now.duration_since(begun)).ok_or(io::Error::from(ErrorKind::TimedOut))
     }
 }
 

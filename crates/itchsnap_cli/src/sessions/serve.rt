@@ -55,10 +55,7 @@ where
     ensures { ServesDay R.Stream.remaining R.Stream.contents W.contents W.failures (ReadsDay F.remaining F.failures Only None reader.old reader.new) config.now count out.old result out.new }
 {
     let mut market: Market<B> = Market::new(alloc);
-    let read = match read_market(reader, &mut market, None, Source::Only) {
-        Ok(read) => read,
-        Err(fault) => return Err(fault),
-    };
+    let read = read_market(reader, &mut market, None, Source::Only)?;
     let Some(next) = Seq::new(read + 1) else {
         unreachable!()
     };
@@ -82,10 +79,8 @@ where
     if snapshot_len(market) >= u128::from(MOST_MESSAGES) {
         return Err(ToolFault::TooMany);
     }
-    match listen(rt, port) {
-        Ok(listener) => serve_on(rt, &listener, market, next, config, count, out),
-        Err(fault) => Err(fault),
-    }
+    let listener = listen(rt, port)?;
+    serve_on(rt, &listener, market, next, config, count, out)
 }
 
 // Listens on a port, and says so.
@@ -157,10 +152,8 @@ fn serve_next<R: Clock + Alloc + Net, B: OrderBook, W: CountedWrite>(
         Ok(handles) => handles,
         Err(error) => return Err(system_fault(error, ToolFault::Socket(error))),
     };
-    match serve_stream(rt, stream, answering, market, next, config) {
-        Ok(ending) => write_ending(out, number, &ending),
-        Err(fault) => Err(fault),
-    }
+    let ending = serve_stream(rt, stream, answering, market, next, config)?;
+    write_ending(out, number, &ending)
 }
 
 // Accepts the next connection, and gives two handles of its socket.
