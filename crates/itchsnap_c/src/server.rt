@@ -10,7 +10,7 @@ use crate::object::Object;
 use crate::session::credentials;
 use crate::soup_codes::{WRONG_ACT, server_act, soup_fault_act};
 use itch_codec::{MOST_MESSAGES, Seq};
-use itch_soup::{Credentials, Origin, ServerConfig, ServerSession, parse_packet};
+use itch_soup::{Origin, ServerConfig, ServerSession, parse_packet};
 use std::alloc::Global;
 
 /// Puts a server's session of `total` messages, which begins at this moment, in milliseconds, into an empty handle.
@@ -24,23 +24,16 @@ pub extern "C" fn itchsnap_server_new(
 ) -> Answer
     ensures { FillsServer config.now total now_ms handle.old.kept.object result handle.new.kept.object }
 {
-    let Ok(
-        Credentials {
-            username,
-            password,
-            session,
-        },
-    ) = credentials(config)
-    else {
+    let Ok(texts) = credentials(config) else {
         return coded(BAD_TEXT, 0);
     };
     if total > MOST_MESSAGES {
         return coded(TOO_MANY_MESSAGES, 0);
     }
     let config = ServerConfig {
-        username,
-        password,
-        session,
+        username: texts.username,
+        password: texts.password,
+        session: texts.session,
     };
     handle.fill(
         alloc,
