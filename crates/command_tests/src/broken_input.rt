@@ -1,6 +1,7 @@
 //! Each beginning of a day file and of a snapshot: the fault says how many bytes of the block at hand are held.
 use super::blocks::*;
 use super::files::file;
+use crate::equal::same;
 use itch_commands::ToolFault;
 use itch_commands::canon::canon;
 use itch_commands::check::check;
@@ -8,7 +9,6 @@ use itch_frame::testing::{FuseWriter, PieceReader};
 use std::alloc::Global;
 use std::process::Abort;
 use std::test::Fail;
-use test_kit::equal::same;
 
 // Where the blocks of the files begin.
 const STARTS: [usize; 4] = [0, 14, 55, 93];

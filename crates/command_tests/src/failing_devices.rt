@@ -1,6 +1,7 @@
 //! Each read and each write of each command failing in turn: the status is 3. A failed read leaves nothing on the output, but for
 //! the lines of `show`; a failed write leaves a beginning of it.
 use super::cases::{Case, Command, DAY_ENDS, OTHER_ENDS};
+use crate::equal::{holds_in, same, same_in};
 use itch_commands::snap::snap;
 use itch_commands::{Source, ToolFault};
 use itch_frame::testing::{FuseWriter, PieceReader};
@@ -11,7 +12,6 @@ use std::alloc::Global;
 use std::io::BufReader;
 use std::process::Abort;
 use std::test::Fail;
-use test_kit::equal::{holds_in, same, same_in};
 
 // The line of a failed read.
 #[derive(Clone, Copy, Debug, PartialEq, Eq)]

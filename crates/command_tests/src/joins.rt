@@ -2,6 +2,7 @@
 
 use super::blocks::*;
 use super::files::file;
+use crate::equal::same;
 use itch_commands::join::join;
 use itch_commands::laws;
 use itch_frame::testing::{FuseWriter, PieceReader};
@@ -9,7 +10,6 @@ use itch_market::LocateSet;
 use std::alloc::Global;
 use std::process::Abort;
 use std::test::Fail;
-use test_kit::equal::same;
 
 // The feed is joined to the snapshot so, for these locates.
 fn joined_for(

@@ -3,11 +3,11 @@
 
 use super::blocks::*;
 use super::files::{file, snapshot};
+use crate::equal::{holds_in, same_in};
 use itch_frame::BlockReader;
 use itch_frame::testing::PieceReader;
 use std::alloc::Global;
 use std::test::Fail;
-use test_kit::equal::{holds_in, same_in};
 
 // End of Snapshot takes this many bytes.
 const END: usize = 23;

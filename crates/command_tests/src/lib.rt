@@ -12,6 +12,8 @@ mod broken_input;
 #[cfg(test)]
 mod cases;
 #[cfg(test)]
+mod equal;
+#[cfg(test)]
 mod examples;
 #[cfg(test)]
 mod failing_devices;

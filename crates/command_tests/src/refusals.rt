@@ -2,6 +2,7 @@
 
 use super::blocks::*;
 use super::files::{file, snapshot};
+use crate::equal::{holds_in, same, same_in};
 use itch_codec::CodecFault;
 use itch_commands::check::check;
 use itch_commands::{Source, ToolFault, status, system_fault};
@@ -11,7 +12,6 @@ use itch_market::{Refusal, ReplayEnd, Stop};
 use itch_snapshot::SnapFault;
 use std::io;
 use std::test::Fail;
-use test_kit::equal::{holds_in, same, same_in};
 
 const TWO: [&str; 3] = [AAPL, MSFT, BUY_1];
 

@@ -2,13 +2,13 @@
 use super::blocks::*;
 use super::cases::{Case, Command};
 use super::files::file;
+use crate::equal::{holds_in, same};
 use itch_commands::{ToolFault, status};
 use itch_frame::testing::{FuseWriter, PieceReader};
 use std::alloc::Global;
 use std::process::Abort;
 use std::test::Fail;
 use test_kit::Refusing;
-use test_kit::equal::{holds_in, same};
 
 // A command was performed so, with an allocation refused or none. Returns whether one was.
 fn is_refused(

@@ -2,13 +2,13 @@
 
 use super::files::file;
 use super::snaps::ROWS;
+use crate::equal::{holds_in, same, same_in};
 use itch_commands::read_locates;
 use itch_commands::snap::snap;
 use itch_frame::testing::{FuseWriter, PieceReader};
 use itch_market::LocateSet;
 use std::test::Fail;
 use test_kit::Refusing;
-use test_kit::equal::{holds_in, same, same_in};
 
 #[test]
 fn snap_of_all_locates_is_the_whole(rt: HostRuntime) -> Result<(), Fail> {

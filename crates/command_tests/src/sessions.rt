@@ -6,6 +6,7 @@ mod failing_devices;
 mod progress;
 mod refused_memory;
 
+use crate::equal::{holds_in, same, same_in};
 use itch_book::OrderBook;
 use itch_codec::Seq;
 use itch_commands::{Book, ToolFault};
@@ -23,7 +24,6 @@ use std::process::Abort;
 use std::rt::Clock;
 use std::test::Fail;
 use std::time::Duration;
-use test_kit::equal::{holds_in, same, same_in};
 
 // Logins for all messages and for those from the third on, and one with another password.
 pub(super) const LOGIN_1: &[u8] = b"\0\x2fLuser  secret                                 1";

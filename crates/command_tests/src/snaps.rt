@@ -1,12 +1,12 @@
 //! Snapshots of files, in whatever pieces and through whatever buffer they are read.
 use super::blocks::*;
 use super::files::{file, snapshot};
+use crate::equal::{holds_in, same_in};
 use itch_commands::snap::snap;
 use itch_frame::Counted;
 use itch_frame::testing::FuseWriter;
 use std::io::BufReader;
 use std::test::Fail;
-use test_kit::equal::{holds_in, same_in};
 
 /// Files, and their snapshots.
 pub(super) const ROWS: [(&[&str], &[&str]); 16] = [

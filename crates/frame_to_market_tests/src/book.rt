@@ -1,10 +1,10 @@
 //! Books by what their calls return. The helpers take any book.
+use crate::equal::{same, same_in};
 use itch_book::{IndexedBook, ListBook, Order, OrderBook, Taken};
 use itch_codec::Side;
 use std::alloc::AllocError;
 use std::process::Abort;
 use std::test::Fail;
-use test_kit::equal::{same, same_in};
 
 // An order of locate 1.
 pub(super) fn order(reference: u64, side: Side, shares: u32, price: u32) -> Order {

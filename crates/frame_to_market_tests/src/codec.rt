@@ -1,4 +1,5 @@
 //! Vectors of the public standard's layouts, both ways, and what no contract says.
+use crate::equal::{holds_in, same};
 use itch_codec::{
     AddOrder, Alpha, AlphaFault, AttributedAddOrder, BrokenTrade, CodecFault, CrossTrade,
     Directory, Header, Message, OperationalHalt, OrderCancel, OrderDelete, OrderExecuted,
@@ -8,7 +9,6 @@ use itch_codec::{
 };
 use std::process::Abort;
 use std::test::Fail;
-use test_kit::equal::{holds_in, same};
 
 mod broken_input;
 mod conversions;

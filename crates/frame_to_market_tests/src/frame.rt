@@ -1,6 +1,7 @@
 //! Worked cases, each failure in turn, and the calls that take no memory.
 ghost use Rattle.std.specs.Prelude.{None, IsErr};
 
+use crate::equal::{holds_in, same, same_in};
 use itch_frame::testing::{FuseWriter, PieceReader};
 use itch_frame::{
     BlockReader, Buffered, Counted, CountedRead, CountedWrite, FrameFault, Splitter, laws,
@@ -13,7 +14,6 @@ use std::io::{self, BufReader, ErrorKind, Read, Write};
 use std::process::Abort;
 use std::test::Fail;
 use test_kit::Refusing;
-use test_kit::equal::{holds_in, same, same_in};
 
 // Five blocks, one of them empty.
 const STREAM: &[u8] = b"\x00\x01S\x00\x02RR\x00\x00\x00\x05AAAAA\x00\x01D";

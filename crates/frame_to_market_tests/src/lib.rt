@@ -18,6 +18,8 @@ mod codec;
 #[cfg(test)]
 mod days;
 #[cfg(test)]
+mod equal;
+#[cfg(test)]
 mod failing_devices;
 #[cfg(test)]
 mod frame;

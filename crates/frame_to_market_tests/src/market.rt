@@ -9,13 +9,13 @@ use self::messages::{
     add, attributed, cancel, delete, directory, end, event, executed, executed_with_price, halt,
     position, reg_sho, replace, stock, trading_action,
 };
+use crate::equal::same;
 use itch_book::{ListBook, Order, OrderBook};
 use itch_codec::{Alpha, Message, Side};
 use itch_market::{Action, Market, Refusal, Security};
 use std::alloc::{AllocError, Allocator, Global};
 use std::process::Abort;
 use std::test::Fail;
-use test_kit::equal::same;
 
 // Applies a message. One that is refused ends the test, as one that cannot be made does.
 fn apply<B: OrderBook>(

@@ -1,4 +1,5 @@
 //! Joins by what their calls return and the markets that they lead to. The helpers take a joiner over any book.
+use crate::equal::{same, same_in};
 use itch_book::{IndexedBook, ListBook, OrderBook};
 use itch_codec::{CodecFault, Message, encode};
 use itch_join::{Cause, JoinFault, Joiner, Live, Snap, laws};
@@ -7,7 +8,6 @@ use itch_snapshot::SnapshotIter;
 use std::alloc::{AllocError, Global};
 use std::process::Abort;
 use std::test::Fail;
-use test_kit::equal::{same, same_in};
 
 mod refused_memory;
 mod restricted;

@@ -15,6 +15,8 @@
 #[cfg(test)]
 mod broken_input;
 #[cfg(test)]
+mod equal;
+#[cfg(test)]
 mod examples;
 #[cfg(test)]
 mod failing_devices;

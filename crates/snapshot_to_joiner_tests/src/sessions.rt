@@ -1,4 +1,5 @@
 //! A served session that the tables use: its login, its answers, and both of its ends over memory.
+use crate::equal::same;
 use crate::files::{AAPL, ADD_1, ADD_2, EVENT, market, seq};
 use itch_book::{ListBook, OrderBook};
 use itch_codec::{Alpha, Seq};
@@ -10,7 +11,6 @@ use itch_soup::{Credentials, Served, ServerConfig, SoupFault, fetch_one, serve_o
 use std::alloc::{Allocator, Global};
 use std::process::Abort;
 use std::test::Fail;
-use test_kit::equal::same;
 
 /// Logins for all messages and for those from the third on.
 pub(crate) const LOGIN_1: &[u8] = b"\0\x2fLuser  secret                                 1";

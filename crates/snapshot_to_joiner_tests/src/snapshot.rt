@@ -1,4 +1,5 @@
 //! Worked days and snapshots: what is written of each, what is read, and how each is refused.
+use crate::equal::same;
 use crate::files::{REPLACED, REPLACED_SNAPSHOT, blocks};
 use itch_book::{ListBook, OrderBook};
 use itch_codec::{CodecFault, Seq};
@@ -12,7 +13,6 @@ use itch_snapshot::{
 use std::alloc::Global;
 use std::process::Abort;
 use std::test::Fail;
-use test_kit::equal::same;
 
 mod again;
 mod books;

@@ -1,4 +1,5 @@
 //! Packets byte by byte, and whole sessions.
+use crate::equal::{same, same_in};
 use crate::files::seq;
 use crate::sessions::{alpha, config, credentials};
 use itch_frame::FrameFault;
@@ -11,7 +12,6 @@ use std::alloc::{AllocError, Global};
 use std::fmt::Debug;
 use std::process::Abort;
 use std::test::Fail;
-use test_kit::equal::{same, same_in};
 
 mod served;
 

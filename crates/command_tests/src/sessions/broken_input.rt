@@ -1,8 +1,8 @@
 //! A client that says what no client may: its connection alone ends.
 use super::{LOGIN_3, client, lines};
+use crate::equal::same;
 use std::net::TcpListener;
 use std::test::Fail;
-use test_kit::equal::same;
 
 #[test]
 fn a_fault_ends_one_connection_alone(rt: HostRuntime) -> Result<(), Fail> {

@@ -1,6 +1,7 @@
 //! Each read and each write of `fetch` failing in turn: the status is 3. A failed read leaves nothing on the output; a failed write
 //! leaves a beginning of it.
 use super::{FROM_1, LOGIN_1, SNAPSHOT};
+use crate::equal::{holds_in, same, same_in};
 use itch_codec::Seq;
 use itch_commands::{Book, status};
 use itch_frame::BlockReader;
@@ -13,7 +14,6 @@ use std::alloc::Global;
 use std::io::{self, Write};
 use std::process::Abort;
 use std::test::Fail;
-use test_kit::equal::{holds_in, same, same_in};
 
 fn login(rt: &impl Abort) -> Login {
     let Ok(login) = Login::new("user", "secret") else {

@@ -1,10 +1,10 @@
 //! What passes through a reader that is watched.
 
+use crate::equal::{same, same_in};
 use itchsnap_cli::input::{Amount, Progress, Tally, Watched};
 use std::io::Read;
 use std::test::Fail;
 use std::time::Duration;
-use test_kit::equal::{same, same_in};
 
 #[test]
 fn messages_are_counted_in_pieces(rt: HostRuntime) -> Result<(), Fail> {

@@ -1,5 +1,6 @@
 //! Each allocation of `fetch` refused in turn, and of a served connection: the status is 4, and nothing is on the output.
 use super::{FROM_1, LOGIN_1, LOGIN_3, SNAPSHOT, client, serve_day};
+use crate::equal::{holds_in, same};
 use itch_commands::{Book, ToolFault, status};
 use itch_frame::BlockReader;
 use itch_frame::testing::{FuseWriter, PieceReader};
@@ -9,7 +10,6 @@ use std::net::TcpListener;
 use std::process::Abort;
 use std::test::Fail;
 use test_kit::Refusing;
-use test_kit::equal::{holds_in, same};
 
 // Fetches with this allocation refused. Returns whether one was.
 fn refuse(rt: &impl Abort, alloc: Global, nth: u64) -> Result<bool, Fail> {

@@ -2,12 +2,12 @@
 //!
 //! The clauses of a list's book say where it is never refused any; it would take too long here.
 use super::{add, order, reference, replace};
+use crate::equal::same;
 use itch_book::{IndexedBook, OrderBook};
 use itch_codec::Side;
 use std::alloc::AllocError;
 use std::process::Abort;
 use std::test::Fail;
-use test_kit::equal::same;
 
 const MANY: u32 = 110_000;
 

@@ -1,11 +1,11 @@
 //! Both books side by side: random calls return the same, and leave the same orders.
 use super::{add, delete, order, replace, take};
+use crate::equal::same;
 use itch_book::{IndexedBook, ListBook, Order, OrderBook};
 use itch_codec::Side;
 use std::alloc::AllocError;
 use std::process::Abort;
 use std::test::Fail;
-use test_kit::equal::same;
 
 // Numbers without a pattern, the same at each run.
 #[derive(Drop)]

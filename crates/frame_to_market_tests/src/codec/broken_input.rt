@@ -1,8 +1,8 @@
 //! Each byte of each vector at each value.
 use super::vectors::*;
+use crate::equal::{holds_in, same};
 use itch_codec::{CodecFault, Message, decode, encode};
 use std::process::Abort;
-use test_kit::equal::{holds_in, same};
 
 // Whether the fault is about this byte at this place.
 fn is_fault_at(fault: CodecFault, at: usize, byte: u8) -> bool {

@@ -1,8 +1,8 @@
 //! Conversions from and to plain values, and what `{}` writes.
+use crate::equal::same;
 use itch_codec::{Alpha, AlphaFault, OutOfRange, Seq, Side, Stamp, UnknownSide};
 use std::process::Abort;
 use std::test::Fail;
-use test_kit::equal::same;
 
 fn seq(rt: &impl Abort, value: u64) -> Seq {
     Seq::try_from(value).expect(rt, "a sequence number")

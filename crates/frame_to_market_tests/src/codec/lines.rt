@@ -1,5 +1,6 @@
 //! Lines that show messages, written out by hand.
 use super::{alpha, execution, header, order};
+use crate::equal::same;
 use itch_codec::{
     AddOrder, Alpha, AttributedAddOrder, BrokenTrade, CrossTrade, Directory, Header, Message,
     OperationalHalt, OrderCancel, OrderDelete, OrderExecuted, OrderExecutedWithPrice, OrderReplace,
@@ -8,7 +9,6 @@ use itch_codec::{
 };
 use std::process::Abort;
 use test_kit::Refusing;
-use test_kit::equal::same;
 
 // What the fields of a message hold, one value for each class.
 #[derive(Clone, Copy)]

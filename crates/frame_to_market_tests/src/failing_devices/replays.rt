@@ -1,5 +1,6 @@
 //! A day file replayed.
 use crate::days::{REPLACED, blocks};
+use crate::equal::{holds_in, same, same_in};
 use itch_book::{IndexedBook, ListBook, OrderBook};
 use itch_frame::testing::PieceReader;
 use itch_frame::{BlockReader, FrameFault};
@@ -7,7 +8,6 @@ use itch_market::{Market, Stop, replay};
 use std::alloc::Global;
 use std::process::Abort;
 use std::test::Fail;
-use test_kit::equal::{holds_in, same, same_in};
 
 // Where the four blocks of the day end.
 const ENDS: [usize; 4] = [41, 83, 121, 158];

@@ -1,10 +1,10 @@
 //! What a market holds, by its calls.
+use crate::equal::same;
 use itch_book::{Order, OrderBook};
 use itch_codec::{Alpha, Directory};
 use itch_market::{Action, Market, Security};
 use std::alloc::{AllocError, Allocator, Global};
 use std::process::Abort;
-use test_kit::equal::same;
 
 /// The event, the securities with their locates, and the orders in snapshot order.
 #[derive(Debug, Drop, PartialEq)]

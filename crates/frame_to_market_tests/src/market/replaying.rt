@@ -1,4 +1,5 @@
 //! Replays that fail in the middle, and go on.
+use crate::equal::same;
 use itch_book::{ListBook, OrderBook};
 use itch_frame::testing::PieceReader;
 use itch_frame::{BlockReader, CountedRead};
@@ -6,7 +7,6 @@ use itch_market::{Market, Refusal, Stop, replay, replay_first};
 use std::alloc::{Allocator, Global};
 use std::process::Abort;
 use std::test::Fail;
-use test_kit::equal::same;
 
 // Stock Directory: AAPL at locate 1.
 const AAPL: &[u8; 41] =

@@ -1,11 +1,11 @@
 //! Orders added and replaced.
+use crate::equal::same;
 use itch_book::{IndexedBook, ListBook, Order, OrderBook};
 use itch_codec::Side;
 use std::alloc::{AllocError, Global};
 use std::process::Abort;
 use std::test::Fail;
 use test_kit::Refusing;
-use test_kit::equal::same;
 
 // An order to buy at locate 1.
 fn bid(reference: u64, shares: u32, price: u32) -> Order {

@@ -1,5 +1,6 @@
 //! Messages applied to a market, and a day file replayed.
 use crate::days::{REPLACED, blocks};
+use crate::equal::same;
 use crate::market::content::{Content, content_of};
 use itch_book::{IndexedBook, ListBook, OrderBook};
 use itch_codec::{Message, decode};
@@ -10,7 +11,6 @@ use std::alloc::{AllocError, Global};
 use std::process::Abort;
 use std::test::Fail;
 use test_kit::Refusing;
-use test_kit::equal::same;
 
 type Refused<'a> = &'a Refusing<Global>;
 

@@ -1,4 +1,5 @@
 //! Broken answers to a fetch: each beginning of a served session, and each of its bytes at each value.
+use crate::equal::same;
 use crate::sessions::{FROM_1, Fetched, fetched};
 use itch_book::ListBook;
 use itch_codec::Seq;
@@ -10,7 +11,6 @@ use itch_soup::SoupFault;
 use std::alloc::Global;
 use std::process::Abort;
 use std::test::Fail;
-use test_kit::equal::same;
 
 // Where the blocks of the answer begin, and where the last one that is read ends.
 const STARTS: [usize; 6] = [0, 33, 48, 90, 129, 168];

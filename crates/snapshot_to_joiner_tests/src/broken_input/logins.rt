@@ -1,4 +1,5 @@
 //! Broken logins: each beginning of a login, each of its bytes at each value, and what may come before it.
+use crate::equal::same;
 use crate::files::seq;
 use crate::sessions::{FROM_3, LOGIN_3, serve, served_market};
 use itch_book::ListBook;
@@ -9,7 +10,6 @@ use itch_soup::{Served, SoupFault};
 use std::alloc::Global;
 use std::process::Abort;
 use std::test::Fail;
-use test_kit::equal::same;
 
 // The answer to these bytes, of a server with five messages. Only an answer to a login writes.
 fn answer(

@@ -1,9 +1,9 @@
 //! Blocks that are no packets.
+use crate::equal::same;
 use itch_soup::{Origin, SoupFault, parse_packet};
 use std::alloc::Global;
 use std::process::Abort;
 use std::test::Fail;
-use test_kit::equal::same;
 
 // A block from this side has this fault.
 fn is_fault(

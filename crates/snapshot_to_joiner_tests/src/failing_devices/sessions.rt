@@ -1,4 +1,5 @@
 //! One session served and fetched.
+use crate::equal::same;
 use crate::sessions::{
     FROM_1, FROM_3, Fetched, LOGIN_1, LOGIN_3, fetch, fetched, serve, served_market,
 };
@@ -10,7 +11,6 @@ use itch_soup::{Served, SoupFault};
 use std::alloc::Global;
 use std::process::Abort;
 use std::test::Fail;
-use test_kit::equal::same;
 
 // A login is read in the length and, by sevens, the 47 bytes.
 const LOGIN_READS: u64 = 1 + 7;

@@ -1,4 +1,5 @@
 //! A snapshot written.
+use crate::equal::{holds_in, same};
 use crate::files::{ONE_ORDER, ONE_ORDER_SNAPSHOT, blocks, market, seq};
 use itch_book::IndexedBook;
 use itch_frame::FrameFault;
@@ -7,7 +8,6 @@ use itch_market::Market;
 use itch_snapshot::{SnapFault, snapshot_len, write_snapshot};
 use std::process::Abort;
 use std::test::Fail;
-use test_kit::equal::{holds_in, same};
 
 // The first bytes of the four blocks.
 const STARTS: [usize; 4] = [0, 14, 55, 93];

@@ -4,6 +4,7 @@ use super::{
     END_6, EXECUTE_1, JOINED_AT_3, NAMED_5, OPENS, READ_2, REPLACE_1, Step, check_market, live,
     read, snapshot, stands, take_steps,
 };
+use crate::equal::same;
 use itch_book::{IndexedBook, OrderBook};
 use itch_join::{Cause, JoinFault, Joiner, Live, Snap};
 use itch_market::Refusal;
@@ -11,7 +12,6 @@ use std::alloc::Global;
 use std::process::Abort;
 use std::test::Fail;
 use test_kit::Refusing;
-use test_kit::equal::same;
 
 type Index<'a> = IndexedBook<&'a Refusing<Global>>;
 

@@ -1,4 +1,5 @@
 //! A session fetched, and one served, which takes no memory.
+use crate::equal::same;
 use crate::files::market;
 use crate::sessions::{FROM_1, FROM_3, LOGIN_1, LOGIN_3, SERVED, fetch, serve, served_market};
 use itch_book::{IndexedBook, ListBook, OrderBook};
@@ -12,7 +13,6 @@ use std::alloc::Global;
 use std::process::Abort;
 use std::test::Fail;
 use test_kit::Refusing;
-use test_kit::equal::same;
 
 type Refused<'a> = &'a Refusing<Global>;
 

@@ -1,4 +1,5 @@
 //! The messages of a snapshot taken one by one, a snapshot file read, and what takes no memory.
+use crate::equal::same;
 use crate::files::{REPLACED, REPLACED_SNAPSHOT, blocks, market, seq};
 use itch_book::{IndexedBook, ListBook, OrderBook};
 use itch_frame::testing::PieceReader;
@@ -11,7 +12,6 @@ use std::alloc::Global;
 use std::process::Abort;
 use std::test::Fail;
 use test_kit::Refusing;
-use test_kit::equal::same;
 
 type Refused<'a> = &'a Refusing<Global>;
 

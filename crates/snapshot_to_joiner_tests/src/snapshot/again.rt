@@ -3,6 +3,7 @@ use super::{
     AAPL, AAPL_LATER, ADD_2_OF_200, ADD_7_OF_150, END_1, END_4, END_6, EVENT, MSFT, NAMED_1,
     REPLACE_1, REPLACED_SNAPSHOT, RESTRICTS, TRADES, TRADES_X, are_same, blocks, market,
 };
+use crate::equal::same;
 use itch_book::{ListBook, OrderBook};
 use itch_codec::Seq;
 use itch_frame::BlockReader;
@@ -12,7 +13,6 @@ use itch_snapshot::{laws, read_snapshot, snapshot_len, write_snapshot};
 use std::alloc::Global;
 use std::process::Abort;
 use std::test::Fail;
-use test_kit::equal::same;
 
 #[test]
 fn the_laws_of_files() {

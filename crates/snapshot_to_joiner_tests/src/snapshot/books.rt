@@ -4,6 +4,7 @@ use super::{
     END_1, END_3, END_4, END_5, END_6, EVENT, EXECUTE_7, MSFT, MSFT_AT_1, REPLACED,
     REPLACED_SNAPSHOT, RESTRICTS, TRADES, TRADES_0, TRADES_X, blocks, check_snapshot,
 };
+use crate::equal::same;
 use itch_book::{IndexedBook, ListBook, OrderBook};
 use itch_frame::BlockReader;
 use itch_frame::testing::{FuseWriter, PieceReader};
@@ -11,7 +12,6 @@ use itch_market::{Market, replay};
 use std::alloc::Global;
 use std::process::Abort;
 use std::test::Fail;
-use test_kit::equal::same;
 
 const MAX: &[u8] = b"R\xff\xff\0\0\0\0\0\0\0\0MAX     QN\0\0\0dNCZ PNN1N\0\0\0\0N";
 

@@ -3,6 +3,7 @@ ghost use Rattle.std.specs.Prelude.{◌<◌, ◌^◌, length};
 ghost use Rattle.itch_snapshot.specs.Snapshot.{snap};
 
 use super::{AAPL, ADD_1, END_3, END_4, END_6, EVENT, MSFT, MSFT_AT_1, REPLACE_1, blocks, market};
+use crate::equal::same;
 use itch_book::{ListBook, OrderBook};
 use itch_codec::Seq;
 use itch_frame::testing::FuseWriter;
@@ -11,7 +12,6 @@ use itch_snapshot::{SnapFault, SnapshotIter, SnapshotReader, laws, snapshot_len,
 use std::alloc::{AllocError, Global};
 use std::process::Abort;
 use std::test::Fail;
-use test_kit::equal::same;
 
 // An add order message at locate 2.
 const ADD_2_OF_MSFT: &[u8] =

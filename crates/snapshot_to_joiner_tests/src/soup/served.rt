@@ -1,6 +1,7 @@
 //! One served and one fetched session over memory, row by row.
 ghost use Rattle.std.specs.Prelude.{◌≤◌};
 
+use crate::equal::same;
 use crate::files::seq;
 use crate::sessions::{FROM_1, FROM_3, LOGIN_1, LOGIN_3, fetch, fetched, serve, served_market};
 use itch_book::{ListBook, OrderBook};
@@ -12,7 +13,6 @@ use itch_soup::{Served, laws, write_data};
 use std::alloc::{Allocator, Global};
 use std::process::Abort;
 use std::test::Fail;
-use test_kit::equal::same;
 
 const FROM_6: &[u8] = b"\0\x1fA  ITCHSNAP                   6\0\x01Z";
 

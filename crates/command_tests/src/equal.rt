@@ -1,4 +1,5 @@
-//! Comparisons that end a test. They have no contract, so that a proof of a test does not carry how a value is shown.
+//! Comparisons that end a test. They have no contract, so that a proof of a test does not carry how a value is shown. A library may
+//! not end the process, so each crate of tests has them.
 use std::fmt::Debug;
 use std::process::Abort;
 
