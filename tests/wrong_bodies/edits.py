@@ -1,8 +1,12 @@
 """A wrong body in `crates/NAME/wrong`, and which of them can be tried together."""
+from collections import Counter
 from dataclasses import dataclass, field
 from pathlib import Path
 
 from kit import rt
+
+# A check costs some seconds before it comes to the first edit, and those of one round have one processor.
+MOST_IN_A_ROUND = 12
 
 
 @dataclass(frozen=True)
@@ -66,16 +70,15 @@ def applied(edit, folder, before):
 
 
 def rounds_of(edits, folder):
-    """Returns rounds with every edit that applies and names a function, and the edits that are to be tried alone."""
-    rounds, alone = [], []
-    for edit in edits:
-        if not edit.functions or rt.read_edit(str(edit.path), folder)[1]:
+    """Returns rounds with every edit that applies and names a function, about as many in each, and the edits that are to be tried alone."""
+    fit = [it for it in edits if it.functions and not rt.read_edit(str(it.path), folder)[1]]
+    alone = [it for it in edits if it not in fit]
+    edits_in = Counter(function for it in fit for function in it.functions)
+    number = max([-(-len(fit) // MOST_IN_A_ROUND), *edits_in.values()])
+    rounds = [Round() for _ in range(number)]
+    # (those of the functions with most edits first: each needs a round of its own)
+    for edit in sorted(fit, key=lambda it: -max(edits_in[function] for function in it.functions)):
+        smallest = sorted(rounds, key=lambda it: len(it.edits))
+        if not any(it.takes(edit, folder) for it in smallest):
             alone.append(edit)
-            continue
-        if not any(it.takes(edit, folder) for it in rounds):
-            begun = Round()
-            if begun.takes(edit, folder):
-                rounds.append(begun)
-            else:
-                alone.append(edit)
     return rounds, alone

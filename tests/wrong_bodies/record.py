@@ -24,6 +24,16 @@ def files_below(folder, parts):
     return sorted(it for part in parts for it in Path(folder, part).rglob("*") if it.is_file())
 
 
+def text_that_counts(path):
+    """Returns what a check reads of a file: no lines that are all comment (`//`, `///`, `//!`, `--`), nor blank ones."""
+    lines = path.read_bytes().split(b"\n")
+    marks = {".rt": b"//", ".antt": b"--"}
+    mark = marks.get(path.suffix)
+    if not mark:
+        return b"\n".join(lines)
+    return b"\n".join(it for it in lines if it.strip() and not it.lstrip().startswith(mark))
+
+
 def hash_of(crate):
     """Hashes all that the refusals rest on: the toolchain, this script, the crate with its edits, and the crates below it."""
     found = hashlib.sha256(toolchain_line().encode())
@@ -35,7 +45,7 @@ def hash_of(crate):
     for name in [crate.name, *(it.name for it in crate.below())]:
         found.update(f"{listed(name)}\n".encode())
     for it in files:
-        found.update(f"{it.relative_to(TOP)} {hashlib.sha256(it.read_bytes()).hexdigest()}\n".encode())
+        found.update(f"{it.relative_to(TOP)} {hashlib.sha256(text_that_counts(it)).hexdigest()}\n".encode())
     return found.hexdigest()
 
 

@@ -1,4 +1,5 @@
-"""Tries the edits of one crate, in rounds and then alone."""
+"""Tries the edits of one crate, in rounds and then alone, as tasks that run side by side."""
+import contextlib
 import os
 import shutil
 import tempfile
@@ -7,8 +8,11 @@ from dataclasses import dataclass
 from checking import Checker, own_failure, reached_the_prover
 from edits import edits_of, rounds_of
 from kit import rt
+from starting import best_start
 
 ONE_JOB = ["--jobs", "1"]
+# The lines of a crate that take about as long to check as one edit of it: a round with more edits begins earlier.
+LINES_OF_AN_EDIT = 150
 
 
 @dataclass(frozen=True)
@@ -37,31 +41,72 @@ def in_round(crate, number, ran, together):
 
 
 def alone(crate, edit, kept):
-    """Tries an edit as `rt must-fail` does, over the kept folder, and once more from nothing where it is not refused so."""
-    refused, text = rt.must_fail(crate, str(edit.path), ONE_JOB, kept)
-    if not refused and kept and "BAD EDIT" not in text:
-        refused, text = rt.must_fail(crate, str(edit.path), ONE_JOB)
+    """Tries an edit as `rt must-fail` does, over the kept folder, and once more from nothing if it is not refused so.
+
+    It is refused if the prover says so of a contract: not by a limit of its own, and not only since a proof file names what is gone."""
+    kind, text = rt.must_fail(crate, str(edit.path), ONE_JOB, kept)
+    if kind in (rt.UNSURE, rt.MISSED) and kept:
+        kind, text = rt.must_fail(crate, str(edit.path), ONE_JOB)
+    refused = kind == rt.REFUSED and "only because a proof file names" not in text
     return Outcome(edit.name, refused, f"alone: {text.partition(': ')[2]}")
 
 
-def start_from_kept_work(crate, kept):
-    """Copies the work that the crate's own checks kept. It can only make more proved: no edit is refused because of it."""
-    own = f"{crate.folder}/out/incremental"
-    if os.path.isdir(own):
-        shutil.copytree(own, kept, dirs_exist_ok=True)
+@contextlib.contextmanager
+def copy_of(seed, name):
+    """Gives a copy of the seed beside it, for one check."""
+    over = f"{os.path.dirname(seed)}/{name}"
+    rt.linked(seed, over)
+    try:
+        yield over
+    finally:
+        shutil.rmtree(over, ignore_errors=True)
 
 
-def tried(crate, checker: Checker, jobs):
-    """Returns the outcomes of all of the crate's edits. The first round proves what no edit changes, so it takes the idle processors."""
-    edits = edits_of(crate)
-    rounds, rest = rounds_of(edits, crate.folder)
-    found = {}
-    with tempfile.TemporaryDirectory(prefix="edits-kept-") as kept:
-        start_from_kept_work(crate, kept)
-        for number, together in enumerate(rounds, 1):
-            flags = ["--jobs", str(jobs)] if number == 1 else ONE_JOB
-            ran = checker.checked(crate, together.texts, flags, kept)
-            found |= in_round(crate, number, ran, together)
-        if checker.checked(crate, {}, ONE_JOB, kept).returncode:
-            return [alone(crate, it, None) for it in edits]
-        return [found[it] if it in found else alone(crate, it, kept) for it in edits]
+class Tries:
+    """The tries of one crate's edits, each over a copy of the seed: what a check of the crate as it stands proved."""
+
+    def __init__(self, crate, checker: Checker):
+        self.crate = crate
+        self.checker = checker
+        self.rounds, self.rest = rounds_of(edits_of(crate), crate.folder)
+        self.seed = None
+        self.files = {}
+
+    def tasks(self, end):
+        """Returns the tasks as rt runs them side by side. The last one calls `end` with the outcomes."""
+        name, lines, memory = self.crate.name, self.crate.count(rb"\n"), rt.need(self.crate)
+        seed, rounds = (name, "proof"), [(name, "round", number) for number in range(1, len(self.rounds) + 1)]
+        found = {seed: ([], lines, memory, lambda _given, jobs: self.make_seed(jobs))}
+        for key, together in zip(rounds, self.rounds):
+            call = lambda _given, _jobs, key=key, together=together: self.try_round(key[2], together)
+            found[key] = ([seed], LINES_OF_AN_EDIT * len(together.edits), rt.OVER * memory, call)
+        last = lambda given, _jobs: end(self.outcomes([given[it] for it in rounds]))
+        found[name, "rest"] = ([seed, *rounds], LINES_OF_AN_EDIT * len(self.rest), memory, last)
+        return found
+
+    def make_seed(self, jobs):
+        """Proves the crate over what was kept of it, if there is any."""
+        with tempfile.TemporaryDirectory(prefix="edits-start-") as start:
+            room = rt.seeded(self.crate, ["--jobs", str(jobs)], best_start(self.crate, start))
+        if room:
+            self.seed = f"{room}/seed"
+            self.files = rt.listing(self.seed)
+
+    def try_round(self, number, together):
+        """Returns the outcomes of the edits that are clearly refused in this round."""
+        if not self.seed:
+            return {}
+        with copy_of(self.seed, f"round-{number}") as over:
+            return in_round(self.crate, number, self.checker.checked(self.crate, together.texts, ONE_JOB, over), together)
+
+    def outcomes(self, rounds):
+        """Returns the outcomes of all edits, once the rounds have ended: what was not clearly refused is tried alone."""
+        found = {edit: it for outcomes in rounds for edit, it in outcomes.items()}
+        # (the copies share files with the seed, which a check replaces and does not change)
+        if not self.seed or rt.listing(self.seed) != self.files:
+            return [alone(self.crate, it, None) for it in edits_of(self.crate)]
+        return [found[it] if it in found else self.alone(it) for it in edits_of(self.crate)]
+
+    def alone(self, edit):
+        with copy_of(self.seed, "alone") as over:
+            return alone(self.crate, edit, over)

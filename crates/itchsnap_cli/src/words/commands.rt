@@ -8,7 +8,7 @@ use std::alloc::{AllocError, Global};
 /// the released program `./make-release` replaces the last words by a text of the same length: `release` and the beginning of the
 /// hash of the sources.
 const VERSION: &str =
-    "0.1.0 (proved with rattle-kit-13b logic dac8208d650f15bf, not a released build)";
+    "0.1.0 (proved with rattle-kit-13f logic dac8208d650f15bf, not a released build)";
 
 /// The greatest number that `--after` takes.
 const MOST_AFTER: i64 = 999_999_999_999;
