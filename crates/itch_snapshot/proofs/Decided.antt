@@ -18,7 +18,7 @@ use Rattle.itch_market.specs.declared.stop.Stop.TheVariants as stop
 use Rattle.itch_market.specs.Stops.{Stops}
 use Rattle.itch_market.specs.Replays.{TakesOff, Takes}
 use Rattle.itch_market.proofs.Causes.{none_clean, none_follows}
-use Rattle.itch_market.proofs.Decided.{replays_stop}
+use Rattle.itch_market.proofs.ReplayedFiles.{replays_stop}
 use Rattle.itch_snapshot.specs.declared.fault.SnapFault.{SnapFault}
 use Rattle.itch_snapshot.specs.declared.fault.SnapFault.TheVariants.{NoEnd, Frame, Codec, Rule, AfterEnd, TooManyMessages}
 use Rattle.itch_snapshot.specs.TakenMessages.{number_by, closing_number}

@@ -23,7 +23,7 @@ use Rattle.itch_market.specs.Stops.{Stops}
 use Rattle.itch_market.specs.declared.stop.Stop.{Stop}
 use Rattle.itch_market.specs.declared.stop.Stop.TheVariants.{End, Frame, Codec, Rule, TooManyMessages}
 use Rattle.itch_market.specs.Wanted.{Wanted, has}
-use Rattle.itch_market.proofs.Decided.{replays_stop}
+use Rattle.itch_market.proofs.ReplayedFiles.{replays_stop}
 use Rattle.itch_snapshot.specs.Bytes.{canon, closing}
 use Rattle.itch_snapshot.specs.Files.{IsFaultOf}
 use Rattle.itch_snapshot.specs.Reads.{IsDecidedFault, CountsFault, ReadsSnapshot}
