@@ -20,10 +20,9 @@ pub fn next_message<R: CountedRead, A: Allocator>(
     ensures* next { sem 𝓛 (Rests (reader_row R.row A.row R.CountedRead A.Allocator) reader.entry (λ new.
         NextPayload R.remaining R.failures is_full reader.old result new)) }
 {
-    match reader.next_message() {
-        Ok(Some(_)) if is_full => Err(Stop::TooManyMessages),
-        Ok(Some(payload)) => Ok(payload),
-        Ok(None) => Err(Stop::End),
-        Err(fault) => Err(Stop::Frame(fault)),
+    match reader.next_message()? {
+        Some(_) if is_full => Err(Stop::TooManyMessages),
+        Some(payload) => Ok(payload),
+        None => Err(Stop::End),
     }
 }

@@ -80,12 +80,7 @@ fn step<R: CountedRead, A: Allocator, B: OrderBook>(
 fn take<B: OrderBook>(market: &mut Market<B>, payload: &[u8]) -> Result<(), Stop>
     ensures { TakesOne market.old payload.now result market.new }
 {
-    let message = match decode(payload) {
-        Ok(message) => message,
-        Err(fault) => return Err(Stop::Codec(fault)),
-    };
-    match market.apply(&message) {
-        Ok(()) => Ok(()),
-        Err(why) => Err(Stop::Rule(why)),
-    }
+    let message = decode(payload)?;
+    market.apply(&message)?;
+    Ok(())
 }
