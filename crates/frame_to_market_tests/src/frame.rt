@@ -160,6 +160,46 @@ fn reads_on_after_a_failure(rt: HostRuntime) -> Result<(), Fail> {
     Ok(())
 }
 
+// The next message is this one, or the messages end.
+fn gives_message<R: CountedRead, A: Allocator>(
+    rt: &impl Abort,
+    reader: &mut BlockReader<R, A>,
+    want: Option<&[u8]>,
+) -> Result<(), FrameFault> {
+    same(rt, reader.next_message()?, want);
+    Ok(())
+}
+
+#[test]
+fn messages_end_at_an_empty_block_and_at_the_end(rt: HostRuntime) -> Result<(), Fail> {
+    let mut reader = BlockReader::new(rt.alloc(), PieceReader::new(STREAM, 3, None))?;
+    for want in [
+        Some(b"S".as_slice()),
+        Some(b"RR"),
+        None,
+        Some(b"AAAAA"),
+        Some(b"D"),
+        None,
+        None,
+    ] {
+        gives_message(&rt, &mut reader, want)?;
+    }
+    Ok(())
+}
+
+#[test]
+fn a_message_comes_after_a_failed_read_and_none_of_a_truncated_block(
+    rt: HostRuntime,
+) -> Result<(), Fail> {
+    let source = PieceReader::new(b"\x00\x01z\x00", 1, Some(2));
+    let mut reader = BlockReader::new(rt.alloc(), source)?;
+    assert!(rt; matches!(reader.next_message(), Err(FrameFault::Read(_))));
+    gives_message(&rt, &mut reader, Some(b"z"))?;
+    assert!(rt; matches!(reader.next_message(), Err(FrameFault::Truncated { held: 1 })));
+    is_truncated(&rt, &mut reader, 1);
+    Ok(())
+}
+
 // Reads blocks and writes them again, going on after each failed read, and returns how many reads failed.
 fn copy_blocks<R: CountedRead, W: CountedWrite, A: Allocator>(
     reader: &mut BlockReader<R, A>,

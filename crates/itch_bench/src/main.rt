@@ -68,9 +68,8 @@ fn count_bytes<R: CountedRead>(reader: &mut R) -> io::Result<u64> {
 // The blocks before the end of the day, or before a fault.
 fn count_blocks<R: CountedRead>(reader: &mut BlockReader<R>) -> u64 {
     for count in 0..u64::MAX {
-        match reader.next_block() {
-            Ok(Some(payload)) if !payload.is_empty() => {}
-            _ => return count,
+        if !matches!(reader.next_message(), Ok(Some(_))) {
+            return count;
         }
     }
     u64::MAX
@@ -119,8 +118,8 @@ fn join_reversed<R: CountedRead>(alloc: Global, reader: &mut BlockReader<R>) -> 
     let mut window = Vec::new(alloc);
     let mut first = 1u64;
     for _ in 0..u64::MAX {
-        match reader.next_block() {
-            Ok(Some(payload)) if !payload.is_empty() => window.push(payload.to_vec(alloc)?)?,
+        match reader.next_message() {
+            Ok(Some(payload)) => window.push(payload.to_vec(alloc)?)?,
             _ => break,
         }
         if window.len() == WINDOW {

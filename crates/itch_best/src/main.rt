@@ -77,10 +77,10 @@ fn follow<R: Files + Print + AllocGlobal>(rt: &R, locate: u16, path: &str) -> Re
     let mut market = Market::<IndexedBook<Global>>::new(alloc);
     let mut before = (Quote(None), Quote(None));
     for number in 1..u64::MAX {
-        match blocks.next_block()? {
-            Some(payload) if !payload.is_empty() => market.apply(&decode(payload)?)?,
-            _ => break,
-        }
+        let Some(payload) = blocks.next_message()? else {
+            break;
+        };
+        market.apply(&decode(payload)?)?;
         let bid = Quote::of(market.best(locate, Side::Buy));
         let offer = Quote::of(market.best(locate, Side::Sell));
         if (bid, offer) != before {
