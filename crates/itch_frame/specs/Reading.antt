@@ -1,5 +1,5 @@
 -- What contracts see of a reader of blocks.
-use Rattle.std.specs.Prelude.{◌≡◌, ℕ, List, [], ◌++◌, length, Option, None, Some, Result, Ok, Err, IfSome}
+use Rattle.std.specs.Prelude.{◌≡◌, ℕ, ◌<◌, ◌⊎◌, List, [], ◌++◌, length, Option, None, Some, Result, Ok, Err, IfSome}
 use Rattle.std.specs.Borrow.{Bor}
 use Rattle.std.specs.Io.KnownBytes.{prepend_known, Keeps, Consumes, IsAtEnd}
 use Rattle.itch_frame.specs.Blocks.{IsPayload, block, Open}
@@ -27,6 +27,17 @@ held_of Cut bytes = bytes
 abbrev pub bytes_left : {R : Type 0} → (R → Option (List ℕ)) → Reading R → Option (List ℕ)
 bytes_left remaining r = prepend_known r.held (remaining r.reader)
 
+-- the input is at its end, or an empty block came off the front
+abbrev pub EndsHere : Option (List ℕ) → Option (List ℕ) → Type 0
+EndsHere old new = IsAtEnd old ⊎ Consumes old new (block [])
+
+-- why no block came off the front
+abbrev pub FailsHere : FrameFault → Option (List ℕ) → Option (List ℕ) → Type 0
+FailsHere (Truncated held) old new = IfSome old (λ bytes. Open bytes × (held ≡ length bytes))
+FailsHere (Read error) old new = Keeps old new
+FailsHere (Write sent error) old new = ⊥
+FailsHere TooLong old new = ⊥
+
 module _ {R : Type 0} (remaining : R → Option (List ℕ)) (failures : R → Failures) where
   -- what a call that asks for the next block may return, and leave
   abbrev pub NextBlock : Reading R → Result (Option (Bor (List ℕ))) FrameFault → Reading R → Type 0
@@ -46,6 +57,17 @@ module _ {R : Type 0} (remaining : R → Option (List ℕ)) (failures : R → Fa
       × ((more : List ℕ) × (new.held ≡ old.held ++ more))
   NextBlock old (Err (Write sent error)) new = ⊥
   NextBlock old (Err TooLong) new = ⊥
+
+  -- what a call that asks for the next message may return, and leave
+  abbrev pub NextMessage : Reading R → Result (Option (Bor (List ℕ))) FrameFault → Reading R → Type 0
+  -- a block that is not empty
+  NextMessage old (Ok (Some p)) new = (0 < length p.now) × NextBlock old (Ok (Some p)) new
+  -- the end of the input, or an empty block, which has been read: the stage tells which
+  NextMessage old (Ok None) new =
+      EndsHere (bytes_left remaining old) (bytes_left remaining new) × (new.held ≡ []) × ((new.stage ≡ Ended) ⊎ (new.stage ≡ Given))
+      × (failures new.reader ≡ failures old.reader)
+      × (new.stage ≡ Ended → IsAtEnd (bytes_left remaining old)) × (new.stage ≡ Given → Consumes (bytes_left remaining old) (bytes_left remaining new) (block []))
+  NextMessage old (Err fault) new = NextBlock old (Err fault) new
 
 -- once the input has ended, each call returns what the first did, and nothing is read
 abbrev pub StaysEnded : {R : Type 0} → Reading R → Result (Option (Bor (List ℕ))) FrameFault → Reading R → Type 0

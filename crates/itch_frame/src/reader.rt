@@ -55,7 +55,7 @@ impl<R: CountedRead, A: Allocator> BlockReader<R, A> {
     ghost use types.Logic.{sem};
     ghost use Rattle.std.specs.Prelude.{◌≡◌, [], IfOk};
     ghost use Rattle.std.specs.Io.BufRead.{Rests};
-    ghost use Rattle.itch_frame.specs.Reading.{NextBlock, StaysEnded};
+    ghost use Rattle.itch_frame.specs.Reading.{NextBlock, NextMessage, StaysEnded};
     ghost use Rattle.itch_frame.specs.contracts.reader.BlockReader.{the_row as reader_row};
 
     /// A reader of blocks that stands before the first byte of `reader`. It takes all its memory here, 65,537 bytes.
@@ -101,6 +101,20 @@ impl<R: CountedRead, A: Allocator> BlockReader<R, A> {
                 self.stage = Stage::Cut;
                 Err(FrameFault::Truncated { held: self.len })
             }
+        }
+    }
+
+    /// The payload of the next message, or `None` where the messages end: at the end of input, or at an empty block, which
+    /// has been read then. The message given before is dropped.
+    ///
+    /// A fault leaves what it leaves after `next_block`.
+    pub fn next_message(&mut self) -> Result<Option<&[u8]>, FrameFault>
+        ensures* next { sem 𝓛 (Rests (reader_row R.row A.row R.CountedRead A.Allocator) self.entry (λ new.
+            NextMessage R.remaining R.failures self.old result new × StaysEnded self.old result new)) }
+    {
+        match self.next_block()? {
+            Some(payload) if !payload.is_empty() => Ok(Some(payload)),
+            _ => Ok(None),
         }
     }
 }

@@ -23,8 +23,8 @@ use Rattle.itch_market.specs.FirstPlaces.{IsFirst}
 use Rattle.itch_market.specs.Stops.{cause_by, cause, cause_at, end_of, stop_at, Stops}
 use Rattle.itch_market.specs.Replays.{NoCause}
 use Rattle.itch_market.proofs.Causes.{no_fault, none_clean, none_follows, follows_none, cause_before}
-use Rattle.itch_market.proofs.Places.{no_later, none_before, place}
-use Rattle.itch_market.proofs.Stopping.{none_ends, ends_stop, open_stops}
+use Rattle.itch_market.proofs.StopPlaces.{no_later, none_before, place}
+use Rattle.itch_market.proofs.ReplayStops.{none_ends, ends_stop, open_stops}
 
 -- the payloads of bytes are bytes
 pub payload_bytes : (ps : List (List ℕ)) (rest : List ℕ) → AreBytes (blocks ps ++ rest) → AllByRecursion AreBytes ps

@@ -22,7 +22,7 @@ use Rattle.itch_market.specs.GoodMarkets.{IsGood, IsListed}
 use Rattle.itch_market.specs.Runs.{AreMessages, after, run, FollowsFrom, Follows}
 use Rattle.itch_market.specs.Widths.{IsMaybe, IsSecurity, IsOrder}
 use Rattle.itch_market.specs.Partial.{is_out, skips, kept, only}
-use Rattle.itch_market.proofs.Allowed.{passed, allowed_add, allowed_replace}
+use Rattle.itch_market.proofs.AllowedMessages.{passed, allowed_add, allowed_replace}
 use Rattle.itch_market.proofs.GoodMarkets.{effect_good, empty_good}
 use Rattle.itch_market.proofs.Maps.{get-insert, same_map}
 

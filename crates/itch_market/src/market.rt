@@ -55,7 +55,7 @@ impl<B: OrderBook> Market<B> {
         }
     }
 
-    /// The code of the last system event, if any came.
+    /// The phase of the day, which is the last event's code: that of the last System Event message, if one came.
     pub fn phase(&self) -> Option<u8>
         ensures { result ≡ self.now.event }
     {

@@ -1,4 +1,6 @@
 //! Where and why a replay stops.
+ghost use Rattle.std.specs.Prelude.{◌≡◌};
+ghost use Rattle.itch_market.specs.declared.stop.Stop.TheVariants.{Frame, Codec, Rule};
 
 use crate::refusal::Refusal;
 use itch_codec::CodecFault;
@@ -23,6 +25,30 @@ pub enum Stop {
     /// A further block after 10^19 - 1 messages.
     #[error("too many messages")]
     TooManyMessages,
+}
+
+impl From<FrameFault> for Stop {
+    ghost from_gives = { λ fault stop. stop ≡ Frame fault };
+
+    fn from(fault: FrameFault) -> Stop {
+        Stop::Frame(fault)
+    }
+}
+
+impl From<CodecFault> for Stop {
+    ghost from_gives = { λ fault stop. stop ≡ Codec fault };
+
+    fn from(fault: CodecFault) -> Stop {
+        Stop::Codec(fault)
+    }
+}
+
+impl From<Refusal> for Stop {
+    ghost from_gives = { λ why stop. stop ≡ Rule why };
+
+    fn from(why: Refusal) -> Stop {
+        Stop::Rule(why)
+    }
 }
 
 /// How a replay ended: how many messages were applied, and why no further one was.

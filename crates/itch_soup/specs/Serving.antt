@@ -5,10 +5,9 @@ use Rattle.std.specs.Io.KnownBytes.{Consumes, IsAtEnd}
 use Rattle.itch_frame.specs.Blocks.{IsPayload, block, blocks}
 use Rattle.itch_frame.specs.Counting.{failed}
 use Rattle.itch_frame.specs.declared.tally.Failures.{Failures}
-use Rattle.itch_frame.specs.Reading.{Reading, bytes_left}
+use Rattle.itch_frame.specs.Reading.{Reading, bytes_left, FailsHere}
 use Rattle.itch_frame.specs.declared.fault.FrameFault.TheVariants.{Read}
 use Rattle.itch_market.specs.Content.{Content}
-use Rattle.itch_snapshot.specs.Reads.{FailsHere}
 use Rattle.itch_soup.specs.declared.login.ServerConfig.{ServerConfig}
 use Rattle.itch_soup.specs.declared.fault.SoupFault.{SoupFault}
 use Rattle.itch_soup.specs.declared.fault.SoupFault.TheVariants.{TooManyMessages, Frame}

@@ -17,8 +17,8 @@ use Rattle.itch_market.specs.Effects.{takes_memory}
 use Rattle.itch_market.specs.Runs.{after}
 use Rattle.itch_market.specs.Stops.{cause_by, cause, Stops}
 use Rattle.itch_market.specs.Replays.{IsRefusal, Refuses, TakesOff, Halts, Takes, Replays, IsDecided}
-use Rattle.itch_market.proofs.Taking.{not_full}
-use Rattle.itch_market.proofs.Stopping.{none_ends, one_stops, full_stops, ends_stop, open_stops}
+use Rattle.itch_market.proofs.ReplayProgress.{not_full}
+use Rattle.itch_market.proofs.ReplayStops.{none_ends, one_stops, full_stops, ends_stop, open_stops}
 
 -- a payload with a fault is not taken for that
 faulty : (m : Content) (p : List ℕ) (f : CodecFault) → fault p ≡ Some f → cause m p ≡ Some (Codec f)
