@@ -75,7 +75,7 @@ fn read_message<R: CountedRead, A: Allocator, B: OrderBook>(
             if payload.is_empty() {
                 return Err(SnapFault::NoEnd);
             }
-            take(market, payload, taken)
+            take(market, None, payload, taken)
         }
         Ok(None) => Err(SnapFault::NoEnd),
         Err(fault) => Err(SnapFault::Frame(fault)),

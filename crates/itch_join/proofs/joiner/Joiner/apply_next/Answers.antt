@@ -8,8 +8,8 @@ use Rattle.itch_join.specs.States.{Joining, State}
 use Rattle.itch_join.specs.Steps.{NextBy}
 use Rattle.itch_join.specs.Applying.{front, front_of, result_by, halt_of, fault_of, is_empty}
 use Rattle.itch_join.specs.HalfReads.{half_of}
-use Rattle.itch_join.proofs.Going.{went, nexted, taken_first, taken_then, is_next}
-use Rattle.itch_join.proofs.Draining.{was_any}
+use Rattle.itch_join.proofs.CatchUps.{went, nexted, taken_first, taken_then, is_next}
+use Rattle.itch_join.proofs.AppliedMessages.{was_any}
 use Rattle.itch_join.proofs.joiner.Joiner.apply_next.Goals as goal
 use Rattle.itch_join.proofs.joiner.Joiner.apply_next.Goals.{in-Ok, in-Err, then-waits, else-waits}
 
