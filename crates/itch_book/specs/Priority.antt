@@ -14,7 +14,7 @@ arrival orders x = position_or_len (has_reference x.reference) orders
 abbrev pub HasPriority : List Order → Side → Order → Order → Type 0
 HasPriority orders side x y = (is_better side x.price y.price ≡ true) ⊎ ((x.price ≡ y.price) × (arrival orders x < arrival orders y))
 
--- over any two places of the line: the one stands before the other exactly if its order has priority
+-- over any two places of the line: one comes before the other if and only if its order has priority
 abbrev pub IsByPriority : List Order → Side → List Order → Type 0
 IsByPriority orders side line =
     (i j : ℕ) (x y : Order) → slice_get line i ≡ Some x → slice_get line j ≡ Some y → ((i < j) ↔ HasPriority orders side x y)

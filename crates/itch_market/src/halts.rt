@@ -18,7 +18,7 @@ impl<'a> Model for Halts<'a> {
     ghost view = { λ h. h.entries };
 }
 
-/// A second iterator over the halts that are left. It takes no memory.
+/// A second iterator over the halts that are left. It allocates nothing.
 impl Clone for Halts<'_> {
     ghost is_clone = { λ halts copy. copy ≡ halts };
 

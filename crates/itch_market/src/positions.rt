@@ -19,7 +19,7 @@ impl<'a> Model for Positions<'a> {
     ghost view = { λ p. p.entries };
 }
 
-/// A second iterator over the positions that are left. It takes no memory.
+/// A second iterator over the positions that are left. It allocates nothing.
 impl Clone for Positions<'_> {
     ghost is_clone = { λ positions copy. copy ≡ positions };
 

@@ -13,13 +13,13 @@ use std::marker::Model;
 /// A security's trading action: the last Stock Trading Action without its reserved byte.
 #[derive(Clone, Copy, Debug, PartialEq, Eq)]
 pub struct Action {
-    /// The trading state, as `T` for trading.
+    /// The trading state, such as `T` for trading.
     pub state: u8,
-    /// Why the state was taken.
+    /// The reason for the state.
     pub reason: [u8; 4],
 }
 
-/// What is kept of a security beside its orders.
+/// What is kept of a security apart from its orders.
 #[derive(Drop)]
 pub struct Security<A: Allocator> {
     /// Its last entry in the directory.
@@ -53,7 +53,7 @@ impl<A: Allocator> Model for Security<A> {
 }
 
 impl<A: Allocator> Security<A> {
-    /// The security of a new directory entry, which takes no memory.
+    /// The security of a new directory entry, which needs no allocation.
     pub(crate) fn new(alloc: A, entry: Directory) -> Self
     where
         A: Copy,
