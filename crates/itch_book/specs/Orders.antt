@@ -12,7 +12,7 @@ abbrev pub is_better : Side → ℕ → ℕ → Bool
 is_better Buy p q = nat_lt q p
 is_better Sell p q = nat_lt p q
 
--- the two sides are one
+-- the two sides are the same
 abbrev pub same_side : Side → Side → Bool
 same_side Buy Buy = true
 same_side Buy Sell = false
@@ -36,12 +36,12 @@ abbrev pub queues_below : ℕ → List Order → List Order
 queues_below zero orders = []
 queues_below (suc n) orders = queues_below n orders ++ sides orders n
 
--- the orders in snapshot order: locates rise, and the orders of each are bids before asks, by priority
+-- the orders in snapshot order: locates in ascending order, and the orders of each are bids before asks, by priority
 unfoldable pub lay : List Order → List Order
 lay orders = queues_below 65536 orders
 
--- an order of the first locate, side and price stands before one of the second in snapshot order:
--- by locate rising, bids before asks, and then the better price first
+-- an order of the first locate, side and price comes before one of the second in snapshot order:
+-- by ascending locate, bids before asks, and then the better price first
 abbrev pub place_before : ℕ → Side → ℕ → ℕ → Side → ℕ → Bool
 place_before l Buy p m Buy q = nat_lt l m || (l == m && nat_lt q p)
 place_before l Buy p m Sell q = nat_lt l m || l == m
@@ -52,11 +52,11 @@ place_before l Sell p m Sell q = nat_lt l m || (l == m && nat_lt p q)
 abbrev pub stands_before : Order → Order → Bool
 stands_before x y = place_before x.locate x.side x.price y.locate y.side y.price
 
--- the locate is one of two bytes
+-- the locate fits two bytes
 abbrev pub fits : Order → Bool
 fits x = nat_lt x.locate 65536
 
--- every locate is one of two bytes
+-- every locate fits two bytes
 abbrev pub AllFit : List Order → Type 0
 AllFit orders = AllByRecursion (λ x. fits x ≡ true) orders
 

@@ -1,4 +1,4 @@
--- Priority in words: what stands before what among the orders of a locate and side.
+-- Priority in words: which order comes before which among those of a locate and side.
 use Rattle.std.specs.Prelude.{◌≡◌, ℕ, ◌<◌, ◌↔◌, ◌⊎◌, true, List, Some, slice_get}
 use Rattle.std.specs.List.{filter, position_or_len}
 use Rattle.std.specs.List.Sorted.{IsPermutation}
@@ -6,7 +6,7 @@ use Rattle.itch_book.specs.declared.order.Order.{Order}
 use Rattle.itch_codec.specs.declared.orders.Side.{Side}
 use Rattle.itch_book.specs.Orders.{is_better, is_of, has_reference}
 
--- the place at which an order stands among orders in order of arrival
+-- the place of an order among orders in order of arrival
 abbrev pub arrival : List Order → Order → ℕ
 arrival orders x = position_or_len (has_reference x.reference) orders
 

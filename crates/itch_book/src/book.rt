@@ -9,7 +9,7 @@ use crate::order::{Order, Taken};
 use itch_codec::Side;
 use std::alloc::{AllocError, Allocator};
 
-/// The live orders of all locates, in snapshot order: by locate rising, bids before asks, bids from the highest price,
+/// The live orders of all locates, in snapshot order: by ascending locate, bids before asks, bids from the highest price,
 /// asks from the lowest, and one price by time priority.
 pub trait OrderBook: Drop {
     /// The allocator of the book's memory.

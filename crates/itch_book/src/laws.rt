@@ -11,8 +11,8 @@ ghost use Rattle.itch_book.specs.Priority.{arrival, IsLine};
 use crate::book::OrderBook;
 
 /// A queue has the orders of its locate and side, each as often as it arrived. Of any two places in it, one comes before the
-/// other if and only if its order has the better price, or the same price and arrived earlier. No other list has these orders
-/// so.
+/// other if and only if its order has the better price, or the same price and arrived earlier. No other list has
+/// these two properties.
 #[tactic(auto, using(crate::proofs::QueueLemmas::queue_members))]
 pub fn queues()
     ensures members { (orders : List Order) → (locate : ℕ) → (side : Side)

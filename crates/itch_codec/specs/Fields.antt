@@ -118,7 +118,7 @@ abbrev pub first_fault : List ℕ → List Column → Option CodecFault
 first_fault payload [] = None
 first_fault payload (column ∷ columns) = first_of (field_fault payload column) (first_fault payload columns)
 
--- what was read is as it should be and nothing has a fault, or the fault was returned
+-- what was read meets this condition, and there is no fault; or this is the fault
 abbrev pub Reads : {X F : Type 0} → (X → Type 0) → Option F → Result X F → Type 0
 Reads Is fault (Ok x) = Is x × (fault ≡ None)
 Reads Is fault (Err found) = fault ≡ Some found

@@ -46,7 +46,7 @@ pub fn there_and_back()
     ensures bytes { (payload : List ℕ) → AreBytes payload → fault payload ≡ None → ¬ IsEnd (message_of payload) → spelling (message_of payload) ≡ payload }
 {}
 
-/// A field of twenty digits spells at most one number, and each number up to 10^19 is spelled by the field that is written for it.
+/// A field of twenty bytes spells at most one number, and each number up to 10^19 is spelled by the field that is written for it.
 #[tactic(auto, using(crate::proofs::Numbers::number_laws))]
 pub fn numbers()
     ensures one { (field : List ℕ) → (m n : ℕ) → SpellsNumber field m → SpellsNumber field n → m ≡ n }

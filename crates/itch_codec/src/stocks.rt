@@ -342,7 +342,7 @@ pub struct ParticipantPosition {
     pub header: Header,
     pub mpid: Alpha<4>,
     pub stock: Alpha<8>,
-    /// Whether the participant is a primary market maker, such as `Y` or `N`. Any byte.
+    /// Whether the participant is a primary market maker: `Y`, `N` or any other byte.
     pub primary_market_maker: u8,
     /// The market maker's mode, such as `N` for normal. Any byte.
     pub mode: u8,

@@ -50,7 +50,7 @@ TakesOne m payload (Err TooManyMessages) n = ⊥
 abbrev pub TakesOff : Option (List ℕ) → Option (List ℕ) → List ℕ → Type 0
 TakesOff old new payload = IsFull payload × Consumes old new (block payload)
 
--- why there is no further message to take, for a caller that has as many as there may be (`full`) or not
+-- why no further message is taken, apart from what it says; `full` says that there are as many as there may be
 abbrev pub StopsHere : Bool → Option (List ℕ) → Option (List ℕ) → Stop → Type 0
 StopsHere full old new End = EndsHere old new
 StopsHere full old new (Frame fault) = FailsHere fault old new
@@ -58,7 +58,7 @@ StopsHere full old new TooManyMessages = (payload : List ℕ) × TakesOff old ne
 StopsHere full old new (Codec f) = ⊥
 StopsHere full old new (Rule why) = ⊥
 
--- why no further message is applied to this market, to which as many as there may be were applied (`full`) or not
+-- why no further message is applied to this market; `full` says that as many were applied as there may be
 abbrev pub Halts : Bool → Content → Option (List ℕ) → Option (List ℕ) → Stop → Type 0
 Halts full m old new (Codec f) = (payload : List ℕ) × TakesOff old new payload × (full ≡ false) × (fault payload ≡ Some f)
 Halts full m old new (Rule why) = (payload : List ℕ) × TakesOff old new payload × (full ≡ false) × Refuses m payload why
@@ -105,7 +105,7 @@ LeavesReaderFirst old count None new =
 LeavesReaderFirst old count (Some stop) new = LeavesReader stop new × StopsAgain old count stop new
 
 module _ {R : Type 0} (remaining : R → Option (List ℕ)) (failures : R → Failures) where
-  -- what a call that asks for the payload of the next message may return, and leave, if the caller has as many as there may be (`full`) or not
+  -- what a call that asks for the payload of the next message may return, and leave; `full` says that the caller has as many as there may be
   abbrev pub NextPayload : Bool → Reading R → Result (Bor (List ℕ)) Stop → Reading R → Type 0
   -- its block came off the front
   NextPayload full old (Ok p) new =

@@ -6,7 +6,7 @@ use std::alloc::AllocError;
 use std::collections::btree_map::Iter;
 use std::marker::Model;
 
-/// The market codes of a security's operational halts, rising, each with its last action.
+/// The market codes of a security's operational halts, in ascending order, each with its last action.
 #[derive(Drop)]
 pub struct Halts<'a> {
     pub(crate) entries: Iter<'a, u8, u8>,

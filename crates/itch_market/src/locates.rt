@@ -7,7 +7,7 @@ use crate::security::Security;
 use std::alloc::{AllocError, Allocator};
 use std::marker::Model;
 
-/// The locates of the directory, rising.
+/// The locates of the directory, in ascending order.
 #[derive(Drop)]
 pub struct Locates<'a, A: Allocator> {
     slots: &'a [Option<Security<A>>],

@@ -69,7 +69,7 @@ impl<B: OrderBook> Market<B> {
         self.securities.get(locate)
     }
 
-    /// The locates of the directory, rising.
+    /// The locates of the directory, in ascending order.
     pub fn locates(&self) -> Locates<'_, B::Alloc>
         ensures { result ≡ map.keys self.now.securities }
     {
@@ -83,7 +83,7 @@ impl<B: OrderBook> Market<B> {
         self.book.front(locate, side)
     }
 
-    /// Applies a message, or returns why the order rules refuse it.
+    /// Applies a message, or returns why it is refused.
     ///
     /// A refusal leaves the market as it was. [`Refusal::OutOfMemory`] is returned only for a message that no rule refuses and
     /// that adds an order, a directory entry, a halt's market code or a market participant, and only if an allocation failed.

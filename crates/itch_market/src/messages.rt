@@ -8,7 +8,7 @@ use crate::stop::Stop;
 use itch_frame::{BlockReader, CountedRead};
 use std::alloc::Allocator;
 
-/// The payload of the next message, or why there is none to take.
+/// The payload of the next message, or why none is taken.
 ///
 /// `End` where the messages end, `Frame` for a fault, and `TooManyMessages` for a message if the caller has as many as a day
 /// file may have (`is_full`); that message has been read. After the end of input, or a block truncated there, each call

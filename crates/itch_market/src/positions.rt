@@ -7,7 +7,7 @@ use std::alloc::AllocError;
 use std::collections::btree_map::Iter;
 use std::marker::Model;
 
-/// The market participants of a security, by rising bytes, each with its primary market maker, mode and state.
+/// The market participants of a security, in ascending order of their bytes, each with its primary market maker, mode and state.
 #[derive(Drop)]
 pub struct Positions<'a> {
     pub(crate) entries: Iter<'a, Alpha<4>, [u8; 3]>,

@@ -15,7 +15,7 @@ use std::marker::Model;
 /// What is kept of the securities, each at its locate.
 ///
 /// A look-up is one step. An entry at a locate beyond all others allocates: a slot for each locate up to it, and at most as many
-/// again, so that entries with rising locates seldom copy the slots. The first halt at a market code and the first position of a
+/// again, so that entries with ascending locates seldom copy the slots. The first halt at a market code and the first position of a
 /// market participant allocate, and nothing else does.
 #[derive(Drop)]
 pub(crate) struct Securities<A: Allocator = Global> {
@@ -139,7 +139,7 @@ impl<A: Allocator + Copy> Securities<A> {
         kept
     }
 
-    /// The locates, rising.
+    /// The locates, in ascending order.
     pub(crate) fn locates(&self) -> Locates<'_, A>
         ensures { result ≡ map.keys self.now }
     {

@@ -117,7 +117,7 @@ impl<A: Allocator> Security<A> {
         Ok(())
     }
 
-    /// The last action of an operational halt at each market code, by rising code.
+    /// The last action of an operational halt at each market code, by ascending code.
     pub fn halts(&self) -> Halts<'_>
         ensures { result ≡ map.entries self.now.halts }
     {
@@ -142,7 +142,7 @@ impl<A: Allocator> Security<A> {
         self.positions.len()
     }
 
-    /// The last position of each market participant, by rising bytes.
+    /// The last position of each market participant, in ascending order of their bytes.
     pub fn positions(&self) -> Positions<'_>
         ensures { result ≡ map.entries self.now.positions }
     {
