@@ -216,9 +216,7 @@ impl<B: OrderBook> Joiner<B> {
         ensures cap { self.new.cap ≡ self.old.cap }
         ensures set { self.new.set ≡ self.old.set }
     {
-        let Some(mut position) = self.joined.take() else {
-            unreachable!()
-        };
+        let mut position = self.joined.take().unwrap();
         let waits = self.wait.has(number);
         let ended = advance(&mut self.wait, &self.set, &mut position, payload);
         let next = position.next;
@@ -313,10 +311,8 @@ impl<B: OrderBook> Joiner<B> {
             Ok(None) => Ok(Snap::More),
             Ok(Some(_)) => {
                 let half = replace(&mut self.half, SnapshotReader::new(self.alloc));
-                match half.finish() {
-                    Ok((market, next)) => self.start(next.value(), market),
-                    Err(_) => unreachable!(),
-                }
+                let (market, next) = half.finish().unwrap();
+                self.start(next.value(), market)
             }
             Err(fault) => Err(join_fault_of(fault)),
         }
