@@ -24,9 +24,9 @@ use Rattle.itch_soup.specs.declared.origin.Origin.TheVariants.{Server}
 use Rattle.itch_soup.specs.declared.packet.Packet.{Packet}
 use Rattle.itch_soup.specs.Packets.{PacketSpells, packet_fault}
 use Rattle.itch_soup.specs.Clients.{Client, client_answer}
-use Rattle.itch_soup.specs.Serving.{ReadsBlock}
+use Rattle.itch_soup.specs.NextPackets.{ReadsBlock}
 use Rattle.itch_soup.specs.Fetching.{HearsPacket, IsRefused, EndsFetch, EndsOtherwise, load_of, IsDecidedFetch}
-use Rattle.itch_soup.proofs.Unique.{packet_at, packet_at-spelled, spelled-none}
+use Rattle.itch_soup.proofs.OnePacket.{packet_at, packet_at-spelled, spelled-none}
 use Rattle.itch_soup.proofs.FrontBlocks.{the_block, some_block, no_bytes, ends_by, cut_off}
 
 abbrev pub Answer : Type 0
@@ -82,9 +82,8 @@ answered enough c ps q packet room spelled =
 
 heard_there : (enough : Bool) (c : Client) (ps : List (List ℕ)) (q rest : List ℕ) (new : Option (List ℕ)) (P : ClientAct → Type 0) → IsPayload q → HearsPacket enough c (Some (block q ++ rest)) new P
     → (answer : ClientAct) × (at_block enough c ps q ≡ by_answer answer ps) × P answer
-heard_there enough c ps q rest new P fits (room, read) = found (the_block q rest new _ fits read) where
-  found : (packet : Packet) × PacketSpells packet q Server × P (client_answer c packet) → (answer : ClientAct) × (at_block enough c ps q ≡ by_answer answer ps) × P answer
-  found (packet, spelled, holds) = (client_answer c packet, answered enough c ps q packet room spelled, holds)
+heard_there enough c ps q rest new P fits (packet, (room, read), holds) =
+    (client_answer c packet, answered enough c ps q packet room (the_block q rest new (λ payload. PacketSpells packet payload Server) fits read), holds)
 
 -- where the answer is known
 said_there : (enough : Bool) (c : Client) (ps : List (List ℕ)) (q rest : List ℕ) (new : Option (List ℕ)) (wanted : ClientAct) → IsPayload q → HearsPacket enough c (Some (block q ++ rest)) new (λ answer. answer ≡ wanted)
@@ -159,10 +158,10 @@ otherwise_at_end (broke.Frame (Read error)) enough c ps b new load none h decide
 otherwise_at_end (broke.Frame (Write sent error)) enough c ps b new load none h decided = absurd h
 otherwise_at_end (broke.Frame TooLong) enough c ps b new load none h decided = absurd h
 otherwise_at_end broke.EndedEarly enough c ps b new load none (inl ended) decided = sym (ap at_end ended)
-otherwise_at_end broke.EndedEarly enough c ps b new load none (inr (room, read)) decided = absurd (some_block b new _ none read)
-otherwise_at_end (broke.Rejected code) enough c ps b new load none (room, read) decided = absurd (some_block b new _ none read)
-otherwise_at_end (broke.WrongStart next) enough c ps b new load none (room, read) decided = absurd (some_block b new _ none read)
-otherwise_at_end (broke.Snapshot f) enough c ps b new load none (room, read) decided = absurd (some_block b new _ none read)
+otherwise_at_end broke.EndedEarly enough c ps b new load none (inr (packet, (room, read), said)) decided = absurd (some_block b new _ none read)
+otherwise_at_end (broke.Rejected code) enough c ps b new load none (packet, (room, read), said) decided = absurd (some_block b new _ none read)
+otherwise_at_end (broke.WrongStart next) enough c ps b new load none (packet, (room, read), said) decided = absurd (some_block b new _ none read)
+otherwise_at_end (broke.Snapshot f) enough c ps b new load none (packet, (room, read), said) decided = absurd (some_block b new _ none read)
 otherwise_at_end broke.TooManyMessages enough c ps b new load none (full, read) decided = absurd (some_block b new _ none read)
 otherwise_at_end broke.EmptyPacket enough c ps b new load none (room, read) decided = absurd (some_block b new _ none read)
 otherwise_at_end (broke.UnknownType kind) enough c ps b new load none (room, read) decided = absurd (some_block b new _ none read)
@@ -199,8 +198,8 @@ ends_there (Err f) enough c ps q rest fits (new, load, inl heard) decided = said
 ends_there (Err f) enough c ps q rest fits (new, load, inr ends) decided = otherwise_there f enough c ps q rest new load fits ends decided
 
 ends_at_end : (r : Answer) (enough : Bool) (c : Client) (ps : List (List ℕ)) (b : List ℕ) → HasNoBlock b → EndsHere enough c ps b r → IsDecidedFetch r → r ≡ at_end b
-ends_at_end (Ok done) enough c ps b none (new, (room, read)) decided = absurd (some_block b new _ none read)
-ends_at_end (Err f) enough c ps b none (new, load, inl (room, read)) decided = absurd (some_block b new _ none read)
+ends_at_end (Ok done) enough c ps b none (new, (packet, (room, read), closes)) decided = absurd (some_block b new _ none read)
+ends_at_end (Err f) enough c ps b none (new, load, inl (packet, (room, read), said)) decided = absurd (some_block b new _ none read)
 ends_at_end (Err f) enough c ps b none (new, load, inr ends) decided = otherwise_at_end f enough c ps b new load none ends decided
 
 pub same_end : (enough : Bool) (c : Client) (ps : List (List ℕ)) (b : List ℕ) (r s : Answer) → EndsHere enough c ps b r → EndsHere enough c ps b s → IsDecidedFetch r → IsDecidedFetch s → r ≡ s

@@ -23,9 +23,9 @@ use Rattle.itch_soup.specs.declared.origin.Origin.TheVariants.{Server}
 use Rattle.itch_soup.specs.declared.packet.Packet.{Packet}
 use Rattle.itch_soup.specs.Packets.{PacketSpells}
 use Rattle.itch_soup.specs.Clients.{Client, client_answer, client_after_packet}
-use Rattle.itch_soup.specs.Serving.{is_enough}
+use Rattle.itch_soup.specs.NextPackets.{is_enough}
 use Rattle.itch_soup.specs.Fetching.{IsDecidedFetch}
-use Rattle.itch_soup.proofs.Unique.{same_packet}
+use Rattle.itch_soup.proofs.OnePacket.{same_packet}
 use Rattle.itch_soup.proofs.FetchEnds.{Answer, so_far, by_cause, by_start, by_answer, at_block, answered, open_there, EndsHere, ends_there, same_end}
 
 -- an answer after which the fetch goes on, and the messages taken then

@@ -19,7 +19,8 @@ use Rattle.itch_soup.specs.declared.server.ServerAct.TheVariants as server
 use Rattle.itch_soup.specs.Names.{asks_for_session}
 use Rattle.itch_soup.specs.Servers.{is_user, first_asked, not_authorised, not_available, judged, server_turn}
 use Rattle.itch_soup.specs.Packets.{PacketSpells}
-use Rattle.itch_soup.specs.Serving.{is_enough, IsIdle, IsPassedOver, EndsWait, WaitsOn, WaitsForLogin, Wait}
+use Rattle.itch_soup.specs.NextPackets.{is_enough}
+use Rattle.itch_soup.specs.Serving.{IsIdle, IsPassedOver, EndsWait, WaitsOn, WaitsForLogin, Wait}
 
 -- not as many as may be
 pub one_more : (count : ℕ) → count ≤ 10 ^ 19 → is_enough count ≡ false → count + 1 ≤ 10 ^ 19
