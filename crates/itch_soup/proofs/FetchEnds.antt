@@ -108,11 +108,7 @@ refusal_there snap.AfterEnd ps n p load (h, count, stays) decided = absurd h
 refused_there : (f : SnapFault) (ps : List (List ℕ)) (answer : ClientAct) (load : Load) → IsRefused (load_of ps) answer load (Err (broke.Snapshot f)) → IsDecidedFault f
     → by_answer answer ps ≡ Some (Err (broke.Snapshot f))
 refused_there f ps (act.Data n p) load h decided = refusal_there f ps n p load h decided
-refused_there f ps act.Nothing load h decided = absurd h
-refused_there f ps (act.Accepted next) load h decided = absurd h
-refused_there f ps (act.Rejected code) load h decided = absurd h
-refused_there f ps act.Ended load h decided = absurd h
-refused_there f ps (act.Fault e) load h decided = absurd h
+refused_there f ps answer load h decided = absurd h
 
 started_there : (next : ℕ) → ((next ≡ 1) → ⊥) → by_start (next == 1) next ≡ Some (Err (broke.WrongStart next))
 started_there next wrong = let no : (next == 1) ≡ false = grind (arith, nat_tests) in ap (λ b. by_start b next) no
@@ -140,15 +136,7 @@ otherwise_there (broke.Snapshot f) enough c ps q rest new load fits heard decide
     let (answer, there, refusal) = heard_there enough c ps q rest new (λ answer. IsRefused (load_of ps) answer load (Err (broke.Snapshot f))) fits heard in
     there ∙ refused_there f ps answer load refusal decided
 otherwise_there broke.TooManyMessages enough c ps q rest new load fits (full, read) decided = ap (λ b. at_block b c ps q) full
-otherwise_there broke.EmptyPacket enough c ps q rest new load fits h decided = faulty_there enough c ps q rest new broke.EmptyPacket fits h
-otherwise_there (broke.UnknownType kind) enough c ps q rest new load fits h decided = faulty_there enough c ps q rest new (broke.UnknownType kind) fits h
-otherwise_there (broke.WrongSide kind) enough c ps q rest new load fits h decided = faulty_there enough c ps q rest new (broke.WrongSide kind) fits h
-otherwise_there (broke.WrongLength kind want got) enough c ps q rest new load fits h decided = faulty_there enough c ps q rest new (broke.WrongLength kind want got) fits h
-otherwise_there (broke.BadText offset) enough c ps q rest new load fits h decided = faulty_there enough c ps q rest new (broke.BadText offset) fits h
-otherwise_there (broke.BadNumber offset) enough c ps q rest new load fits h decided = faulty_there enough c ps q rest new (broke.BadNumber offset) fits h
-otherwise_there broke.SecondLogin enough c ps q rest new load fits h decided = faulty_there enough c ps q rest new broke.SecondLogin fits h
-otherwise_there (broke.Early kind) enough c ps q rest new load fits h decided = faulty_there enough c ps q rest new (broke.Early kind) fits h
-otherwise_there broke.Closed enough c ps q rest new load fits h decided = faulty_there enough c ps q rest new broke.Closed fits h
+otherwise_there f enough c ps q rest new load fits h decided = faulty_there enough c ps q rest new f fits h
 
 -- where none does, the end of input decides, or the unfinished block
 otherwise_at_end : (f : SoupFault) (enough : Bool) (c : Client) (ps : List (List ℕ)) (b : List ℕ) (new : Option (List ℕ)) (load : Load) → HasNoBlock b
@@ -162,16 +150,7 @@ otherwise_at_end broke.EndedEarly enough c ps b new load none (inr (packet, (roo
 otherwise_at_end (broke.Rejected code) enough c ps b new load none (packet, (room, read), said) decided = absurd (some_block b new _ none read)
 otherwise_at_end (broke.WrongStart next) enough c ps b new load none (packet, (room, read), said) decided = absurd (some_block b new _ none read)
 otherwise_at_end (broke.Snapshot f) enough c ps b new load none (packet, (room, read), said) decided = absurd (some_block b new _ none read)
-otherwise_at_end broke.TooManyMessages enough c ps b new load none (full, read) decided = absurd (some_block b new _ none read)
-otherwise_at_end broke.EmptyPacket enough c ps b new load none (room, read) decided = absurd (some_block b new _ none read)
-otherwise_at_end (broke.UnknownType kind) enough c ps b new load none (room, read) decided = absurd (some_block b new _ none read)
-otherwise_at_end (broke.WrongSide kind) enough c ps b new load none (room, read) decided = absurd (some_block b new _ none read)
-otherwise_at_end (broke.WrongLength kind want got) enough c ps b new load none (room, read) decided = absurd (some_block b new _ none read)
-otherwise_at_end (broke.BadText offset) enough c ps b new load none (room, read) decided = absurd (some_block b new _ none read)
-otherwise_at_end (broke.BadNumber offset) enough c ps b new load none (room, read) decided = absurd (some_block b new _ none read)
-otherwise_at_end broke.SecondLogin enough c ps b new load none (room, read) decided = absurd (some_block b new _ none read)
-otherwise_at_end (broke.Early kind) enough c ps b new load none (room, read) decided = absurd (some_block b new _ none read)
-otherwise_at_end broke.Closed enough c ps b new load none (room, read) decided = absurd (some_block b new _ none read)
+otherwise_at_end f enough c ps b new load none h decided = absurd (some_block b new _ none h.1)
 
 -- an answer that closes the snapshot
 abbrev pub Closes : ClientAct → List (List ℕ) → Content × ℕ → Type 0
@@ -180,11 +159,7 @@ Closes answer ps done = ⊥
 
 closed_there : (answer : ClientAct) (ps : List (List ℕ)) (done : Content × ℕ) → Closes answer ps done → by_answer answer ps ≡ Some (Ok done)
 closed_there (act.Data n p) ps done (number, market) = ap (λ o. by_number o ps p) number ∙ ap (λ m. Some (Ok (m, done.1))) (sym market)
-closed_there act.Nothing ps done h = absurd h
-closed_there (act.Accepted next) ps done h = absurd h
-closed_there (act.Rejected code) ps done h = absurd h
-closed_there act.Ended ps done h = absurd h
-closed_there (act.Fault e) ps done h = absurd h
+closed_there answer ps done h = absurd h
 
 -- what stands at the front ends the fetch
 abbrev pub EndsHere : Bool → Client → List (List ℕ) → List ℕ → Answer → Type 0
