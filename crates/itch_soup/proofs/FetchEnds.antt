@@ -24,9 +24,9 @@ use Rattle.itch_soup.specs.declared.origin.Origin.TheVariants.{Server}
 use Rattle.itch_soup.specs.declared.packet.Packet.{Packet}
 use Rattle.itch_soup.specs.Packets.{PacketSpells, packet_fault}
 use Rattle.itch_soup.specs.Clients.{Client, client_answer}
-use Rattle.itch_soup.specs.Serving.{ReadsBlock}
+use Rattle.itch_soup.specs.NextPackets.{ReadsBlock}
 use Rattle.itch_soup.specs.Fetching.{HearsPacket, IsRefused, EndsFetch, EndsOtherwise, load_of, IsDecidedFetch}
-use Rattle.itch_soup.proofs.Unique.{packet_at, packet_at-spelled, spelled-none}
+use Rattle.itch_soup.proofs.OnePacket.{packet_at, packet_at-spelled, spelled-none}
 use Rattle.itch_soup.proofs.FrontBlocks.{the_block, some_block, no_bytes, ends_by, cut_off}
 
 abbrev pub Answer : Type 0
@@ -82,9 +82,8 @@ answered enough c ps q packet room spelled =
 
 heard_there : (enough : Bool) (c : Client) (ps : List (List ℕ)) (q rest : List ℕ) (new : Option (List ℕ)) (P : ClientAct → Type 0) → IsPayload q → HearsPacket enough c (Some (block q ++ rest)) new P
     → (answer : ClientAct) × (at_block enough c ps q ≡ by_answer answer ps) × P answer
-heard_there enough c ps q rest new P fits (room, read) = found (the_block q rest new _ fits read) where
-  found : (packet : Packet) × PacketSpells packet q Server × P (client_answer c packet) → (answer : ClientAct) × (at_block enough c ps q ≡ by_answer answer ps) × P answer
-  found (packet, spelled, holds) = (client_answer c packet, answered enough c ps q packet room spelled, holds)
+heard_there enough c ps q rest new P fits (packet, (room, read), holds) =
+    (client_answer c packet, answered enough c ps q packet room (the_block q rest new (λ payload. PacketSpells packet payload Server) fits read), holds)
 
 -- where the answer is known
 said_there : (enough : Bool) (c : Client) (ps : List (List ℕ)) (q rest : List ℕ) (new : Option (List ℕ)) (wanted : ClientAct) → IsPayload q → HearsPacket enough c (Some (block q ++ rest)) new (λ answer. answer ≡ wanted)
@@ -109,11 +108,7 @@ refusal_there snap.AfterEnd ps n p load (h, count, stays) decided = absurd h
 refused_there : (f : SnapFault) (ps : List (List ℕ)) (answer : ClientAct) (load : Load) → IsRefused (load_of ps) answer load (Err (broke.Snapshot f)) → IsDecidedFault f
     → by_answer answer ps ≡ Some (Err (broke.Snapshot f))
 refused_there f ps (act.Data n p) load h decided = refusal_there f ps n p load h decided
-refused_there f ps act.Nothing load h decided = absurd h
-refused_there f ps (act.Accepted next) load h decided = absurd h
-refused_there f ps (act.Rejected code) load h decided = absurd h
-refused_there f ps act.Ended load h decided = absurd h
-refused_there f ps (act.Fault e) load h decided = absurd h
+refused_there f ps answer load h decided = absurd h
 
 started_there : (next : ℕ) → ((next ≡ 1) → ⊥) → by_start (next == 1) next ≡ Some (Err (broke.WrongStart next))
 started_there next wrong = let no : (next == 1) ≡ false = grind (arith, nat_tests) in ap (λ b. by_start b next) no
@@ -141,15 +136,7 @@ otherwise_there (broke.Snapshot f) enough c ps q rest new load fits heard decide
     let (answer, there, refusal) = heard_there enough c ps q rest new (λ answer. IsRefused (load_of ps) answer load (Err (broke.Snapshot f))) fits heard in
     there ∙ refused_there f ps answer load refusal decided
 otherwise_there broke.TooManyMessages enough c ps q rest new load fits (full, read) decided = ap (λ b. at_block b c ps q) full
-otherwise_there broke.EmptyPacket enough c ps q rest new load fits h decided = faulty_there enough c ps q rest new broke.EmptyPacket fits h
-otherwise_there (broke.UnknownType kind) enough c ps q rest new load fits h decided = faulty_there enough c ps q rest new (broke.UnknownType kind) fits h
-otherwise_there (broke.WrongSide kind) enough c ps q rest new load fits h decided = faulty_there enough c ps q rest new (broke.WrongSide kind) fits h
-otherwise_there (broke.WrongLength kind want got) enough c ps q rest new load fits h decided = faulty_there enough c ps q rest new (broke.WrongLength kind want got) fits h
-otherwise_there (broke.BadText offset) enough c ps q rest new load fits h decided = faulty_there enough c ps q rest new (broke.BadText offset) fits h
-otherwise_there (broke.BadNumber offset) enough c ps q rest new load fits h decided = faulty_there enough c ps q rest new (broke.BadNumber offset) fits h
-otherwise_there broke.SecondLogin enough c ps q rest new load fits h decided = faulty_there enough c ps q rest new broke.SecondLogin fits h
-otherwise_there (broke.Early kind) enough c ps q rest new load fits h decided = faulty_there enough c ps q rest new (broke.Early kind) fits h
-otherwise_there broke.Closed enough c ps q rest new load fits h decided = faulty_there enough c ps q rest new broke.Closed fits h
+otherwise_there f enough c ps q rest new load fits h decided = faulty_there enough c ps q rest new f fits h
 
 -- where none does, the end of input decides, or the unfinished block
 otherwise_at_end : (f : SoupFault) (enough : Bool) (c : Client) (ps : List (List ℕ)) (b : List ℕ) (new : Option (List ℕ)) (load : Load) → HasNoBlock b
@@ -159,20 +146,11 @@ otherwise_at_end (broke.Frame (Read error)) enough c ps b new load none h decide
 otherwise_at_end (broke.Frame (Write sent error)) enough c ps b new load none h decided = absurd h
 otherwise_at_end (broke.Frame TooLong) enough c ps b new load none h decided = absurd h
 otherwise_at_end broke.EndedEarly enough c ps b new load none (inl ended) decided = sym (ap at_end ended)
-otherwise_at_end broke.EndedEarly enough c ps b new load none (inr (room, read)) decided = absurd (some_block b new _ none read)
-otherwise_at_end (broke.Rejected code) enough c ps b new load none (room, read) decided = absurd (some_block b new _ none read)
-otherwise_at_end (broke.WrongStart next) enough c ps b new load none (room, read) decided = absurd (some_block b new _ none read)
-otherwise_at_end (broke.Snapshot f) enough c ps b new load none (room, read) decided = absurd (some_block b new _ none read)
-otherwise_at_end broke.TooManyMessages enough c ps b new load none (full, read) decided = absurd (some_block b new _ none read)
-otherwise_at_end broke.EmptyPacket enough c ps b new load none (room, read) decided = absurd (some_block b new _ none read)
-otherwise_at_end (broke.UnknownType kind) enough c ps b new load none (room, read) decided = absurd (some_block b new _ none read)
-otherwise_at_end (broke.WrongSide kind) enough c ps b new load none (room, read) decided = absurd (some_block b new _ none read)
-otherwise_at_end (broke.WrongLength kind want got) enough c ps b new load none (room, read) decided = absurd (some_block b new _ none read)
-otherwise_at_end (broke.BadText offset) enough c ps b new load none (room, read) decided = absurd (some_block b new _ none read)
-otherwise_at_end (broke.BadNumber offset) enough c ps b new load none (room, read) decided = absurd (some_block b new _ none read)
-otherwise_at_end broke.SecondLogin enough c ps b new load none (room, read) decided = absurd (some_block b new _ none read)
-otherwise_at_end (broke.Early kind) enough c ps b new load none (room, read) decided = absurd (some_block b new _ none read)
-otherwise_at_end broke.Closed enough c ps b new load none (room, read) decided = absurd (some_block b new _ none read)
+otherwise_at_end broke.EndedEarly enough c ps b new load none (inr (packet, (room, read), said)) decided = absurd (some_block b new _ none read)
+otherwise_at_end (broke.Rejected code) enough c ps b new load none (packet, (room, read), said) decided = absurd (some_block b new _ none read)
+otherwise_at_end (broke.WrongStart next) enough c ps b new load none (packet, (room, read), said) decided = absurd (some_block b new _ none read)
+otherwise_at_end (broke.Snapshot f) enough c ps b new load none (packet, (room, read), said) decided = absurd (some_block b new _ none read)
+otherwise_at_end f enough c ps b new load none h decided = absurd (some_block b new _ none h.1)
 
 -- an answer that closes the snapshot
 abbrev pub Closes : ClientAct → List (List ℕ) → Content × ℕ → Type 0
@@ -181,11 +159,7 @@ Closes answer ps done = ⊥
 
 closed_there : (answer : ClientAct) (ps : List (List ℕ)) (done : Content × ℕ) → Closes answer ps done → by_answer answer ps ≡ Some (Ok done)
 closed_there (act.Data n p) ps done (number, market) = ap (λ o. by_number o ps p) number ∙ ap (λ m. Some (Ok (m, done.1))) (sym market)
-closed_there act.Nothing ps done h = absurd h
-closed_there (act.Accepted next) ps done h = absurd h
-closed_there (act.Rejected code) ps done h = absurd h
-closed_there act.Ended ps done h = absurd h
-closed_there (act.Fault e) ps done h = absurd h
+closed_there answer ps done h = absurd h
 
 -- what stands at the front ends the fetch
 abbrev pub EndsHere : Bool → Client → List (List ℕ) → List ℕ → Answer → Type 0
@@ -199,8 +173,8 @@ ends_there (Err f) enough c ps q rest fits (new, load, inl heard) decided = said
 ends_there (Err f) enough c ps q rest fits (new, load, inr ends) decided = otherwise_there f enough c ps q rest new load fits ends decided
 
 ends_at_end : (r : Answer) (enough : Bool) (c : Client) (ps : List (List ℕ)) (b : List ℕ) → HasNoBlock b → EndsHere enough c ps b r → IsDecidedFetch r → r ≡ at_end b
-ends_at_end (Ok done) enough c ps b none (new, (room, read)) decided = absurd (some_block b new _ none read)
-ends_at_end (Err f) enough c ps b none (new, load, inl (room, read)) decided = absurd (some_block b new _ none read)
+ends_at_end (Ok done) enough c ps b none (new, (packet, (room, read), closes)) decided = absurd (some_block b new _ none read)
+ends_at_end (Err f) enough c ps b none (new, load, inl (packet, (room, read), said)) decided = absurd (some_block b new _ none read)
 ends_at_end (Err f) enough c ps b none (new, load, inr ends) decided = otherwise_at_end f enough c ps b new load none ends decided
 
 pub same_end : (enough : Bool) (c : Client) (ps : List (List ℕ)) (b : List ℕ) (r s : Answer) → EndsHere enough c ps b r → EndsHere enough c ps b s → IsDecidedFetch r → IsDecidedFetch s → r ≡ s

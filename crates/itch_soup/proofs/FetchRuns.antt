@@ -23,9 +23,9 @@ use Rattle.itch_soup.specs.declared.origin.Origin.TheVariants.{Server}
 use Rattle.itch_soup.specs.declared.packet.Packet.{Packet}
 use Rattle.itch_soup.specs.Packets.{PacketSpells}
 use Rattle.itch_soup.specs.Clients.{Client, client_answer, client_after_packet}
-use Rattle.itch_soup.specs.Serving.{is_enough}
+use Rattle.itch_soup.specs.NextPackets.{is_enough}
 use Rattle.itch_soup.specs.Fetching.{IsDecidedFetch}
-use Rattle.itch_soup.proofs.Unique.{same_packet}
+use Rattle.itch_soup.proofs.OnePacket.{same_packet}
 use Rattle.itch_soup.proofs.FetchEnds.{Answer, so_far, by_cause, by_start, by_answer, at_block, answered, open_there, EndsHere, ends_there, same_end}
 
 -- an answer after which the fetch goes on, and the messages taken then
@@ -56,18 +56,14 @@ goes_there act.Nothing ps good goes = refl
 goes_there (act.Accepted next) ps good one = ap (λ k. by_start (k == 1) k) one
 goes_there (act.Data n p) ps good (room, clean, fits) =
     open_there ps p false (no_end (so_far ps) p clean) room ∙ ap (by_cause (length ps)) (cause-laid (so_far ps) p good ∙ clean)
-goes_there (act.Rejected code) ps good h = absurd h
-goes_there act.Ended ps good h = absurd h
-goes_there (act.Fault f) ps good h = absurd h
+goes_there answer ps good h = absurd h
 
 good_then : (answer : ClientAct) (ps : List (List ℕ)) → IsGood (so_far ps) → Goes answer ps → IsGood (so_far (heard_by answer ps))
 good_then act.Nothing ps good goes = good
 good_then (act.Accepted next) ps good one = good
 good_then (act.Data n p) ps good (room, clean, fits) =
     subst IsGood (sym (after_more empty ps p)) (effect_good (so_far ps) (message_of p) good fits (no_reason (so_far ps) p clean))
-good_then (act.Rejected code) ps good h = absurd h
-good_then act.Ended ps good h = absurd h
-good_then (act.Fault f) ps good h = absurd h
+good_then answer ps good h = absurd h
 
 -- the fetch goes on at each of these packets, and ends after them
 abbrev pub Run : ℕ → Client → List (List ℕ) → List Packet → List (List ℕ) → List ℕ → Answer → Type 0

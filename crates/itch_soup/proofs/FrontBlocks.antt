@@ -5,7 +5,7 @@ use Rattle.itch_frame.specs.declared.fault.FrameFault.TheVariants.{Truncated}
 use Rattle.itch_frame.proofs.BlockLemmas.{same_block}
 use Rattle.itch_soup.specs.declared.fault.SoupFault.{SoupFault}
 use Rattle.itch_soup.specs.declared.fault.SoupFault.TheVariants as broke
-use Rattle.itch_soup.specs.Serving.{ReadsBlock}
+use Rattle.itch_soup.specs.NextPackets.{ReadsBlock}
 
 -- the block that was read is the one at the front
 pub the_block : (q rest : List ℕ) (new : Option (List ℕ)) (P : List ℕ → Type 0) → IsPayload q → ReadsBlock (Some (block q ++ rest)) new P → P q

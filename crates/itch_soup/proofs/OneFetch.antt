@@ -25,11 +25,11 @@ use Rattle.itch_soup.specs.declared.origin.Origin.TheVariants.{Server}
 use Rattle.itch_soup.specs.declared.packet.Packet.{Packet}
 use Rattle.itch_soup.specs.Packets.{PacketSpells}
 use Rattle.itch_soup.specs.Clients.{Client, client_answer, client_after_packet}
-use Rattle.itch_soup.specs.Serving.{is_enough}
+use Rattle.itch_soup.specs.NextPackets.{is_enough}
 use Rattle.itch_soup.specs.Fetching.{ArePackets, news, after_packets, Hears, EndsFetch, load_of, Receives, IsDecidedFetch}
 use Rattle.itch_soup.proofs.FetchEnds.{Answer, so_far, Closes, EndsHere}
 use Rattle.itch_soup.proofs.FetchRuns.{Goes, heard_by, Run, one_run}
-use Rattle.itch_soup.proofs.SaidAnswers.{Says, Next, next_heard, nothing_heard}
+use Rattle.itch_soup.proofs.ClientAnswers.{Says, Next, next_heard, nothing_heard}
 
 -- fewer messages than packets, once the login was accepted
 abbrev Few : Bool → ℕ → ℕ → Type 0
@@ -74,7 +74,7 @@ Closing (Err f) all p = ⊥
 closes_here : (r : Answer) (k : ℕ) (c : Client) (ps : List (List ℕ)) (x : Packet) (q : List ℕ) (bytes : List ℕ) (n : ℕ) (p : List ℕ) → is_enough k ≡ false → IsPayload q → PacketSpells x q Server
     → client_answer c x ≡ act.Data n p → Closing r ps p → Reaches k c ps (block q ++ bytes) r
 closes_here (Ok done) k c ps x q bytes n p room fits spelled is closing =
-    ([], [], block q ++ bytes, refl, (Some bytes, (room, (q, fits, refl, (x, spelled, subst (λ a. Closes a ps done) (sym is) closing)))))
+    ([], [], block q ++ bytes, refl, (Some bytes, (x, (room, (q, fits, refl, spelled)), subst (λ a. Closes a ps done) (sym is) closing)))
 closes_here (Err f) k c ps x q bytes n p room fits spelled is closing = absurd closing
 
 -- all that is received is these messages, and then what ends the fetch

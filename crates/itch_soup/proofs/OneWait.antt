@@ -14,8 +14,9 @@ use Rattle.itch_soup.specs.declared.origin.Origin.TheVariants.{Client}
 use Rattle.itch_soup.specs.declared.packet.Packet.{Packet}
 use Rattle.itch_soup.specs.declared.packet.Packet.TheVariants as is
 use Rattle.itch_soup.specs.Packets.{PacketSpells, packet_fault}
-use Rattle.itch_soup.specs.Serving.{is_enough, ReadsBlock, IsPassedOver, IsIdle, EndsWait, Wait, WaitsForLogin, IsDecidedWait}
-use Rattle.itch_soup.proofs.Unique.{packet_at, packet_at-spelled, spelled-none}
+use Rattle.itch_soup.specs.NextPackets.{is_enough, ReadsBlock, PacketHere}
+use Rattle.itch_soup.specs.Serving.{IsPassedOver, IsIdle, EndsWait, Wait, WaitsForLogin, IsDecidedWait}
+use Rattle.itch_soup.proofs.OnePacket.{packet_at, packet_at-spelled, spelled-none}
 use Rattle.itch_soup.proofs.FrontBlocks.{the_block, some_block, no_bytes, ends_by, cut_off}
 
 -- how a client's packet ends the wait; one that is passed over does not
@@ -60,19 +61,7 @@ block_wait enough q rest new (Err (broke.Frame (Read error))) fits h decided = a
 block_wait enough q rest new (Err (broke.Frame (Write sent error))) fits h decided = absurd h
 block_wait enough q rest new (Err (broke.Frame TooLong)) fits h decided = absurd h
 block_wait enough q rest new (Err broke.TooManyMessages) fits (full, read) decided = sym (ap (λ b. wait_of b q) full)
-block_wait enough q rest new (Err broke.EmptyPacket) fits h decided = faulty enough q rest new broke.EmptyPacket fits h
-block_wait enough q rest new (Err (broke.UnknownType kind)) fits h decided = faulty enough q rest new (broke.UnknownType kind) fits h
-block_wait enough q rest new (Err (broke.WrongSide kind)) fits h decided = faulty enough q rest new (broke.WrongSide kind) fits h
-block_wait enough q rest new (Err (broke.WrongLength kind want got)) fits h decided = faulty enough q rest new (broke.WrongLength kind want got) fits h
-block_wait enough q rest new (Err (broke.BadText offset)) fits h decided = faulty enough q rest new (broke.BadText offset) fits h
-block_wait enough q rest new (Err (broke.BadNumber offset)) fits h decided = faulty enough q rest new (broke.BadNumber offset) fits h
-block_wait enough q rest new (Err broke.SecondLogin) fits h decided = faulty enough q rest new broke.SecondLogin fits h
-block_wait enough q rest new (Err (broke.Early kind)) fits h decided = faulty enough q rest new (broke.Early kind) fits h
-block_wait enough q rest new (Err broke.Closed) fits h decided = faulty enough q rest new broke.Closed fits h
-block_wait enough q rest new (Err (broke.Rejected code)) fits h decided = faulty enough q rest new (broke.Rejected code) fits h
-block_wait enough q rest new (Err (broke.WrongStart next)) fits h decided = faulty enough q rest new (broke.WrongStart next) fits h
-block_wait enough q rest new (Err broke.EndedEarly) fits h decided = faulty enough q rest new broke.EndedEarly fits h
-block_wait enough q rest new (Err (broke.Snapshot f)) fits h decided = faulty enough q rest new (broke.Snapshot f) fits h
+block_wait enough q rest new (Err f) fits h decided = faulty enough q rest new f fits h
 
 -- where none does, the end of input decides, or the unfinished block
 end_wait : (enough : Bool) (b : List ℕ) (new : Option (List ℕ)) (wait : Wait) → HasNoBlock b → EndsWait enough (Some b) new wait → IsDecidedWait wait → wait ≡ wait_at_end b
@@ -84,19 +73,7 @@ end_wait enough b new (Err (broke.Frame (Read error))) none h decided = absurd d
 end_wait enough b new (Err (broke.Frame (Write sent error))) none h decided = absurd h
 end_wait enough b new (Err (broke.Frame TooLong)) none h decided = absurd h
 end_wait enough b new (Err broke.TooManyMessages) none (full, read) decided = absurd (some_block b new _ none read)
-end_wait enough b new (Err broke.EmptyPacket) none (room, read) decided = absurd (some_block b new _ none read)
-end_wait enough b new (Err (broke.UnknownType kind)) none (room, read) decided = absurd (some_block b new _ none read)
-end_wait enough b new (Err (broke.WrongSide kind)) none (room, read) decided = absurd (some_block b new _ none read)
-end_wait enough b new (Err (broke.WrongLength kind want got)) none (room, read) decided = absurd (some_block b new _ none read)
-end_wait enough b new (Err (broke.BadText offset)) none (room, read) decided = absurd (some_block b new _ none read)
-end_wait enough b new (Err (broke.BadNumber offset)) none (room, read) decided = absurd (some_block b new _ none read)
-end_wait enough b new (Err broke.SecondLogin) none (room, read) decided = absurd (some_block b new _ none read)
-end_wait enough b new (Err (broke.Early kind)) none (room, read) decided = absurd (some_block b new _ none read)
-end_wait enough b new (Err broke.Closed) none (room, read) decided = absurd (some_block b new _ none read)
-end_wait enough b new (Err (broke.Rejected code)) none (room, read) decided = absurd (some_block b new _ none read)
-end_wait enough b new (Err (broke.WrongStart next)) none (room, read) decided = absurd (some_block b new _ none read)
-end_wait enough b new (Err broke.EndedEarly) none (room, read) decided = absurd (some_block b new _ none read)
-end_wait enough b new (Err (broke.Snapshot f)) none (room, read) decided = absurd (some_block b new _ none read)
+end_wait enough b new (Err f) none (room, read) decided = absurd (some_block b new _ none read)
 
 same_end : (enough : Bool) (b : List ℕ) (new other : Option (List ℕ)) (w v : Wait) → EndsWait enough (Some b) new w → EndsWait enough (Some b) other v → IsDecidedWait w → IsDecidedWait v → w ≡ v
 same_end enough b new other w v h k decided certain = by_front (front b) where
@@ -110,13 +87,7 @@ idle_wait : (packet : Packet) → IsIdle packet → wait_by packet ≡ Err broke
 idle_wait (is.Debug payload) idle = refl
 idle_wait (is.UnsequencedData payload) idle = refl
 idle_wait is.ClientHeartbeat idle = refl
-idle_wait (is.LoginAccepted login) idle = absurd idle
-idle_wait (is.LoginRejected code) idle = absurd idle
-idle_wait (is.SequencedData payload) idle = absurd idle
-idle_wait is.ServerHeartbeat idle = absurd idle
-idle_wait is.EndOfSession idle = absurd idle
-idle_wait (is.LoginRequest login) idle = absurd idle
-idle_wait is.LogoutRequest idle = absurd idle
+idle_wait packet idle = absurd idle
 
 -- a packet that is passed over ends no wait
 passed_no_end : (enough : Bool) (q rest : List ℕ) (new : Option (List ℕ)) (wait : Wait) → enough ≡ false → IsPassedOver q → EndsWait enough (Some (block q ++ rest)) new wait → IsDecidedWait wait → ⊥

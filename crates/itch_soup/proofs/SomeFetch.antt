@@ -37,10 +37,10 @@ use Rattle.itch_soup.specs.declared.packet.Packet.{Packet}
 use Rattle.itch_soup.specs.declared.packet.Packet.TheVariants as is
 use Rattle.itch_soup.specs.Packets.{PacketSpells, packet_fault}
 use Rattle.itch_soup.specs.Clients.{Client, client_turn, client_answer, client_after_packet}
-use Rattle.itch_soup.specs.Serving.{is_enough}
+use Rattle.itch_soup.specs.NextPackets.{is_enough, PacketHere}
 use Rattle.itch_soup.specs.Fetching.{HearsNext, TakesAnswer, IsRefused, Receives, IsDecidedFetch}
-use Rattle.itch_soup.proofs.Faultless.{faultless-spelled}
-use Rattle.itch_soup.proofs.Hearing.{Hearing, hearing_first, hearing_on, hearing_closed, hearing_ends, turn_shows, Shows}
+use Rattle.itch_soup.proofs.FaultlessBlocks.{faultless-spelled}
+use Rattle.itch_soup.proofs.FetchSteps.{Hearing, hearing_first, hearing_on, hearing_closed, hearing_ends, turn_shows, Shows}
 use Rattle.itch_soup.proofs.BlockFaults.{OfBlock, of_block, of_each}
 
 -- a session's own faults are decided by what is received
@@ -119,9 +119,12 @@ module _ (c : Client) (load : Load) (taking : load.stage ≡ at.Taking) (q more 
     abbrev later : Client
     later = client_after_packet c packet 0
 
+    read : PacketHere Server false (Some (block q ++ more)) (Some more) (Ok (Some packet))
+    read = (refl, (q, fits, refl, spelled))
+
     goes : (after : Load) (answer : ClientAct) → client_answer c packet ≡ answer → TakesAnswer answer load false after → Here
     goes after answer is takes =
-        inl (more, later, after, (refl, (q, fits, refl, (packet, spelled, refl, subst (λ a. TakesAnswer a load false after) (sym is) takes))), less, following)
+        inl (more, later, after, (packet, read, refl, subst (λ a. TakesAnswer a load false after) (sym is) takes), less, following)
 
     loads : (p : List ℕ) (answer : Result (Option ℕ) SnapFault) (after : Load) → TakesAt at.Taking load p answer after → Loads load p answer after
     loads p answer after takes = subst (λ s. TakesAt s load p answer after) (sym taking) takes
@@ -133,7 +136,7 @@ module _ (c : Client) (load : Load) (taking : load.stage ≡ at.Taking) (q more 
           later,
           after,
           broke.Snapshot f,
-          inr (refl, (q, fits, refl, (packet, spelled, subst (λ a. IsRefused load a after (Err (broke.Snapshot f))) (sym is) (loads p (Err f) after takes)))),
+          inr (packet, read, subst (λ a. IsRefused load a after (Err (broke.Snapshot f))) (sym is) (loads p (Err f) after takes)),
           decided,
         ))
 
@@ -172,14 +175,14 @@ module _ (c : Client) (load : Load) (taking : load.stage ≡ at.Taking) (q more 
           later,
           after,
           (load.market, next),
-          (refl, (q, fits, refl, (packet, spelled, refl, subst (λ a. TakesAnswer a load true after) (sym is) (Some next, loads p (Ok (Some next)) after ((refl, e), refl, refl), refl)))),
+          (packet, read, refl, subst (λ a. TakesAnswer a load true after) (sym is) (Some next, loads p (Ok (Some next)) after ((refl, e), refl, refl), refl)),
           (refl, refl),
         ))
     by_number n p is held None e = by_room n p is held e (is_full load.taken) refl
 
     by_start : (next : ℕ) → client_answer c packet ≡ act.Accepted next → (b : Bool) → (next == 1) ≡ b → Here
     by_start next is true e = goes load (act.Accepted next) is (eqb-true next 1 e, refl, refl)
-    by_start next is false e = inr (inr (Some more, later, load, broke.WrongStart next, inr (refl, (q, fits, refl, (packet, spelled, (is, eqb-false next 1 e)))), tt))
+    by_start next is false e = inr (inr (Some more, later, load, broke.WrongStart next, inr (packet, read, (is, eqb-false next 1 e)), tt))
 
     held : (n : ℕ) (p : List ℕ) → client_answer c packet ≡ act.Data n p → AreBytes p
     held n p same =
@@ -191,10 +194,10 @@ module _ (c : Client) (load : Load) (taking : load.stage ≡ at.Taking) (q more 
     by_answer act.Nothing is = goes load act.Nothing is (refl, refl)
     by_answer (act.Accepted next) is = by_start next is (next == 1) refl
     by_answer (act.Data n p) is = by_number n p is (held n p is) (closing_number p) refl
-    by_answer (act.Rejected code) is = inr (inr (Some more, later, load, broke.Rejected code, inr (refl, (q, fits, refl, (packet, spelled, is))), tt))
-    by_answer act.Ended is = inr (inr (Some more, later, load, broke.EndedEarly, inr (inr (refl, (q, fits, refl, (packet, spelled, is)))), tt))
+    by_answer (act.Rejected code) is = inr (inr (Some more, later, load, broke.Rejected code, inr (packet, read, is), tt))
+    by_answer act.Ended is = inr (inr (Some more, later, load, broke.EndedEarly, inr (inr (packet, read, is)), tt))
     by_answer (act.Fault f) is =
-        inr (inr (Some more, later, load, f, inl (refl, (q, fits, refl, (packet, spelled, is))), subst DecidedTurn is (turn_decided c.connection.stage c.next packet)))
+        inr (inr (Some more, later, load, f, inl (packet, read, is), subst DecidedTurn is (turn_decided c.connection.stage c.next packet)))
 
   by_packet : (o : Option SoupFault) → packet_fault q Server ≡ o → Here
   by_packet (Some f) e = faulty f e (subst OfBlock e (of_block q Server))

@@ -10,10 +10,11 @@ use Rattle.itch_soup.specs.declared.packet.Packet.{Packet}
 use Rattle.itch_soup.specs.declared.packet.Packet.TheVariants as is
 use Rattle.itch_soup.specs.declared.serve.Opening.TheVariants.{Login, Leave}
 use Rattle.itch_soup.specs.Packets.{PacketSpells, packet_fault}
-use Rattle.itch_soup.specs.Serving.{is_enough, IsIdle, EndsWait, WaitsOn, Wait, WaitsForLogin, IsDecidedWait}
-use Rattle.itch_soup.proofs.Faultless.{faultless-spelled}
+use Rattle.itch_soup.specs.NextPackets.{is_enough}
+use Rattle.itch_soup.specs.Serving.{IsIdle, EndsWait, WaitsOn, Wait, WaitsForLogin, IsDecidedWait}
+use Rattle.itch_soup.proofs.FaultlessBlocks.{faultless-spelled}
 use Rattle.itch_soup.proofs.BlockFaults.{OfBlock, of_block, of_each}
-use Rattle.itch_soup.proofs.Waiting.{Waiting, waiting_first, waiting_on, waiting_ends}
+use Rattle.itch_soup.proofs.LoginWaits.{Waiting, waiting_first, waiting_on, waiting_ends}
 
 -- the next packet is passed over, and fewer bytes are left; or the wait ends
 abbrev Outcome : Bool → List ℕ → Type 0

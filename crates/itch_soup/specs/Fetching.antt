@@ -1,8 +1,8 @@
 -- One fetched session: what a client hears after its login, and the snapshot that it makes of it.
-use Rattle.std.specs.Prelude.{OnOk, ◌≡◌, ◌≢◌, ℕ, ◌+◌, ◌-◌, ◌^◌, ◌≤◌, ◌⊎◌, Bool, true, false, List, [], ◌∷◌, ◌++◌, map, length, ⊤, Option, Some, Result, Ok, Err}
+use Rattle.std.specs.Prelude.{OnOk, ◌≡◌, ◌≢◌, ℕ, ◌+◌, ◌-◌, ◌^◌, ◌≤◌, ◌⊎◌, Bool, true, false, List, [], ◌∷◌, ◌++◌, map, length, ⊤, Option, None, Some, Result, Ok, Err}
 use Rattle.std.specs.List.{AllByRecursion}
 use Rattle.std.specs.Option.{is_some}
-use Rattle.std.specs.Io.KnownBytes.{Consumes, IsAtEnd}
+use Rattle.std.specs.Io.KnownBytes.{Consumes}
 use Rattle.itch_codec.specs.declared.message.Message.{Message}
 use Rattle.itch_codec.specs.declared.message.Message.TheVariants as message
 use Rattle.itch_codec.specs.Messages.{Spells, message_of}
@@ -24,13 +24,14 @@ use Rattle.itch_soup.specs.declared.login.Credentials.{Credentials}
 use Rattle.itch_soup.specs.declared.client.ClientAct.{ClientAct}
 use Rattle.itch_soup.specs.declared.client.ClientAct.TheVariants as act
 use Rattle.itch_soup.specs.declared.fault.SoupFault.{SoupFault}
-use Rattle.itch_soup.specs.declared.fault.SoupFault.TheVariants.{TooManyMessages, Frame, Rejected, WrongStart, EndedEarly, Snapshot}
+use Rattle.itch_soup.specs.declared.fault.SoupFault.TheVariants.{Frame, Rejected, WrongStart, EndedEarly, Snapshot}
 use Rattle.itch_soup.specs.declared.origin.Origin.TheVariants.{Server}
 use Rattle.itch_soup.specs.declared.packet.Packet.{Packet}
 use Rattle.itch_soup.specs.declared.packet.Packet.TheVariants as is
-use Rattle.itch_soup.specs.Packets.{PacketSpells, packet_fault, packet_spelling}
+use Rattle.itch_soup.specs.Packets.{PacketSpells, packet_spelling}
 use Rattle.itch_soup.specs.Clients.{Client, new_client, login_of, client_answer, client_after_packet}
-use Rattle.itch_soup.specs.Serving.{is_enough, ReadsBlock, CountsWait}
+use Rattle.itch_soup.specs.NextPackets.{is_enough, PacketHere}
+use Rattle.itch_soup.specs.Serving.{CountsWait}
 
 -- a client that asks for all messages
 abbrev pub asking : Credentials → Client
@@ -105,7 +106,7 @@ Fetched c old new done =
 -- a packet came off the front, and the session's answer to it is so
 abbrev pub HearsPacket : Bool → Client → Option (List ℕ) → Option (List ℕ) → (ClientAct → Type 0) → Type 0
 HearsPacket enough c old new P =
-    (enough ≡ false) × ReadsBlock old new (λ payload. (packet : Packet) × PacketSpells packet payload Server × P (client_answer c packet))
+    (packet : Packet) × PacketHere Server enough old new (Ok (Some packet)) × P (client_answer c packet)
 
 -- a message that the snapshot's reader refuses
 abbrev pub IsRefused : Load → ClientAct → Load → Result (Option ℕ) SoupFault → Type 0
@@ -114,13 +115,11 @@ IsRefused old answer new result = ⊥
 
 -- why a fetch ends without a snapshot, but for a fault that the session finds: what stands at the front, and how it is taken
 abbrev pub EndsOtherwise : Bool → Client → Load → Option (List ℕ) → Option (List ℕ) → SoupFault → Load → Type 0
-EndsOtherwise enough c load old new (Frame fault) after = FailsHere fault old new
-EndsOtherwise enough c load old new EndedEarly after = IsAtEnd old ⊎ HearsPacket enough c old new (λ answer. answer ≡ act.Ended)
+EndsOtherwise enough c load old new EndedEarly after = PacketHere Server enough old new (Ok None) ⊎ HearsPacket enough c old new (λ answer. answer ≡ act.Ended)
 EndsOtherwise enough c load old new (Rejected code) after = HearsPacket enough c old new (λ answer. answer ≡ act.Rejected code)
 EndsOtherwise enough c load old new (WrongStart next) after = HearsPacket enough c old new (λ answer. (answer ≡ act.Accepted next) × (next ≢ 1))
 EndsOtherwise enough c load old new (Snapshot fault) after = HearsPacket enough c old new (λ answer. IsRefused load answer after (Err (Snapshot fault)))
-EndsOtherwise enough c load old new TooManyMessages after = (enough ≡ true) × ReadsBlock old new (λ payload. ⊤)
-EndsOtherwise enough c load old new fault after = (enough ≡ false) × ReadsBlock old new (λ payload. packet_fault payload Server ≡ Some fault)
+EndsOtherwise enough c load old new fault after = PacketHere Server enough old new (Err fault)
 
 -- why a fetch ends without a snapshot
 abbrev pub EndsFetch : Bool → Client → Load → Option (List ℕ) → Option (List ℕ) → SoupFault → Load → Type 0
@@ -137,8 +136,8 @@ TakesAnswer answer old closed new = ⊥
 -- the next packet: the session and the snapshot's reader take it, or the fetch ends
 abbrev pub HearsNext : Bool → Client → Load → Option (List ℕ) → Option (List ℕ) → Result Bool SoupFault → Client → Load → Type 0
 HearsNext enough c load old new (Ok closed) c_after load_after =
-    (enough ≡ false) × ReadsBlock old new (λ payload. (packet : Packet) × PacketSpells packet payload Server
-    × (c_after ≡ client_after_packet c packet 0) × TakesAnswer (client_answer c packet) load closed load_after)
+    (packet : Packet) × PacketHere Server enough old new (Ok (Some packet)) × (c_after ≡ client_after_packet c packet 0)
+    × TakesAnswer (client_answer c packet) load closed load_after
 HearsNext enough c load old new (Err fault) c_after load_after = EndsFetch enough c load old new fault load_after
 
 -- a snapshot's reader that has taken these messages

@@ -1,5 +1,6 @@
 pub mod PacketTable
 pub mod Packets
+pub mod NextPackets
 pub mod Names
 pub mod Connections
 pub mod Servers

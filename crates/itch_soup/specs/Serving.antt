@@ -1,8 +1,8 @@
 -- One served connection: what a server reads up to a login, and what it does then.
-use Rattle.std.specs.Prelude.{◌≡◌, OnOk, [], ℕ, ◌^◌, ◌≤◌, ◌==◌, ◌⊎◌, Bool, true, false, List, length, ⊤, Option, Some, None, Result, Ok, Err}
+use Rattle.std.specs.Prelude.{◌≡◌, OnOk, [], ℕ, ◌^◌, ◌≤◌, ◌⊎◌, Bool, true, false, List, length, ⊤, Option, Some, None, Result, Ok, Err}
 use Rattle.std.specs.List.{AllByRecursion}
-use Rattle.std.specs.Io.KnownBytes.{Consumes, IsAtEnd}
-use Rattle.itch_frame.specs.Blocks.{IsPayload, block, blocks}
+use Rattle.std.specs.Io.KnownBytes.{Consumes}
+use Rattle.itch_frame.specs.Blocks.{IsPayload, blocks}
 use Rattle.itch_frame.specs.Counting.{failed}
 use Rattle.itch_frame.specs.declared.tally.Failures.{Failures}
 use Rattle.itch_frame.specs.Reading.{Reading, bytes_left, FailsHere}
@@ -10,7 +10,7 @@ use Rattle.itch_frame.specs.declared.fault.FrameFault.TheVariants.{Read}
 use Rattle.itch_market.specs.Content.{Content}
 use Rattle.itch_soup.specs.declared.login.ServerConfig.{ServerConfig}
 use Rattle.itch_soup.specs.declared.fault.SoupFault.{SoupFault}
-use Rattle.itch_soup.specs.declared.fault.SoupFault.TheVariants.{TooManyMessages, Frame}
+use Rattle.itch_soup.specs.declared.fault.SoupFault.TheVariants.{Frame}
 use Rattle.itch_soup.specs.declared.origin.Origin.TheVariants.{Client}
 use Rattle.itch_soup.specs.declared.packet.LoginRequest.{LoginRequest}
 use Rattle.itch_soup.specs.declared.packet.Packet.{Packet}
@@ -20,16 +20,9 @@ use Rattle.itch_soup.specs.declared.serve.Opening.TheVariants.{Login, Leave}
 use Rattle.itch_soup.specs.declared.serve.Served.{Served}
 use Rattle.itch_soup.specs.declared.serve.Served.TheVariants.{Accepted, Rejected, Left}
 use Rattle.itch_soup.specs.declared.server.ServerAct.TheVariants as act
-use Rattle.itch_soup.specs.Packets.{PacketSpells, packet_fault}
+use Rattle.itch_soup.specs.Packets.{PacketSpells}
+use Rattle.itch_soup.specs.NextPackets.{is_enough, ReadsBlock, PacketHere}
 use Rattle.itch_soup.specs.Sending.{messages_from, verdict, served_packets, SendsPackets}
-
--- as many packets were read as may be
-abbrev pub is_enough : ℕ → Bool
-is_enough count = count == 10 ^ 19
-
--- a block came off the front, and its payload is so
-abbrev pub ReadsBlock : Option (List ℕ) → Option (List ℕ) → (List ℕ → Type 0) → Type 0
-ReadsBlock old new P = (payload : List ℕ) × IsPayload payload × Consumes old new (block payload) × P payload
 
 -- a packet of a client that a server passes over before a login
 abbrev pub IsIdle : Packet → Type 0
@@ -48,11 +41,9 @@ Wait = Result Opening SoupFault
 
 -- what stands at the front ends the wait
 abbrev pub EndsWait : Bool → Option (List ℕ) → Option (List ℕ) → Wait → Type 0
-EndsWait enough old new (Ok (Login login)) = (enough ≡ false) × ReadsBlock old new (λ payload. PacketSpells (is.LoginRequest login) payload Client)
-EndsWait enough old new (Ok Leave) = IsAtEnd old ⊎ ((enough ≡ false) × ReadsBlock old new (λ payload. PacketSpells is.LogoutRequest payload Client))
-EndsWait enough old new (Err (Frame fault)) = FailsHere fault old new
-EndsWait enough old new (Err TooManyMessages) = (enough ≡ true) × ReadsBlock old new (λ payload. ⊤)
-EndsWait enough old new (Err fault) = (enough ≡ false) × ReadsBlock old new (λ payload. packet_fault payload Client ≡ Some fault)
+EndsWait enough old new (Ok (Login login)) = PacketHere Client enough old new (Ok (Some (is.LoginRequest login)))
+EndsWait enough old new (Ok Leave) = PacketHere Client enough old new (Ok None) ⊎ PacketHere Client enough old new (Ok (Some is.LogoutRequest))
+EndsWait enough old new (Err fault) = PacketHere Client enough old new (Err fault)
 
 -- the next block: it is passed over, or the wait is over
 abbrev pub WaitsOn : Bool → Option (List ℕ) → Option (List ℕ) → Result (Option Opening) SoupFault → Type 0

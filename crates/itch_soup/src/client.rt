@@ -14,23 +14,22 @@ use std::marker::Model;
 /// What a client learns from a packet.
 #[derive(Debug, Drop)]
 pub enum ClientAct<'a> {
-    /// The login was accepted; the first message that comes has this number.
+    /// The login was accepted. The first message has this number.
     Accepted { next: Seq },
     /// The login was rejected with this code. The session is closed.
     Rejected(u8),
     /// A message, and its number.
     Data { number: u64, payload: Payload<'a> },
     Nothing,
-    /// The server has ended the session, which is closed.
+    /// The server ended the session, which is closed now.
     Ended,
-    /// The server has broken the protocol, or the session was closed before. The session is closed.
+    /// The server broke the protocol, or the session was closed before. It is closed now.
     Fault(SoupFault),
 }
 
-/// The client's side of a session: packets and moments are handed in, and it says what they mean.
+/// The client's side of a session. The caller passes in packets and times, and is told what they mean.
 ///
-/// A caller sends [`login`](ClientSession::login) first, and reports by [`sent`](ClientSession::sent) whenever it has
-/// sent something.
+/// It sends [`login`](ClientSession::login) first, and calls [`sent`](ClientSession::sent) after sending anything.
 #[derive(Debug, Drop)]
 pub struct ClientSession {
     credentials: Credentials,
@@ -55,10 +54,10 @@ impl ClientSession {
     ghost use Rattle.itch_soup.specs.Connections.{tick_answer};
     ghost use Rattle.itch_soup.specs.Clients.{new_client, login_of, client_answer, client_after_packet, client_after_tick, client_after_sent};
 
-    /// A session that begins at this moment, in milliseconds, which counts as heard and sent. It asks for the messages
-    /// from number `from` on; 0 asks for all of them.
+    /// A session that begins at `now_ms`, as if something had been received and sent then. It asks for the messages from
+    /// number `from` on; 0 asks for all of them.
     ///
-    /// The caller keeps `from` at most 10^19.
+    /// `from` must be at most 10^19.
     pub fn new(credentials: Credentials, from: u64, now_ms: u64) -> ClientSession
         requires { from ≤ 10 ^ 19 }
         ensures { result ≡ new_client credentials from now_ms }
@@ -71,8 +70,8 @@ impl ClientSession {
         }
     }
 
-    /// The login request to send, without the length in front. Its session is the name in the credentials without the
-    /// spaces at both ends, padded on the right.
+    /// The login request to send, without the length in front. Its session is that of the credentials, without the spaces
+    /// at both ends and padded on the right.
     pub fn login(&self) -> [u8; 47]
         ensures bytes { result ≡ packet_spelling (Packet.LoginRequest (login_of self.now)) }
         ensures spelled { PacketSpells (Packet.LoginRequest (login_of self.now)) result Origin.Client }
@@ -96,7 +95,7 @@ impl ClientSession {
         [b'O']
     }
 
-    /// What a packet means that was heard at this moment, in milliseconds.
+    /// What a packet received at `now_ms` means.
     ///
     /// Debug packets, unsequenced data and heartbeats mean nothing.
     ///
@@ -116,14 +115,14 @@ impl ClientSession {
         act
     }
 
-    /// Takes note that something was sent at this moment, in milliseconds.
+    /// Records that something was sent at `now_ms`.
     pub fn sent(&mut self, now_ms: u64)
         ensures { self.new ≡ client_after_sent self.old now_ms }
     {
         self.connection.sent = now_ms;
     }
 
-    /// What is to be done at this moment, in milliseconds, without a packet. A heartbeat counts as sent.
+    /// What to do at `now_ms` if no packet has come. A heartbeat counts as sent.
     pub fn tick(&mut self, now_ms: u64) -> Tick
         ensures answer { result ≡ tick_answer self.old.connection now_ms }
         ensures after { self.new ≡ client_after_tick self.old now_ms }
@@ -166,7 +165,7 @@ fn closing<'a>(fault: SoupFault, next: u64) -> (ClientAct<'a>, Stage, u64)
     (ClientAct::Fault(fault), Stage::Closed, next)
 }
 
-// A message once the login was accepted.
+// The turn for a message after the login was accepted.
 fn data<'a>(number: u64, payload: &Payload<'a>) -> (ClientAct<'a>, Stage, u64)
     ensures { result ≡ client_turn number Stage.Accepted (Packet.SequencedData payload.now) }
 {

@@ -1,6 +1,6 @@
 //! What can be wrong with a packet or in a session.
 ghost use Rattle.std.specs.Prelude.{◌≡◌};
-ghost use Rattle.itch_soup.specs.declared.fault.SoupFault.TheVariants.{Frame};
+ghost use Rattle.itch_soup.specs.declared.fault.SoupFault.TheVariants.{Frame, Snapshot};
 
 use itch_codec::Seq;
 use itch_frame::FrameFault;
@@ -9,7 +9,7 @@ use thiserror::Error;
 
 /// Why a block is no packet, or what ended a session. Offsets count from 0, at the packet's type byte.
 ///
-/// A block is judged in the order of the first six; the first fault is returned.
+/// The first six are looked for in this order, and the first one found is returned.
 #[derive(Clone, Copy, Debug, Error)]
 pub enum SoupFault {
     /// The block has no bytes.
@@ -18,22 +18,22 @@ pub enum SoupFault {
     /// No packet has this type byte.
     #[error("unknown packet type {0:#04x}")]
     UnknownType(u8),
-    /// A packet of this type comes from the other side.
+    /// Only the other side sends packets of this type.
     #[error("packet {} from the wrong side", char::from(*.0))]
     WrongSide(u8),
-    /// The packet has another length than its type, the type byte counted.
+    /// The packet's length is not that of its type. Both include the type byte.
     #[error("wrong length for packet {}: want {want}, got {got}", char::from(*.kind))]
     WrongLength { kind: u8, want: usize, got: usize },
-    /// The byte at this place of a text is not printable, and those before it in its field are.
+    /// This byte of a text is not printable, and those before it in its field are.
     #[error("bad text at {offset}")]
     BadText { offset: usize },
-    /// The field that begins here has no number: none at all, one above 10^19, or 0 where a login is accepted.
+    /// The field that begins here has no valid number: none at all, one above 10^19, or 0 in an acceptance.
     #[error("bad number at {offset}")]
     BadNumber { offset: usize },
     /// A login, or an answer to one, after the login was accepted.
     #[error("second login")]
     SecondLogin,
-    /// Sequenced data, the type byte of which stands here, before the login was accepted.
+    /// Sequenced data before the login was accepted, with its type byte.
     #[error("packet {} before the login was accepted", char::from(*.0))]
     Early(u8),
     /// The session is over.
@@ -42,19 +42,19 @@ pub enum SoupFault {
     /// Sequenced data that would have a number above 10^19 - 1.
     #[error("too many messages")]
     TooManyMessages,
-    /// A block was not read or not written.
+    /// A block could not be read or written.
     #[error("{0}")]
     Frame(FrameFault),
     /// The server rejected the login with this code.
     #[error("login rejected with {}", char::from(*.0))]
     Rejected(u8),
-    /// The server accepted the login with another number than 1.
+    /// The server accepted the login from another number than 1.
     #[error("accepted from {}, not from 1", .next.value())]
     WrongStart { next: Seq },
     /// The session or the input ended before the End of Snapshot.
     #[error("ended early")]
     EndedEarly,
-    /// The snapshot received was refused.
+    /// The snapshot that was received is refused.
     #[error("{0}")]
     Snapshot(SnapFault),
 }
@@ -64,5 +64,13 @@ impl From<FrameFault> for SoupFault {
 
     fn from(fault: FrameFault) -> SoupFault {
         SoupFault::Frame(fault)
+    }
+}
+
+impl From<SnapFault> for SoupFault {
+    ghost from_gives = { λ fault made. made ≡ Snapshot fault };
+
+    fn from(fault: SnapFault) -> SoupFault {
+        SoupFault::Snapshot(fault)
     }
 }

@@ -1,4 +1,4 @@
-//! One fetched session.
+//! A snapshot fetched in one session.
 ghost use Rattle.std.specs.Prelude.{◌≡◌, [], OnOk};
 ghost use Rattle.itch_frame.specs.Reading.{bytes_left};
 ghost use Rattle.itch_soup.specs.Serving.{CountsWait};
@@ -9,7 +9,8 @@ use crate::connection::Stage;
 use crate::fault::SoupFault;
 use crate::login::Credentials;
 use crate::origin::Origin;
-use crate::parsing::{MOST_PACKETS, parse_packet};
+use crate::parsing::parse_packet;
+use crate::reading::{MOST_PACKETS, next_packet};
 use itch_book::OrderBook;
 use itch_codec::Seq;
 use itch_frame::{BlockReader, CountedRead, CountedWrite, write_block};
@@ -21,10 +22,10 @@ use std::alloc::Allocator;
 ///
 /// # Faults
 ///
-/// `Frame(Write)` for the login; nothing was read. Otherwise the first of: a fault of a packet or its block, or of the
-/// session; `Rejected`; `WrongStart` where the login is accepted with another number than 1; `EndedEarly` where the session
-/// or the input ends; `Snapshot` for a message that the snapshot's reader refuses, `OutOfMemory` among its reasons; and
-/// `TooManyMessages` for a packet after 10^19 others. No market is handed out then.
+/// `Frame(Write)` if the login could not be written; then nothing was read. Otherwise the first of: a fault of a packet, of
+/// its block or of the session; `Rejected`; `WrongStart` if the login is accepted from another number than 1; `EndedEarly`
+/// if the session or the input ends; `Snapshot` for a message that is refused, `OutOfMemory` among the reasons; and
+/// `TooManyMessages` for a packet after 10^19 others.
 pub fn fetch_one<R: CountedRead, A: Allocator, W: CountedWrite, B: OrderBook>(
     alloc: B::Alloc,
     reader: &mut BlockReader<R, A>,
@@ -38,7 +39,7 @@ pub fn fetch_one<R: CountedRead, A: Allocator, W: CountedWrite, B: OrderBook>(
     receive(alloc, reader, session)
 }
 
-// Reads what answers a login, up to the End of Snapshot.
+// Reads the answer to a login, up to the End of Snapshot.
 fn receive<R: CountedRead, A: Allocator, B: OrderBook>(
     alloc: B::Alloc,
     reader: &mut BlockReader<R, A>,
@@ -52,7 +53,7 @@ fn receive<R: CountedRead, A: Allocator, B: OrderBook>(
     let mut snapshot = SnapshotReader::new(alloc);
     snapshot.market().recall_invariant();
     for count in 0..u64::MAX {
-        if hear(reader, &mut session, &mut snapshot, count == MOST_PACKETS)? {
+        if take_packet(reader, &mut session, &mut snapshot, count == MOST_PACKETS)? {
             let Ok(done) = snapshot.finish() else {
                 unreachable!()
             };
@@ -62,8 +63,8 @@ fn receive<R: CountedRead, A: Allocator, B: OrderBook>(
     unreachable!()
 }
 
-// Takes the next packet, which may be one too many (`enough`). True where it closes the snapshot.
-fn hear<R: CountedRead, A: Allocator, B: OrderBook>(
+// Takes the next packet, unless as many were read as may be (`enough`). True if it closes the snapshot.
+fn take_packet<R: CountedRead, A: Allocator, B: OrderBook>(
     reader: &mut BlockReader<R, A>,
     session: &mut ClientSession,
     snapshot: &mut SnapshotReader<B>,
@@ -73,27 +74,19 @@ fn hear<R: CountedRead, A: Allocator, B: OrderBook>(
     ensures held { OnOk result (reader.new.held ≡ []) }
     ensures failures { CountsWait result (R.failures reader.old.reader) (R.failures reader.new.reader) }
 {
-    let block = match reader.next_block() {
-        Ok(Some(block)) => block,
-        Ok(None) => return Err(SoupFault::EndedEarly),
-        Err(fault) => return Err(SoupFault::Frame(fault)),
+    let Some(packet) = next_packet(reader, enough)? else {
+        return Err(SoupFault::EndedEarly);
     };
-    if enough {
-        return Err(SoupFault::TooManyMessages);
-    }
-    let packet = parse_packet(block, Origin::Server)?;
+    let packet = parse_packet(packet, Origin::Server)?;
     match session.on_packet(&packet, 0) {
         ClientAct::Nothing => Ok(false),
         ClientAct::Accepted { next } => {
-            if next.value() == 1 {
-                return Ok(false);
+            if next.value() != 1 {
+                return Err(SoupFault::WrongStart { next });
             }
-            Err(SoupFault::WrongStart { next })
+            Ok(false)
         }
-        ClientAct::Data { payload, .. } => match snapshot.message(payload.bytes()) {
-            Ok(taken) => Ok(taken.is_some()),
-            Err(fault) => Err(SoupFault::Snapshot(fault)),
-        },
+        ClientAct::Data { payload, .. } => Ok(snapshot.message(payload.bytes())?.is_some()),
         ClientAct::Rejected(code) => Err(SoupFault::Rejected(code)),
         ClientAct::Ended => Err(SoupFault::EndedEarly),
         ClientAct::Fault(fault) => Err(fault),

@@ -1,4 +1,4 @@
-//! Laws of the packets and of both sides of a session. They speak of the definitions alone, and take no part in a run.
+//! Laws of the packets and of both sides of a session, about the definitions alone. Each function does nothing.
 ghost use Rattle.std.specs.Prelude.{◌≡◌, ℕ, ◌-◌, ◌<◌, ◌^◌, List, [], ◌∷◌, ◌++◌, length, map, Option, None, Some, Result};
 ghost use Rattle.itch_codec.specs.Fields.{AreBytes, IsAlpha};
 ghost use Rattle.itch_codec.specs.Widths.{IsSequence};
@@ -36,21 +36,21 @@ pub fn spelled_or_at_fault()
     ensures faultless { (block : List ℕ) (from : Origin) → packet_fault block from ≡ None → (packet : Packet) × PacketSpells packet block from }
 {}
 
-/// Wherever a server's session stands: after an answer that closes it, each packet of any further calls is answered that
-/// the session is closed, and each tick with nothing.
+/// Whatever the state of a server's session: after an answer that closes it, each later packet is answered by `Closed`, and
+/// each tick by `Nothing`.
 pub fn server_stays_closed()
     ensures { (session : Server) (call : Call) (later : List Call) → ServerCloses (server_reply session call)
         → server_replies (server_after session call) later ≡ map closed_server_reply later }
 {}
 
-/// The same of a client's session.
+/// The same for a client's session.
 pub fn client_stays_closed()
     ensures { (session : Client) (call : Call) (later : List Call) → ClientCloses (client_reply session call)
         → client_replies (client_after session call) later ≡ map closed_client_reply later }
 {}
 
-/// What is served to a login for all messages, where it is accepted, is fetched: the market itself, its orders in snapshot
-/// order, and the number of its End of Snapshot. Whatever follows the end of the session is left.
+/// What is served to a login for all messages, if it is accepted, is fetched as the same market, with its orders in snapshot
+/// order and the number of its End of Snapshot. The end of the session and what follows it are not read.
 pub fn served_is_fetched()
     ensures fetched { (m : Content) → (next : ℕ) → (config : ServerConfig) → (credentials : Credentials) → (more : List ℕ)
         → IsGood m → IsSequence next → IsAlpha 10 config.session → length (snap m) < 10 ^ 19 - 1
@@ -59,35 +59,34 @@ pub fn served_is_fetched()
     ensures same { (m : Content) → IsGood m → Same (laid m) m }
 {}
 
-/// The bytes of a client end a server's wait for a login in one way, unless a read fails: by the first login, logout, end of
-/// input or fault after packets that are passed over.
+/// Unless a read fails, the bytes of a client end a server's wait for a login in one way: by the first login, logout, end of
+/// input or fault after packets that are ignored.
 pub fn one_wait()
     ensures { (bytes : List ℕ) → (left other : Option (List ℕ)) → (wait found : Wait) → WaitsForLogin (Some bytes) left wait → WaitsForLogin (Some bytes) other found
         → IsDecidedWait wait → IsDecidedWait found → wait ≡ found }
 {}
 
-/// Whatever bytes a client sends, they end a server's wait for a login with no failed read.
+/// Any bytes of a client end a server's wait for a login, with no failed read.
 pub fn some_wait()
     ensures { (bytes : List ℕ) → (left : Option (List ℕ)) × (wait : Wait) × WaitsForLogin (Some bytes) left wait × IsDecidedWait wait }
 {}
 
-/// The bytes that answer a login end a fetch in one way, unless a read fails or memory is refused: by the market and the
-/// number of the snapshot, or by the first fault. So where they are those of a snapshot, no fault and no other market is
-/// answered.
+/// Unless a read fails or memory is refused, the bytes that answer a login end a fetch in one way: by the market and the
+/// number of the snapshot, or by the first fault. So the bytes of a snapshot lead to no fault and to no other market.
 pub fn one_fetch()
     ensures { (credentials : Credentials) → (bytes : List ℕ) → (left other : Option (List ℕ)) → (result found : Result (Content × ℕ) SoupFault)
         → Receives (asking credentials) (Some bytes) left result → Receives (asking credentials) (Some bytes) other found
         → IsDecidedFetch result → IsDecidedFetch found → result ≡ found }
 {}
 
-/// Whatever bytes answer a login, they end a fetch with no failed read and memory enough.
+/// Any bytes that answer a login end a fetch, with no failed read and with enough memory.
 pub fn some_fetch()
     ensures { (credentials : Credentials) → (bytes : List ℕ) → AreBytes bytes
         → (left : Option (List ℕ)) × (result : Result (Content × ℕ) SoupFault) × Receives (asking credentials) (Some bytes) left result × IsDecidedFetch result }
 {}
 
-/// While a server waits for a login, its table answers with nothing to the packets that are passed over and to no others, with
-/// the judgement to a login, and to a logout by closing.
+/// While a server waits for a login, its table answers `Nothing` to the packets that are ignored and to no others, judges a
+/// login, and closes at a logout.
 pub fn waits_by_the_table()
     ensures over { (config : ServerConfig) → (total : ℕ) → (packet : Packet) → IsIdle packet → server_turn config total Stage.Before packet ≡ (ServerAct.Nothing, Stage.Before) }
     ensures only { (config : ServerConfig) → (total : ℕ) → (packet : Packet) → (server_turn config total Stage.Before packet).0 ≡ ServerAct.Nothing → IsIdle packet }

@@ -1,11 +1,11 @@
 //! SoupBinTCP 3.00: its packets, the server's and the client's side of a session, and one snapshot served or fetched.
 //!
-//! Nothing here reads a clock or opens a socket, and only [`fetch_one`] takes memory, for the market that it makes.
+//! Nothing here reads a clock or opens a socket, and only [`fetch_one`] allocates memory, for the market that it makes.
 //!
-//! [`serve_one`] and [`fetch_one`] are whole sessions over a reader and a writer. For a session of another kind a caller
-//! cuts the stream into blocks, hands each to [`parse_packet`] and its packet to [`ServerSession`] or [`ClientSession`],
-//! and does what the session answers; each packet that it sends has a function there, or is written by [`write_data`].
-//! Moments are milliseconds since a time of the caller's choice.
+//! [`serve_one`] and [`fetch_one`] are whole sessions over a reader and a writer. For any other session a caller cuts the
+//! stream into blocks, parses each with [`parse_packet`], passes the packet to [`ServerSession`] or [`ClientSession`], and
+//! does what the session answers. It sends the packets that the session's functions return, and messages by [`write_data`].
+//! Times are milliseconds since a time of the caller's choice.
 //!
 //! ```
 //! let mut client = ClientSession::new(credentials, 1, 0);
@@ -27,6 +27,7 @@ mod packet;
 mod packet_types;
 mod parsing;
 mod payload;
+mod reading;
 mod sending;
 mod serve;
 mod server;

@@ -1,4 +1,4 @@
-//! A login: what the two sides of a session know of it, and how its names are compared and written.
+//! Logins: what each side of a session knows of one, and how its names are compared and written.
 ghost use Rattle.std.specs.Prelude.{◌≡◌, ◌≤◌, length, map};
 ghost use Rattle.std.specs.Char.{to_ascii_lowercase};
 ghost use Rattle.std.specs.Str.{bytes_eq};
@@ -10,7 +10,7 @@ use itch_codec::Alpha;
 use itch_codec::spaces::{after_spaces, is_blank};
 use std::fmt::{self, Debug, Formatter};
 
-/// Whom a server lets in, and the session that it serves.
+/// Who may log in to a server, and the session that it serves.
 ///
 /// `{:?}` leaves the password out.
 #[derive(Clone, Copy, PartialEq, Eq)]
@@ -49,22 +49,22 @@ impl Debug for Credentials {
     }
 }
 
-/// Whether two user names or passwords are the same: without the spaces at their end, `A` to `Z` taken as `a` to `z`.
-#[tactic(auto, using(crate::proofs::Trimming::texts))]
+/// Whether two user names or passwords are the same, apart from spaces at their end and the case of ASCII letters.
+#[tactic(auto, using(crate::proofs::SessionNames::texts))]
 pub(crate) fn is_same_name<const N: usize>(name: &Alpha<N>, other: &Alpha<N>) -> bool
     ensures { result ≡ is_same_name name.now other.now }
 {
     is_same_text(name.text(), other.text())
 }
 
-#[tactic(auto, using(crate::proofs::Trimming::texts))]
+#[tactic(auto, using(crate::proofs::SessionNames::texts))]
 fn is_same_text(text: &str, other: &str) -> bool
     ensures { result ≡ bytes_eq (map to_ascii_lowercase text.now) (map to_ascii_lowercase other.now) }
 {
     text.eq_ignore_ascii_case(other)
 }
 
-/// Whether a login that asks for this session asks for the one that is served: by its name, or by a blank field.
+/// Whether the session asked for is the one served: it is asked for by name, or by a blank field.
 pub(crate) fn asks_for_session(served: &Alpha<10>, asked: &Alpha<10>) -> bool
     ensures { result ≡ asks_for_session served.now asked.now }
 {
@@ -93,8 +93,8 @@ pub(crate) fn server_session(session: &Alpha<10>) -> [u8; 10]
     field
 }
 
-// The name without the spaces at both ends: either side may pad it on either.
-#[tactic(auto, using(crate::proofs::Trimming::trimming))]
+// The name without the spaces at both ends, since it may be padded at either.
+#[tactic(auto, using(crate::proofs::SessionNames::trimming))]
 fn session_name(session: &Alpha<10>) -> &[u8]
     ensures name { result.now ≡ session_name session.entry.now }
     ensures width { length (session_name session.now) ≤ 10 }

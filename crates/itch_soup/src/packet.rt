@@ -42,8 +42,8 @@ impl LoginRequest {
         })
     }
 
-    /// The bytes of a login with these credentials that asks for the messages from this number on. The texts are padded
-    /// on the right, and the number on the left.
+    /// The bytes of a login with these credentials that asks for the messages from this number on. Texts are padded on the
+    /// right, and the number on the left.
     pub(crate) fn spelling(credentials: &Credentials, number: u64) -> [u8; 47]
         requires { number ≤ 10 ^ 19 }
         ensures bytes { result ≡ packet_spelling (Packet.LoginRequest (login_with credentials.now number)) }
@@ -154,7 +154,7 @@ impl Packet<'_> {
 }
 
 // Writes a field after the first `at` bytes of the block.
-#[tactic(auto, using(crate::proofs::Logins::putting))]
+#[tactic(auto, using(crate::proofs::LoginBytes::putting))]
 fn put<const N: usize>(block: &mut [u8], at: usize, field: &[u8; N])
     requires { at + N ≤ length block.old }
     ensures length { length block.new ≡ length block.old }

@@ -24,7 +24,7 @@ impl Sender {
     }
 }
 
-/// Who sends packets with this type byte, if it is a type of the table.
+/// Who sends packets with this type byte, if there is such a type.
 pub(crate) fn sender_of_type(kind: u8) -> Option<Sender>
     ensures { result ≡ option_map (λ t. t.sender) (type_of kind) }
 {
@@ -36,7 +36,7 @@ pub(crate) fn sender_of_type(kind: u8) -> Option<Sender>
     }
 }
 
-/// How many bytes a packet with this type byte has, if its type allows one length alone.
+/// How many bytes a packet with this type byte has, if its type has a fixed length.
 pub(crate) fn size_of_type(kind: u8) -> Option<usize>
     ensures { result ≡ option_and_then (λ t. t.size) (type_of kind) }
 {

@@ -1,4 +1,4 @@
-//! Packets out of blocks.
+//! Packets parsed from blocks.
 ghost use Rattle.std.specs.Prelude.{◌≡◌, Some, Ok, IfOk, IfErr};
 ghost use Rattle.itch_codec.specs.Fields.{Reads};
 ghost use Rattle.itch_soup.specs.declared.packet.Packet.{Packet as PacketValue};
@@ -9,17 +9,13 @@ use crate::origin::Origin;
 use crate::packet::{LoginAccepted, LoginRequest, Packet};
 use crate::packet_types::{sender_of_type, size_of_type};
 use crate::payload::Payload;
-use itch_codec::GREATEST_SEQ;
 
-/// A session has no more packets than these: 10^19.
-pub(crate) const MOST_PACKETS: u64 = GREATEST_SEQ;
-
-/// Reads a packet that came from that side: the type byte and what stands after it, without the length in front.
+/// Parses a packet that came from that side: the type byte and what follows it, without the length in front.
 ///
 /// # Errors
 ///
-/// The first fault that applies: no bytes, an unknown type, a type of the other side, another length than the type's,
-/// and then the fields by rising offset.
+/// The first fault that applies: no bytes, an unknown type, a type that only the other side sends, a length that is not the
+/// type's, and then the fields in order.
 pub fn parse_packet(block: &[u8], from: Origin) -> Result<Packet<'_>, SoupFault>
     ensures spelled { IfOk result (λ packet. PacketSpells packet block.entry.now from) }
     ensures only { (packet : PacketValue) → PacketSpells packet block.entry.now from → result ≡ Ok packet }

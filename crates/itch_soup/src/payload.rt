@@ -1,4 +1,4 @@
-//! Bytes after a packet's type.
+//! The bytes after a packet's type.
 ghost use Rattle.std.specs.Prelude.{◌≡◌, ◌≤◌, ℕ, List, length, drop, nat_eq};
 ghost use Rattle.std.specs.Cmp.Lexicographic.{pointwise};
 ghost use Rattle.std.specs.Cmp.Rules.{comparing};
@@ -35,7 +35,7 @@ impl<'a> Payload<'a> {
         self.bytes
     }
 
-    // What stands after the type of a block.
+    // What follows the type byte of a block.
     pub(crate) fn after_type(block: &'a [u8]) -> Payload<'a>
         requires { 1 ≤ length block.now }
         ensures { result ≡ drop 1 block.entry.now }

@@ -1,4 +1,4 @@
-//! Packets to a client.
+//! Packets sent to a client.
 ghost use Rattle.std.specs.Prelude.{◌≡◌, ◌<◌, ◌-◌, ◌^◌, ◌∷◌, [], map, drop, length, IfOk};
 ghost use Rattle.itch_codec.specs.Widths.{IsMessage};
 ghost use Rattle.itch_frame.specs.Writing.{WriteBlock};
@@ -22,8 +22,8 @@ use itch_snapshot::{SnapshotIter, snapshot_len};
 ///
 /// # Faults
 ///
-/// `Write` with the number of the block's bytes that were written; `TooLong` for a payload above 65,534 bytes: nothing was
-/// written.
+/// `Write` with the number of the block's bytes that were written; `TooLong` for a payload above 65,534 bytes, of which
+/// nothing was written.
 pub fn write_data<W: CountedWrite>(writer: &mut W, payload: &[u8]) -> Result<(), FrameFault>
     ensures { WriteBlock W.contents W.failures writer.old (packet_spelling (is.SequencedData payload.now)) result writer.new }
 {
@@ -56,7 +56,7 @@ fn write_acceptance<W: CountedWrite>(
     write_block(writer, &LoginAccepted::spelling(config, from))
 }
 
-/// The number of a session's messages before its End of Snapshot, which are not walked for it.
+/// The number of a session's messages before its End of Snapshot, found without going through them.
 pub(crate) fn messages_before_end<B: OrderBook>(market: &Market<B>) -> u64
     requires { length (snap market.now) < 10 ^ 19 - 1 }
     ensures { result ≡ length (snap market.now) }
@@ -67,7 +67,7 @@ pub(crate) fn messages_before_end<B: OrderBook>(market: &Market<B>) -> u64
     len
 }
 
-// Passes over `count` messages of a snapshot, or over all where it has fewer.
+// Skips `count` messages of a snapshot, or all of them if it has fewer.
 fn pass_over<B: OrderBook>(messages: &mut SnapshotIter<'_, B>, count: u64)
     ensures { messages.new ≡ drop count messages.old }
 {
@@ -76,8 +76,8 @@ fn pass_over<B: OrderBook>(messages: &mut SnapshotIter<'_, B>, count: u64)
     }
 }
 
-/// Accepts a login, writes the packet of each message from this number on, and ends the session. Returns the number of
-/// messages.
+/// Accepts a login, writes the packet of each message from this number on, and ends the session. Returns how many messages
+/// there were.
 pub(crate) fn write_session<W: CountedWrite, B: OrderBook>(
     writer: &mut W,
     market: &Market<B>,
@@ -101,7 +101,8 @@ pub(crate) fn write_session<W: CountedWrite, B: OrderBook>(
     Ok(count + end)
 }
 
-// Writes the packet of an End of Snapshot, if it is asked for, and that of the session's end. Returns the number of messages.
+// Writes the packet of the End of Snapshot, if it is asked for, and that of the session's end. Returns how many messages
+// there were.
 fn write_end<W: CountedWrite>(writer: &mut W, next: Seq, with_end: bool) -> Result<u64, FrameFault>
     ensures packets { SendsPackets W.contents W.failures writer.old (session_packets (end_part with_end next)) result writer.new }
     ensures count { IfOk result (λ count. count ≡ length (end_part with_end next)) }
@@ -115,7 +116,7 @@ fn write_end<W: CountedWrite>(writer: &mut W, next: Seq, with_end: bool) -> Resu
     Ok(count)
 }
 
-// Writes the packet of each message that is still to come. Returns the number of messages.
+// Writes the packet of each message. Returns how many there were.
 fn write_messages<W: CountedWrite, B: OrderBook>(
     writer: &mut W,
     messages: SnapshotIter<'_, B>,

@@ -1,4 +1,4 @@
-//! One served session.
+//! A snapshot served in one session.
 ghost use Rattle.std.specs.Prelude.{◌≡◌, ◌<◌, ◌-◌, ◌^◌, [], length, OnOk};
 ghost use Rattle.itch_frame.specs.Reading.{bytes_left};
 ghost use Rattle.itch_snapshot.specs.Snapshot.{snap};
@@ -8,7 +8,8 @@ use crate::fault::SoupFault;
 use crate::login::ServerConfig;
 use crate::origin::Origin;
 use crate::packet::{LoginRequest, Packet};
-use crate::parsing::{MOST_PACKETS, parse_packet};
+use crate::parsing::parse_packet;
+use crate::reading::{MOST_PACKETS, next_packet};
 use crate::sending::{messages_before_end, write_session};
 use crate::server::{ServerAct, ServerSession, judge};
 use itch_book::OrderBook;
@@ -28,27 +29,27 @@ pub enum Served {
     Left,
 }
 
-/// How a client opens: by a login, or it leaves before one.
+/// How a client begins: it logs in, or leaves before that.
 #[derive(Clone, Copy)]
 pub(crate) enum Opening {
     Login(LoginRequest),
     Leave,
 }
 
-/// Serves one connection: reads packets up to a login, writes its answer, and reads no more. It takes no memory.
+/// Serves one connection: reads packets up to a login, writes the answer, and reads no more. It allocates no memory.
 ///
-/// Debug packets, unsequenced data and heartbeats are passed over. A login is judged by its user name and password, then by
-/// its session, then by its number. An accepted one is answered by its acceptance, the market's snapshot from that number on,
-/// its last message the End of Snapshot with `next`, and the end of the session. Where the client logs out or its input ends
-/// before a login, it has `Left`, and nothing is written.
+/// Debug packets, unsequenced data and heartbeats are ignored. A login is judged by its user name and password, then by its
+/// session, then by its number. If it is accepted, the answer is the acceptance, the messages of the market's snapshot from
+/// that number on, the last of them the End of Snapshot with `next`, and the end of the session. If the client logs out, or
+/// its input ends before a login, it has `Left`, and nothing is written.
 ///
-/// The caller keeps the snapshot below 10^19 - 1 messages: `snapshot_len` counts them.
+/// The snapshot must have fewer than 10^19 - 1 messages: `snapshot_len` counts them.
 ///
 /// # Faults
 ///
-/// The fault of the first packet or block that has one, and `TooManyMessages` for a packet after 10^19 others; nothing was
-/// written. After `Frame(Read)` the call may be made again, and goes on where it was. `Frame(Write)` for a failed write: the
-/// blocks before were written whole, and `sent` bytes of this one.
+/// The fault of the first packet or block that has one, and `TooManyMessages` for a packet after 10^19 others; then nothing
+/// was written. After `Frame(Read)` the call may be made again, and continues where it was. `Frame(Write)` for a failed
+/// write: the blocks before it were written whole, and `sent` bytes of this one.
 pub fn serve_one<R: CountedRead, A: Allocator, W: CountedWrite, B: OrderBook>(
     reader: &mut BlockReader<R, A>,
     writer: &mut W,
@@ -91,7 +92,7 @@ fn answer<W: CountedWrite, B: OrderBook>(
     }
 }
 
-// Reads packets up to a login, or up to what stands in its place.
+// Reads packets up to a login, or to what comes in its place.
 fn read_login<R: CountedRead, A: Allocator>(
     reader: &mut BlockReader<R, A>,
 ) -> Result<Opening, SoupFault>
@@ -107,7 +108,7 @@ fn read_login<R: CountedRead, A: Allocator>(
     unreachable!()
 }
 
-// Reads the next packet, which may be one too many (`enough`). `None` where it is passed over.
+// Reads the next packet, unless as many were read as may be (`enough`). `None` if it is ignored.
 fn read_packet<R: CountedRead, A: Allocator>(
     reader: &mut BlockReader<R, A>,
     enough: bool,
@@ -116,19 +117,12 @@ fn read_packet<R: CountedRead, A: Allocator>(
     ensures held { OnOk result (reader.new.held ≡ []) }
     ensures failures { CountsWait result (R.failures reader.old.reader) (R.failures reader.new.reader) }
 {
-    match reader.next_block() {
-        Ok(Some(block)) => {
-            if enough {
-                return Err(SoupFault::TooManyMessages);
-            }
-            match parse_packet(block, Origin::Client) {
-                Ok(Packet::LoginRequest(login)) => Ok(Some(Opening::Login(login))),
-                Ok(Packet::LogoutRequest) => Ok(Some(Opening::Leave)),
-                Ok(_) => Ok(None),
-                Err(fault) => Err(fault),
-            }
-        }
-        Ok(None) => Ok(Some(Opening::Leave)),
-        Err(fault) => Err(SoupFault::Frame(fault)),
+    let Some(packet) = next_packet(reader, enough)? else {
+        return Ok(Some(Opening::Leave));
+    };
+    match parse_packet(packet, Origin::Client)? {
+        Packet::LoginRequest(login) => Ok(Some(Opening::Login(login))),
+        Packet::LogoutRequest => Ok(Some(Opening::Leave)),
+        _ => Ok(None),
     }
 }

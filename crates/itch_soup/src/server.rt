@@ -23,15 +23,15 @@ pub enum ServerAct {
     /// closed.
     Reject(u8),
     Nothing,
-    /// The client has logged out. The session is closed.
+    /// The client logged out. The session is closed.
     Close,
-    /// The client has broken the protocol, or the session was closed before. The session is closed.
+    /// The client broke the protocol, or the session was closed before. It is closed now.
     Fault(SoupFault),
 }
 
-/// The server's side of a session: packets and moments are handed in, and it says what is to be done.
+/// The server's side of a session. The caller passes in packets and times, and is told what to do.
 ///
-/// A caller reports by [`sent`](ServerSession::sent) whenever it has sent something.
+/// It calls [`sent`](ServerSession::sent) after sending anything.
 #[derive(Debug, Drop)]
 pub struct ServerSession {
     config: ServerConfig,
@@ -55,9 +55,9 @@ impl ServerSession {
     ghost use Rattle.itch_soup.specs.Connections.{tick_answer};
     ghost use Rattle.itch_soup.specs.Servers.{new_server, acceptance, server_answer, server_after_packet, server_after_tick, server_after_sent};
 
-    /// A session of `total` messages that begins at this moment, in milliseconds, which counts as heard and sent.
+    /// A session of `total` messages that begins at `now_ms`, as if something had been received and sent then.
     ///
-    /// The caller keeps `total` at most 10^19 - 1.
+    /// `total` must be at most 10^19 - 1.
     pub fn new(config: ServerConfig, total: u64, now_ms: u64) -> ServerSession
         requires { total < 10 ^ 19 }
         ensures { result ≡ new_server config total now_ms }
@@ -69,8 +69,8 @@ impl ServerSession {
         }
     }
 
-    /// The packet to send once a login is accepted from this number on, without the length in front. Its session is the
-    /// name in the configuration without the spaces at both ends, padded on the left.
+    /// The packet to send once a login is accepted from this number on, without the length in front. Its session is that of
+    /// the configuration, without the spaces at both ends and padded on the left.
     pub fn accepted(&self, next: Seq) -> [u8; 31]
         ensures bytes { result ≡ packet_spelling (Packet.LoginAccepted (acceptance self.now.config next)) }
         ensures spelled { PacketSpells (Packet.LoginAccepted (acceptance self.now.config next)) result Origin.Server }
@@ -102,10 +102,10 @@ impl ServerSession {
         [b'Z']
     }
 
-    /// The answer to a packet that was heard at this moment, in milliseconds.
+    /// The answer to a packet received at `now_ms`.
     ///
     /// The first login is judged by its user name and password, then by its session, then by its number, which may be at
-    /// most the one after the last message. Debug packets, unsequenced data and heartbeats ask for nothing.
+    /// most the one after the last message. The answer to debug packets, unsequenced data and heartbeats is `Nothing`.
     ///
     /// # Faults
     ///
@@ -121,14 +121,14 @@ impl ServerSession {
         act
     }
 
-    /// Takes note that something was sent at this moment, in milliseconds.
+    /// Records that something was sent at `now_ms`.
     pub fn sent(&mut self, now_ms: u64)
         ensures { self.new ≡ server_after_sent self.old now_ms }
     {
         self.connection.sent = now_ms;
     }
 
-    /// What is to be done at this moment, in milliseconds, without a packet. A heartbeat counts as sent.
+    /// What to do at `now_ms` if no packet has come. A heartbeat counts as sent.
     pub fn tick(&mut self, now_ms: u64) -> Tick
         ensures answer { result ≡ tick_answer self.old.connection now_ms }
         ensures after { self.new ≡ server_after_tick self.old now_ms }

@@ -6,7 +6,7 @@ use Rattle.itch_market.specs.Content.{Content}
 use Rattle.itch_soup.specs.declared.login.ServerConfig.{ServerConfig}
 use Rattle.itch_soup.specs.declared.fault.SoupFault.{SoupFault}
 use Rattle.itch_soup.specs.declared.serve.Served.{Served}
-use Rattle.itch_soup.proofs.Through.{serves_through}
+use Rattle.itch_soup.proofs.MappedServing.{serves_through}
 use Rattle.itchsnap_cli.specs.Sessions.{Ending, Flushes, ServesFlushed, EndsOver, EndsAs}
 use Rattle.itchsnap_cli.specs.Sides.{Side, sound, unread, side_of, reading_of}
 

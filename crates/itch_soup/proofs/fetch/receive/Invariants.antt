@@ -1,6 +1,6 @@
 use Rattle.std.proofs.Common.{◌≡◌}
 use Rattle.itch_frame.specs.Reading.{bytes_left}
-use Rattle.itch_soup.proofs.Hearing.{Hearing}
+use Rattle.itch_soup.proofs.FetchSteps.{Hearing}
 use Rattle.itch_soup.proofs.fetch.receive.Given as goal
 
 abbrev pub invariant-loop-count : goal.invariant-loop-count

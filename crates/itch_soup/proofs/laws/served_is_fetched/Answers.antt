@@ -1,4 +1,4 @@
-use Rattle.itch_soup.proofs.Rounds.{served_fetched}
+use Rattle.itch_soup.proofs.ServedIsFetched.{served_fetched}
 use Rattle.itch_market.proofs.SameMarkets.{laid_is_same}
 use Rattle.itch_soup.proofs.laws.served_is_fetched.Goals as goal
 

@@ -1,5 +1,5 @@
-use Rattle.itch_soup.proofs.Unique.{spelled-none}
-use Rattle.itch_soup.proofs.Faultless.{faultless-spelled}
+use Rattle.itch_soup.proofs.OnePacket.{spelled-none}
+use Rattle.itch_soup.proofs.FaultlessBlocks.{faultless-spelled}
 use Rattle.itch_soup.proofs.laws.spelled_or_at_fault.Goals as goal
 
 pub returns-clause-spelled : goal.returns-clause-spelled

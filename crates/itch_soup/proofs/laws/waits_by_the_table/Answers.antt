@@ -1,5 +1,5 @@
 use Rattle.std.proofs.Common.{refl}
-use Rattle.itch_soup.proofs.Waiting.{idle_turn, turn_idle}
+use Rattle.itch_soup.proofs.LoginWaits.{idle_turn, turn_idle}
 use Rattle.itch_soup.proofs.laws.waits_by_the_table.Goals as goal
 
 pub returns-clause-over : goal.returns-clause-over

@@ -1,4 +1,4 @@
-use Rattle.itch_soup.proofs.Trimming.{padded_to-fits}
+use Rattle.itch_soup.proofs.SessionNames.{padded_to-fits}
 use Rattle.itch_soup.proofs.login.client_session.Goals as goal
 
 pub returns-clause-fits : goal.returns-clause-fits

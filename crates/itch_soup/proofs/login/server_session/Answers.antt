@@ -1,4 +1,4 @@
-use Rattle.itch_soup.proofs.Trimming.{padded_on_left-fits}
+use Rattle.itch_soup.proofs.SessionNames.{padded_on_left-fits}
 use Rattle.itch_soup.proofs.login.server_session.Goals as goal
 
 pub returns-clause-fits : goal.returns-clause-fits

@@ -1,4 +1,4 @@
-use Rattle.itch_soup.proofs.Unique.{only_read}
+use Rattle.itch_soup.proofs.OnePacket.{only_read}
 use Rattle.itch_soup.proofs.parsing.parse_packet.Goals as goal
 
 pub returns-clause-only : goal.returns-clause-only

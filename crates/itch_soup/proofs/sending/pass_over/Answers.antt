@@ -1,4 +1,4 @@
-use Rattle.itch_soup.proofs.Sessions.{one_passed}
+use Rattle.itch_soup.proofs.SentSessions.{one_passed}
 use Rattle.itch_soup.proofs.sending.pass_over.Goals as goal
 
 pub loop-passed-preserved : goal.loop-passed-preserved

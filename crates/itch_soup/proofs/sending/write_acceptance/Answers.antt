@@ -2,7 +2,7 @@ use Rattle.std.proofs.Common.{arith, length, ap}
 use Rattle.itch_soup.specs.declared.packet.Packet.TheVariants as is
 use Rattle.itch_soup.specs.Packets.{packet_spelling}
 use Rattle.itch_soup.specs.Servers.{acceptance}
-use Rattle.itch_soup.proofs.Sends.{only_one}
+use Rattle.itch_soup.proofs.SentBlocks.{only_one}
 use Rattle.itch_soup.proofs.sending.write_acceptance.Goals as goal
 
 pub returns : goal.returns

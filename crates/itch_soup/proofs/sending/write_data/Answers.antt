@@ -1,6 +1,6 @@
 use Rattle.std.proofs.Common.{◌≡◌, ◌∷◌, [], ◌++◌, arith, length, ap, subst, sym, append-nil}
 use Rattle.itch_frame.specs.Writing.{WritePart, WriteBlock}
-use Rattle.itch_soup.proofs.Sends.{in_two_parts, packet_block}
+use Rattle.itch_soup.proofs.SentBlocks.{in_two_parts, packet_block}
 use Rattle.itch_soup.proofs.sending.write_data.Goals as goal
 
 pub returns : goal.returns

@@ -4,8 +4,8 @@ use Rattle.itch_codec.specs.declared.message.Message.TheVariants as message
 use Rattle.itch_frame.specs.Writing.{WriteBlocks}
 use Rattle.itch_soup.specs.Packets.{packet_spelling}
 use Rattle.itch_soup.specs.Sending.{data_packet, session_packets, end_part}
-use Rattle.itch_soup.proofs.Sends.{none_sent, one_failed}
-use Rattle.itch_soup.proofs.Sessions.{packet_fits}
+use Rattle.itch_soup.proofs.SentBlocks.{none_sent, one_failed}
+use Rattle.itch_soup.proofs.SentSessions.{packet_fits}
 use Rattle.itch_soup.proofs.sending.write_end.Goals as goal
 
 pub returns-in_err-write_message-clause-packets : goal.returns-in_err-write_message-clause-packets

@@ -1,6 +1,6 @@
 use Rattle.std.proofs.Common.{ℕ}
 use Rattle.std.proofs.lemmas.Result.{err_from_is_err_and}
-use Rattle.itch_soup.proofs.Sessions.{no_data, data_sent, data_failed, all_data}
+use Rattle.itch_soup.proofs.SentSessions.{no_data, data_sent, data_failed, all_data}
 use Rattle.itch_soup.proofs.sending.write_messages.Goals as goal
 
 pub loop-message-init : goal.loop-message-init

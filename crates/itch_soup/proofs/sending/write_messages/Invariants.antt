@@ -1,4 +1,4 @@
-use Rattle.itch_soup.proofs.Sessions.{DataSent}
+use Rattle.itch_soup.proofs.SentSessions.{DataSent}
 use Rattle.itch_soup.proofs.sending.write_messages.Given as goal
 
 abbrev pub invariant-loop-message : goal.invariant-loop-message

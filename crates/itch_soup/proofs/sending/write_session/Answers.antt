@@ -4,8 +4,8 @@ use Rattle.itch_soup.specs.declared.packet.Packet.TheVariants as is
 use Rattle.itch_soup.specs.Packets.{packet_spelling}
 use Rattle.itch_soup.specs.Servers.{acceptance}
 use Rattle.itch_soup.specs.Sending.{session_packets, messages_from, FitPackets}
-use Rattle.itch_soup.proofs.Sends.{sent_short}
-use Rattle.itch_soup.proofs.Sessions.{snap_fits, all_counted, failed_at_data, sent_with_end}
+use Rattle.itch_soup.proofs.SentBlocks.{sent_short}
+use Rattle.itch_soup.proofs.SentSessions.{snap_fits, all_counted, failed_at_data, sent_with_end}
 use Rattle.itch_soup.proofs.sending.write_session.Goals as goal
 
 pub returns-in_err-write_acceptance-clause-packets : goal.returns-in_err-write_acceptance-clause-packets

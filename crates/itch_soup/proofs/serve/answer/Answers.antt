@@ -1,7 +1,7 @@
 use Rattle.std.proofs.Common.{Err, subst}
 use Rattle.std.proofs.lemmas.Result.{err_from_is_err_and}
 use Rattle.itch_frame.specs.Writing.{WriteBlock}
-use Rattle.itch_soup.proofs.Sessions.{rejected}
+use Rattle.itch_soup.proofs.SentSessions.{rejected}
 use Rattle.itch_soup.proofs.serve.answer.Goals as goal
 
 pub returns-in_err-write_block-in-Reject : goal.returns-in_err-write_block-in-Reject

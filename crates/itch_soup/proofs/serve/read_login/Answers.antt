@@ -1,5 +1,5 @@
 use Rattle.std.proofs.Common.{◌∙◌}
-use Rattle.itch_soup.proofs.Waiting.{waiting_on}
+use Rattle.itch_soup.proofs.LoginWaits.{waiting_on}
 use Rattle.itch_soup.proofs.serve.read_login.Goals as goal
 
 pub loop-count-preserved : goal.loop-count-preserved

@@ -1,6 +1,6 @@
 use Rattle.std.proofs.Common.{◌≡◌}
 use Rattle.itch_frame.specs.Reading.{bytes_left}
-use Rattle.itch_soup.proofs.Waiting.{Waiting}
+use Rattle.itch_soup.proofs.LoginWaits.{Waiting}
 use Rattle.itch_soup.proofs.serve.read_login.Given as goal
 
 abbrev pub invariant-loop-count : goal.invariant-loop-count

@@ -1,5 +1,5 @@
 use Rattle.std.proofs.Common.{◌∙◌}
-use Rattle.itch_soup.proofs.Logins.{accepted_written, acceptance-spelled}
+use Rattle.itch_soup.proofs.LoginBytes.{accepted_written, acceptance-spelled}
 use Rattle.itch_soup.proofs.packet.LoginAccepted.spelling.Goals as goal
 
 pub returns-clause-bytes : goal.returns-clause-bytes

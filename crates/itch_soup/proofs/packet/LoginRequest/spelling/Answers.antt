@@ -1,5 +1,5 @@
 use Rattle.std.proofs.Common.{◌∙◌}
-use Rattle.itch_soup.proofs.Logins.{written, login-spelled}
+use Rattle.itch_soup.proofs.LoginBytes.{written, login-spelled}
 use Rattle.itch_soup.proofs.packet.LoginRequest.spelling.Goals as goal
 
 pub returns-clause-bytes : goal.returns-clause-bytes

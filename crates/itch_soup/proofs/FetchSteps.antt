@@ -30,9 +30,9 @@ use Rattle.itch_soup.specs.declared.packet.Packet.{Packet}
 use Rattle.itch_soup.specs.declared.packet.Packet.TheVariants as is
 use Rattle.itch_soup.specs.Packets.{PacketSpells}
 use Rattle.itch_soup.specs.Clients.{Client, client_turn, client_answer, client_after_packet}
-use Rattle.itch_soup.specs.Serving.{is_enough}
+use Rattle.itch_soup.specs.NextPackets.{is_enough}
 use Rattle.itch_soup.specs.Fetching.{ArePackets, noted, news, after_packets, numbered, Hears, SpellsSnapshot, Fetched, HearsNext, TakesAnswer, EndsFetch, Receives, load_of}
-use Rattle.itch_soup.proofs.Waiting.{one_more}
+use Rattle.itch_soup.proofs.LoginWaits.{one_more}
 
 -- what a turn of a session says of its stage and number
 abbrev pub Shows : Packet → Stage → ℕ → ClientAct → Stage → ℕ → Type 0
@@ -319,19 +319,19 @@ module _ (start : Client) (old mid new : Option (List ℕ)) (count : ℕ) (c : C
 -- the next packet, as the step has it
 pub hearing_on : (start : Client) (old mid new : Option (List ℕ)) (count : ℕ) (c later : Client) (load after : Load) → Hearing start old mid count c load
     → HearsNext (is_enough count) c load mid new (Ok false) later after → Hearing start old new (count + 1) later after
-hearing_on start old mid new count c c_after load after so_far (room, (payload, fits, consumed, (packet, spelled, is, takes))) =
+hearing_on start old mid new count c c_after load after so_far (packet, (room, (payload, fits, consumed, spelled)), is, takes) =
     subst (λ s. Hearing start old new (count + 1) s after) (sym is)
     (heard_answer start old mid new count c load after so_far packet payload room fits consumed spelled (client_answer c packet) refl takes)
 
 pub hearing_closed : (start : Client) (old mid new : Option (List ℕ)) (count : ℕ) (c later : Client) (load after : Load) → Hearing start old mid count c load
     → HearsNext (is_enough count) c load mid new (Ok true) later after → (done : Content × ℕ) → Finishes after (Ok done) → Receives start old new (Ok done)
-hearing_closed start old mid new count c c_after load after so_far (room, (payload, fits, consumed, (packet, spelled, is, takes))) done finishes =
+hearing_closed start old mid new count c c_after load after so_far (packet, (room, (payload, fits, consumed, spelled)), is, takes) done finishes =
     heard_end start old mid new count c load after so_far packet payload room fits consumed spelled (client_answer c packet) refl takes done finishes
 
 -- and the snapshot's reader is at its end
 pub hearing_closes : (start : Client) (old mid new : Option (List ℕ)) (count : ℕ) (c later : Client) (load after : Load) → Hearing start old mid count c load
     → HearsNext (is_enough count) c load mid new (Ok true) later after → (next : ℕ) × (after.stage ≡ Closed next)
-hearing_closes start old mid new count c c_after load after so_far (room, (read, fits, consumed, (packet, spelled, is, takes))) = closes_by (client_answer c packet) takes where
+hearing_closes start old mid new count c c_after load after so_far (packet, (room, (read, fits, consumed, spelled)), is, takes) = closes_by (client_answer c packet) takes where
   closes_by : (answer : ClientAct) → TakesAnswer answer load true after → (next : ℕ) × (after.stage ≡ Closed next)
   closes_by act.Nothing (unclosed, same) = absurd (let no_one : ⊥ = cc in no_one)
   closes_by (act.Accepted next) (one, unclosed, same) = absurd (let no_one : ⊥ = cc in no_one)

@@ -33,7 +33,7 @@ use Rattle.itch_frame.specs.Writing.{WriteBlock, WriteBlocks}
 use Rattle.itch_frame.specs.declared.tally.Failures.{Failures}
 use Rattle.itch_frame.specs.declared.fault.FrameFault.{FrameFault}
 use Rattle.itch_soup.specs.Sending.{data_packet, messages, messages_from, session_packets, end_part, FitPackets, packets_for, served_packets, verdict, Sends, SendsPackets}
-use Rattle.itch_soup.proofs.Sends.{none_sent, one_sent, one_failed, sent_then, sent_short}
+use Rattle.itch_soup.proofs.SentBlocks.{none_sent, one_sent, one_failed, sent_then, sent_short}
 
 -- a message that is decoded
 abbrev pub IsDecoded : Message → Type 0

@@ -19,7 +19,8 @@ use Rattle.itch_soup.specs.declared.server.ServerAct.TheVariants as server
 use Rattle.itch_soup.specs.Names.{asks_for_session}
 use Rattle.itch_soup.specs.Servers.{is_user, first_asked, not_authorised, not_available, judged, server_turn}
 use Rattle.itch_soup.specs.Packets.{PacketSpells}
-use Rattle.itch_soup.specs.Serving.{is_enough, IsIdle, IsPassedOver, EndsWait, WaitsOn, WaitsForLogin, Wait}
+use Rattle.itch_soup.specs.NextPackets.{is_enough}
+use Rattle.itch_soup.specs.Serving.{IsIdle, IsPassedOver, EndsWait, WaitsOn, WaitsForLogin, Wait}
 
 -- not as many as may be
 pub one_more : (count : ℕ) → count ≤ 10 ^ 19 → is_enough count ≡ false → count + 1 ≤ 10 ^ 19
@@ -73,13 +74,7 @@ pub idle_turn : (config : ServerConfig) (total : ℕ) (packet : Packet) → IsId
 idle_turn config total (is.Debug payload) idle = refl
 idle_turn config total (is.UnsequencedData payload) idle = refl
 idle_turn config total is.ClientHeartbeat idle = refl
-idle_turn config total (is.LoginAccepted login) idle = absurd idle
-idle_turn config total (is.LoginRejected code) idle = absurd idle
-idle_turn config total (is.SequencedData payload) idle = absurd idle
-idle_turn config total is.ServerHeartbeat idle = absurd idle
-idle_turn config total is.EndOfSession idle = absurd idle
-idle_turn config total (is.LoginRequest login) idle = absurd idle
-idle_turn config total is.LogoutRequest idle = absurd idle
+idle_turn config total packet idle = absurd idle
 
 -- a login is answered
 abbrev judged_by : Bool → Bool → Bool → ℕ → ServerAct × Stage
@@ -103,10 +98,5 @@ pub turn_idle : (config : ServerConfig) (total : ℕ) (packet : Packet) → (ser
 turn_idle config total (is.Debug payload) h = tt
 turn_idle config total (is.UnsequencedData payload) h = tt
 turn_idle config total is.ClientHeartbeat h = tt
-turn_idle config total (is.LoginAccepted login) h = let no_one : ⊥ = cc in no_one
-turn_idle config total (is.LoginRejected code) h = let no_one : ⊥ = cc in no_one
-turn_idle config total (is.SequencedData payload) h = let no_one : ⊥ = cc in no_one
-turn_idle config total is.ServerHeartbeat h = let no_one : ⊥ = cc in no_one
-turn_idle config total is.EndOfSession h = let no_one : ⊥ = cc in no_one
 turn_idle config total (is.LoginRequest login) h = absurd (judged_answers config total login h)
-turn_idle config total is.LogoutRequest h = let no_one : ⊥ = cc in no_one
+turn_idle config total packet h = let no_one : ⊥ = cc in no_one

@@ -35,9 +35,9 @@ use Rattle.itch_soup.specs.Clients.{Client, client_turn, client_after_packet, lo
 use Rattle.itch_soup.specs.Servers.{acceptance}
 use Rattle.itch_soup.specs.Sending.{messages, data_packet, session_packets, packets_for, verdict, served, FitPackets}
 use Rattle.itch_soup.specs.Fetching.{asking, ArePackets, news, numbered, SpellsSnapshot, Fetched, noted}
-use Rattle.itch_soup.proofs.Logins.{acceptance-spelled}
-use Rattle.itch_soup.proofs.Sessions.{snap_fits, packet_fits}
-use Rattle.itch_soup.proofs.Trimming.{server_session-fits}
+use Rattle.itch_soup.proofs.LoginBytes.{acceptance-spelled}
+use Rattle.itch_soup.proofs.SentSessions.{snap_fits, packet_fits}
+use Rattle.itch_soup.proofs.SessionNames.{server_session-fits}
 
 -- what is written for an acceptance spells it
 accepted-spelled : (config : ServerConfig) (n : ℕ) → IsAlpha 10 config.session → 1 ≤ n → n ≤ 10 ^ 19
