@@ -136,20 +136,16 @@ impl<B: OrderBook> Joiner<B> {
     pub fn next(&self) -> Option<u64>
         ensures { result ≡ option_map (λ j. j.next) self.now.state.joined }
     {
-        match &self.joined {
-            Some(position) => Some(position.next),
-            None => None,
-        }
+        let position = self.joined.as_ref()?;
+        Some(position.next)
     }
 
     /// The market of the feed's messages before the next one, once joined.
     pub fn market(&self) -> Option<&Market<B>>
         ensures { option_copied result ≡ option_map (λ j. j.market) self.now.state.joined }
     {
-        match &self.joined {
-            Some(position) => Some(&position.market),
-            None => None,
-        }
+        let position = self.joined.as_ref()?;
+        Some(&position.market)
     }
 
     /// The number of messages that wait.
