@@ -1,4 +1,4 @@
-//! What decides a joiner's calls.
+//! What decides the result of a joiner's call.
 ghost use Rattle.std.specs.Prelude.{◌≡◌};
 ghost use Rattle.itch_join.specs.declared.fault.Cause.TheVariants.{Codec};
 ghost use Rattle.itch_join.specs.declared.state.Stopped.TheVariants.{Refused};
