@@ -10,20 +10,20 @@ use Rattle.itch_frame.specs.declared.reader.Stage.TheVariants.{Going, Given, End
 use Rattle.itch_frame.specs.declared.fault.FrameFault.{FrameFault}
 use Rattle.itch_frame.specs.declared.fault.FrameFault.TheVariants.{Read, Truncated, Write, TooLong}
 
--- the reader below, the bytes held of an unfinished block, and how far the reading is
+-- the reader below, the bytes held of an unfinished block, and the stage of the reading
 pub record Reading (R : Type 0) : Type 0 where
   pub reader : R
   pub held : List ℕ
   pub stage : Stage
 
--- the bytes held of an unfinished block: a block that was given is no more held
+-- the bytes held of an unfinished block: a block that was returned is no longer held
 abbrev pub held_of : Stage → List ℕ → List ℕ
 held_of Going bytes = bytes
 held_of Given bytes = []
 held_of Ended bytes = bytes
 held_of Cut bytes = bytes
 
--- the bytes held of an unfinished block, and then those unread, where they are known: none of the block given
+-- the bytes held of an unfinished block, and then the unread ones, if they are known: none of a block that was returned
 abbrev pub bytes_left : {R : Type 0} → (R → Option (List ℕ)) → Reading R → Option (List ℕ)
 bytes_left remaining r = prepend_known r.held (remaining r.reader)
 
@@ -48,10 +48,10 @@ module _ {R : Type 0} (remaining : R → Option (List ℕ)) (failures : R → Fa
   -- no byte was left
   NextBlock old (Ok None) new =
       IsAtEnd (bytes_left remaining old) × (new.stage ≡ Ended) × (new.held ≡ []) × (failures new.reader ≡ failures old.reader)
-  -- some bytes were left, and no beginning of them is a block
+  -- some bytes were left, and no prefix of them is a block
   NextBlock old (Err (Truncated held)) new =
       IfSome (bytes_left remaining old) (λ b. Open b × (held ≡ length b)) × (new.stage ≡ Cut) × (held ≡ length new.held) × (failures new.reader ≡ failures old.reader)
-  -- nothing is lost: the bytes held are held still, and those read since then after them
+  -- nothing is lost: the bytes held are still held, and then any that were read after them
   NextBlock old (Err (Read error)) new =
       Keeps (bytes_left remaining old) (bytes_left remaining new) × (new.stage ≡ Going) × (failures new.reader ≡ failed error (failures old.reader))
       × ((more : List ℕ) × (new.held ≡ old.held ++ more))
@@ -62,7 +62,7 @@ module _ {R : Type 0} (remaining : R → Option (List ℕ)) (failures : R → Fa
   abbrev pub NextMessage : Reading R → Result (Option (Bor (List ℕ))) FrameFault → Reading R → Type 0
   -- a block that is not empty
   NextMessage old (Ok (Some p)) new = (0 < length p.now) × NextBlock old (Ok (Some p)) new
-  -- the end of the input, or an empty block, which has been read: the stage tells which
+  -- the end of the input, or an empty block, which was read: the stage says which
   NextMessage old (Ok None) new =
       EndsHere (bytes_left remaining old) (bytes_left remaining new) × (new.held ≡ []) × ((new.stage ≡ Ended) ⊎ (new.stage ≡ Given))
       × (failures new.reader ≡ failures old.reader)

@@ -1,4 +1,4 @@
--- A replay of a day file ends exactly if the file has an end, and its payloads spell messages that follow the order rules.
+-- A replay of a day file ends if and only if the file has an end, and its payloads spell messages that follow the order rules.
 use Rattle.std.proofs.Common.{◌≡◌, ℕ, ◌-◌, ◌^◌, ◌<◌, ◌≤◌, List, [], ◌∷◌, ◌++◌, map, length, take, drop, suc, Option, Some, None, refl, sym, ap, subst, ◌∙◌, ◌⊎◌, inl, inr, append_assoc, arith}
 use Rattle.std.proofs.lemmas.List.{take-append-drop, length-take-le}
 use Rattle.std.specs.Prelude.{slice_get, option_map, option_and_then}

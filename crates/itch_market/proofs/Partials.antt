@@ -1,4 +1,4 @@
--- The messages that are not skipped follow the order rules where all do, and leave the market that all leave, cut down to the wanted locates.
+-- The messages that are not skipped follow the order rules if all do, and leave the market that all leave, restricted to the wanted locates.
 use Rattle.std.proofs.Common.{◌≡◌, ℕ, ◌≤◌, ◌<◌, ◌-◌, Bool, true, false, cond, not, ◌==◌, List, [], ◌∷◌, ◌++◌, map, filter, length, Option, Some, None, IsSome, is_some, refl, sym, ap, ap₂, ◌∙◌, subst, arith, append-nil, eqb}
 use Rattle.std.specs.List.{AllByRecursion}
 use Rattle.std.specs.Ordering.{nat_cmp}

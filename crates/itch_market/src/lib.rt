@@ -1,8 +1,8 @@
 //! The market of a feed: the directory of its securities, their trading states and live orders, and the order rules.
 //!
-//! [`Market::apply`] takes a message that follows the order rules, or refuses it for its reason and stays as it was.
+//! [`Market::apply`] applies a message that follows the order rules, or returns why it is refused and leaves the market as it was.
 //! [`replay`] does so with the messages of a day file, up to its end or to the first message that is refused. A [`LocateSet`]
-//! names the locates that are wanted, where not all are. `laws` has what holds of every market.
+//! names the locates that are wanted, if not all are. `laws` states what holds of every market.
 //!
 //! ```
 //! let mut market: Market<IndexedBook> = Market::new(alloc);

@@ -10,9 +10,9 @@ use std::alloc::Allocator;
 
 /// The payload of the next message, or why none is taken.
 ///
-/// `End` where the messages end, `Frame` for a fault, and `TooManyMessages` for a message where the caller already has as
-/// many as a day file may have (`is_full`). A message that is too many has been read. After the end of input, or a block
-/// truncated there, each call returns the same and reads nothing.
+/// `End` where the messages end, `Frame` for a fault, and `TooManyMessages` for a message if the caller has as many as a day
+/// file may have (`is_full`); that message has been read. After the end of input, or a block truncated there, each call
+/// returns the same and reads nothing.
 pub fn next_message<R: CountedRead, A: Allocator>(
     reader: &mut BlockReader<R, A>,
     is_full: bool,

@@ -18,14 +18,14 @@ use std::alloc::Allocator;
 
 /// Applies the messages of a day file, up to the first that is not taken, and returns how many there were and why it stopped.
 ///
-/// The market is that of the messages before the stop. A block that was refused has been read, and nothing after an end
-/// block is read. After `Frame(Read)` a second call goes on where the first stopped; after the end of input, or a block
-/// truncated there, it stops so again and reads nothing.
+/// The market left is that of the messages before the stop. The block of a refused message has been read, and nothing after an
+/// end block is read. After `Frame(Read)` a second call continues where the first stopped; after the end of input, or a block
+/// truncated there, it stops in the same way and reads nothing.
 pub fn replay<R: CountedRead, A: Allocator, B: OrderBook>(
     reader: &mut BlockReader<R, A>,
     market: &mut Market<B>,
 ) -> ReplayEnd
-    // The file alone decides where it stops, unless a read failed or memory was refused.
+    // The file alone decides where it stops, unless a read or an allocation failed.
     ensures stops { IfSome (bytes_left R.remaining reader.old) (λ bytes. IsDecided result.stop → Stops market.old bytes result.count result.stop) }
     // The market left is that of the file's first messages.
     ensures content { IfSome (bytes_left R.remaining reader.old) (λ bytes. (payloads : List (List ℕ)) → (rest : List ℕ) → Day bytes payloads rest
@@ -42,7 +42,7 @@ pub fn replay<R: CountedRead, A: Allocator, B: OrderBook>(
     }
 }
 
-/// Applies the first `most` messages of a day file and reads no further, or stops before, and says why.
+/// Applies the first `most` messages of a day file and reads no further, or stops before that and returns why.
 pub fn replay_first<R: CountedRead, A: Allocator, B: OrderBook>(
     reader: &mut BlockReader<R, A>,
     market: &mut Market<B>,

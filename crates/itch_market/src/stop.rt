@@ -10,16 +10,16 @@ use thiserror::Error;
 /// Why a replay stopped.
 #[derive(Clone, Copy, Debug, Error)]
 pub enum Stop {
-    /// The end of input at a block's border, or a block of length 0, after which nothing was read.
+    /// The input ended where a block would begin, or a block of length 0 came, after which nothing was read.
     #[error("end of input")]
     End,
     /// A read failed, or the input ended in an unfinished block.
     #[error("{0}")]
     Frame(FrameFault),
-    /// The payload of the next block is no message.
+    /// The payload of the next block is not a message.
     #[error("{0}")]
     Codec(CodecFault),
-    /// An order rule refuses the next message, or memory was refused.
+    /// An order rule refuses the next message, or an allocation failed.
     #[error("{0}")]
     Rule(Refusal),
     /// A further block after 10^19 - 1 messages.
