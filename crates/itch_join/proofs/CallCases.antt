@@ -1,4 +1,4 @@
--- What is known in each case of a delivery.
+-- What is known in each case of a delivery, and of a message of a snapshot.
 use Rattle.std.proofs.Common.{◌≡◌, ℕ, ◌==◌, ◌-◌, ◌^◌, ◌<◌, ◌≤◌, nat_lt, Bool, true, false, cond, List, Option, Some, None, is_some, refl, subst, arith, bytes_eq}
 use Rattle.std.specs.FinMap as map
 use Rattle.std.proofs.lemmas.Bool.Decides.{nat_tests}

@@ -1,4 +1,4 @@
--- No more messages wait than may, whatever is delivered.
+-- At most `cap` messages wait, whatever is delivered.
 use Rattle.std.proofs.Common.{◌≡◌, ℕ, ◌+◌, ◌≤◌, Bool, true, false, ◌||◌, cond, List, [], ◌∷◌, Option, Some, None, is_some, Result, Ok, Err, ap, ◌∙◌, arith}
 use Rattle.std.specs.FinMap as map
 use Rattle.std.specs.Ordering.{nat_cmp}
@@ -30,7 +30,7 @@ applied_len R a b hand (p ∷ ps) ending (there, none, rest) =
     omega arith
 
 module _ (R : Rules) (cap : ℕ) where
-  -- at most as many wait as may
+  -- at most `cap` messages wait
   abbrev Has : State → Type 0
   Has s = map.len s.wait ≤ cap
 

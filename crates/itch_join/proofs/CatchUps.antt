@@ -1,4 +1,4 @@
--- What a call leaves, where applying went as far as it does.
+-- What a call leaves that has applied messages up to the first number that is missing.
 use Rattle.std.proofs.Common.{◌≡◌, ℕ, ◌||◌, Bool, true, false, not, List, Option, Some, None, is_some, Result, sym, ap, ◌∙◌, subst}
 use Rattle.std.specs.Option.{option_map}
 use Rattle.std.specs.FinMap as map

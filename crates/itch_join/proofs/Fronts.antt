@@ -75,7 +75,7 @@ module _ (R : Rules) (lawful : AreLawful R) (feed : List (List ℕ)) (bytes : Al
             (subst (Same (R.effect a.market p)) (sym (market_next R feed a.next p some there)) (lawful.effect_same a.market (market_at R feed a.next) p g.good fine are g.market none));
       }
 
-  -- applying went as far as it does
+  -- applying has ended
   pub record Ended (taken : ℕ → Bool) (first : ℕ) (ending : Result (Unit {0}) Stopped) (b : Front) : Type 0 where
     pub going : Going R feed taken first b.next b
     pub ends : EndsBy R b.market (at_hand b) ending

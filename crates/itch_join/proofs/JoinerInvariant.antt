@@ -87,7 +87,7 @@ module _ (R : Rules) (lawful : AreLawful R) (feed : List (List ℕ)) (bytes : Al
   abbrev Keeps : List Event → State → Type 0
   Keeps past s = IsKeptUp R feed past s
 
-  -- a call after which the same waits at the same place
+  -- a call that leaves the same messages waiting, and the same next number
   pub stay : (past : List Event) (s : State) (call : Call) (h : HalfRead) → Keeps past s → HalfIsGood h → start_of R s call ≡ None
       → ((i : ℕ) → accepts i call ≡ true → is_from s.joined i ≡ true → accepted i past ≡ true)
       → (s.halt ≡ None → settled (then_call s call past) ≡ true → settled past ≡ true)
@@ -191,7 +191,7 @@ module _ (R : Rules) (lawful : AreLawful R) (feed : List (List ℕ)) (bytes : Al
       stay past s (CallLive number payload (Err fault)) s.half k k.half refl (λ i h from. untaken number i (is_taken (Err fault)) (accepted i past) off h)
       (λ none set. subst (λ o. or_last o (settled past) ≡ true) (silent none) set)
 
-  -- the delivered message is next, and applying has ended so
+  -- the delivered message is the next, and applying ends with this result
   pub next_at : (past : List Event) (s : State) (j : Position) (number : ℕ) (payload : List ℕ) (ps : List (List ℕ)) (ending : Result (Unit {0}) Stopped) (b : Front)
       → Keeps past s → s.halt ≡ None → s.joined ≡ Some j → number ≡ j.next → slice_get feed (number - 1) ≡ Some payload
       → Applies R (front_of s j) (Some payload) ps ending b
@@ -336,7 +336,7 @@ module _ (R : Rules) (lawful : AreLawful R) (feed : List (List ℕ)) (bytes : Al
       still true p o is = refl
       still false p o is = is
 
-  -- End of Snapshot is taken, and applying has ended so
+  -- End of Snapshot is taken, and applying ends with this result
   pub end_at : (past : List Event) (s : State) (payload : List ℕ) (next taken : ℕ) (m : Content) (ps : List (List ℕ)) (ending : Result (Unit {0}) Stopped) (b : Front)
       → Keeps past s → s.halt ≡ None → s.joined ≡ None → s.half ≡ Reading taken m → snapshot_case R s payload ≡ SnapEnds next m
       → 0 < next → next ≤ bad R feed → Same m (market_at R feed next)

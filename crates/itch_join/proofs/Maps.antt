@@ -61,7 +61,7 @@ module _ {X : Type 0} where
     was_there true o has = cc
     was_there false o has = has
 
-  -- to take out a key that is there makes a map shorter
+  -- a map without a key that was there is shorter
   pub len_less : (m : finite.FinMap nat_cmp X) (k : ℕ) (x : X) → finite.get m k ≡ Some x → finite.len (finite.remove m k) < finite.len m
   len_less m k x there =
       let some : (finite.len m ≡ 0 → ⊥) = λ none. let e : None ≡ Some x = sym (finite.get-empty nat_cmp k) ∙ ap (λ w. finite.get w k) (sym (finite.empty_of_len m none)) ∙ there in cc in

@@ -1,9 +1,12 @@
--- Messages applied one after another, from the next number on, as far as they are there.
+-- Messages applied one after another, from the next number on, up to the first number that is missing.
 use Rattle.std.specs.Prelude.{◌≡◌, ℕ, ◌+◌, Bool, true, false, not, List, [], ◌∷◌, Option, Some, None, Result, Ok, Err}
 use Rattle.std.specs.FinMap as map
 use Rattle.itch_market.specs.Content.{Content, laid}
+use Rattle.itch_market.specs.declared.refusal.Refusal.{Refusal}
+use Rattle.itch_market.specs.declared.refusal.Refusal.TheVariants.{OutOfMemory}
+use Rattle.itch_join.specs.declared.fault.Cause.TheVariants.{Rule}
 use Rattle.itch_join.specs.declared.fault.JoinFault.{JoinFault}
-use Rattle.itch_join.specs.declared.fault.JoinFault.TheVariants.{Halted, OutOfMemory}
+use Rattle.itch_join.specs.declared.fault.JoinFault.TheVariants as fault
 use Rattle.itch_join.specs.declared.state.Halt.{Halt}
 use Rattle.itch_join.specs.declared.state.Stopped.{Stopped}
 use Rattle.itch_join.specs.declared.state.Stopped.TheVariants.{Refused, NoMemory}
@@ -31,7 +34,12 @@ advanced R a p = record { wait = map.remove a.wait a.next; next = a.next + 1; ma
 abbrev pub at_hand : Front → Option (List ℕ)
 at_hand a = map.get a.wait a.next
 
--- why a message is not applied: it is refused; or it takes memory, and memory was refused
+-- why a market did not apply a message: a rule refuses it, or memory ran out
+abbrev pub stopped_by : Refusal → Stopped
+stopped_by OutOfMemory = NoMemory
+stopped_by why = Refused (Rule why)
+
+-- why a message is not applied: it is refused; or it takes memory, and memory ran out
 abbrev pub Stops : Rules → Content → List ℕ → Stopped → Type 0
 Stops R m p (Refused cause) = R.refused m p ≡ Some cause
 Stops R m p NoMemory = (R.refused m p ≡ None) × (R.takes_memory m p ≡ true)
@@ -41,14 +49,14 @@ abbrev pub AppliesOne : Rules → Content → List ℕ → Result (Unit {0}) Sto
 AppliesOne R m p (Ok done) n = (R.refused m p ≡ None) × (n ≡ laid (R.effect m p))
 AppliesOne R m p (Err stopped) n = Stops R m p stopped × (n ≡ m)
 
--- applying may end so at a market, where this message is at hand: none is; or one that is not applied
+-- how applying may end at a market with this message at hand: none is at hand; or one that is not applied
 abbrev pub EndsBy : Rules → Content → Option (List ℕ) → Result (Unit {0}) Stopped → Type 0
 EndsBy R m None (Ok done) = Unit {0}
 EndsBy R m None (Err stopped) = ⊥
 EndsBy R m (Some p) (Ok done) = ⊥
 EndsBy R m (Some p) (Err stopped) = Stops R m p stopped
 
--- From a front with this message at hand, these messages are applied one after another, and applying ends so, at this front.
+-- From a front with this message at hand, these messages are applied one after another, and applying ends with this result, at this front.
 abbrev pub Applies : Rules → Front → Option (List ℕ) → List (List ℕ) → Result (Unit {0}) Stopped → Front → Type 0
 Applies R a hand [] ending b = EndsBy R a.market hand ending × (b ≡ a)
 Applies R a hand (p ∷ ps) ending b =
@@ -66,8 +74,8 @@ standing half ending b = record { wait = b.wait; half = half; joined = Some (rec
 
 -- the fault of a call that has stopped at this number
 abbrev pub fault_of : Bool → Stopped → ℕ → JoinFault
-fault_of taken (Refused cause) next = Halted next cause
-fault_of taken NoMemory next = OutOfMemory taken
+fault_of taken (Refused cause) next = fault.Halted next cause
+fault_of taken NoMemory next = fault.OutOfMemory taken
 
 -- the result of a call in which applying has ended
 abbrev pub result_by : {T : Type 0} → (ℕ → T) → Bool → Result (Unit {0}) Stopped → ℕ → Result T JoinFault
@@ -78,7 +86,7 @@ abbrev pub is_empty : List (List ℕ) → Bool
 is_empty [] = true
 is_empty (p ∷ ps) = false
 
--- All that is at hand is applied, as far as it goes. `taken` says whether the delivered message was taken, where any message was applied and where none was.
+-- Messages are applied, up to the first number that is missing. `taken` says whether the delivered message was taken, by whether any message was applied.
 pub record CatchesUp {T : Type 0} (R : Rules) (half : HalfRead) (a : Front) (hand : Option (List ℕ)) (done : ℕ → T) (taken : Bool → Bool) (result : Result T JoinFault) (now : State) : Type 0 where
   pub payloads : List (List ℕ)
   pub ending : Result (Unit {0}) Stopped
@@ -87,10 +95,10 @@ pub record CatchesUp {T : Type 0} (R : Rules) (half : HalfRead) (a : Front) (han
   pub returned : result ≡ result_by done (taken (not (is_empty payloads))) ending front.next
   pub left : now ≡ standing half ending front
 
--- from one position to another, these messages are applied, and applying ends so
+-- these messages are applied, from one position to another, and applying ends with this result
 abbrev pub Advances : Rules → Wait → Position → Option (List ℕ) → Result (Unit {0}) Stopped → Wait → Position → Type 0
 Advances R wait j hand ending wait' j' = (ps : List (List ℕ)) × Applies R (front wait j) hand ps ending (front wait' j')
 
--- all that waits is applied, as far as it goes
+-- what waits is applied, up to the first number that is missing
 abbrev pub Drains : Rules → Wait → Position → Result (Unit {0}) Stopped → Wait → Position → Type 0
 Drains R wait j ending wait' j' = Advances R wait j (at_hand (front wait j)) ending wait' j'

@@ -91,17 +91,17 @@ abbrev pub start : Rules → List Event → Option ℕ
 start R [] = None
 start R (x ∷ past) = or_else (start_of R x.before x.call) (start R past)
 
--- want of memory leaves messages that could be applied
+-- a fault for want of memory may leave messages that could be applied
 abbrev pub by_fault : JoinFault → Option Bool
 by_fault (OutOfMemory taken) = Some false
 by_fault _ = None
 
--- the same, where the delivered message was the next; storing a message changes nothing of it
+-- the same, where the delivered message was the next; storing a message does not change it
 abbrev pub by_live_fault : Option Position → ℕ → JoinFault → Option Bool
 by_live_fault None number fault = None
 by_live_fault (Some j) number fault = if number == j.next then by_fault fault else None
 
--- whether this call has left none that could be applied, where it decides that
+-- whether this call has left no message that could be applied, if it decides that
 abbrev pub settling : State → Call → Option Bool
 settling s (CallLive number payload (Ok (Applied next))) = Some true
 settling s (CallLive number payload (Ok Kept)) = None
@@ -119,7 +119,7 @@ abbrev pub or_last : Option Bool → Bool → Bool
 or_last (Some is) rest = is
 or_last None rest = rest
 
--- the last call that decides it has left none that could be applied
+-- the last call that decides it has left no message that could be applied
 abbrev pub settled : List Event → Bool
 settled [] = true
 settled (x ∷ past) = or_last (settling x.before x.call) (settled past)

@@ -1,4 +1,4 @@
--- What reading a snapshot leaves, where memory is there.
+-- What reading a snapshot leaves, if memory does not run out.
 use Rattle.std.specs.Prelude.{ℕ, ◌+◌, List, [], ◌∷◌, map}
 use Rattle.itch_codec.specs.Messages.{spelling}
 use Rattle.itch_market.specs.Content.{Content, laid}

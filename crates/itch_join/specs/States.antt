@@ -12,7 +12,7 @@ use Rattle.itch_join.specs.Positions.{Position}
 abbrev pub Wait : Type 0
 Wait = map.FinMap nat_cmp (List ℕ)
 
--- a snapshot that is not read to its end: the number of its messages taken and the market that they leave; or the place of the message that is refused, and why
+-- a half-read snapshot: the number of its messages taken, and the market that they leave; or the place of the message that is refused, and why
 pub data HalfRead : Type 0 where
   Reading : ℕ → Content → HalfRead
   Broken : ℕ → Cause → HalfRead

@@ -148,7 +148,7 @@ pub data Call : Type 0 where
   CallRestart : Call
   CallResume : Result (Option ℕ) JoinFault → Call
 
--- In the state old, a joiner of this cap may return so from the call, and is then in the state now.
+-- In the state old, a joiner of this cap may return this from the call, and is then in the state now.
 abbrev pub Step : Rules → ℕ → State → Call → State → Type 0
 Step R cap old (CallLive number payload result) now = LiveBy R cap old number payload (live_case cap old number payload) result now
 Step R cap old (CallSnapshot payload result) now = SnapshotBy R old payload (snapshot_case R old payload) result now

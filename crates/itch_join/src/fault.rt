@@ -13,7 +13,7 @@ pub enum Cause {
     /// An order rule refuses the message.
     #[error("{0}")]
     Rule(Refusal),
-    /// A further message of the snapshot after 10^19 - 1 without an End of Snapshot.
+    /// The snapshot goes on after 10^19 - 1 messages, without an End of Snapshot.
     #[error("too many messages")]
     TooMany,
 }
@@ -21,7 +21,7 @@ pub enum Cause {
 /// Why a joiner did not take what it was given.
 #[derive(Clone, Copy, Debug, PartialEq, Eq, Error)]
 pub enum JoinFault {
-    /// As many messages wait as may, and this one's number is not the next. Nothing has changed.
+    /// `cap` messages wait already, and this one is not the next. Nothing has changed.
     #[error("{cap} messages wait already")]
     Full {
         cap: usize,
@@ -34,26 +34,26 @@ pub enum JoinFault {
     /// The number is 0 or above 10^19 - 1. Nothing has changed.
     #[error("bad message number")]
     BadNumber,
-    /// The message with this number is refused. The market is that of the messages before it, and what waited still waits,
-    /// but for what was applied or dropped before. Every later call but `restart` returns the same.
+    /// The message with this number is refused. The market is that of the messages before it. What waited still waits,
+    /// except what this call applied or dropped before. Every later call except `restart` returns the same.
     #[error("message {number}: {cause}")]
     Halted {
         number: u64,
         cause: Cause,
     },
-    /// Memory was refused. What was applied in this call stays applied, and what waited still waits, but for what was
-    /// applied or dropped before.
+    /// Out of memory. What this call has applied stays applied. What waited still waits, except what this call applied or
+    /// dropped before.
     #[error("out of memory")]
     OutOfMemory {
-        /// Whether the delivered message was applied or waits; in `snapshot`, whether it was taken. One that was not taken
-        /// may be delivered again.
+        /// Whether the delivered message was applied or waits; in `snapshot`, whether it was taken. If not, it may be
+        /// delivered again.
         taken: bool,
     },
-    /// A message of a snapshot, after joining. Nothing has changed.
+    /// A message of a snapshot after joining. Nothing has changed.
     #[error("joined already")]
     Joined,
-    /// The snapshot's message at this place, counted from 1, is refused. Each message of a snapshot returns the same until
-    /// `restart`. What waits is kept.
+    /// The snapshot's message at this place, counted from 1, is refused. Every further message of the snapshot returns the
+    /// same until `restart`. What waits is kept.
     #[error("snapshot message {place}: {cause}")]
     BadSnapshot {
         place: u64,

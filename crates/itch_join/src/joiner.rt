@@ -21,14 +21,14 @@ use itch_snapshot::{SnapFault, SnapshotReader};
 use std::marker::Model;
 use std::mem::replace;
 
-/// Joins a snapshot and the live feed: takes the messages of the snapshot in their order and those of the feed in any, and
-/// keeps the market that the feed's messages before [`Joiner::next`] lead to.
+/// Joins a snapshot and the live feed: it takes the snapshot's messages in order and the feed's in any order, and keeps the
+/// market that the feed's messages before [`Joiner::next`] lead to.
 ///
-/// With a set of locates it keeps the market cut down to them: messages at all others are decoded and counted, but follow no
-/// rule and change nothing, in the snapshot as in the feed.
+/// With a set of locates it keeps the market cut down to them: messages at other locates, of the snapshot and of the feed,
+/// are decoded and counted, but checked against no rule, and change nothing.
 ///
-/// The first message of the feed has the number 1. Only a message of the feed that has to wait and a market that grows take
-/// memory.
+/// The feed's first message has the number 1. Memory is taken only for a message of the feed that has to wait, and for a
+/// market that grows.
 #[derive(Drop)]
 pub struct Joiner<B: OrderBook> {
     alloc: B::Alloc,
@@ -55,7 +55,7 @@ impl<B: OrderBook> Model for Joiner<B> {
     ghost invariant = { λ j. IsOpen j.half };
 }
 
-// The fault of a call that has stopped at the message with this number.
+// The fault of a call that stopped at the message with this number.
 fn fault_of(taken: bool, stopped: Stopped, next: u64) -> JoinFault
     ensures { result ≡ fault_of taken stopped next }
 {
@@ -108,7 +108,7 @@ fn join_fault_of(fault: SnapFault) -> JoinFault
 }
 
 impl<B: OrderBook> Joiner<B> {
-    /// A joiner in which nothing waits, and at most `cap` messages will. It takes no memory yet.
+    /// A joiner in which nothing waits yet, and at most `cap` messages may. It takes no memory.
     pub fn new(alloc: B::Alloc, cap: usize) -> Self
         ensures cap { result.cap ≡ cap }
         ensures set { (locate : ℕ) → has result.set locate ≡ true }
@@ -136,20 +136,16 @@ impl<B: OrderBook> Joiner<B> {
     pub fn next(&self) -> Option<u64>
         ensures { result ≡ option_map (λ j. j.next) self.now.state.joined }
     {
-        match &self.joined {
-            Some(position) => Some(position.next),
-            None => None,
-        }
+        let position = self.joined.as_ref()?;
+        Some(position.next)
     }
 
     /// The market of the feed's messages before the next one, once joined.
     pub fn market(&self) -> Option<&Market<B>>
         ensures { option_copied result ≡ option_map (λ j. j.market) self.now.state.joined }
     {
-        match &self.joined {
-            Some(position) => Some(&position.market),
-            None => None,
-        }
+        let position = self.joined.as_ref()?;
+        Some(&position.market)
     }
 
     /// The number of messages that wait.
@@ -159,7 +155,7 @@ impl<B: OrderBook> Joiner<B> {
         self.wait.len()
     }
 
-    // What decides a delivery of the live feed.
+    // Which case a delivery of the live feed is.
     fn live_case(&self, number: u64, payload: &[u8]) -> LiveCase
         ensures { result ≡ live_case self.now.cap self.now.state number payload.now }
     {
@@ -231,20 +227,20 @@ impl<B: OrderBook> Joiner<B> {
         }
     }
 
-    /// Takes the message with this number of the live feed. The first of these that is true decides:
+    /// Takes the live feed's message with this number. The first of these that is true decides:
     ///
-    /// 1. a message was refused before: `Halted`, as then;
+    /// 1. a message was refused before: `Halted`, as it was then;
     /// 2. no message has this number: `BadNumber`;
     /// 3. the joiner has joined, and its market contains the message: `Old`;
     /// 4. other bytes wait under this number: `Conflict`;
-    /// 5. the joiner has joined, and the message is the next: it is applied, without a copy of it, and then what waits, as
-    ///    far as the numbers go on: `Applied`;
+    /// 5. the joiner has joined, and the message is the next: it is applied, without being copied, and then what waits, up
+    ///    to the first number that is missing: `Applied`;
     /// 6. the message waits already: `Kept`;
-    /// 7. as many messages wait as may: `Full`;
+    /// 7. `cap` messages wait: `Full`;
     /// 8. a copy of it is stored: `Kept`.
     ///
-    /// A message that is applied and refused is `Halted`. Memory may be refused at 5, before a message that adds to the
-    /// market, and at 8: `OutOfMemory`.
+    /// A message that is refused when it is to be applied is `Halted`. Memory may run out in 5, at a message that adds to
+    /// the market, and in 8: `OutOfMemory`.
     pub fn live(&mut self, number: u64, payload: &[u8]) -> Result<Live, JoinFault>
         ensures step { Step (rules_of (has self.old.set)) self.old.cap self.old.state (CallLive number payload.now result) self.new.state }
         ensures cap { self.new.cap ≡ self.old.cap }
@@ -265,7 +261,7 @@ impl<B: OrderBook> Joiner<B> {
         }
     }
 
-    // Starts at the end of a snapshot.
+    // Joins at the End of Snapshot, with the snapshot's number and market.
     fn start(&mut self, next: u64, market: Market<B>) -> Result<Snap, JoinFault>
         requires half { self.old.state.half ≡ unread }
         requires running { self.old.state.halt ≡ None }
@@ -285,13 +281,13 @@ impl<B: OrderBook> Joiner<B> {
         }
     }
 
-    /// Takes a message of the snapshot; they come in their order.
+    /// Takes the snapshot's next message.
     ///
-    /// At End of Snapshot the joiner has the snapshot's market, the next number is the one that End of Snapshot has, what
-    /// waits below it is dropped, and then what waits is applied, as far as the numbers go on: `Joined`. A message that is
-    /// refused breaks the snapshot: `BadSnapshot` until `restart`. After joining it is the fault `Joined`, after a refused
-    /// message of the feed `Halted`. Where memory is refused for a message of the snapshot, it is `OutOfMemory` with `taken`
-    /// false, and the same message may follow again.
+    /// At End of Snapshot the joiner has the snapshot's market, and its next number is the one in End of Snapshot. What
+    /// waits below that is dropped, and then what waits is applied, up to the first number that is missing: `Joined`. A
+    /// message that is refused breaks the snapshot: `BadSnapshot` until `restart`. After joining the result is the fault
+    /// `Joined`, and after a refused message of the feed `Halted`. Where memory runs out for a message of the snapshot, it
+    /// is `OutOfMemory` with `taken` false, and the same message may be given again.
     pub fn snapshot(&mut self, payload: &[u8]) -> Result<Snap, JoinFault>
         ensures step { Step (rules_of (has self.old.set)) self.old.cap self.old.state (CallSnapshot payload.now result) self.new.state }
         ensures cap { self.new.cap ≡ self.old.cap }
@@ -329,8 +325,8 @@ impl<B: OrderBook> Joiner<B> {
         }
     }
 
-    /// Applies what waits, as far as the numbers go on, as after `OutOfMemory`. It returns the number of the next message,
-    /// or `None` where the joiner has not joined.
+    /// Applies what waits, up to the first number that is missing, as may be wanted after `OutOfMemory`. It returns the
+    /// number of the next message, or `None` before joining.
     pub fn resume(&mut self) -> Result<Option<u64>, JoinFault>
         ensures step { Step (rules_of (has self.old.set)) self.old.cap self.old.state (CallResume result) self.new.state }
         ensures cap { self.new.cap ≡ self.old.cap }

@@ -1,4 +1,4 @@
-//! What holds of every joiner, whatever it is delivered.
+//! What holds for every joiner, whatever is delivered to it.
 //!
 //! Each function here does nothing: its clauses are the laws.
 ghost use Rattle.std.specs.Prelude.{◌≡◌, ℕ, Bool, List, ◌+◌, ◌<◌, ◌≤◌, ◌^◌, true, Some, None, length, take};
@@ -38,13 +38,13 @@ pub fn late_joiner()
         → History rules cap feed past now → Stands rules cap feed past now }
 {}
 
-/// No more messages wait than may, after every list of calls, whatever they deliver: nothing is asked of the deliveries.
+/// At most `cap` messages wait, after every list of calls, whatever they deliver.
 pub fn at_most_cap_wait()
     ensures { (rules : Rules) → (cap : ℕ) → (past : List Event) → (now : State) → LeadsTo rules cap past now → map.len now.wait ≤ cap }
 {}
 
-/// What the last call has returned: `Full` comes only where as many messages wait as may and the number is not the next,
-/// the feed's first bad message is `Halted` where it is the next, and a halt that is returned stands.
+/// What the last call returned: `Full` only where `cap` messages wait and the number is not the next, `Halted` for the
+/// feed's first bad message where it is the next; and a halt that was returned stands.
 pub fn last_result()
     ensures market { (cap : ℕ) → (feed : List (List ℕ)) → (past : List Event) → (now : State) → AllByRecursion AreBytes feed → length feed < 10 ^ 19
         → History market_rules cap feed past now → LastIsRight market_rules cap feed past now }
@@ -54,8 +54,8 @@ pub fn last_result()
         → History rules cap feed past now → LastIsRight rules cap feed past now }
 {}
 
-/// The snapshot of a feed's first messages, where none of them is refused, ends as one of the feed: its messages are taken,
-/// and its End of Snapshot meets what `late_joiner` asks of a snapshot.
+/// The snapshot of a feed's first messages, none of them refused, is one that a joiner of the feed may start from: its
+/// messages are taken, and its End of Snapshot meets what `late_joiner` asks of a snapshot.
 pub fn snapshot_of_feed()
     ensures ends { (feed : List (List ℕ)) → (k : ℕ) → AllByRecursion AreBytes feed → k < bad market_rules feed → k < 10 ^ 19
         → half_case market_rules (half_of_snapshot market_rules (run market_rules (take k feed))) (spelling (is.End (k + 1))) ≡ SnapEnds (k + 1) (laid (run market_rules (take k feed))) }
@@ -67,8 +67,8 @@ pub fn snapshot_of_feed()
         → IsOfFeed (rules_of wanted) feed (SnapEnds (k + 1) (laid (run (rules_of wanted) (take k feed)))) }
 {}
 
-/// Where no message of the feed is refused: a joiner that has joined, that has accepted every message from the snapshot's
-/// number on, in any order, and that memory did not stop, has the market of the whole feed.
+/// Where no message of the feed is refused, a joiner that has joined, that has accepted every message from the snapshot's
+/// number on, in any order, and that did not run out of memory, has the market of the whole feed.
 pub fn whole_feed()
     ensures market { (cap : ℕ) → (feed : List (List ℕ)) → (past : List Event) → (now : State) → (j : Position) → AllByRecursion AreBytes feed → IsLawfulFeed market_rules feed
         → History market_rules cap feed past now → now.joined ≡ Some j → settled past ≡ true → AreAllAccepted market_rules feed past → IsAtEnd market_rules feed now j }
@@ -76,17 +76,17 @@ pub fn whole_feed()
         → History (rules_of wanted) cap feed past now → now.joined ≡ Some j → settled past ≡ true → AreAllAccepted (rules_of wanted) feed past → IsAtEnd (rules_of wanted) feed now j }
 {}
 
-/// Where no message of a feed's first k is refused, the rules of a set of locates refuse none of them either, and leave the
-/// market of all of them, cut down to the set.
+/// Where none of a feed's first k messages is refused, the rules of a set of locates refuse none of them either, and leave
+/// the market of all of them, cut down to the set.
 pub fn restricted_feed()
     ensures follows { (wanted : ℕ → Bool) → (feed : List (List ℕ)) → (k : ℕ) → AllByRecursion AreBytes feed → k < bad market_rules feed → k < bad (rules_of wanted) feed }
     ensures leaves { (wanted : ℕ → Bool) → (feed : List (List ℕ)) → (k : ℕ) → AllByRecursion AreBytes feed → k < bad market_rules feed
         → run (rules_of wanted) (take k feed) ≡ cut wanted (run market_rules (take k feed)) }
 {}
 
-/// From the snapshot of a feed's first messages, where none of them is refused, a joiner of a set of locates may start as well:
-/// from the whole one, of which it skips what is at other locates, and from the one of the market cut down to the set. Either
-/// leaves it that market, and the End of Snapshot meets what `late_joiner` asks of a snapshot.
+/// From the snapshot of a feed's first messages, none of them refused, a joiner of a set of locates may start too: from the
+/// whole one, of which it skips what is at other locates, and from that of the market cut down to the set. Either leaves it
+/// that market, cut down, and the End of Snapshot meets what `late_joiner` asks of a snapshot.
 pub fn snapshot_for_a_set()
     ensures whole { (wanted : ℕ → Bool) → (feed : List (List ℕ)) → (k : ℕ) → AllByRecursion AreBytes feed → k < bad market_rules feed → k < 10 ^ 19
         → half_case (rules_of wanted) (half_of_snapshot (rules_of wanted) (run market_rules (take k feed))) (spelling (is.End (k + 1)))
@@ -98,8 +98,9 @@ pub fn snapshot_for_a_set()
         → IsOfFeed (rules_of wanted) feed (SnapEnds (k + 1) (laid (cut wanted (run market_rules (take k feed))))) }
 {}
 
-/// Whatever snapshot a joiner of the whole market may start from, one of a set of locates may start from as well. It leaves it
-/// that market, cut down to the set, and the End of Snapshot meets what `late_joiner` asks of a snapshot there too.
+/// Whatever snapshot a joiner of the whole market may start from, a joiner of a set of locates may start from too. It
+/// leaves the second that market, cut down to the set, and the End of Snapshot meets what `late_joiner` asks of a snapshot
+/// there too.
 pub fn any_snapshot_for_a_set()
     ensures leaves { (wanted : ℕ → Bool) → (ps : List (List ℕ)) → (taken : ℕ) → (m : Content) → AllByRecursion AreBytes ps → AllByRecursion (λ p. closing_number p ≡ None) ps
         → half_after market_rules unread ps ≡ Reading taken m → half_after (rules_of wanted) unread ps ≡ Reading taken (laid (cut wanted m)) }

@@ -30,7 +30,7 @@ impl<B: OrderBook> Model for Position<B> {
     ghost view = { λ j. record { next = j.next; market = j.market } };
 }
 
-// Applies what waits, as far as it goes. A message waits until it is applied.
+// Applies what waits, up to the first number that is missing. A message waits until it is applied.
 pub(crate) fn drain<B: OrderBook>(
     wait: &mut Waiting<B::Alloc>,
     set: &LocateSet<B::Alloc>,
@@ -46,7 +46,7 @@ pub(crate) fn drain<B: OrderBook>(
     Ok(())
 }
 
-// Applies the message with the next number, and then what waits, as far as it goes.
+// Applies the message with the next number, and then what waits.
 pub(crate) fn advance<B: OrderBook>(
     wait: &mut Waiting<B::Alloc>,
     set: &LocateSet<B::Alloc>,

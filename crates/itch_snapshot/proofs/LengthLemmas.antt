@@ -64,7 +64,7 @@ length-locates orders (e ∷ es) =
       sum_by-cons (λ (f : ℕ × Listing). security_len f.1) e es,
     )
 
--- how many messages certain of the security at a locate
+-- how many messages say something of the security at a locate, besides its orders
 abbrev pub found_len : Option Listing → ℕ
 found_len None = 0
 found_len (Some s) = security_len s

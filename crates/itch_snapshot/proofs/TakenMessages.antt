@@ -1,4 +1,4 @@
--- What a message of a snapshot does, where those of all locates are taken, or of a set.
+-- What a message of a snapshot does, where all locates are wanted, or those of a set.
 use Rattle.std.proofs.Common.{◌≡◌, ℕ, ◌+◌, Bool, false, List, Option, Some, None, Result, Ok, Err, IfSome, IfNone, IsOkUnless, IsTrue, refl, sym, ap, subst, ◌∙◌}
 use denote.Ref.{Bor}
 use Rattle.itch_codec.specs.declared.message.Message.{Message}

@@ -34,7 +34,7 @@ IsShort x = IsPayload (spelling x)
 pub snap_short : (m : Content) → IsGood m → AllByRecursion IsShort (snap m)
 snap_short m good = All-weaker_rec IsSpelled IsShort (λ x spelled. spelled.short) (snap m) (snap_spelled m good)
 
--- and of the market of the locates that are wanted
+-- and so does that of each message of the market cut down to the locates that are wanted
 pub cut_short : (set : Option (Bor Wanted)) (m : Content) → IsGood m → AllByRecursion IsShort (snap (cut_to set m))
 cut_short None m good = snap_short m good
 cut_short (Some set) m good = snap_short (only (has set.now) m) (only_good (has set.now) m good)

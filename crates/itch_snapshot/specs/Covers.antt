@@ -1,4 +1,4 @@
--- Sets of locates that cover all of them, as where the work on a feed is parted.
+-- Sets of locates that together contain all of them, as where the work on a feed is divided.
 use Rattle.std.specs.Prelude.{◌≡◌, ℕ, ◌<◌, Bool, true, List}
 use Rattle.std.specs.List.{AllByRecursion, list_any}
 use Rattle.itch_market.specs.Content.{Content}

@@ -80,12 +80,12 @@ TakesNextOnly wanted taken m payload (Err NoEnd) n = ⊥
 TakesNextOnly wanted taken m payload (Err (Frame f)) n = ⊥
 TakesNextOnly wanted taken m payload (Err AfterEnd) n = ⊥
 
--- whether a message is skipped where those of all locates are taken, or of a set
+-- a message is skipped: without a set of locates none is
 abbrev pub skips_for : Option (Bor Wanted) → Message → Bool
 skips_for None x = false
 skips_for (Some set) x = skips (has set.now) x
 
--- the one relation or the other
+-- what the next message does, where without a set none is skipped
 abbrev pub TakesFor : Option (Bor Wanted) → ℕ → Content → List ℕ → Result (Option ℕ) SnapFault → Content → Type 0
 TakesFor None = TakesNext
 TakesFor (Some set) = TakesNextOnly (has set.now)
@@ -106,25 +106,25 @@ taken_after taken (Ok None) = taken + 1
 taken_after taken (Ok (Some next)) = taken
 taken_after taken (Err fault) = taken
 
--- a fault stays, but for want of memory
+-- a fault stays, unless memory ran out
 abbrev pub broken_by : SnapFault → Stage
 broken_by (Rule place OutOfMemory) = Taking
 broken_by fault = Broken fault
 
--- how far it is after a message
+-- how far the snapshot is read after a message
 abbrev pub stage_after : Result (Option ℕ) SnapFault → Stage
 stage_after (Ok None) = Taking
 stage_after (Ok (Some next)) = Closed next
 stage_after (Err fault) = broken_by fault
 
--- the next message at each stage, where the relation says what taking it does to the market
+-- what the next message does at each stage, by what taking it does to the market
 abbrev pub TakesBy : (ℕ → Content → List ℕ → Result (Option ℕ) SnapFault → Content → Type 0) → Stage → Load → List ℕ → Result (Option ℕ) SnapFault → Load → Type 0
 TakesBy Takes Taking old payload answer new =
     Takes old.taken old.market payload answer new.market × (new.taken ≡ taken_after old.taken answer) × (new.stage ≡ stage_after answer)
 TakesBy Takes (Broken fault) old payload answer new = (answer ≡ Err fault) × (new ≡ old)
 TakesBy Takes (Closed next) old payload answer new = (answer ≡ Err AfterEnd) × (new ≡ old)
 
--- of all locates
+-- where no message is skipped
 abbrev pub TakesAt : Stage → Load → List ℕ → Result (Option ℕ) SnapFault → Load → Type 0
 TakesAt = TakesBy TakesNext
 
@@ -140,7 +140,7 @@ Loads old payload answer new = TakesAt old.stage old payload answer new
 abbrev pub LoadsOnly : (ℕ → Bool) → Load → List ℕ → Result (Option ℕ) SnapFault → Load → Type 0
 LoadsOnly wanted old payload answer new = TakesAtOnly wanted old.stage old payload answer new
 
--- what is handed out: the market and the number after an End of Snapshot, else all as it was
+-- what is returned at the end: the market and the number after an End of Snapshot, else the reader as it was
 abbrev pub Finishes : Load → Result (Content × ℕ) Load → Type 0
 Finishes old (Ok done) = (done.0 ≡ old.market) × (old.stage ≡ Closed done.1)
 Finishes old (Err back) = (back ≡ old) × ((next : ℕ) → old.stage ≢ Closed next)

@@ -10,7 +10,7 @@ use std::fmt;
 
 /// Why a snapshot was not written or not read.
 ///
-/// A place counts the snapshot's messages from 1. Memory that runs out is `Rule` with the reason `OutOfMemory`.
+/// A place is that of a message in the snapshot, counted from 1. Out of memory is `Rule` with the reason `OutOfMemory`.
 #[derive(Clone, Copy, Debug)]
 pub enum SnapFault {
     /// The blocks ended before an End of Snapshot.
@@ -19,11 +19,11 @@ pub enum SnapFault {
     Frame(FrameFault),
     /// The payload at this place spells no message.
     Codec { place: u64, fault: CodecFault },
-    /// An order rule refuses the message at this place, or memory was refused.
+    /// An order rule refuses the message at this place, or memory ran out.
     Rule { place: u64, reason: Refusal },
-    /// A block that is not empty after the End of Snapshot.
+    /// A block that is not empty follows the End of Snapshot.
     AfterEnd,
-    /// A further block, that spells no End of Snapshot, after 10^19 - 1 messages.
+    /// The snapshot goes on after 10^19 - 1 messages, without an End of Snapshot.
     TooManyMessages,
 }
 

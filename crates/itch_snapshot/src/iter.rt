@@ -17,8 +17,8 @@ use itch_market::{LocateSet, Locates, Market};
 use std::alloc::{AllocError, Allocator};
 use std::marker::Model;
 
-/// The messages of a market's snapshot in their order, without the End of Snapshot: of the whole market, or of it cut down to
-/// a set of locates.
+/// The messages of a market's snapshot in order, without the End of Snapshot: of the whole market, or of the market cut
+/// down to a set of locates.
 ///
 /// The market is borrowed, and no memory is taken.
 #[derive(Drop)]
@@ -42,21 +42,21 @@ impl<'a, B: OrderBook> Model for SnapshotIter<'a, B> {
 }
 
 impl<'a, B: OrderBook> SnapshotIter<'a, B> {
-    /// All messages of the market's snapshot are still to come.
+    /// Over the snapshot of the whole market.
     pub fn new(market: &'a Market<B>) -> SnapshotIter<'a, B>
         ensures { result ≡ snap market.now }
     {
         SnapshotIter::of(market, None)
     }
 
-    /// All messages of the snapshot of the market cut down to the locates of the set are still to come.
+    /// Over the snapshot of the market cut down to the locates of the set.
     pub fn only(market: &'a Market<B>, set: &'a LocateSet<B::Alloc>) -> SnapshotIter<'a, B>
         ensures { result ≡ snap (only (has set.now) market.now) }
     {
         SnapshotIter::of(market, Some(set))
     }
 
-    // All messages of the snapshot are still to come: of the whole market, or of it cut down to the locates of a set.
+    // Over the snapshot of the whole market, or of the market cut down to the locates of a set.
     pub(crate) fn of(
         market: &'a Market<B>,
         set: Option<&'a LocateSet<B::Alloc>>,
@@ -73,7 +73,7 @@ impl<'a, B: OrderBook> SnapshotIter<'a, B> {
         }
     }
 
-    /// The number of messages still to come, which are walked for it.
+    /// The number of messages still to come. It goes through them to count them.
     pub fn remaining(&self) -> u64
         requires { length self.now < 2 ^ 64 }
         ensures { result ≡ length self.now }
@@ -130,7 +130,7 @@ impl<'a, B: OrderBook> Iterator for SnapshotIter<'a, B> {
     }
 }
 
-// Whether a locate is wanted: where there is no set, all are.
+// Whether a locate is wanted. Without a set all are.
 fn is_wanted<A: Allocator>(set: Option<&LocateSet<A>>, locate: u16) -> bool
     ensures { result ≡ in_set set.entry locate }
 {

@@ -1,4 +1,4 @@
-//! What holds of markets and their snapshots, of whatever size.
+//! What holds for markets and their snapshots, of any size.
 //!
 //! Each function here does nothing: its clauses are the laws.
 ghost use Rattle.std.specs.Prelude.{◌≡◌, ℕ, ◌+◌, ◌≤◌, ◌<◌, ◌^◌, ◌⊎◌, ◌↔◌, Bool, List, ◌++◌, length, map, take};
@@ -22,8 +22,8 @@ ghost use Rattle.itch_snapshot.specs.Snapshot.{snap};
 ghost use Rattle.itch_snapshot.specs.Files.{IsSnapshotFile, IsFaultOf, IsMarketOf};
 ghost use Rattle.itch_snapshot.specs.declared.fault.SnapFault.{SnapFault};
 
-/// The snapshot list of a market is messages whose fields fit, follows the order rules, and leaves the same market:
-/// that market with its orders in snapshot order.
+/// The messages of a snapshot list have fields that fit, follow the order rules, and leave the same market, with its orders
+/// in snapshot order.
 #[tactic(auto, using(crate::proofs::LawRules::replay_laws))]
 pub fn snapshot_replays()
     ensures messages { (m : Content) → IsGood m → AreMessages (snap m) }
@@ -32,8 +32,8 @@ pub fn snapshot_replays()
     ensures same { (m : Content) → IsGood m → Same (run (snap m)) m }
 {}
 
-/// A snapshot may stand in place of the messages before it: the rest follows the order rules after it,
-/// and leaves the same market as all messages do.
+/// A snapshot may stand in place of the messages before it: the rest follow the order rules after it, and leave the same
+/// market as all the messages do.
 #[tactic(auto, using(crate::proofs::LawRules::late_laws))]
 pub fn late_start()
     ensures follows { (xs ys : List Message) → AreMessages (xs ++ ys) → Follows (xs ++ ys) → FollowsFrom (run (snap (run xs))) ys }
@@ -49,8 +49,8 @@ pub fn one_snapshot()
     ensures laid_list { (m : Content) → IsGood m → snap (laid m) ≡ snap m }
 {}
 
-/// No message makes the snapshot list longer by more than one. So messages leave a market whose list is no longer than they
-/// are, and what a replay leaves of the empty market, or a snapshot file holds, has a list that is short enough to be written.
+/// No message makes the snapshot list longer by more than one. So messages leave a market whose list is no longer than
+/// theirs, and a market that a replay leaves, or that a snapshot file holds, has a list that is short enough to be written.
 #[tactic(auto, using(crate::proofs::LawRules::size_laws))]
 pub fn short_snapshot()
     ensures step { (m : Content) → (x : Message) → IsGood m → length (snap (effect m x)) ≤ length (snap m) + 1 }
@@ -77,8 +77,9 @@ pub fn whole_snapshot()
 {}
 
 /// The snapshot list of a market cut down to some locates is the market's, without the messages that are skipped. For sets
-/// that together have all locates, two markets are the same exactly if cut down to each of the sets they have the same
-/// canonical bytes: the work on a feed may be parted by locates, and the parts' snapshots together say all of the whole's.
+/// that together contain all locates, two markets are the same exactly if, cut down to each of the sets, they have the same
+/// canonical bytes: the work on a feed may be divided by locates, and the snapshots of the parts together say all that the
+/// whole one says.
 pub fn parts_of_a_market()
     ensures list { (wanted : ℕ → Bool) → (m : Content) → snap (only wanted m) ≡ kept wanted (snap m) }
     ensures determine { (sets : List (ℕ → Bool)) → (m n : Content) → Covers sets → IsGood m → IsGood n → Same m n ↔ HaveSameParts sets m n }
@@ -120,7 +121,7 @@ pub fn written_snapshot()
         → IsMarketOf (canon m ++ closing next) done → canon done.0 ++ closing done.1 ≡ canon m ++ closing next }
 {}
 
-/// A snapshot file whose messages stand in any order, read and written, is read again as the same market and number.
+/// A snapshot file with its messages in any order, read and written again, is read as the same market and number.
 pub fn rewritten_snapshot()
     ensures { (bytes : List ℕ) → (done : Content × ℕ) → IsMarketOf bytes done → IsMarketOf (canon done.0 ++ closing done.1) done }
 {}

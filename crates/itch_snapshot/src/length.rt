@@ -20,7 +20,7 @@ pub fn snapshot_len<B: OrderBook>(market: &Market<B>) -> u128
     len
 }
 
-// How many messages a security has beside its orders.
+// How many messages a security has besides its orders.
 fn security_len<A: Allocator>(security: &Security<A>) -> u128
     ensures len { result ≡ security_len security.now }
     ensures small { security_len security.now < 2 ^ 65 }

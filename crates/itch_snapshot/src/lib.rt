@@ -1,7 +1,8 @@
 //! Snapshots of a market: the one canonical list of messages that leads to it, written and read.
 //!
-//! Two markets are the same exactly if their snapshots, up to End of Snapshot, have the same bytes; a snapshot that is replayed
-//! has itself as its snapshot; and from a snapshot the rest of a feed leaves the market of the whole. `laws` says so.
+//! Two markets are the same exactly if their snapshots, up to End of Snapshot, have the same bytes; a market that a
+//! snapshot is replayed to has that snapshot again; and from a snapshot the rest of a feed leaves the market of the whole
+//! feed. `laws` says so.
 //!
 //! - [`SnapshotIter`] gives the messages, of the whole market or of some locates; [`write_snapshot`] and [`write_partial`] write
 //!   them, closed by End of Snapshot (GLIMPSE 5.0).

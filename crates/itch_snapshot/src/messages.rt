@@ -1,4 +1,4 @@
-//! The messages of which a snapshot is made.
+//! The messages that make up a snapshot.
 ghost use Rattle.std.specs.Prelude.{◌≡◌};
 ghost use Rattle.std.specs.Option.{option_copied};
 ghost use Rattle.itch_book.specs.declared.order.Order.{Order};

@@ -3,7 +3,7 @@
 use itch_book::Order;
 use itch_codec::Alpha;
 
-/// An order, with the stock that the directory has at its locate.
+/// An order, with its locate's stock from the directory.
 #[derive(Clone, Copy)]
 pub(crate) struct NamedOrder {
     pub(crate) stock: Alpha<8>,

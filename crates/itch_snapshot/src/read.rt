@@ -18,9 +18,9 @@ use std::alloc::Allocator;
 /// Reads a snapshot file (GLIMPSE 5.0) into a market of its own, with the number of the first message that it does not
 /// contain. After the End of Snapshot the input ends, or a block of length 0 follows, after which nothing is read.
 ///
-/// `NoEnd` where the blocks end before, `Codec` and `Rule` for the first message that is not taken, `TooManyMessages` where
-/// 10^19 - 1 messages and no End of Snapshot came, `AfterEnd` for a block after it, and `Frame` for a failed read or an
-/// unfinished block. Memory that runs out is `Rule` with the reason `OutOfMemory`. On a fault no market is handed out.
+/// `NoEnd` if the blocks end before it, `Codec` and `Rule` for the first message that is not taken, `TooManyMessages` if
+/// 10^19 - 1 messages came and no End of Snapshot, `AfterEnd` for a block after it, and `Frame` for a failed read or an
+/// unfinished block. Out of memory is `Rule` with the reason `OutOfMemory`. A fault returns no market.
 pub fn read_snapshot<R: CountedRead, A: Allocator, B: OrderBook>(
     alloc: B::Alloc,
     reader: &mut BlockReader<R, A>,
@@ -59,7 +59,7 @@ fn read_messages<R: CountedRead, A: Allocator, B: OrderBook>(
     unreachable!()
 }
 
-// Applies the message of the next block, after `taken` others.
+// Applies the next message, after `taken` others.
 fn read_message<R: CountedRead, A: Allocator, B: OrderBook>(
     reader: &mut BlockReader<R, A>,
     market: &mut Market<B>,

@@ -10,19 +10,19 @@ use itch_market::{LocateSet, Market, Refusal};
 use std::alloc::Allocator;
 use std::marker::Model;
 
-// How far the reading of a snapshot is.
+// How far a snapshot has been read.
 #[derive(Clone, Copy)]
 pub(crate) enum Stage {
     // Messages are taken.
     Taking,
-    // A message was not taken; every further one has the same fault.
+    // A message was not taken. Every further one has the same fault.
     Broken(SnapFault),
     // The End of Snapshot came, with the number of the first message that the snapshot does not contain.
     Closed(Seq),
 }
 
 impl Stage {
-    // Nothing where messages are taken, else the fault of every further one.
+    // Whether a further message is taken, or its fault.
     pub(crate) fn open(&self) -> Result<(), SnapFault>
         ensures { result ≡ opened self.now }
     {
@@ -34,7 +34,7 @@ impl Stage {
     }
 }
 
-/// Takes the messages of a snapshot one by one, and hands out their market after the End of Snapshot.
+/// Takes the messages of a snapshot one by one, and returns their market after the End of Snapshot.
 #[derive(Drop)]
 pub struct SnapshotReader<B: OrderBook> {
     market: Market<B>,
@@ -62,7 +62,7 @@ impl<B: OrderBook> SnapshotReader<B> {
     ghost use Rattle.itch_snapshot.specs.declared.reader.Stage.TheVariants.{Taking};
     ghost use Rattle.itch_snapshot.specs.TakenMessages.{begun, taken_after, stage_after, Loads, LoadsOnly, Finishes};
 
-    /// Nothing is taken yet, neither messages nor memory.
+    /// A reader that has taken no message yet. It takes no memory.
     pub fn new(alloc: B::Alloc) -> Self
         ensures { result ≡ begun }
     {
@@ -75,9 +75,9 @@ impl<B: OrderBook> SnapshotReader<B> {
 
     /// Takes the message of a payload: `None` for a message that was applied, `Some(next)` for the End of Snapshot.
     ///
-    /// A message is refused by `Codec`, `Rule` or `TooManyMessages`, and every later call returns the same. Memory that runs out is
-    /// `Rule` with the reason `OutOfMemory`; that leaves all as before, and the call may be made again. After the End of
-    /// Snapshot each call returns `AfterEnd`.
+    /// A message that is refused is `Codec`, `Rule` or `TooManyMessages`, and every later call returns the same. Out of
+    /// memory is `Rule` with the reason `OutOfMemory`; nothing has changed then, and the call may be made again. After the
+    /// End of Snapshot every call returns `AfterEnd`.
     pub fn message(&mut self, payload: &[u8]) -> Result<Option<Seq>, SnapFault>
         ensures { Loads self.old payload.now result self.new }
     {
@@ -87,8 +87,8 @@ impl<B: OrderBook> SnapshotReader<B> {
         self.settle(taken)
     }
 
-    /// The same, but a message about a security or an order at a locate that the set does not contain is counted and changes
-    /// nothing else: it is decoded, and follows no rule.
+    /// The same, restricted to a set of locates: a message about a security or an order at another locate is decoded and
+    /// counted, but checked against no rule, and changes nothing else.
     pub fn message_only(
         &mut self,
         set: &LocateSet<B::Alloc>,
@@ -102,7 +102,7 @@ impl<B: OrderBook> SnapshotReader<B> {
         self.settle(taken)
     }
 
-    // Counts a message that was taken, keeps how far the reading is, and returns the same.
+    // Counts a message that was taken, keeps how far the snapshot has been read, and returns the same result.
     fn settle(&mut self, taken: Result<Option<Seq>, SnapFault>) -> Result<Option<Seq>, SnapFault>
         requires room { IfOk taken (λ next. IfNone next (self.old.taken < 10 ^ 19 - 1)) }
         requires taking { self.old.stage ≡ Taking }
@@ -131,7 +131,7 @@ impl<B: OrderBook> SnapshotReader<B> {
         self.taken
     }
 
-    /// The market that the messages taken so far leave.
+    /// The market of the messages taken so far.
     pub fn market(&self) -> &Market<B>
         ensures { result.now ≡ self.now.market }
     {
@@ -139,7 +139,7 @@ impl<B: OrderBook> SnapshotReader<B> {
     }
 
     /// The market and the number of the first message that it does not contain, after the End of Snapshot. Before it the
-    /// reader itself is handed back.
+    /// reader itself is returned.
     pub fn finish(self) -> Result<(Market<B>, Seq), SnapshotReader<B>>
         ensures { Finishes self result }
     {
@@ -151,7 +151,7 @@ impl<B: OrderBook> SnapshotReader<B> {
     }
 }
 
-// The message of a payload after `taken` others: one for which there is room, or the End of Snapshot.
+// The message of a payload, after `taken` others: one for which there is room, or the End of Snapshot.
 fn message_of(payload: &[u8], taken: u64) -> Result<Message<'_>, SnapFault>
     requires { taken ≤ 10 ^ 19 - 1 }
     ensures { IsNext taken payload.entry.now result }
@@ -167,7 +167,7 @@ fn message_of(payload: &[u8], taken: u64) -> Result<Message<'_>, SnapFault>
     }
 }
 
-// Whether the message is at a locate that is not wanted: where there is no set, all are.
+// Whether the message is at a locate that is not wanted. Without a set all are.
 fn is_skipped<A: Allocator>(set: Option<&LocateSet<A>>, message: &Message<'_>) -> bool
     ensures { result ≡ skips_for set.entry message.now }
 {
@@ -177,7 +177,7 @@ fn is_skipped<A: Allocator>(set: Option<&LocateSet<A>>, message: &Message<'_>) -
     }
 }
 
-// Takes the message of a payload after `taken` others. Where there is a set, a message at a locate that it does not contain
+// Takes the message of a payload, after `taken` others. With a set, a message at a locate that the set does not contain
 // changes nothing.
 pub(crate) fn take<'a, B: OrderBook>(
     market: &'a mut Market<B>,

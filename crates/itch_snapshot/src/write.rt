@@ -19,7 +19,7 @@ use itch_market::{LocateSet, Market};
 /// Writes the canonical bytes of a market and the block of an End of Snapshot with `next`, and returns the number of
 /// messages written, End of Snapshot included.
 ///
-/// The only fault is `Frame(Write)`: the blocks before were written whole, and of this one as many bytes as it says.
+/// The only fault is `Frame(Write)`: the blocks before were written whole, and of this one as many bytes as the fault says.
 pub fn write_snapshot<W: CountedWrite, B: OrderBook>(
     market: &Market<B>,
     next: Seq,
@@ -45,7 +45,7 @@ pub fn write_partial<W: CountedWrite, B: OrderBook>(
     Ok(write_of(market, Some(set), next, writer)?)
 }
 
-// Writes the blocks of a market's snapshot, or of that of the market cut down to a set, and the block of an End of Snapshot.
+// Writes the snapshot of the whole market, or of the market cut down to a set, and the block of an End of Snapshot.
 fn write_of<'a, W: CountedWrite, B: OrderBook>(
     market: &'a Market<B>,
     set: Option<&'a LocateSet<B::Alloc>>,
