@@ -52,36 +52,20 @@ data_shows next payload true e = rw e (refl, refl, refl, refl, refl)
 data_shows next payload false e = rw e tt
 
 pub turn_shows : (at : Stage) (next : ℕ) (packet : Packet) → TurnShows at next packet
-turn_shows stage.Closed next packet = tt
 turn_shows stage.Before next (is.Debug text) = (refl, refl)
 turn_shows stage.Before next (is.LoginAccepted login) = (refl, refl, refl)
-turn_shows stage.Before next (is.LoginRejected code) = tt
-turn_shows stage.Before next (is.SequencedData payload) = tt
 turn_shows stage.Before next is.ServerHeartbeat = (refl, refl)
-turn_shows stage.Before next is.EndOfSession = tt
-turn_shows stage.Before next (is.LoginRequest login) = tt
 turn_shows stage.Before next (is.UnsequencedData payload) = (refl, refl)
-turn_shows stage.Before next is.ClientHeartbeat = tt
-turn_shows stage.Before next is.LogoutRequest = tt
 turn_shows stage.Accepted next (is.Debug text) = (refl, refl)
-turn_shows stage.Accepted next (is.LoginAccepted login) = tt
-turn_shows stage.Accepted next (is.LoginRejected code) = tt
 turn_shows stage.Accepted next (is.SequencedData payload) = data_shows next payload (nat_lt next (10 ^ 19)) refl
 turn_shows stage.Accepted next is.ServerHeartbeat = (refl, refl)
-turn_shows stage.Accepted next is.EndOfSession = tt
-turn_shows stage.Accepted next (is.LoginRequest login) = tt
 turn_shows stage.Accepted next (is.UnsequencedData payload) = (refl, refl)
-turn_shows stage.Accepted next is.ClientHeartbeat = tt
-turn_shows stage.Accepted next is.LogoutRequest = tt
+turn_shows at next packet = tt
 
 -- one packet more
 noted-append : (answer : ClientAct) (xs ys : List ClientAct) → noted answer (xs ++ ys) ≡ noted answer xs ++ ys
 noted-append act.Nothing xs ys = refl
-noted-append (act.Accepted next) xs ys = refl
-noted-append (act.Rejected code) xs ys = refl
-noted-append (act.Data n payload) xs ys = refl
-noted-append act.Ended xs ys = refl
-noted-append (act.Fault f) xs ys = refl
+noted-append answer xs ys = refl
 
 news-push : (c : Client) (packets : List Packet) (packet : Packet) → news c (packets ++ packet ∷ []) ≡ news c packets ++ noted (client_answer (after_packets c packets) packet) []
 news-push c [] packet = refl
@@ -273,9 +257,7 @@ module _ (start : Client) (old mid new : Option (List ℕ)) (count : ℕ) (c : C
       (each-push IsPayload so_far.payloads payload so_far.fit (data_fits payload block_read fits (subst (λ p. PacketSpells p block_read Server) seen.4 spelled)))
       (phase_data _ _ _ _ number payload _ _ so_far.payloads seen.0 seen.1 seen.2 seen.3 (more_news ∙ ap (λ a. news start so_far.packets ++ noted a []) is) so_far.phase)
       took.0 took.1
-  heard_answer (act.Rejected code) is takes = absurd takes
-  heard_answer act.Ended is takes = absurd takes
-  heard_answer (act.Fault f) is takes = absurd takes
+  heard_answer answer is takes = absurd takes
 
   -- or it did: the message was the End of Snapshot
   closed_by : (payload : List ℕ) (taken : Option ℕ) → Loads load payload (Ok taken) after → true ≡ is_some taken
@@ -312,9 +294,7 @@ module _ (start : Client) (old mid new : Option (List ℕ)) (count : ℕ) (c : C
           (so_far.packets, ap (λ p. so_far.packets ++ p ∷ []) seen.4),
         ),
       )
-  heard_end (act.Rejected code) is takes done finishes = absurd takes
-  heard_end act.Ended is takes done finishes = absurd takes
-  heard_end (act.Fault f) is takes done finishes = absurd takes
+  heard_end answer is takes done finishes = absurd takes
 
 -- the next packet, as the step has it
 pub hearing_on : (start : Client) (old mid new : Option (List ℕ)) (count : ℕ) (c later : Client) (load after : Load) → Hearing start old mid count c load
@@ -337,9 +317,7 @@ hearing_closes start old mid new count c c_after load after so_far (packet, (roo
   closes_by (act.Accepted next) (one, unclosed, same) = absurd (let no_one : ⊥ = cc in no_one)
   closes_by (act.Data number payload) (taken, loads, closed) =
       let (next, number_is, market, at_end) = closed_by start old mid new count c load after so_far packet read room fits consumed spelled payload taken loads closed in (next, at_end)
-  closes_by (act.Rejected code) takes = absurd takes
-  closes_by act.Ended takes = absurd takes
-  closes_by (act.Fault f) takes = absurd takes
+  closes_by answer takes = absurd takes
 
 -- the snapshot's reader has taken what was heard
 loaded : (payloads : List (List ℕ)) (load : Load) → Applied payloads load.taken load.market → load.stage ≡ Taking → load ≡ load_of payloads

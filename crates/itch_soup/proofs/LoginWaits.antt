@@ -56,19 +56,6 @@ waiting_ends old mid new count wait so_far ends = (
   subst (λ n. EndsWait (is_enough n) mid new wait) (sym so_far.counted) ends,
 )
 
--- a client's packet that is neither a login nor a logout is passed over
-pub idle : (packet : Packet) (block : List ℕ) → PacketSpells packet block Client → ((login : _) → packet ≡ is.LoginRequest login → ⊥) → (packet ≡ is.LogoutRequest → ⊥) → IsIdle packet
-idle (is.Debug payload) block h no_login no_logout = tt
-idle (is.LoginAccepted login) block h no_login no_logout = absurd (let side = h.side in search rules)
-idle (is.LoginRejected code) block h no_login no_logout = absurd (let side = h.side in search rules)
-idle (is.SequencedData payload) block h no_login no_logout = absurd (let side = h.side in search rules)
-idle is.ServerHeartbeat block h no_login no_logout = absurd (let side = h.side in search rules)
-idle is.EndOfSession block h no_login no_logout = absurd (let side = h.side in search rules)
-idle (is.LoginRequest login) block h no_login no_logout = absurd (no_login login refl)
-idle (is.UnsequencedData payload) block h no_login no_logout = tt
-idle is.ClientHeartbeat block h no_login no_logout = tt
-idle is.LogoutRequest block h no_login no_logout = absurd (no_logout refl)
-
 -- what the server's table answers while a login is waited for
 pub idle_turn : (config : ServerConfig) (total : ℕ) (packet : Packet) → IsIdle packet → server_turn config total stage.Before packet ≡ (server.Nothing, stage.Before)
 idle_turn config total (is.Debug payload) idle = refl

@@ -128,27 +128,11 @@ typed_none t kind values block from h =
 
 type_of-kind : (packet : Packet) → type_of (packet_type packet).kind ≡ Some (packet_type packet)
 type_of-kind (is.Debug payload) = refl
-type_of-kind (is.LoginAccepted login) = refl
-type_of-kind (is.LoginRejected code) = refl
-type_of-kind (is.SequencedData payload) = refl
-type_of-kind is.ServerHeartbeat = refl
-type_of-kind is.EndOfSession = refl
-type_of-kind (is.LoginRequest login) = refl
-type_of-kind (is.UnsequencedData payload) = refl
-type_of-kind is.ClientHeartbeat = refl
-type_of-kind is.LogoutRequest = refl
+type_of-kind packet = refl
 
 not_empty : (packet : Packet) → HasSize (packet_type packet).size [] → ⊥
 not_empty (is.Debug payload) h = omega (arith, h)
-not_empty (is.LoginAccepted login) h = omega (arith, h)
-not_empty (is.LoginRejected code) h = omega (arith, h)
-not_empty (is.SequencedData payload) h = omega (arith, h)
-not_empty is.ServerHeartbeat h = omega (arith, h)
-not_empty is.EndOfSession h = omega (arith, h)
-not_empty (is.LoginRequest login) h = omega (arith, h)
-not_empty (is.UnsequencedData payload) h = omega (arith, h)
-not_empty is.ClientHeartbeat h = omega (arith, h)
-not_empty is.LogoutRequest h = omega (arith, h)
+not_empty packet h = omega (arith, h)
 
 -- what is spelled has no fault
 pub spelled-none : (packet : Packet) (block : List ℕ) (from : Origin) → PacketSpells packet block from → packet_fault block from ≡ None

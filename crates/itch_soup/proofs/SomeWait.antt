@@ -51,11 +51,7 @@ module _ (q more : List ℕ) (fits : IsPayload q) where
   by_packet is.ClientHeartbeat spelled = passed_over is.ClientHeartbeat spelled tt
   by_packet (is.LoginRequest login) spelled = inr (Some more, Ok (Login login), (refl, (q, fits, refl, spelled)), tt)
   by_packet is.LogoutRequest spelled = inr (Some more, Ok Leave, inr (refl, (q, fits, refl, spelled)), tt)
-  by_packet (is.LoginAccepted login) spelled = absurd (let side = spelled.side in search rules)
-  by_packet (is.LoginRejected code) spelled = absurd (let side = spelled.side in search rules)
-  by_packet (is.SequencedData payload) spelled = absurd (let side = spelled.side in search rules)
-  by_packet is.ServerHeartbeat spelled = absurd (let side = spelled.side in search rules)
-  by_packet is.EndOfSession spelled = absurd (let side = spelled.side in search rules)
+  by_packet packet spelled = absurd (let side = spelled.side in search rules)
 
   by_fault : (o : Option SoupFault) → packet_fault q Client ≡ o → Here
   by_fault (Some f) e = faulty f e (subst OfBlock e (of_block q Client))
