@@ -16,7 +16,7 @@ use Rattle.itch_soup.proofs.FaultlessBlocks.{faultless-spelled}
 use Rattle.itch_soup.proofs.BlockFaults.{OfBlock, of_block, of_each}
 use Rattle.itch_soup.proofs.LoginWaits.{Waiting, waiting_first, waiting_on, waiting_ends}
 
--- the next packet is passed over, and fewer bytes are left; or the wait ends
+-- the next packet is ignored, and fewer bytes are left; or the wait ends
 abbrev Outcome : Bool → List ℕ → Type 0
 Outcome enough rest =
     ((more : List ℕ) × WaitsOn enough (Some rest) (Some more) (Ok None) × (length more < length rest))
