@@ -95,7 +95,7 @@ queue_rises orders l s d =
     by_case x y (inl e) = inl e
     by_case x y (inr h) = inr (price_is s x.price y.price h.0 h.1, h.2)
 
--- over any two places of a queue, the one stands before the other exactly if its order has priority
+-- over any two places of a queue, one comes before the other if and only if its order has priority
 pub queue_by_priority : (orders : List Order) (l : ℕ) (s : Side) → IsDistinct orders → IsByPriority orders s (queue orders l s)
 queue_by_priority orders l s d = places_exactly (HasPriority orders s) (priority_one_way orders s) (queue orders l s) (queue_rises orders l s d)
 

@@ -46,7 +46,7 @@ places_from_Rises R (z ∷ zs) h i zero x y e f lt = absurd (omega arith)
 places_from_Rises R (z ∷ zs) h zero (suc j) x y e f lt = let this : z ≡ x = cc in subst (λ w. R w y) this (at_place (R z) zs j y h.0 f)
 places_from_Rises R (z ∷ zs) h (suc i) (suc j) x y e f lt = places_from_Rises R zs h.1 i j x y e f (omega arith)
 
--- one place is below another exactly if its element is related to the other's
+-- one place is below another if and only if its element is related to the other's
 pub places_exactly : {A : Type 0} (R : A → A → Type 0) → ((x y : A) → R x y → R y x → ⊥) → (xs : List A) → Rises R xs
     → (i j : ℕ) (x y : A) → slice_get xs i ≡ Some x → slice_get xs j ≡ Some y → (i < j) ↔ R x y
 places_exactly R one_way xs h i j x y e f = (

@@ -203,7 +203,7 @@ has_head nodes heads q h = by_head (get heads q) (subst IsSome (keys_seen nodes 
     by_head None h = absurd (false≢true h)
     by_head (Some head) h = refl
 
--- the same, as the calls certain it
+-- the same, as the calls state it
 pub push_known : (nodes nodes1 nodes2 : Slab Node) (heads heads' : Slab Head) (q k : ℕ) (o : Order) (x : Node) (head1 head head' : Head) → IsSound (get nodes) (get heads) → get nodes k ≡ None
     → get heads q ≡ Some head1 → get heads q ≡ Some head → x.order ≡ o → x.queue ≡ q → x.before ≡ head1.last → x.after ≡ None → o.shares < 2 ^ 32 → Updates nodes nodes1 k (Some x)
     → ((j : ℕ) → get nodes2 j ≡ with_after head1.last (Some k) (get nodes1) j) → ((y : Node) → y.before ≡ head1.last → y.order.shares ≡ o.shares → head' ≡ pushed_head k y head)

@@ -1,4 +1,4 @@
--- A list is a book's in one way only, so that a book may keep this fact beside its list.
+-- Any two proofs that a list is a book's are equal, so a book may have such a proof as a ghost field.
 use Rattle.std.specs.Prelude.{◌≡◌, false, List, [], ◌∷◌}
 use Rattle.std.specs.Coded.{×_prop, Π_prop, Unit-prop, le_prop, Coded-set, coded_bool}
 use Rattle.std.specs.List.{AllByRecursion-prop}
@@ -6,12 +6,12 @@ use Rattle.itch_book.specs.declared.order.Order.{Order}
 use Rattle.itch_book.specs.StableLists.{IsInOrder}
 use Rattle.itch_book.specs.Orders.{stands_before, fits, IsLive, IsDistinct, IsBook}
 
--- a list is in order in one way
+-- any two proofs that a list is in order are equal
 pub IsInOrder-prop : (xs : List Order) → IsProp (IsInOrder stands_before xs)
 IsInOrder-prop [] = Unit-prop
 IsInOrder-prop (x ∷ xs) = ×_prop (AllByRecursion-prop (λ y. stands_before y x ≡ false) (λ y. Coded-set coded_bool (stands_before y x) false) xs) (IsInOrder-prop xs)
 
--- that references are distinct
+-- the same of proofs that references are distinct
 pub IsDistinct-prop : (xs : List Order) → IsProp (IsDistinct xs)
 IsDistinct-prop xs = Π_prop (λ reference. le_prop)
 
@@ -19,7 +19,7 @@ IsDistinct-prop xs = Π_prop (λ reference. le_prop)
 pub IsLive-prop : (x : Order) → IsProp (IsLive x)
 IsLive-prop x = ×_prop le_prop (Coded-set coded_bool (fits x) _)
 
--- and with them the whole fact
+-- and that a list is a book's
 pub IsBook-prop : (xs : List Order) → IsProp (IsBook xs)
 IsBook-prop xs = λ a b i. record {
   in_place = IsInOrder-prop xs a.in_place b.in_place i;

@@ -76,7 +76,7 @@ pub record IsPlaced (bids asks : List (Place × ℕ)) (q : ℕ) : Type 0 where
   pub price : ℕ
   pub at_price : queue_of_side side bids asks locate price ≡ Some q
 
--- the one side and place are the other
+-- the two sides and places are the same
 abbrev pub IsPlace : Side → ℕ → ℕ → Side → ℕ → ℕ → Type 0
 IsPlace s l p t m n = (s ≡ t) × (l ≡ m) × (p ≡ n)
 
@@ -107,7 +107,7 @@ has_keys (Some (k ∷ ks)) = true
 abbrev pub IsBusy : Seen → List (Place × ℕ) → List (Place × ℕ) → Type 0
 IsBusy v bids asks = (s : Side) (l p q : ℕ) → queue_of_side s bids asks l p ≡ Some q → has_keys (v.keys q) ≡ true
 
--- and so has each queue but one
+-- each queue but one has nodes
 abbrev pub IsBusyBut : Seen → List (Place × ℕ) → List (Place × ℕ) → ℕ → Type 0
 IsBusyBut v bids asks but = (s : Side) (l p q : ℕ) → queue_of_side s bids asks l p ≡ Some q → eqb but q ≡ false → has_keys (v.keys q) ≡ true
 

@@ -12,7 +12,7 @@ abbrev pub is_better : Side → ℕ → ℕ → Bool
 is_better Buy p q = nat_lt q p
 is_better Sell p q = nat_lt p q
 
--- the two sides are one
+-- the two sides are the same
 abbrev pub same_side : Side → Side → Bool
 same_side Buy Buy = true
 same_side Buy Sell = false
@@ -36,27 +36,27 @@ abbrev pub queues_below : ℕ → List Order → List Order
 queues_below zero orders = []
 queues_below (suc n) orders = queues_below n orders ++ sides orders n
 
--- the orders in snapshot order: locates rise, and the orders of each are bids before asks, by priority
+-- the orders in snapshot order: locates in ascending order, and the orders of each are bids before asks, by priority
 unfoldable pub lay : List Order → List Order
 lay orders = queues_below 65536 orders
 
--- an order of the first locate, side and price stands before one of the second in snapshot order:
--- by locate rising, bids before asks, and then the better price first
+-- an order of the first locate, side and price comes before one of the second in snapshot order:
+-- by ascending locate, bids before asks, and then the better price first
 abbrev pub place_before : ℕ → Side → ℕ → ℕ → Side → ℕ → Bool
 place_before l Buy p m Buy q = nat_lt l m || (l == m && nat_lt q p)
 place_before l Buy p m Sell q = nat_lt l m || l == m
 place_before l Sell p m Buy q = nat_lt l m
 place_before l Sell p m Sell q = nat_lt l m || (l == m && nat_lt p q)
 
--- x stands before y in snapshot order, whichever of them came first
+-- x comes before y in snapshot order, whichever of them arrived first
 abbrev pub stands_before : Order → Order → Bool
 stands_before x y = place_before x.locate x.side x.price y.locate y.side y.price
 
--- the locate is one of two bytes
+-- the locate fits two bytes
 abbrev pub fits : Order → Bool
 fits x = nat_lt x.locate 65536
 
--- every locate is one of two bytes
+-- every locate fits two bytes
 abbrev pub AllFit : List Order → Type 0
 AllFit orders = AllByRecursion (λ x. fits x ≡ true) orders
 
@@ -80,11 +80,11 @@ less reference shares x = if has_reference reference x then record x { shares = 
 abbrev pub has_shares : Order → Bool
 has_shares x = not (x.shares == 0)
 
--- shares taken from the order of a reference, which is gone where none are left ("Order Executed Message", "Order Cancel Message")
+-- shares taken from the order of a reference, which is removed if none are left ("Order Executed Message", "Order Cancel Message")
 abbrev pub taken : ℕ → ℕ → List Order → List Order
 taken reference shares orders = filter has_shares (map (less reference shares) orders)
 
--- one more order, which came last ("Add Order Message")
+-- one more order, which arrived last ("Add Order Message")
 abbrev pub added : Order → List Order → List Order
 added x orders = orders ++ x ∷ []
 
@@ -94,7 +94,7 @@ replaced_by None original reference shares price orders = orders
 replaced_by (Some x) original reference shares price orders =
     without original orders ++ record x { reference = reference; shares = shares; price = price } ∷ []
 
--- a new order in place of another one, with its locate, side and attribution, which came last ("Order Replace Message")
+-- a new order in place of another one, with its locate, side and attribution, which arrived last ("Order Replace Message")
 abbrev pub replaced : ℕ → ℕ → ℕ → ℕ → List Order → List Order
 replaced original reference shares price orders = replaced_by (get orders original) original reference shares price orders
 
@@ -116,7 +116,7 @@ pub record IsBook (orders : List Order) : Type 0 where
 abbrev pub is_in : ℕ → Order → Bool
 is_in locate x = x.locate == locate
 
--- what stands after the order of a reference
+-- what follows the order of a reference
 abbrev pub following : ℕ → List Order → List Order
 following reference [] = []
 following reference (x ∷ xs) = if has_reference reference x then xs else following reference xs
@@ -135,7 +135,7 @@ abbrev pub from_order : List Order → Option Order → List Order
 from_order orders None = []
 from_order orders (Some x) = x ∷ filter (is_in x.locate) (following x.reference orders)
 
--- worse than a price, or any price where none is given
+-- worse than a price, or any price if none is given
 abbrev pub is_worse : Side → Option ℕ → ℕ → Bool
 is_worse side None price = true
 is_worse side (Some last) price = is_better side last price
@@ -170,7 +170,7 @@ abbrev pub is_at_price : ℕ → Order → Bool
 is_at_price price x = x.price == price
 
 -- the one list of the orders of a locate and side in which better prices come first,
--- and the orders at one price stand as they came
+-- and the orders at one price are in order of arrival
 pub record IsQueue (orders : List Order) (locate : ℕ) (side : Side) (line : List Order) : Type 0 where
   pub better_first : IsInOrder (λ x y. is_better side x.price y.price) line
   pub as_they_came : (price : ℕ) → filter (is_at_price price) line ≡ filter (is_at_price price) (filter (is_of locate side) orders)

@@ -9,16 +9,16 @@ use crate::order::{Order, Taken};
 use itch_codec::Side;
 use std::alloc::{AllocError, Allocator};
 
-/// The live orders of all locates, in snapshot order: by locate rising, bids before asks, bids from the highest price,
+/// The live orders of all locates, in snapshot order: by ascending locate, bids before asks, bids from the highest price,
 /// asks from the lowest, and one price by time priority.
 pub trait OrderBook: Drop {
-    /// Where memory comes from.
+    /// The allocator of the book's memory.
     type Alloc: Allocator + Copy;
 
-    // The orders in snapshot order, however they are kept.
+    // The orders in snapshot order, however the book keeps them.
     ghost orders: { Self → List Order };
 
-    /// A book with no orders, which takes no memory yet.
+    /// A book with no orders, which allocates nothing.
     fn new(alloc: Self::Alloc) -> Self
         ensures { orders result ≡ [] };
 
@@ -52,14 +52,14 @@ pub trait OrderBook: Drop {
         ensures { result ≡ level_total (orders self.now) locate side price };
 
     /// Adds an order, last at its price (TotalView-ITCH 5.0, "Add Order Message").
-    /// Where memory is refused, the book stays as it was.
+    /// If an allocation fails, the book is left as it was.
     fn add(&mut self, order: Order) -> Result<(), AllocError>
         requires some_shares { 0 < order.shares }
         requires new_reference { get (orders self.old) order.reference ≡ None }
         ensures ok { OnOk result (orders self.new ≡ lay (added order (orders self.old))) }
         ensures err { OnErr result (orders self.new ≡ orders self.old) };
 
-    /// Takes shares from an order, which keeps its place, and is gone where nothing remains
+    /// Takes shares from an order, which keeps its place, and is removed if none remain
     /// (TotalView-ITCH 5.0, "Order Executed Message", "Order Cancel Message").
     fn take(&mut self, reference: u64, shares: u32) -> Taken
         requires { IsSomeAnd (get (orders self.old) reference) (λ x. shares ≤ x.shares) }
@@ -72,9 +72,9 @@ pub trait OrderBook: Drop {
         ensures orders { orders self.new ≡ lay (without reference (orders self.old)) }
         ensures order { get (orders self.old) reference ≡ Some result };
 
-    /// Puts a new order in place of another one, last at its price, with the side, locate and attribution of the original
+    /// Replaces an order by a new one, last at its price, with the side, locate and attribution of the original
     /// (TotalView-ITCH 5.0, "Order Replace Message").
-    /// Where memory is refused, the book stays as it was.
+    /// If an allocation fails, the book is left as it was.
     fn replace(
         &mut self,
         original: u64,

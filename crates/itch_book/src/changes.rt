@@ -1,4 +1,4 @@
-//! Changes of a list in snapshot order: orders put in, lessened and taken out.
+//! Changes to a list in snapshot order: orders inserted, reduced and removed.
 ghost use Rattle.std.specs.Prelude.{◌≡◌, ◌-◌, ◌<◌, ◌≤◌, None, Some, IsOk, IsSome, IsSomeAnd, IfSome, OnOk, OnErr, vec_len, vec_capacity};
 ghost use Rattle.itch_book.specs.Orders.{IsBook, get, lay, added, taken, without, replaced};
 ghost use Rattle.itch_book.specs.TakenShares.{IsLeft};
@@ -7,7 +7,7 @@ use crate::order::{Order, Taken};
 use crate::priority::{index_of, place_of};
 use std::alloc::{AllocError, Allocator};
 
-// Takes the order of a reference out, and returns it. That leaves room for another one.
+// Removes the order of a reference, and returns it. That leaves room for another one.
 #[tactic(auto, using(crate::proofs::PlaceLemmas::is_cut, crate::proofs::PlaceLemmas::found_there))]
 pub(crate) fn take_out<A: Allocator>(orders: &mut Vec<Order, A>, reference: u64) -> Order
     requires book { IsBook orders.old.items }
@@ -21,7 +21,7 @@ pub(crate) fn take_out<A: Allocator>(orders: &mut Vec<Order, A>, reference: u64)
     orders.remove(place)
 }
 
-// Takes shares from the order of a reference, which goes where none is left.
+// Takes shares from the order of a reference, which is removed if none are left.
 pub(crate) fn take_from<A: Allocator>(
     orders: &mut Vec<Order, A>,
     reference: u64,
@@ -43,7 +43,7 @@ pub(crate) fn take_from<A: Allocator>(
     Taken::Left(left)
 }
 
-// Puts an order in, last at its price. With room it is never refused.
+// Inserts an order, last at its price. If there is room, this never fails.
 pub(crate) fn put_in<A: Allocator>(
     orders: &mut Vec<Order, A>,
     order: Order,
@@ -61,7 +61,7 @@ pub(crate) fn put_in<A: Allocator>(
     Ok(())
 }
 
-// Puts a new order in place of another one, last at its price, with the locate, side and attribution of that one.
+// Replaces an order by a new one, last at its price, with the locate, side and attribution of the original.
 #[tactic(auto, using(crate::proofs::PlaceLemmas::still_absent))]
 pub(crate) fn exchange<A: Allocator>(
     orders: &mut Vec<Order, A>,
@@ -86,7 +86,7 @@ pub(crate) fn exchange<A: Allocator>(
     };
     match put_in(orders, order) {
         Ok(()) => {}
-        // The order that was taken out left room.
+        // The removed order left room.
         Err(_) => unreachable!(),
     }
 }

@@ -70,7 +70,7 @@ impl<A: Allocator + Copy> Index<A> {
         }
     }
 
-    /// Adds an order, last at its price. Where memory is refused, nothing changes.
+    /// Adds an order, last at its price. If an allocation fails, nothing changes.
     pub(crate) fn add(&mut self, order: Order) -> Result<(), AllocError>
         requires some_shares { 0 < order.shares }
         requires new_reference { get self.old order.reference ≡ None }
@@ -90,7 +90,7 @@ impl<A: Allocator + Copy> Index<A> {
         Ok(())
     }
 
-    /// Takes shares from an order, which keeps its place, and is gone where nothing remains.
+    /// Takes shares from an order, which keeps its place, and is removed if none remain.
     pub(crate) fn take(&mut self, reference: u64, shares: u32) -> Taken
         requires { IsSomeAnd (get self.old reference) (λ x. shares ≤ x.shares) }
         ensures orders { self.new ≡ lay (taken reference shares self.old) }
@@ -125,8 +125,8 @@ impl<A: Allocator + Copy> Index<A> {
         )
     }
 
-    /// Puts a new order in place of another one, last at its price, with the side, locate and attribution of the original.
-    /// Where memory is refused, nothing changes.
+    /// Replaces an order by a new one, last at its price, with the side, locate and attribution of the original.
+    /// If an allocation fails, nothing changes.
     pub(crate) fn replace(
         &mut self,
         original: u64,
@@ -228,7 +228,7 @@ fn node_at<A: Allocator>(references: &References<A>, reference: u64) -> Option<u
     references.get(&reference).copied()
 }
 
-// The node of a reference that is there.
+// The node of a reference that has one.
 fn known_node<A: Allocator>(references: &References<A>, reference: u64) -> usize
     requires { IsSome (node_of references.now.entries reference) }
     ensures { node_of references.now.entries reference ≡ Some result }
@@ -239,7 +239,7 @@ fn known_node<A: Allocator>(references: &References<A>, reference: u64) -> usize
     }
 }
 
-// The queue at a price of a side, opened where there is none. Where memory is refused, nothing changes.
+// The queue at a price of a side, opened if there is none. If an allocation fails, nothing changes.
 fn level_for<A: Allocator + Copy>(
     prices: &mut Prices<A>,
     queues: &mut Queues<A>,
@@ -278,7 +278,7 @@ fn close_empty<A: Allocator + Copy>(
     prices.close_level(queues, queue, locate, side, price);
 }
 
-// Takes out the order of a reference, and its queue with the last of it.
+// Removes the order of a reference, and its queue if that is empty then.
 fn take_out<A: Allocator + Copy>(
     references: &mut References<A>,
     prices: &mut Prices<A>,
@@ -332,7 +332,7 @@ fn put_last<A: Allocator + Copy>(
     let key = queues.push_last(queue, order);
     match references.insert(reference, key) {
         Ok(_) => {}
-        // There is room for it.
+        // There is room.
         Err(_) => unreachable!(),
     }
 }

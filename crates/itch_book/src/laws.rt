@@ -1,4 +1,4 @@
-//! What holds of orders and of every book, of whatever size.
+//! What holds of orders and of every book, of any size.
 //!
 //! Each function of this module does nothing: its clauses are the laws.
 ghost use Rattle.std.specs.Prelude.{◌≡◌, ℕ, ◌<◌, ◌⊎◌, ◌↔◌, true, false, List, Some, Option, IsPermutation, IfSome, IfNone, Contains, slice_get, find};
@@ -10,9 +10,9 @@ ghost use Rattle.itch_book.specs.Priority.{arrival, IsLine};
 
 use crate::book::OrderBook;
 
-/// A queue has the orders of its locate and side, each as often as they arrived. Of any two places of it, the one is
-/// before the other exactly if its order has the better price, or the same price and arrived earlier. No other list
-/// is such a line.
+/// A queue has the orders of its locate and side, each as often as it arrived. Of any two places in it, one comes before the
+/// other if and only if its order has the better price, or the same price and arrived earlier. No other list has
+/// these two properties.
 #[tactic(auto, using(crate::proofs::QueueLemmas::queue_members))]
 pub fn queues()
     ensures members { (orders : List Order) → (locate : ℕ) → (side : Side)
@@ -26,7 +26,8 @@ pub fn queues()
         → IsLine orders locate side line → line ≡ queue orders locate side }
 {}
 
-/// The laid list is laid, and has the queues and the orders of the list that it was made of.
+/// A laid list, that is, one put into snapshot order, stays as it is if it is laid again, and has the queues and the orders of
+/// the list that it was made from.
 #[tactic(auto, using(crate::proofs::LawRules::laid_laws))]
 pub fn laid_lists()
     ensures laid { (orders : List Order) → lay (lay orders) ≡ lay orders }
@@ -36,7 +37,7 @@ pub fn laid_lists()
         → get (lay orders) reference ≡ get orders reference }
 {}
 
-/// What a change leaves of the laid list is, laid again, what it leaves of the list.
+/// A change has the same effect on a list and on the laid list, once both results are laid.
 #[tactic(auto, using(crate::proofs::LawRules::effect_laws))]
 pub fn changes()
     ensures added { (x : Order) → (orders : List Order) → lay (added x (lay orders)) ≡ lay (added x orders) }
@@ -56,8 +57,8 @@ pub fn same_lists()
         → ((locate : ℕ) → (side : Side) → (price : ℕ) → level xs locate side price ≡ level ys locate side price) → lay xs ≡ lay ys }
 {}
 
-/// Live orders with references of their own, laid, are a book's list. A book's list is laid, begins each locate and side
-/// with the first of its queue, and has the orders of a locate bids before asks.
+/// Live orders with distinct references, laid, are a book's list. A book's list is laid, has at each locate and side the first
+/// of its queue first, and has the orders of a locate with bids before asks.
 #[tactic(auto, using(crate::proofs::LawRules::book_laws))]
 pub fn books()
     ensures made { (orders : List Order) → IsDistinct orders → AllByRecursion IsLive orders → IsBook (lay orders) }
@@ -68,7 +69,7 @@ pub fn books()
 {}
 
 /// The next price of a side is that of an order whose price is worse than the last; no such order has a better price.
-/// Where there is no next price, there is no such order.
+/// If there is no next price, there is no such order.
 #[tactic(auto, using(crate::proofs::LawRules::price_laws))]
 pub fn next_prices()
     ensures stands { (orders : List Order) → (locate : ℕ) → (side : Side) → (last : Option ℕ)

@@ -1,9 +1,9 @@
-//! Live orders, by the list that they are: every order book of a day in one, in snapshot order.
+//! The live orders of a day as one list: all its order books in one, in snapshot order.
 //!
 //! An [`OrderBook`] adds, takes, deletes and replaces orders, and gives the best of a side, the next price and the total of a
-//! price level. Its contracts speak of the list of live orders alone, so that any book meets them in the same way:
-//! [`ListBook`] is that list, and [`IndexedBook`] the one to use. Only adding and replacing take memory; where it is refused,
-//! the book stays as it was. `laws` has what holds of every book.
+//! price level. Its contracts speak only of the list of live orders, so every book meets the same ones: [`ListBook`]
+//! is that list, and [`IndexedBook`] is the one to use. Only adding and replacing allocate; if that fails, the book is left as it
+//! was. `laws` states what holds of every book.
 //!
 //! ```
 //! let mut book = IndexedBook::new(alloc);

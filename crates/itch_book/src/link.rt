@@ -7,7 +7,7 @@ use std::marker::Model;
 /// The key of a node, or none.
 #[derive(Clone, Copy)]
 pub(crate) struct Link {
-    // The greatest number for none: no key is as great.
+    // The greatest number stands for none: every key is below it.
     word: usize,
 }
 

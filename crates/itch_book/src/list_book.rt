@@ -78,7 +78,7 @@ impl<A: Allocator + Copy> OrderBook for ListBook<A> {
         take_out(&mut self.orders, reference)
     }
 
-    // The order that is taken out leaves room, so memory is never refused.
+    // The removed order leaves room, so nothing is allocated.
     fn replace(
         &mut self,
         original: u64,

@@ -3,12 +3,12 @@
 use itch_codec::{Alpha, Side};
 
 /// An order that is live: it has shares left.
-// Fields lie as they stand here: the wide ones first leave no room unused.
+// Fields are stored in this order: with the wide ones first there is no padding.
 #[derive(Clone, Copy, Debug, PartialEq, Eq)]
 pub struct Order {
     /// The order reference number, which no other live order has.
     pub reference: u64,
-    /// The shares that remain, 1 and up.
+    /// The shares that remain, at least 1.
     pub shares: u32,
     /// The price with four implied decimals.
     pub price: u32,
@@ -24,6 +24,6 @@ pub struct Order {
 pub enum Taken {
     /// This many shares remain.
     Left(u32),
-    /// None remain, and the order is gone.
+    /// None remain, and the order was removed.
     Gone,
 }

@@ -64,7 +64,7 @@ impl<A: Allocator + Copy> Prices<A> {
         }
     }
 
-    /// The queue at a price of a side, opened where there is none. Where memory is refused, nothing changes.
+    /// The queue at a price of a side, opened if there is none. If an allocation fails, nothing changes.
     pub(crate) fn level(
         &mut self,
         queues: &mut Queues<A>,
@@ -154,7 +154,7 @@ fn lowest<A: Allocator>(places: &Places<A>, locate: u16, last: Option<u32>) -> O
     }
 }
 
-// The queue at a place, opened where there is none. Where memory is refused, nothing changes.
+// The queue at a place, opened if there is none. If an allocation fails, nothing changes.
 fn level_on<A: Allocator + Copy>(
     places: &mut Places<A>,
     queues: &mut Queues<A>,

@@ -1,4 +1,4 @@
-//! Where orders stand in a list that is in snapshot order.
+//! The places of orders in a list that is in snapshot order.
 ghost use Rattle.std.specs.Prelude.{◌≡◌, ◌<◌, ◌≤◌, ◌&&◌, length, Option, IsSome, find};
 ghost use Rattle.std.specs.List.{position, position_or_len};
 ghost use Rattle.std.specs.Option.{option_copied};
@@ -19,7 +19,7 @@ pub(crate) fn is_better(side: Side, price: u32, other: u32) -> bool
     }
 }
 
-// Whether one order stands before another, whichever of them came first.
+// Whether one order comes before another in the list, whichever of them arrived first.
 pub(crate) fn stands_before(one: &Order, other: &Order) -> bool
     ensures { result ≡ stands_before one.now other.now }
 {
@@ -34,7 +34,7 @@ pub(crate) fn stands_before(one: &Order, other: &Order) -> bool
     }
 }
 
-// Where an order that comes last goes: in front of the first that it stands before.
+// The place for an order that arrived last: before the first order that it precedes.
 pub(crate) fn place_of(orders: &[Order], order: &Order) -> usize
     requires { IsInOrder stands_before orders.now }
     ensures place { result ≡ position_or_len (stands_before order.now) orders.now }
@@ -117,7 +117,7 @@ pub(crate) fn price_after(
         .map(|order| order.price)
 }
 
-// Whether an order stands at a price.
+// Whether an order is at a price.
 pub(crate) fn is_level(order: &Order, locate: u16, side: Side, price: u32) -> bool
     ensures { result ≡ is_level locate side price order.now }
 {

@@ -121,7 +121,7 @@ impl<A: Allocator> Queues<A> {
         let last = self.heads[queue].last;
         let node = last_node(order, queue, last);
         let key = self.nodes.insert_reserved(node);
-        // Keys are below it, so they fit a link, and queues have no more nodes.
+        // Keys are below the capacity, so they fit a link, and no queue has more nodes.
         let _most = self.nodes.capacity();
         let link = Link::to(key);
         link_after(&mut self.nodes, last, link);
@@ -130,7 +130,7 @@ impl<A: Allocator> Queues<A> {
         key
     }
 
-    /// Takes an order out of its queue.
+    /// Removes an order from its queue.
     pub(crate) fn unlink(&mut self, key: usize) -> Order
         requires { IsSome (order_at self.old key) }
         ensures order { order_at self.old key ≡ Some result }
@@ -228,7 +228,7 @@ fn last_node(order: Order, queue: usize, before: Link) -> Node
     }
 }
 
-// The one link where there is no node, and else the other.
+// `there` if the link has no node, and `other` if it has one.
 fn either(link: Link, there: Link, other: Link) -> Link
     ensures { result ≡ cond_none link there other }
 {

@@ -21,7 +21,7 @@ IsBytes width bytes = (length bytes ≡ width) × AreBytes bytes
 abbrev pub IsAlpha : ℕ → List ℕ → Type 0
 IsAlpha width bytes = (length bytes ≡ width) × IsPrintable bytes
 
--- what stands in a field of a message
+-- what a field of a message holds
 pub data Value : Type 0 where
   Number : (number : ℕ) → Value
   Bytes : (bytes : List ℕ) → Value
@@ -32,7 +32,7 @@ abbrev pub side_byte : Side → ℕ
 side_byte Buy = 66
 side_byte Sell = 83
 
--- the field of the payload at this place, so wide, holds the value
+-- the field of the payload at this place, of this width, holds the value
 abbrev pub HasAt : Class → ℕ → ℕ → List ℕ → Value → Type 0
 HasAt Integer offset width payload (Number number) = number ≡ number_at offset width payload
 HasAt Price offset width payload (Number number) = number ≡ number_at offset width payload
@@ -118,7 +118,7 @@ abbrev pub first_fault : List ℕ → List Column → Option CodecFault
 first_fault payload [] = None
 first_fault payload (column ∷ columns) = first_of (field_fault payload column) (first_fault payload columns)
 
--- what is read is so, and nothing has a fault; or this is the fault
+-- what was read meets this condition, and there is no fault; or this is the fault
 abbrev pub Reads : {X F : Type 0} → (X → Type 0) → Option F → Result X F → Type 0
 Reads Is fault (Ok x) = Is x × (fault ≡ None)
 Reads Is fault (Err found) = fault ≡ Some found

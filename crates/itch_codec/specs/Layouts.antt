@@ -1,7 +1,7 @@
 -- The layout of each message type, as data (TotalView-ITCH 5.0, "Message Formats").
 use Rattle.std.specs.Prelude.{◌≡◌, ℕ, ◌==◌, List, [], ◌∷◌, Option, None, Some, if◌then◌else◌}
 
--- what may stand in a field: a number, a price, a text, a side, one byte or several of any kind, or a number in decimal digits
+-- what a field may hold: a number, a price, a text, a side, one byte or several of any kind, or a number in decimal digits
 pub data Class : Type 0 where
   Integer : Class
   Price : Class
@@ -11,7 +11,7 @@ pub data Class : Type 0 where
   Codes : Class
   Digits : Class
 
--- a field: where it begins in the message, how many bytes it has, and what may stand in it
+-- a field: where it begins in the message, how many bytes it has, and what it may hold
 pub record Column : Type 0 where
   pub offset : ℕ
   pub width : ℕ
@@ -27,11 +27,11 @@ pub record Layout : Type 0 where
 abbrev pub column : ℕ → ℕ → Class → Column
 column offset width class = record { offset = offset; width = width; class = class }
 
--- stock locate, tracking number and timestamp stand in front of the fields
+-- stock locate, tracking number and timestamp come before the fields
 abbrev pub with_header : List Column → List Column
 with_header columns = column 1 2 Integer ∷ column 3 2 Integer ∷ column 5 6 Integer ∷ columns
 
--- a message type with a header in front of its fields
+-- a message type with a header before its fields
 abbrev pub message_type : ℕ → ℕ → List Column → Layout
 message_type kind size columns = record { kind = kind; size = size; columns = with_header columns }
 

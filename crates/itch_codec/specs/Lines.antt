@@ -1,4 +1,4 @@
--- The line that shows a message: its number, the letter of its type, and its fields in order, parted by one space.
+-- The line that shows a message: its number, the letter of its type, and its fields in order, separated by one space.
 use Rattle.std.specs.Prelude.{ℕ, ◌+◌, ◌/◌, ◌%◌, nat_lt, List, [], ◌∷◌, ◌++◌, length, codes, decimal, if◌then◌else◌}
 use Rattle.itch_codec.specs.Text.{before_spaces}
 use Rattle.itch_codec.specs.Layouts.{Class, Integer, Price, Text, OneSide, Code, Codes, Digits, Column}
@@ -46,7 +46,7 @@ words [] values = []
 words (column ∷ columns) [] = []
 words (column ∷ columns) (value ∷ values) = word column.class value ++ words columns values
 
--- what stands after the number: the type and the fields; or the type of a message that is not decoded, and its length
+-- what follows the number: the type and the fields; or the type of a message that is not decoded, and its length
 abbrev pub words_of : Shape → List ℕ
 words_of (Fields layout values) = layout.kind ∷ words layout.columns values
 words_of (Payload bytes) = codes "other " ++ hex (byte_at 0 bytes ∷ []) ++ codes " " ++ decimal (length bytes)

@@ -26,7 +26,7 @@ be width number = big_bytes width number
 abbrev pub padded_on_left : ℕ → List ℕ → List ℕ
 padded_on_left width text = replicate (width - length text) 32 ++ text
 
--- a number in twenty bytes: its digits, and spaces in front of them
+-- a number in twenty bytes: its digits, and spaces before them
 unfoldable pub dec20 : ℕ → List ℕ
 dec20 number = padded_on_left 20 (decimal number)
 
@@ -49,7 +49,7 @@ abbrev pub SpellsNumber : List ℕ → ℕ → Type 0
 SpellsNumber field number =
     (left : List ℕ) × (digits : List ℕ) × (right : List ℕ) × IsNumber field number left digits right
 
--- a field without the spaces in front
+-- a field without its leading spaces
 unfoldable pub after_spaces : List ℕ → List ℕ
 after_spaces field = drop (prefix_len is_space field) field
 
@@ -57,7 +57,7 @@ after_spaces field = drop (prefix_len is_space field) field
 unfoldable pub digits_in_front : List ℕ → List ℕ
 digits_in_front text = take (prefix_len is_ascii_digit text) text
 
--- what stands after the digits that a text begins with
+-- what follows the digits that a text begins with
 unfoldable pub after_digits : List ℕ → List ℕ
 after_digits text = drop (prefix_len is_ascii_digit text) text
 

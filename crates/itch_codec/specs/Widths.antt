@@ -1,4 +1,4 @@
--- What the fields of each message may hold: each fits its width and class. A side needs no word.
+-- What the fields of each message may hold: each fits its width and class. Every side fits.
 use Rattle.std.specs.Prelude.{ℕ, ◌<◌, ◌≤◌, ◌^◌, List}
 use Rattle.itch_codec.specs.Fields.{AreBytes, IsBytes, IsAlpha}
 use Rattle.itch_codec.specs.Layouts.{IsUndecoded}

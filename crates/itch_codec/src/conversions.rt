@@ -72,7 +72,7 @@ impl From<Stamp> for u64 {
     }
 }
 
-/// The nanoseconds since midnight in decimal digits, as a line of a message has them.
+/// The nanoseconds since midnight in decimal digits, as in the line of a message.
 impl Display for Stamp {
     ghost output = { λ stamp. Some (decimal stamp) };
 

@@ -1,4 +1,4 @@
-//! Messages out of payloads.
+//! Messages from payloads.
 ghost use Rattle.std.specs.Prelude.{◌≡◌, Some, None, Ok, IfOk, IfErr, OnOk};
 ghost use Rattle.itch_codec.specs.declared.message.Message.{Message as MessageValue};
 ghost use Rattle.itch_codec.specs.Fields.{Reads};

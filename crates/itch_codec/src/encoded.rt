@@ -5,7 +5,8 @@ ghost use Rattle.itch_codec.specs.Fields.{AreBytes};
 use crate::fields::Buffer;
 use std::marker::Model;
 
-/// The bytes that spell a message. They take no memory: they are built in place, or are the payload of a message that is not decoded.
+/// The bytes that spell a message. They need no allocation: they are built in place, or are the payload of a message that is not
+/// decoded.
 #[derive(Debug, Drop)]
 pub struct Encoded<'a> {
     form: Form<'a>,

@@ -1,4 +1,4 @@
-//! Payloads out of messages.
+//! Payloads from messages.
 ghost use Rattle.std.specs.Prelude.{◌≡◌};
 ghost use Rattle.itch_codec.specs.Widths.{IsMessage};
 ghost use Rattle.itch_codec.specs.Messages.{Spells, spelling};

@@ -11,7 +11,7 @@ use crate::text::Alpha;
 use arrayvec::ArrayVec;
 use byteorder::{BigEndian, ByteOrder};
 
-/// The bytes of a message as it is built; 44 is the greatest length of a message of the table.
+/// The bytes of a message as it is built. The longest message of the table has 44.
 pub(crate) type Buffer = ArrayVec<u8, 48>;
 
 #[tactic(auto, unfolding(crate::specs::Numbers::number_at))]

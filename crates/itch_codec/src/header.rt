@@ -1,4 +1,4 @@
-//! What stands in front of the fields of every message but the End of Snapshot.
+//! The header, which comes before the fields of every message except End of Snapshot.
 ghost use Rattle.std.specs.Prelude.{◌≡◌, ℕ, ◌<◌, ◌≤◌, ◌^◌, ◌↔◌, IsSome, IfSome};
 
 use crate::fields::{Buffer, put_u16, put_u48, u16_at, u48_at};
@@ -92,7 +92,7 @@ impl Header {
         out
     }
 
-    // The letter of the message's type and its header, as words of a line that has a number so far.
+    // Appends the letter of the message's type and its header to a line that has the message's number so far.
     #[tactic(auto, using(crate::proofs::Joining::joining), unfolding(crate::specs::Lines::words))]
     pub(crate) fn show(&self, line: &mut Words, letter: &str)
         requires number { array_string_len line.old ≤ 21 }

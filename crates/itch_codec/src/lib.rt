@@ -1,11 +1,11 @@
 //! Messages of TotalView-ITCH 5.0, and the End of Snapshot of GLIMPSE 5.0.
 //!
-//! [`decode`] makes a [`Message`] of a payload, or returns its first fault; [`encode`] spells a message. What is decoded and
-//! encoded again is the same bytes, but for the padding of End of Snapshot. Types that are not decoded are kept whole, as
-//! [`Undecoded`]. [`show`] makes a line of text of a message. Nothing here takes memory but [`line`], which makes that line a string.
+//! [`decode`] makes a [`Message`] of a payload, or returns its first fault; [`encode`] spells a message. A payload that is
+//! decoded and encoded again has the same bytes, except for the padding of End of Snapshot. Types that are not decoded are kept whole, as
+//! [`Undecoded`]. [`show`] makes a line of text of a message. Only [`line`], which makes that line a string, allocates.
 //!
-//! A value that exists is valid: an [`Alpha`] is printable, a [`Seq`] is from 1 to 10^19, a [`Stamp`] fits its six bytes.
-//! `laws` has what holds of every payload and every message.
+//! Every value is valid: an [`Alpha`] is printable, a [`Seq`] is from 1 to 10^19, a [`Stamp`] fits its six bytes.
+//! `laws` states what holds of every payload and every message.
 //!
 //! ```
 //! let message = decode(b"A\0\x01\0\0\0\0\0\0\0\0\0\0\0\0\0\0\0\x01B\0\0\0dAAPL    \0\x16\xe3\x60")?;

@@ -129,7 +129,7 @@ fn read_parts(field: &[u8; 20]) -> Option<u64>
     value_of(digits)
 }
 
-// The digits that the text begins with, and what stands after them.
+// The digits that the text begins with, and what follows them.
 #[tactic(auto, using(crate::proofs::Numbers::fronts), unfolding(crate::specs::Numbers::digits_in_front, crate::specs::Numbers::after_digits))]
 fn split_digits(text: &[u8]) -> (&[u8], &[u8])
     ensures digits { result.0.now ≡ digits_in_front text.entry.now }

@@ -93,7 +93,7 @@ impl AddOrder {
         show_price(line, self.price);
     }
 
-    /// The type and the fields, as words of a line that has a number so far.
+    /// Appends the type and the fields to a line that has the message's number so far.
     #[tactic(auto, using(crate::proofs::Joining::joining), unfolding(crate::specs::Lines::words))]
     pub(crate) fn show(&self, line: &mut Words)
         requires { array_string_len line.old ≤ 21 }
@@ -133,7 +133,7 @@ impl AttributedAddOrder {
         out
     }
 
-    /// The type and the fields, as words of a line that has a number so far.
+    /// Appends the type and the fields to a line that has the message's number so far.
     #[tactic(auto, using(crate::proofs::Joining::joining), unfolding(crate::specs::Lines::words))]
     pub(crate) fn show(&self, line: &mut Words)
         requires { array_string_len line.old ≤ 21 }
@@ -204,7 +204,7 @@ impl OrderExecuted {
         show_number(line, self.match_number);
     }
 
-    /// The type and the fields, as words of a line that has a number so far.
+    /// Appends the type and the fields to a line that has the message's number so far.
     #[tactic(auto, using(crate::proofs::Joining::joining), unfolding(crate::specs::Lines::words))]
     pub(crate) fn show(&self, line: &mut Words)
         requires { array_string_len line.old ≤ 21 }
@@ -248,7 +248,7 @@ impl OrderExecutedWithPrice {
         out
     }
 
-    /// The type and the fields, as words of a line that has a number so far.
+    /// Appends the type and the fields to a line that has the message's number so far.
     #[tactic(auto, using(crate::proofs::Joining::joining), unfolding(crate::specs::Lines::words))]
     pub(crate) fn show(&self, line: &mut Words)
         requires { array_string_len line.old ≤ 21 }
@@ -293,7 +293,7 @@ impl OrderCancel {
         out
     }
 
-    /// The type and the fields, as words of a line that has a number so far.
+    /// Appends the type and the fields to a line that has the message's number so far.
     #[tactic(auto, using(crate::proofs::Joining::joining), unfolding(crate::specs::Lines::words))]
     pub(crate) fn show(&self, line: &mut Words)
         requires { array_string_len line.old ≤ 21 }
@@ -334,7 +334,7 @@ impl OrderDelete {
         out
     }
 
-    /// The type and the fields, as words of a line that has a number so far.
+    /// Appends the type and the fields to a line that has the message's number so far.
     #[tactic(auto, using(crate::proofs::Joining::joining), unfolding(crate::specs::Lines::words))]
     pub(crate) fn show(&self, line: &mut Words)
         requires { array_string_len line.old ≤ 21 }
@@ -385,7 +385,7 @@ impl OrderReplace {
         out
     }
 
-    /// The type and the fields, as words of a line that has a number so far.
+    /// Appends the type and the fields to a line that has the message's number so far.
     #[tactic(auto, using(crate::proofs::Joining::joining), unfolding(crate::specs::Lines::words))]
     pub(crate) fn show(&self, line: &mut Words)
         requires { array_string_len line.old ≤ 21 }

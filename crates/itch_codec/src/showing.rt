@@ -14,7 +14,7 @@ use crate::words::{Words, show_code, show_digits, show_number};
 use std::alloc::{AllocError, Allocator};
 use std::marker::Model;
 
-/// A line that shows a message, with its line feed. It lies in the value itself and takes no memory.
+/// A line that shows a message, with its line feed. It is stored in the value itself and needs no allocation.
 #[derive(Drop)]
 pub struct LineText {
     text: Words,
@@ -40,7 +40,7 @@ impl LineText {
 
 /// The line of a message: its number, the letter of its type, and its fields in the order of its layout, separated by one space.
 ///
-/// Integers are decimal, prices have their four decimals, texts stand in square brackets without the spaces at their end,
+/// Integers are decimal, prices have their four decimals, texts are in square brackets without the spaces at their end,
 /// sides are `B` or `S`, and codes are lower-case hexadecimal, two digits a byte. A message of a type that is not decoded is
 /// `other`, its type in hexadecimal, and the length of its payload.
 pub fn show(number: u64, message: &Message<'_>) -> LineText
@@ -54,7 +54,7 @@ pub fn show(number: u64, message: &Message<'_>) -> LineText
     LineText { text }
 }
 
-/// The same line as a string of its own. The error is that memory ran out.
+/// The same line as a string. The error is that memory ran out.
 pub fn line<A: Allocator>(
     alloc: A,
     number: u64,

@@ -1,4 +1,4 @@
-//! Fields of spaces, and the spaces in front of a text.
+//! Fields of spaces, and the spaces before a text.
 ghost use Rattle.std.specs.Prelude.{◌≡◌, ◌≤◌, length};
 ghost use Rattle.std.specs.List.{prefix_len, list_all};
 ghost use Rattle.itch_codec.specs.Numbers.{is_space, after_spaces};
@@ -10,7 +10,7 @@ pub fn is_blank(field: &[u8]) -> bool
     field.iter().all(|byte| *byte == b' ')
 }
 
-/// The bytes after the spaces in front.
+/// The bytes after the leading spaces.
 #[tactic(auto, using(crate::proofs::Numbers::fronts), unfolding(crate::specs::Numbers::after_spaces))]
 pub fn after_spaces(field: &[u8]) -> &[u8]
     ensures text { result.now ≡ after_spaces field.entry.now }

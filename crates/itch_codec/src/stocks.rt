@@ -18,7 +18,7 @@ use crate::words::{Words, show_code, show_codes, show_number, show_text};
 #[derive(Clone, Copy, Debug, PartialEq, Eq)]
 pub struct SystemEvent {
     pub header: Header,
-    /// The event of the day, as `O` for the start of messages. Any byte.
+    /// The event of the day, such as `O` for the start of messages. Any byte.
     pub code: u8,
 }
 
@@ -43,7 +43,7 @@ impl SystemEvent {
         out
     }
 
-    /// The type and the fields, as words of a line that has a number so far.
+    /// Appends the type and the fields to a line that has the message's number so far.
     #[tactic(auto, using(crate::proofs::Joining::joining), unfolding(crate::specs::Lines::words))]
     pub(crate) fn show(&self, line: &mut Words)
         requires { array_string_len line.old ≤ 21 }
@@ -55,7 +55,7 @@ impl SystemEvent {
     }
 }
 
-/// What the directory says of a security: the fields of a Stock Directory message after its header.
+/// What the directory says about a security: the fields of a Stock Directory message after its header.
 ///
 /// The code fields may hold any byte.
 #[derive(Clone, Copy, Debug, PartialEq, Eq)]
@@ -174,7 +174,7 @@ impl StockDirectory {
         out
     }
 
-    /// The type and the fields, as words of a line that has a number so far.
+    /// Appends the type and the fields to a line that has the message's number so far.
     #[tactic(auto, using(crate::proofs::Joining::joining), unfolding(crate::specs::Lines::words))]
     pub(crate) fn show(&self, line: &mut Words)
         requires { array_string_len line.old ≤ 21 }
@@ -191,11 +191,11 @@ impl StockDirectory {
 pub struct TradingAction {
     pub header: Header,
     pub stock: Alpha<8>,
-    /// The trading state, as `T` for trading. Any byte.
+    /// The trading state, such as `T` for trading. Any byte.
     pub state: u8,
     /// The reserved byte. Any byte.
     pub reserved: u8,
-    /// Why the state was taken. Any bytes.
+    /// The reason for the state. Any bytes.
     pub reason: [u8; 4],
 }
 
@@ -226,7 +226,7 @@ impl TradingAction {
         out
     }
 
-    /// The type and the fields, as words of a line that has a number so far.
+    /// Appends the type and the fields to a line that has the message's number so far.
     #[tactic(auto, using(crate::proofs::Joining::joining), unfolding(crate::specs::Lines::words))]
     pub(crate) fn show(&self, line: &mut Words)
         requires { array_string_len line.old ≤ 21 }
@@ -246,7 +246,7 @@ impl TradingAction {
 pub struct RegSho {
     pub header: Header,
     pub stock: Alpha<8>,
-    /// The restriction in force, as `0` for none. Any byte.
+    /// The restriction in force, such as `0` for none. Any byte.
     pub action: u8,
 }
 
@@ -273,7 +273,7 @@ impl RegSho {
         out
     }
 
-    /// The type and the fields, as words of a line that has a number so far.
+    /// Appends the type and the fields to a line that has the message's number so far.
     #[tactic(auto, using(crate::proofs::Joining::joining), unfolding(crate::specs::Lines::words))]
     pub(crate) fn show(&self, line: &mut Words)
         requires { array_string_len line.old ≤ 21 }
@@ -291,7 +291,7 @@ impl RegSho {
 pub struct OperationalHalt {
     pub header: Header,
     pub stock: Alpha<8>,
-    /// The market that is halted or trades again, as `Q` for Nasdaq. Any byte.
+    /// The market that is halted or trades again, such as `Q` for Nasdaq. Any byte.
     pub market_code: u8,
     /// `H` for halted, `T` for trading again. Any byte.
     pub action: u8,
@@ -322,7 +322,7 @@ impl OperationalHalt {
         out
     }
 
-    /// The type and the fields, as words of a line that has a number so far.
+    /// Appends the type and the fields to a line that has the message's number so far.
     #[tactic(auto, using(crate::proofs::Joining::joining), unfolding(crate::specs::Lines::words))]
     pub(crate) fn show(&self, line: &mut Words)
         requires { array_string_len line.old ≤ 21 }
@@ -342,11 +342,11 @@ pub struct ParticipantPosition {
     pub header: Header,
     pub mpid: Alpha<4>,
     pub stock: Alpha<8>,
-    /// Whether the participant is a primary market maker, as `Y` or `N`. Any byte.
+    /// Whether the participant is a primary market maker: `Y`, `N` or any other byte.
     pub primary_market_maker: u8,
-    /// The market maker's mode, as `N` for normal. Any byte.
+    /// The market maker's mode, such as `N` for normal. Any byte.
     pub mode: u8,
-    /// The participant's state, as `A` for active. Any byte.
+    /// The participant's state, such as `A` for active. Any byte.
     pub state: u8,
 }
 
@@ -379,7 +379,7 @@ impl ParticipantPosition {
         out
     }
 
-    /// The type and the fields, as words of a line that has a number so far.
+    /// Appends the type and the fields to a line that has the message's number so far.
     #[tactic(auto, using(crate::proofs::Joining::joining), unfolding(crate::specs::Lines::words))]
     pub(crate) fn show(&self, line: &mut Words)
         requires { array_string_len line.old ≤ 21 }

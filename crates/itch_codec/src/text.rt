@@ -25,7 +25,7 @@ impl<const N: usize> Model for Alpha<N> {
     ghost inverse = { λ bytes. record { bytes = bytes } };
 }
 
-/// Why a text was not taken.
+/// Why a text was not accepted.
 #[derive(Clone, Copy, Debug, PartialEq, Eq, Error)]
 pub enum AlphaFault {
     /// The text has more bytes than the field.
@@ -59,7 +59,7 @@ impl<const N: usize> Alpha<N> {
         })
     }
 
-    /// Takes bytes that are all printable; else the first that is not is the fault.
+    /// Takes bytes that are all printable. Otherwise the first that is not is the fault.
     pub fn from_bytes(bytes: &[u8; N]) -> Result<Alpha<N>, AlphaFault>
         ensures taken { IfOk result (λ alpha. alpha ≡ bytes.now) }
         ensures accepts { IsOk result ↔ IsPrintable bytes.now }
@@ -105,7 +105,7 @@ impl<const N: usize> Alpha<N> {
         &self.bytes
     }
 
-    /// No effect at run time: recalls for a proof that there are `N` characters, and all are printable.
+    /// Does nothing at run time. It tells a proof that there are `N` characters, and that all are printable.
     pub fn recall_invariant(&self)
         ensures printable { IsPrintable self.now }
         ensures width { length self.now ≡ N }
@@ -145,7 +145,7 @@ fn trimmed(bytes: &[u8]) -> &[u8]
     &bytes[..text_len(bytes)]
 }
 
-// How many bytes stand before the spaces at the end.
+// How many bytes come before the spaces at the end.
 fn text_len(bytes: &[u8]) -> usize
     ensures within { result ≤ length bytes.now }
     ensures spaces { (k : ℕ) → result ≤ k → k < length bytes.now → slice_index bytes.now k ≡ 32 }

@@ -60,7 +60,7 @@ impl Trade {
         out
     }
 
-    /// The type and the fields, as words of a line that has a number so far.
+    /// Appends the type and the fields to a line that has the message's number so far.
     #[tactic(auto, using(crate::proofs::Joining::joining), unfolding(crate::specs::Lines::words))]
     pub(crate) fn show(&self, line: &mut Words)
         requires { array_string_len line.old ≤ 21 }
@@ -119,7 +119,7 @@ impl CrossTrade {
         out
     }
 
-    /// The type and the fields, as words of a line that has a number so far.
+    /// Appends the type and the fields to a line that has the message's number so far.
     #[tactic(auto, using(crate::proofs::Joining::joining), unfolding(crate::specs::Lines::words))]
     pub(crate) fn show(&self, line: &mut Words)
         requires { array_string_len line.old ≤ 21 }
@@ -163,7 +163,7 @@ impl BrokenTrade {
         out
     }
 
-    /// The type and the fields, as words of a line that has a number so far.
+    /// Appends the type and the fields to a line that has the message's number so far.
     #[tactic(auto, using(crate::proofs::Joining::joining), unfolding(crate::specs::Lines::words))]
     pub(crate) fn show(&self, line: &mut Words)
         requires { array_string_len line.old ≤ 21 }

@@ -9,7 +9,7 @@ ghost use Rattle.itch_codec.specs.Layouts.{IsUndecoded};
 use crate::sizes::size_of_type;
 use std::marker::Model;
 
-/// A message of a type that is not decoded: a payload that is not empty, and whose first byte is no type of the table.
+/// A message of a type that is not decoded: a payload that is not empty, and whose first byte is not a type of the table.
 #[derive(Debug, Drop)]
 pub struct Undecoded<'a> {
     payload: &'a [u8],
@@ -24,7 +24,7 @@ impl<'a> Model for Undecoded<'a> {
 }
 
 impl<'a> Undecoded<'a> {
-    /// The payload as a message that is not decoded, if it is not empty and its first byte is no type of the table.
+    /// The payload as a message that is not decoded, if it is not empty and its first byte is not a type of the table.
     pub fn new(payload: &'a [u8]) -> Option<Undecoded<'a>>
         ensures accepts { IsSome result ↔ IsUndecoded payload.entry.now }
         ensures payload { IfSome result (λ message. message ≡ payload.entry.now) }

@@ -15,7 +15,7 @@ use Rattle.itch_market.specs.Runs.{AreMessages, run}
 use Rattle.itch_market.specs.Replays.{Takes}
 use Rattle.itch_market.proofs.Causes.{none_follows}
 use Rattle.itch_market.proofs.GoodMarkets.{run_good, laid_good}
-use Rattle.itch_market.proofs.Taking.{Going, going_first}
+use Rattle.itch_market.proofs.ReplayProgress.{Going, going_first}
 use Rattle.itch_snapshot.specs.TakenMessages.{Load, begun}
 use Rattle.itch_snapshot.specs.Reads.{ReadsNext, ReadsAll, ReadsEnd, CountsFault}
 use Rattle.itch_snapshot.specs.Snapshot.{snap}

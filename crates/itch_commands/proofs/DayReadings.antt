@@ -11,7 +11,7 @@ use Rattle.itch_market.specs.declared.stop.Stop.{Stop}
 use Rattle.itch_market.specs.declared.stop.Stop.TheVariants.{End}
 use Rattle.itch_market.specs.Stops.{Stops}
 use Rattle.itch_market.specs.Replays.{Fits, Halts, Takes, IsDecided}
-use Rattle.itch_market.proofs.Decided.{replays_stop}
+use Rattle.itch_market.proofs.ReplayedFiles.{replays_stop}
 use Rattle.itch_commands.specs.declared.fault.ToolFault.{ToolFault}
 use Rattle.itch_commands.specs.declared.fault.ToolFault.TheVariants as tool
 use Rattle.itch_commands.specs.declared.fault.Source.{Source}

@@ -12,9 +12,9 @@ use Rattle.itch_market.specs.Stops.{cause_by, cause, cause_at, end_of, last_stop
 use Rattle.itch_market.specs.FirstPlaces.{IsFirst}
 use Rattle.itch_market.specs.Replays.{NoCause, TakesOff, IsDecided}
 use Rattle.itch_market.proofs.Causes.{cause_after, cause_before}
-use Rattle.itch_market.proofs.Taking.{not_full}
-use Rattle.itch_market.proofs.Decided.{refused}
-use Rattle.itch_market.proofs.Stopping.{after_day, chosen, passed_over, ends_stop, open_stops}
+use Rattle.itch_market.proofs.ReplayProgress.{not_full}
+use Rattle.itch_market.proofs.ReplayedFiles.{refused}
+use Rattle.itch_market.proofs.ReplayStops.{after_day, chosen, passed_over, ends_stop, open_stops}
 use Rattle.itch_commands.specs.AsRead.{HaltsAs}
 use Rattle.itch_commands.specs.Joining.{Start, from_number, joined_market, TakesFeed, IsOfMessage, EndsFeed, feed_cause_at, feed_stop_at, StopsFeed}
 

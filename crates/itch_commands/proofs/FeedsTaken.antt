@@ -18,7 +18,7 @@ use Rattle.itch_market.specs.declared.stop.Stop.{Stop}
 use Rattle.itch_market.specs.declared.stop.Stop.TheVariants as stop
 use Rattle.itch_market.proofs.Causes.{cause-laid, halts-laid, refuses-laid, no_reason, none_more, after_more}
 use Rattle.itch_market.proofs.GoodMarkets.{effect_good}
-use Rattle.itch_market.proofs.Laid.{effect-laid}
+use Rattle.itch_market.proofs.LaidMarkets.{effect-laid}
 use Rattle.itch_join.specs.Positions.{Position}
 use Rattle.itch_join.specs.States.{State}
 use Rattle.itch_commands.specs.AsRead.{as_read, HaltsAs}

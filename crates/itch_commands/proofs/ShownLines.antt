@@ -16,7 +16,7 @@ use Rattle.itch_market.specs.Replays.{Counts, LeavesReaderFirst}
 use Rattle.itch_market.specs.declared.stop.ReplayEnd.{ReplayEnd}
 use Rattle.itch_market.specs.declared.stop.Stop.{Stop}
 use Rattle.itch_market.specs.declared.stop.Stop.TheVariants as stop
-use Rattle.itch_market.proofs.Standing.{Standing, standing_first, standing_on, standing_stops, standing_short}
+use Rattle.itch_market.proofs.ReplayReaders.{Standing, standing_first, standing_on, standing_stops, standing_short}
 use Rattle.itch_commands.specs.declared.fault.Source.{Source}
 use Rattle.itch_commands.specs.declared.fault.Source.TheVariants.{Only}
 use Rattle.itch_commands.specs.declared.fault.ToolFault.{ToolFault}

@@ -8,7 +8,7 @@ use Rattle.itch_frame.proofs.BlockLemmas.{blocks-append}
 use Rattle.itch_market.specs.Content.{Content, empty}
 use Rattle.itch_market.specs.Replays.{TakesOff, Takes}
 use Rattle.itch_market.specs.Runs.{run}
-use Rattle.itch_market.proofs.Stopping.{after_day}
+use Rattle.itch_market.proofs.ReplayStops.{after_day}
 use Rattle.itch_snapshot.specs.declared.fault.SnapFault.{SnapFault}
 use Rattle.itch_snapshot.specs.declared.fault.SnapFault.TheVariants.{NoEnd, Frame, Codec, Rule, AfterEnd, TooManyMessages}
 use Rattle.itch_snapshot.specs.Files.{IsFaultOf}

@@ -20,8 +20,8 @@ use Rattle.itch_market.specs.Replays.{Fits, NoCause}
 use Rattle.itch_market.specs.Wanted.{Wanted, has}
 use Rattle.itch_market.proofs.Causes.{refuses-laid, none_more, none_follows, after_more}
 use Rattle.itch_market.proofs.GoodMarkets.{empty_good, laid_good, run_good}
-use Rattle.itch_market.proofs.Taking.{taken_on, not_full}
-use Rattle.itch_market.proofs.Laid.{laid_twice}
+use Rattle.itch_market.proofs.ReplayProgress.{taken_on, not_full}
+use Rattle.itch_market.proofs.LaidMarkets.{laid_twice}
 use Rattle.itch_snapshot.specs.declared.fault.SnapFault.{SnapFault}
 use Rattle.itch_snapshot.specs.declared.fault.SnapFault.TheVariants as snapshot
 use Rattle.itch_snapshot.proofs.FileLemmas.{Spells-number}

@@ -6,6 +6,7 @@ use Rattle.itch_codec.specs.declared.message.Message.{Message}
 use Rattle.itch_codec.specs.declared.message.Message.TheVariants.{BrokenTrade}
 use Rattle.itch_codec.specs.Messages.{fault, message_of, spelling}
 use Rattle.itch_frame.specs.Blocks.{blocks, IsFull, Day}
+use Rattle.itch_frame.specs.Reading.{EndsHere, FailsHere}
 use Rattle.itch_market.specs.Content.{Content, empty, laid}
 use Rattle.itch_market.specs.Runs.{run}
 use Rattle.itch_market.specs.Replays.{Fits, NoCause, Refuses, TakesOff, Halts}
@@ -16,7 +17,7 @@ use Rattle.itch_snapshot.specs.declared.fault.SnapFault.{SnapFault}
 use Rattle.itch_snapshot.specs.declared.fault.SnapFault.TheVariants as snapshot
 use Rattle.itch_snapshot.specs.Files.{IsFaultOf}
 use Rattle.itch_snapshot.specs.TakenMessages.{closing_number, is_skipped, TakesNext}
-use Rattle.itch_snapshot.specs.Reads.{EndsHere, FailsHere, ReadsPayload}
+use Rattle.itch_snapshot.specs.Reads.{ReadsPayload}
 
 -- a message that no order rule is about, and that changes nothing
 abbrev pub idle : Message

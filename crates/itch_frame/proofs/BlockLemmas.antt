@@ -1,4 +1,4 @@
--- What the bytes of blocks certain of their payloads.
+-- What the bytes of blocks say of their payloads.
 use Rattle.std.proofs.Common.{◌≡◌, ℕ, ◌%◌, ◌/◌, List, [], ◌∷◌, ◌++◌, length, take, drop, Option, refl, sym, ap, subst, ◌∙◌, append_assoc, arith}
 use Rattle.std.specs.List.{AllByRecursion}
 use Rattle.std.proofs.lemmas.List.{take_at, drop_at, append-nil}
@@ -7,7 +7,7 @@ use Rattle.std.specs.Io.KnownBytes.{Consumes}
 use Rattle.std.proofs.KnownBytes.{Consumes-trans}
 use Rattle.itch_frame.specs.Blocks.{IsPayload, block, blocks, Blocks}
 
--- where two streams begin with a block and are the same, the payloads are the same, and what stands after them
+-- where two streams begin with a block and are the same, the payloads are the same, and what follows them
 pub same_block : (p q r s : List ℕ) → IsPayload p → IsPayload q → block p ++ r ≡ block q ++ s → (p ≡ q) × (r ≡ s)
 same_block p q r s p_fits q_fits same =
     let high : length p / 256 % 256 ≡ length q / 256 % 256 = cc in
@@ -34,7 +34,7 @@ blocks-push ps p = blocks-append ps (p ∷ []) ∙ ap (λ bytes. blocks ps ++ by
 pub consumed_more : (old mid new : Option (List ℕ)) (ps : List (List ℕ)) (p : List ℕ) → Consumes old mid (blocks ps) → Consumes mid new (block p) → Consumes old new (blocks (ps ++ p ∷ []))
 consumed_more old mid new ps p first second = subst (Consumes old new) (sym (blocks-push ps p)) (Consumes-trans old mid new (blocks ps) (block p) first second)
 
--- no beginning of these bytes is the block of such a payload
+-- no prefix of these bytes is the block of such a payload
 abbrev pub HasNone : (List ℕ → Type 0) → List ℕ → Type 0
 HasNone P bytes = (payload more : List ℕ) → P payload → bytes ≡ block payload ++ more → ⊥
 

@@ -1,4 +1,4 @@
--- Each stream is a day in one way, and what follows for one that is read from its front.
+-- Each stream is a day in one way, and what this says of one that is read from its front.
 use Rattle.std.proofs.Common.{◌≡◌, ℕ, ◌+◌, ◌<◌, ◌≤◌, ◌⊎◌, List, [], ◌∷◌, ◌++◌, length, refl, sym, ap, ◌∙◌, inl, inr, append_assoc, arith}
 use Rattle.std.specs.List.{AllByRecursion}
 use Rattle.std.proofs.lemmas.Bool.{cases_lt}
@@ -45,7 +45,7 @@ SomeDay bytes = (ps : List (List ℕ)) × (rest : List ℕ) × Day bytes ps rest
 longer_day : (p bytes all : List ℕ) → IsFull p → all ≡ block p ++ bytes → SomeDay bytes → SomeDay all
 longer_day p bytes all full front (ps, rest, day) = (p ∷ ps, rest, let longer : Day (block p ++ bytes) (p ∷ ps) rest = day_on p bytes ps rest full day in record { whole = front ∙ longer.whole; each = longer.each; last = longer.last })
 
--- where no block stands in front, the bytes are the end of a day, or an unfinished block
+-- if no block comes first, the bytes are the end of a day, or an unfinished block
 last_day : (bytes : List ℕ) → HasNoBlock bytes → SomeDay bytes
 last_day [] none = ([], [], day_last [] (inl (inl refl)))
 last_day (x ∷ bytes) none = ([], x ∷ bytes, day_last (x ∷ bytes) (inr (omega arith, none)))

@@ -5,7 +5,7 @@ use Rattle.std.proofs.lemmas.Bool.{cases_lt}
 use Rattle.itch_frame.specs.Blocks.{IsPayload, block, blocks, HasNoBlock, Blocks}
 use Rattle.itch_frame.proofs.BlockLemmas.{nothing_left}
 
--- no block begins where fewer bytes follow than the length bytes certain
+-- no block begins where fewer bytes follow than the length bytes say
 too_short : (x y : ℕ) (rest : List ℕ) → length rest < x * 256 + y → HasNoBlock (x ∷ y ∷ rest)
 too_short x y rest short payload more fits same =
     let high : x ≡ length payload / 256 % 256 = cc in
@@ -22,7 +22,7 @@ no_byte x y rest (inr wide) payload more fits same = let low : y ≡ length payl
 one_byte : (x : ℕ) → HasNoBlock (x ∷ [])
 one_byte x payload more fits same = cc
 
--- the bytes after two length bytes, where enough follow, are a payload and what stands after it
+-- the bytes after two length bytes, where enough follow, are a payload and what follows it
 front_block : (x y : ℕ) (rest : List ℕ) → x < 256 → y < 256 → x * 256 + y ≤ length rest → x ∷ y ∷ rest ≡ block (take (x * 256 + y) rest) ++ drop (x * 256 + y) rest
 front_block x y rest x_fits y_fits enough =
     let n : length (take (x * 256 + y) rest) ≡ x * 256 + y = length-take-le (x * 256 + y) rest enough in

@@ -1,4 +1,4 @@
-pub mod Ahead
+pub mod BufferedBytes
 pub mod BlockLemmas
 pub mod Fronts
 pub mod Days

@@ -1,4 +1,4 @@
--- How far the block at hand is, and the law on cut streams.
+-- How far the current block is, and the law on cut streams.
 use Rattle.std.proofs.Common.{◌≡◌, ℕ, ◌+◌, ◌-◌, ◌/◌, ◌%◌, ◌<◌, ◌≤◌, ◌⊎◌, min, List, [], ◌∷◌, ◌++◌, length, take, drop, get_or, refl, sym, ap, subst, ◌∙◌, inl, inr, append_assoc, arith, length-append}
 use Rattle.std.proofs.lemmas.List.{take_all, take_at, take-append-le, take-take, length-take-le, length-drop, append-nil, nil_from_length, get_or_append_left, drop-take}
 use Rattle.std.proofs.Math.Seq.{take-append-add, take-add}
@@ -9,13 +9,13 @@ use Rattle.itch_frame.specs.Cuts.CutStep.{Takes, Clears}
 use Rattle.itch_frame.specs.Needs.{need}
 use Rattle.itch_frame.proofs.BlockLemmas.{nothing_left}
 
--- a block is as long as its length bytes certain
+-- a block is as long as its length bytes say
 block_need : (bytes : List ℕ) → IsBlock bytes → (2 ≤ length bytes) × (need bytes ≡ length bytes)
 block_need bytes (payload, of) =
     let long : (2 ≤ length (block payload)) × (need (block payload) ≡ length (block payload)) = (omega arith, omega arith) in
     subst (λ (b : List ℕ). (2 ≤ length b) × (need b ≡ length b)) (sym of.1) long
 
--- bytes as long as their length bytes certain are a block
+-- bytes as long as their length bytes say are a block
 pub whole_block : (held : List ℕ) → 2 ≤ length held → need held ≡ length held → length held ≤ 65537 → get_or held 0 0 < 256 → get_or held 1 0 < 256
     → IsBlockOf (take (length held - 2) (drop 2 held)) held
 whole_block [] long is bound x_fits y_fits = absurd (omega arith)
@@ -77,7 +77,7 @@ lacks_some held piece k n below within lacks is = by_length (cases_lt (length he
   by_length (inl short) = let two : need held ≡ 2 = need_start held short in omega (arith, needs.0, total)
   by_length (inr long) = let same : need (held ++ take k piece) ≡ need held = need-append held (take k piece) long in omega (arith, needs.1, total)
 
--- two moves, each of as many bytes as the block at hand lacks, are one take
+-- two moves, each of as many bytes as the current block needs, are one take
 pub two_moves : (held piece mid rest new : List ℕ) (first second : ℕ)
     → length held ≤ need held → first ≡ min (need held - length held) (length piece) → mid ≡ held ++ take first piece
     → rest ≡ drop first piece → second ≡ min (need mid - length mid) (length rest) → new ≡ mid ++ take second rest
@@ -134,11 +134,11 @@ two_moves held piece mid rest new first second begun first_is mid_is rest_is sec
         whole_block new (omega arith) (omega (arith, rest_length, mid_begun)) bound (omega (arith, bytes 0)) (omega (arith, bytes 1)),
       )
 
--- no shorter beginning of these bytes is a block
+-- no shorter prefix of these bytes is a block
 abbrev IsBegun : List ℕ → Type 0
 IsBegun bytes = (k : ℕ) → k < length bytes → IsBlock (take k bytes) → ⊥
 
--- bytes of which no beginning is a block, nor they themselves, begin with no block
+-- if neither a shorter prefix of these bytes nor they themselves are a block, they begin with none
 begun_open : (held : List ℕ) → IsBegun held → (IsBlock held → ⊥) → HasNoBlock held
 begun_open held begun none payload more fits is = by_length (cases_lt 0 (length more)) where
   front : take (length (block payload)) held ≡ block payload
@@ -153,11 +153,11 @@ begun_open held begun none payload more fits is = by_length (cases_lt 0 (length 
       let empty : more ≡ [] = nil_from_length more (omega arith) in
       none (payload, (fits, is ∙ ap (λ m. block payload ++ m) empty ∙ append-nil (block payload)))
 
--- nothing is held: no beginning of it is a block
+-- nothing is held: no prefix of it is a block
 none_begun : IsBegun []
 none_begun k below is = absurd (omega arith)
 
--- a take keeps that no shorter beginning is a block
+-- a take keeps that no shorter prefix is a block
 take_begun : (held piece new : List ℕ) (n : ℕ) → IsBegun held → IsTake held piece n new → IsBegun new
 take_begun held piece new n begun took k below is = by_length (cases_lt k (length held)) where
   total : length new ≡ length held + n

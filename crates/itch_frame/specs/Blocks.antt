@@ -1,10 +1,10 @@
--- A stream of blocks, framed as the packets of SoupBinTCP 3.00 are: each is a length in two bytes, the higher first, and then that
+-- A stream of blocks, framed as the packets of SoupBinTCP 3.00 are: each is a length in two bytes, the high byte first, and then that
 -- many bytes of payload.
 use Rattle.std.specs.Prelude.{◌≡◌, ℕ, ◌<◌, ◌⊎◌, List, [], ◌++◌, length}
 use Rattle.std.specs.List.{flat_map, AllByRecursion}
 use Rattle.byteorder.specs.Endian.{big_bytes}
 
--- a payload whose length two bytes can say
+-- a payload whose length fits two bytes
 abbrev pub IsPayload : List ℕ → Type 0
 IsPayload payload = length payload < 65536
 
@@ -16,11 +16,11 @@ block payload = big_bytes 2 (length payload) ++ payload
 abbrev pub IsBlockOf : List ℕ → List ℕ → Type 0
 IsBlockOf payload bytes = IsPayload payload × (bytes ≡ block payload)
 
--- these bytes are one block, and no more
+-- these bytes are exactly one block
 abbrev pub IsBlock : List ℕ → Type 0
 IsBlock bytes = (payload : List ℕ) × IsBlockOf payload bytes
 
--- no beginning of these bytes is a block
+-- no prefix of these bytes is a block
 abbrev pub HasNoBlock : List ℕ → Type 0
 HasNoBlock bytes = (payload more : List ℕ) → IsPayload payload → bytes ≡ block payload ++ more → ⊥
 
@@ -38,7 +38,7 @@ pub record Blocks (bytes : List ℕ) (payloads : List (List ℕ)) (rest : List �
 abbrev pub Ends : List ℕ → Type 0
 Ends rest = (rest ≡ []) ⊎ ((more : List ℕ) × (rest ≡ block [] ++ more))
 
--- an unfinished block: some bytes, of which no beginning is a block
+-- an unfinished block: at least one byte, and no prefix that is a block
 abbrev pub Open : List ℕ → Type 0
 Open rest = (0 < length rest) × HasNoBlock rest
 

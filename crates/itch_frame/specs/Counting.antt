@@ -4,14 +4,14 @@ use Rattle.std.specs.declared.io.Error.{Error}
 use Rattle.std.specs.Io.KnownBytes.{Keeps, Appends}
 use Rattle.itch_frame.specs.declared.tally.Failures.{Failures}
 
--- one call more has failed, with this error; the count stays at its last value
+-- one call more has failed, with this error; the count stays at its greatest value
 abbrev pub failed : Error → Failures → Failures
 failed error old = record { count = min (old.count + 1) (2 ^ 64 - 1); last = Some error }
 
--- a call that ends in an error is counted with it, and no other
+-- a call that fails is counted with its error, and no other call is
 abbrev pub CountsErr : {T : Type 0} → Result T Error → Failures → Failures → Type 0
 CountsErr result old new = MatchResult result (λ _. new ≡ old) (λ error. new ≡ failed error old)
 
--- `write_some(buf)` appended the n bytes that it took at `Ok(n)`, and took some if there were any; at `Err` nothing
+-- `write_some(buf)` returned `Ok(n)` and appended the n bytes that it took, at least one if there were any; or `Err`, and appended nothing
 abbrev pub Takes : {E : Type 0} → Option (List ℕ) → Option (List ℕ) → Result ℕ E → List ℕ → Type 0
 Takes old new r buf = MatchResult r (λ n. Appends old new (take n buf) × (0 < length buf → 0 < n)) (λ _. Keeps old new)

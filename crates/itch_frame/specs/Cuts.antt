@@ -2,7 +2,7 @@
 use Rattle.std.specs.Prelude.{◌≡◌, ℕ, ◌<◌, ◌≤◌, List, [], ◌∷◌, ◌++◌, length, take}
 use Rattle.itch_frame.specs.Blocks.{IsBlock, IsBlockOf, Blocks}
 
--- Of the piece the first n bytes are taken: the fewest that make a block with those held, or all where none do.
+-- The first n bytes of the piece are taken: the fewest that make a block with those held, or all of them if none do.
 pub record IsTake (held piece : List ℕ) (n : ℕ) (new : List ℕ) : Type 0 where
   pub within : n ≤ length piece
   pub joined : new ≡ held ++ take n piece
@@ -32,7 +32,7 @@ payloads_of [] = []
 payloads_of (Takes piece n ∷ steps) = payloads_of steps
 payloads_of (Clears payload ∷ steps) = payload ∷ payloads_of steps
 
--- However a stream is cut, the payloads are those of its blocks.
+-- The payloads are those of the stream's blocks, whatever its pieces are.
 pub record AnyCut (steps : List CutStep) (held : List ℕ) : Type 0 where
   -- the last block is unfinished, or nothing is held
   pub unfinished : (IsBlock held → ⊥) → Blocks (stream_of steps) (payloads_of steps) held

@@ -1,7 +1,7 @@
--- How long the block at hand is.
+-- How long the current block is.
 use Rattle.std.specs.Prelude.{ℕ, ◌+◌, ◌*◌, List, [], ◌∷◌}
 
--- its length, as far as its bytes certain: two length bytes come first
+-- its length, as far as its bytes say: the two length bytes come first
 abbrev pub need : List ℕ → ℕ
 need [] = 2
 need (high ∷ []) = 2

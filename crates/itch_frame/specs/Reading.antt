@@ -1,5 +1,5 @@
 -- What contracts see of a reader of blocks.
-use Rattle.std.specs.Prelude.{◌≡◌, ℕ, List, [], ◌++◌, length, Option, None, Some, Result, Ok, Err, IfSome}
+use Rattle.std.specs.Prelude.{◌≡◌, ℕ, ◌<◌, ◌⊎◌, List, [], ◌++◌, length, Option, None, Some, Result, Ok, Err, IfSome}
 use Rattle.std.specs.Borrow.{Bor}
 use Rattle.std.specs.Io.KnownBytes.{prepend_known, Keeps, Consumes, IsAtEnd}
 use Rattle.itch_frame.specs.Blocks.{IsPayload, block, Open}
@@ -10,22 +10,33 @@ use Rattle.itch_frame.specs.declared.reader.Stage.TheVariants.{Going, Given, End
 use Rattle.itch_frame.specs.declared.fault.FrameFault.{FrameFault}
 use Rattle.itch_frame.specs.declared.fault.FrameFault.TheVariants.{Read, Truncated, Write, TooLong}
 
--- the reader below, the bytes held of an unfinished block, and how far the reading is
+-- the reader below, the bytes held of an unfinished block, and the stage of the reading
 pub record Reading (R : Type 0) : Type 0 where
   pub reader : R
   pub held : List ℕ
   pub stage : Stage
 
--- the bytes held of an unfinished block: a block that was given is no more held
+-- the bytes held of an unfinished block: a block that was returned is no longer held
 abbrev pub held_of : Stage → List ℕ → List ℕ
 held_of Going bytes = bytes
 held_of Given bytes = []
 held_of Ended bytes = bytes
 held_of Cut bytes = bytes
 
--- the bytes held of an unfinished block, and then those unread, where they are known: none of the block given
+-- the bytes held of an unfinished block, and then the unread ones, if they are known: none of a block that was returned
 abbrev pub bytes_left : {R : Type 0} → (R → Option (List ℕ)) → Reading R → Option (List ℕ)
 bytes_left remaining r = prepend_known r.held (remaining r.reader)
+
+-- the input is at its end, or an empty block came off the front
+abbrev pub EndsHere : Option (List ℕ) → Option (List ℕ) → Type 0
+EndsHere old new = IsAtEnd old ⊎ Consumes old new (block [])
+
+-- why no block came off the front
+abbrev pub FailsHere : FrameFault → Option (List ℕ) → Option (List ℕ) → Type 0
+FailsHere (Truncated held) old new = IfSome old (λ bytes. Open bytes × (held ≡ length bytes))
+FailsHere (Read error) old new = Keeps old new
+FailsHere (Write sent error) old new = ⊥
+FailsHere TooLong old new = ⊥
 
 module _ {R : Type 0} (remaining : R → Option (List ℕ)) (failures : R → Failures) where
   -- what a call that asks for the next block may return, and leave
@@ -37,15 +48,26 @@ module _ {R : Type 0} (remaining : R → Option (List ℕ)) (failures : R → Fa
   -- no byte was left
   NextBlock old (Ok None) new =
       IsAtEnd (bytes_left remaining old) × (new.stage ≡ Ended) × (new.held ≡ []) × (failures new.reader ≡ failures old.reader)
-  -- some bytes were left, and no beginning of them is a block
+  -- some bytes were left, and no prefix of them is a block
   NextBlock old (Err (Truncated held)) new =
       IfSome (bytes_left remaining old) (λ b. Open b × (held ≡ length b)) × (new.stage ≡ Cut) × (held ≡ length new.held) × (failures new.reader ≡ failures old.reader)
-  -- nothing is lost: the bytes held are held still, and those read since then after them
+  -- nothing is lost: the bytes held are still held, and then any that were read after them
   NextBlock old (Err (Read error)) new =
       Keeps (bytes_left remaining old) (bytes_left remaining new) × (new.stage ≡ Going) × (failures new.reader ≡ failed error (failures old.reader))
       × ((more : List ℕ) × (new.held ≡ old.held ++ more))
   NextBlock old (Err (Write sent error)) new = ⊥
   NextBlock old (Err TooLong) new = ⊥
+
+  -- what a call that asks for the next message may return, and leave
+  abbrev pub NextMessage : Reading R → Result (Option (Bor (List ℕ))) FrameFault → Reading R → Type 0
+  -- a block that is not empty
+  NextMessage old (Ok (Some p)) new = (0 < length p.now) × NextBlock old (Ok (Some p)) new
+  -- the end of the input, or an empty block, which was read: the stage says which
+  NextMessage old (Ok None) new =
+      EndsHere (bytes_left remaining old) (bytes_left remaining new) × (new.held ≡ []) × ((new.stage ≡ Ended) ⊎ (new.stage ≡ Given))
+      × (failures new.reader ≡ failures old.reader)
+      × (new.stage ≡ Ended → IsAtEnd (bytes_left remaining old)) × (new.stage ≡ Given → Consumes (bytes_left remaining old) (bytes_left remaining new) (block []))
+  NextMessage old (Err fault) new = NextBlock old (Err fault) new
 
 -- once the input has ended, each call returns what the first did, and nothing is read
 abbrev pub StaysEnded : {R : Type 0} → Reading R → Result (Option (Bor (List ℕ))) FrameFault → Reading R → Type 0

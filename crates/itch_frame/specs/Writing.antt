@@ -1,4 +1,4 @@
--- What a write of one block, or of several, leaves.
+-- What writing one block, or several, leaves.
 use Rattle.std.specs.Prelude.{◌≡◌, ℕ, ◌+◌, ◌-◌, ◌<◌, ◌≤◌, List, ◌∷◌, ◌++◌, length, take, Option, Result, Ok, Err}
 use Rattle.std.specs.Io.KnownBytes.{Appends}
 use Rattle.itch_frame.specs.Blocks.{IsPayload, block, blocks}
@@ -8,7 +8,7 @@ use Rattle.itch_frame.specs.declared.fault.FrameFault.{FrameFault}
 use Rattle.itch_frame.specs.declared.fault.FrameFault.TheVariants.{Read, Truncated, Write, TooLong}
 
 module _ {W : Type 0} (contents : W → Option (List ℕ)) (failures : W → Failures) where
-  -- what writing these bytes may return, and leave; `before` of the block were written before them
+  -- what writing these bytes may return, and leave; `before` bytes of the block were written before them
   abbrev pub WritePart : W → ℕ → List ℕ → Result (Unit {0}) FrameFault → W → Type 0
   WritePart old before bytes (Ok done) new =
       Appends (contents old) (contents new) bytes × (failures new ≡ failures old)

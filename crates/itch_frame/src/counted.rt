@@ -1,7 +1,7 @@
 //! Readers and writers that count their failures.
 //!
-//! Contracts see the bytes that a reader has left or a writer took, where they are known, how many calls failed, and the
-//! error of the last one that did.
+//! Contracts see the bytes that a reader has left or a writer has taken, if they are known, how many calls failed, and the
+//! error of the last failure.
 ghost use Rattle.std.specs.Prelude.{◌≡◌, ℕ, ◌-◌, List, Option};
 ghost use Rattle.std.specs.Io.{ReadsAtMost, WritesAtMost};
 ghost use Rattle.std.specs.Io.KnownBytes.{ReadConsumes};
@@ -17,13 +17,13 @@ use std::io::{self, Read, Write};
 pub trait CountedRead {
     ghost use Rattle.itch_frame.specs.declared.tally.Failures.{Failures};
 
-    // The bytes that reads will give from here on, where they are known.
+    // The bytes that are still to be read, if they are known.
     ghost remaining: { Self → Option (List ℕ) };
 
     // How many reads failed, and the error of the last one.
     ghost failures: { Self → Failures };
 
-    /// Reads some bytes into the front of `buf`, and returns how many. `Ok(0)` is the end of input, where `buf` is not empty.
+    /// Reads some bytes into the front of `buf`, and returns how many. If `buf` is not empty, `Ok(0)` is the end of input.
     ///
     /// An `Err` is counted, and consumes nothing.
     fn read_some(&mut self, buf: &mut [u8]) -> io::Result<usize>
@@ -36,7 +36,7 @@ pub trait CountedRead {
 pub trait CountedWrite {
     ghost use Rattle.itch_frame.specs.declared.tally.Failures.{Failures};
 
-    // The bytes that were written, where they are known.
+    // The bytes that were written, if they are known.
     ghost contents: { Self → Option (List ℕ) };
 
     // How many writes failed, and the error of the last one.
@@ -51,9 +51,9 @@ pub trait CountedWrite {
         ensures count { CountsErr result (failures self.old) (failures self.new) };
 }
 
-/// Counts the failures of any standard reader or writer. Its bytes are those of the one inside, after failures as before.
+/// Counts the failures of any standard reader or writer. Its bytes are those of the one inside, also after failures.
 ///
-/// A write that takes none of some bytes is a failure, `WriteZero`. A flush of the writer inside is not counted.
+/// A write that is given some bytes and takes none is the failure `WriteZero`. A flush of the writer inside is not counted.
 #[derive(Drop)]
 pub struct Counted<T> {
     inner: T,
@@ -87,7 +87,7 @@ impl<T> Counted<T> {
         self.failures
     }
 
-    /// The reader or writer inside, no more counted.
+    /// The reader or writer inside, no longer counted.
     pub fn into_inner(self) -> T
         ensures { result ≡ self.inner }
     {

@@ -1,14 +1,15 @@
-//! Blocks of a two-byte length and that many bytes of payload, as streams and files of market data carry them.
+//! Blocks: a length of two bytes, and that many bytes of payload, as streams and files of market data carry them.
 //!
-//! A block is its payload's length as two bytes, the higher first, and then the payload, of at most 65,535 bytes.
-//! So stand the packets of SoupBinTCP 3.00 on a connection, and the messages of a day in a file.
+//! A block is the length of its payload in two bytes, the high byte first, and then the payload, at most 65,535 bytes. The packets
+//! of SoupBinTCP 3.00 are sent in such blocks, and a day file has its messages in them.
 //!
-//! - [`Splitter`] cuts blocks out of a stream that comes in pieces. However it is cut, the blocks are the same.
-//! - [`BlockReader`] reads blocks one by one, and never reads past the block at hand.
+//! - [`Splitter`] cuts a stream that arrives in pieces into blocks. The blocks are the same whatever the pieces are.
+//! - [`BlockReader`] reads blocks or messages one by one, and never reads past the current block.
 //! - [`write_block`] writes one.
 //!
-//! Readers and writers count their failures ([`CountedRead`], [`CountedWrite`]), so that no call can blame the outside for a fault of its own.
-//! `laws` has what holds of every stream, and `testing` a reader and a writer that fail where a test asks for it.
+//! Readers and writers count their failures ([`CountedRead`], [`CountedWrite`]), so no call can report a failed read or write that
+//! did not happen.
+//! `laws` states what holds of every stream, and `testing` has a reader and a writer that fail when a test asks them to.
 //!
 //! ```
 //! write_block(&mut out, b"hi")?;

@@ -15,21 +15,21 @@ use std::marker::Model;
 // How far a reader of blocks is.
 #[derive(Clone, Copy)]
 pub(crate) enum Stage {
-    // A block is wanted, or some of it is held.
+    // The next block is to be read, or some of it is held.
     Going,
-    // A block was given, and is dropped by the next call.
+    // A block was returned, and the next call drops it.
     Given,
     // The input ended where a block would begin.
     Ended,
-    // The input ended in a block.
+    // The input ended within a block.
     Cut,
 }
 
-/// Gives the blocks of a reader one by one, and never asks for more than the block at hand lacks.
+/// Reads blocks one by one, and never asks its reader for more than the current block still needs.
 #[derive(Drop)]
 pub struct BlockReader<R: CountedRead, A: Allocator = Global> {
     reader: R,
-    // As long as the longest block. The first `len` bytes are those of the block at hand.
+    // As long as the longest block. The first `len` bytes are those of the current block.
     buffer: Vec<u8, A>,
     len: usize,
     stage: Stage,
@@ -55,10 +55,10 @@ impl<R: CountedRead, A: Allocator> BlockReader<R, A> {
     ghost use types.Logic.{sem};
     ghost use Rattle.std.specs.Prelude.{◌≡◌, [], IfOk};
     ghost use Rattle.std.specs.Io.BufRead.{Rests};
-    ghost use Rattle.itch_frame.specs.Reading.{NextBlock, StaysEnded};
+    ghost use Rattle.itch_frame.specs.Reading.{NextBlock, NextMessage, StaysEnded};
     ghost use Rattle.itch_frame.specs.contracts.reader.BlockReader.{the_row as reader_row};
 
-    /// A reader of blocks that stands before the first byte of `reader`. It takes all its memory here, 65,537 bytes.
+    /// A reader of blocks, from the first byte of `reader` on. It allocates all its memory here, 65,537 bytes.
     pub fn new(alloc: A, reader: R) -> Result<BlockReader<R, A>, AllocError>
     where
         R: Drop,
@@ -72,9 +72,9 @@ impl<R: CountedRead, A: Allocator> BlockReader<R, A> {
         })
     }
 
-    /// The payload of the next block, or `None` at the end of input. The block given before is dropped.
+    /// The payload of the next block, or `None` at the end of input. The block returned before is dropped.
     ///
-    /// After `Read` what was read so far is kept, and the call may be made again. After `None` and `Truncated` each call
+    /// After `Read`, what was read so far is kept, and the call may be made again. After `None` or `Truncated`, each call
     /// returns the same, and nothing more is read.
     pub fn next_block(&mut self) -> Result<Option<&[u8]>, FrameFault>
         ensures* next { sem 𝓛 (Rests (reader_row R.row A.row R.CountedRead A.Allocator) self.entry (λ new.
@@ -103,6 +103,21 @@ impl<R: CountedRead, A: Allocator> BlockReader<R, A> {
             }
         }
     }
+
+    /// The payload of the next message, or `None` where the messages end: at the end of input, or at an empty block, which is
+    /// read too. The message returned before is dropped.
+    ///
+    /// The faults are those of [`BlockReader::next_block`], and leave the same. After the end of input each call returns `None`;
+    /// after an empty block the next call reads on.
+    pub fn next_message(&mut self) -> Result<Option<&[u8]>, FrameFault>
+        ensures* next { sem 𝓛 (Rests (reader_row R.row A.row R.CountedRead A.Allocator) self.entry (λ new.
+            NextMessage R.remaining R.failures self.old result new × StaysEnded self.old result new)) }
+    {
+        match self.next_block()? {
+            Some(payload) if !payload.is_empty() => Ok(Some(payload)),
+            _ => Ok(None),
+        }
+    }
 }
 
 /// This many bytes, all zero.
@@ -112,7 +127,7 @@ fn zeros<A: Allocator>(alloc: A, len: usize) -> Result<Vec<u8, A>, AllocError>
     vec![in alloc; 0; len]
 }
 
-/// Reads until the block at hand, the first `len` bytes of `buffer`, is whole (true), or the input ends (false).
+/// Reads until the current block, the first `len` bytes of `buffer`, is complete (true) or the input ends (false).
 fn fill_block<R: CountedRead>(
     reader: &mut R,
     buffer: &mut [u8],

@@ -1,4 +1,4 @@
-//! Blocks out of a stream that comes in pieces.
+//! Blocks from a stream that arrives in pieces.
 ghost use Rattle.std.specs.Prelude.{◌≡◌, ℕ, ◌+◌, ◌-◌, ◌<◌, ◌≤◌, min, List, [], ◌++◌, length, take, slice_index, vec_capacity, IfOk, IfSome, IfNone};
 ghost use Rattle.itch_frame.specs.Blocks.{IsBlock, IsBlockOf};
 ghost use Rattle.itch_frame.specs.Cuts.{IsTake};
@@ -11,7 +11,7 @@ use std::marker::Model;
 /// The longest block: two length bytes and 65,535 bytes of payload.
 pub(crate) const LONGEST: usize = 65_537;
 
-/// Cuts a stream that comes in pieces into blocks.
+/// Cuts a stream that arrives in pieces into blocks.
 #[derive(Drop)]
 pub struct Splitter<A: Allocator = Global> {
     held: Vec<u8, A>,
@@ -26,14 +26,14 @@ impl<A: Allocator> Model for Splitter<A> {
 }
 
 impl<A: Allocator> Splitter<A> {
-    /// Holds nothing. It takes all its memory here, 65,537 bytes and no more.
+    /// A splitter that holds nothing. It allocates all its memory here, exactly 65,537 bytes.
     pub fn new(alloc: A) -> Result<Splitter<A>, AllocError>
         ensures { IfOk result (λ s. s ≡ []) }
     {
         Ok(Splitter { held: room(alloc)? })
     }
 
-    /// Takes bytes from the front of `piece` up to the end of the block at hand, and returns how many: 0 while a block is ready.
+    /// Takes bytes from the front of `piece` up to the end of the current block, and returns how many: 0 while a block is ready.
     pub fn take(&mut self, piece: &[u8]) -> usize
         ensures { IsTake self.old piece.now result self.new }
     {
@@ -41,7 +41,7 @@ impl<A: Allocator> Splitter<A> {
         first + fill(&mut self.held, &piece[first..])
     }
 
-    /// The payload, once the block is whole. A block of length 0 has an empty one.
+    /// The payload, once the block is complete. A block of length 0 has an empty one.
     pub fn ready(&self) -> Option<&[u8]>
         ensures some { IfSome result (λ payload. IsBlockOf payload.now self.now) }
         ensures none { IfNone result (¬ IsBlock self.now) }
@@ -54,14 +54,14 @@ impl<A: Allocator> Splitter<A> {
         }
     }
 
-    /// Drops all that is held.
+    /// Drops everything that is held.
     pub fn clear(&mut self)
         ensures { self.new ≡ [] }
     {
         self.held.clear();
     }
 
-    /// How many bytes are held, the length bytes included.
+    /// How many bytes are held, including the length bytes.
     pub fn held(&self) -> usize
         ensures count { result ≡ length self.now }
         ensures bound { result ≤ 65537 }
@@ -77,7 +77,7 @@ fn room<A: Allocator>(alloc: A) -> Result<Vec<u8, A>, AllocError>
     Vec::with_capacity(alloc, LONGEST)
 }
 
-/// How many bytes the block at hand lacks, as far as its bytes say: both length bytes come first.
+/// How many bytes the current block still needs, as far as its bytes say: the two length bytes come first.
 pub(crate) fn lacking(held: &[u8]) -> usize
     ensures count { result ≡ need held.now - length held.now }
     ensures bound { need held.now ≤ 65537 }
@@ -91,7 +91,7 @@ pub(crate) fn lacking(held: &[u8]) -> usize
     }
 }
 
-/// Moves as much of the piece as the block at hand lacks, and returns how much.
+/// Moves as much of the piece as the current block needs, and returns how much.
 fn fill<A: Allocator>(held: &mut Vec<u8, A>, piece: &[u8]) -> usize
     requires room { 65537 ≤ vec_capacity held.old }
     requires begun { length held.old.items ≤ need held.old.items }

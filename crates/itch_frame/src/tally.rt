@@ -7,13 +7,13 @@ use std::io;
 /// How many calls failed, and the error of the last one.
 #[derive(Clone, Copy, Debug)]
 pub struct Failures {
-    // It stays at its last value, 2^64 - 1.
+    // It stays at its greatest value, 2^64 - 1.
     count: u64,
     last: Option<io::Error>,
 }
 
 impl Failures {
-    /// None so far.
+    /// No failures so far.
     pub fn none() -> Failures
         ensures count { result.count ≡ 0 }
         ensures last { result.last ≡ None }
@@ -24,7 +24,7 @@ impl Failures {
         }
     }
 
-    /// How many there were. It stays at its last value, 2^64 - 1.
+    /// How many there were. The count stays at its greatest value, 2^64 - 1.
     pub fn count(&self) -> u64
         ensures { result ≡ self.now.count }
     {
@@ -38,7 +38,7 @@ impl Failures {
         self.last
     }
 
-    /// Counts one, and passes its error on.
+    /// Counts a failure, and returns its error.
     pub fn add(&mut self, error: io::Error) -> io::Error
         ensures failures { self.new ≡ failed error self.old }
         ensures error { result ≡ error }

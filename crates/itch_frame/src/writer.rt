@@ -19,9 +19,9 @@ pub fn write_block<W: CountedWrite>(writer: &mut W, payload: &[u8]) -> Result<()
     write_part(writer, payload, 2)
 }
 
-/// Writes bytes as they are: a part of what is sent together, `before` bytes of which were written before it.
+/// Writes bytes as they are: a part of something of which `before` bytes were written before.
 ///
-/// The only fault is `Write`, and says how much of the whole was written.
+/// The only fault is `Write`, which says how much of the whole was written.
 pub fn write_part<W: CountedWrite>(
     writer: &mut W,
     bytes: &[u8],

@@ -23,7 +23,7 @@ use Rattle.itch_market.specs.SameMarkets.{Same}
 use Rattle.itch_market.specs.Partial.{skips, kept, only}
 use Rattle.itch_market.proofs.Partials.{kept_message, kept_leaves, only_good}
 use Rattle.itch_market.proofs.GoodMarkets.{effect_good, empty_good}
-use Rattle.itch_market.proofs.Laid.{reason-laid, effect-laid, laid_twice}
+use Rattle.itch_market.proofs.LaidMarkets.{reason-laid, effect-laid, laid_twice}
 use Rattle.itch_market.proofs.SameMarkets.{laid_is_same}
 use Rattle.itch_snapshot.specs.Snapshot.{snap}
 use Rattle.itch_snapshot.specs.TakenMessages.{closing_number, number_by, number_in, is_skipped}

@@ -17,7 +17,7 @@ use Rattle.itch_market.specs.SameMarkets.{Same}
 use Rattle.itch_market.specs.Partial.{kept, only}
 use Rattle.itch_market.proofs.Partials.{kept_follows, kept_leaves, only_good}
 use Rattle.itch_market.proofs.GoodMarkets.{effect_good, empty_good, laid_good, after_good}
-use Rattle.itch_market.proofs.Laid.{reason-laid, effect-laid}
+use Rattle.itch_market.proofs.LaidMarkets.{reason-laid, effect-laid}
 use Rattle.itch_market.proofs.SameMarkets.{laid_is_same, laid_same, same_back, same_chain}
 use Rattle.itch_snapshot.specs.Snapshot.{snap}
 use Rattle.itch_snapshot.specs.TakenMessages.{closing_number}

@@ -9,7 +9,7 @@ use Rattle.itch_market.specs.Reasons.{reason}
 use Rattle.itch_market.specs.Effects as market
 use Rattle.itch_market.specs.Replays.{IsRefusal}
 use Rattle.itch_market.proofs.Causes.{no_fault, no_reason}
-use Rattle.itch_market.proofs.Rules.{reason_is_rule}
+use Rattle.itch_market.proofs.RuleReasons.{reason_is_rule}
 use Rattle.itch_snapshot.proofs.FileLemmas.{unrefused_number}
 use Rattle.itch_snapshot.specs.declared.fault.SnapFault.{SnapFault}
 use Rattle.itch_snapshot.specs.declared.fault.SnapFault.TheVariants.{NoEnd, Frame, Codec, Rule, AfterEnd, TooManyMessages}

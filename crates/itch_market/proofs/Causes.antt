@@ -16,7 +16,7 @@ use Rattle.itch_market.specs.GoodMarkets.{IsGood}
 use Rattle.itch_market.specs.Runs.{after, FollowsFrom}
 use Rattle.itch_market.specs.Stops.{cause_by, cause, cause_at}
 use Rattle.itch_market.specs.Replays.{NoCause, IsRefusal, Refuses, Halts}
-use Rattle.itch_market.proofs.Laid.{reason-laid, takes_memory-laid}
+use Rattle.itch_market.proofs.LaidMarkets.{reason-laid, takes_memory-laid}
 
 -- a laid market takes no payload for another reason
 pub cause-laid : (m : Content) (p : List ℕ) → IsGood m → cause (laid m) p ≡ cause m p

@@ -1,4 +1,4 @@
--- A replay of a day file ends exactly if the file has an end, and its payloads spell messages that follow the order rules.
+-- A replay of a day file ends if and only if the file has an end, and its payloads spell messages that follow the order rules.
 use Rattle.std.proofs.Common.{◌≡◌, ℕ, ◌-◌, ◌^◌, ◌<◌, ◌≤◌, List, [], ◌∷◌, ◌++◌, map, length, take, drop, suc, Option, Some, None, refl, sym, ap, subst, ◌∙◌, ◌⊎◌, inl, inr, append_assoc, arith}
 use Rattle.std.proofs.lemmas.List.{take-append-drop, length-take-le}
 use Rattle.std.specs.Prelude.{slice_get, option_map, option_and_then}
@@ -23,8 +23,8 @@ use Rattle.itch_market.specs.FirstPlaces.{IsFirst}
 use Rattle.itch_market.specs.Stops.{cause_by, cause, cause_at, end_of, stop_at, Stops}
 use Rattle.itch_market.specs.Replays.{NoCause}
 use Rattle.itch_market.proofs.Causes.{no_fault, none_clean, none_follows, follows_none, cause_before}
-use Rattle.itch_market.proofs.Places.{no_later, none_before, place}
-use Rattle.itch_market.proofs.Stopping.{none_ends, ends_stop, open_stops}
+use Rattle.itch_market.proofs.StopPlaces.{no_later, none_before, place}
+use Rattle.itch_market.proofs.ReplayStops.{none_ends, ends_stop, open_stops}
 
 -- the payloads of bytes are bytes
 pub payload_bytes : (ps : List (List ℕ)) (rest : List ℕ) → AreBytes (blocks ps ++ rest) → AllByRecursion AreBytes ps

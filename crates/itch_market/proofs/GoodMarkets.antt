@@ -28,7 +28,7 @@ use Rattle.itch_market.proofs.Trees.{each_after}
 use Rattle.std.specs.Cmp.{nat_cmp_total}
 use Rattle.std.specs.Cmp.Lexicographic.{slice_cmp, nat_list_cmp_total}
 use Rattle.std.specs.FinMap.{nat_cmp-IsAntisymmetric, slice_cmp-IsAntisymmetric}
-use Rattle.itch_market.proofs.Allowed.{allowed_add, allowed_replace}
+use Rattle.itch_market.proofs.AllowedMessages.{allowed_add, allowed_replace}
 
 -- a security that fits, at a locate that fits
 abbrev pub IsEntry : ℕ → Listing → Type 0

@@ -1,7 +1,7 @@
 -- The lemmas that the laws are, in the laws' own words.
 use Rattle.itch_market.proofs.GoodMarkets.{empty_good, laid_good, effect_good, after_good}
 use Rattle.itch_market.proofs.SameMarkets.{reason_same, effect_same}
-use Rattle.itch_market.proofs.Laid.{reason-laid, effect-laid, takes_memory-laid, laid_twice}
+use Rattle.itch_market.proofs.LaidMarkets.{reason-laid, effect-laid, takes_memory-laid, laid_twice}
 use Rattle.itch_market.proofs.Partials.{kept_follows, kept_leaves}
 
 pub ruleset laid_laws = (reason-laid, effect-laid, takes_memory-laid, laid_twice)

@@ -6,8 +6,8 @@ use Rattle.itch_market.specs.declared.stop.Stop.{Stop}
 use Rattle.itch_market.specs.Content.{Content}
 use Rattle.itch_market.specs.FirstPlaces.{IsFirst}
 use Rattle.itch_market.specs.Stops.{stop_at, last_stop, Stops}
-use Rattle.itch_market.proofs.Searches.{first_place, first_value, first_is_there}
-use Rattle.itch_market.proofs.Stopping.{stop_after}
+use Rattle.itch_market.proofs.FirstPlaces.{first_place, first_value, first_is_there}
+use Rattle.itch_market.proofs.ReplayStops.{stop_after}
 
 -- two readings of one file search the same places
 same_search : (m : Content) (bytes : List ℕ) (k j : ℕ) (s t : Stop) (p : Stops m bytes k s) → (q : Stops m bytes j t) → IsFirst (stop_at (10 ^ 19 - 1) m p.payloads p.rest) j t

@@ -1,4 +1,4 @@
--- The messages that are not skipped follow the order rules where all do, and leave the market that all leave, cut down to the wanted locates.
+-- The messages that are not skipped follow the order rules if all do, and leave the market that all leave, restricted to the wanted locates.
 use Rattle.std.proofs.Common.{◌≡◌, ℕ, ◌≤◌, ◌<◌, ◌-◌, Bool, true, false, cond, not, ◌==◌, List, [], ◌∷◌, ◌++◌, map, filter, length, Option, Some, None, IsSome, is_some, refl, sym, ap, ap₂, ◌∙◌, subst, arith, append-nil, eqb}
 use Rattle.std.specs.List.{AllByRecursion}
 use Rattle.std.specs.Ordering.{nat_cmp}
@@ -22,7 +22,7 @@ use Rattle.itch_market.specs.GoodMarkets.{IsGood, IsListed}
 use Rattle.itch_market.specs.Runs.{AreMessages, after, run, FollowsFrom, Follows}
 use Rattle.itch_market.specs.Widths.{IsMaybe, IsSecurity, IsOrder}
 use Rattle.itch_market.specs.Partial.{is_out, skips, kept, only}
-use Rattle.itch_market.proofs.Allowed.{passed, allowed_add, allowed_replace}
+use Rattle.itch_market.proofs.AllowedMessages.{passed, allowed_add, allowed_replace}
 use Rattle.itch_market.proofs.GoodMarkets.{effect_good, empty_good}
 use Rattle.itch_market.proofs.Maps.{get-insert, same_map}
 

@@ -13,7 +13,7 @@ use Rattle.itch_market.specs.Reasons.{reason}
 use Rattle.itch_market.specs.Runs.{AreMessages, after, FollowsFrom}
 use Rattle.itch_market.specs.SameMarkets.{Same}
 use Rattle.itch_market.proofs.GoodMarkets.{effect_good}
-use Rattle.itch_market.proofs.Laid.{reason-laid, effect-laid}
+use Rattle.itch_market.proofs.LaidMarkets.{reason-laid, effect-laid}
 
 -- same markets are one market with their orders in snapshot order
 pub laid_same : (m n : Content) → Same m n → laid m ≡ laid n

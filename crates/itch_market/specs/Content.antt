@@ -1,4 +1,4 @@
--- What contracts see of a market: what the messages of TotalView-ITCH 5.0 leave that are kept, the last "System Event", the "Stock
+-- What contracts see of a market, that is, what is kept of the messages of TotalView-ITCH 5.0: the last "System Event", the "Stock
 -- Directory" with the trading states, and the orders of "Add Order" that are live.
 use Rattle.std.specs.Prelude.{ℕ, List, [], Option, None}
 use Rattle.std.specs.Ordering.{nat_cmp}

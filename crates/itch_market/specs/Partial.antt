@@ -1,4 +1,4 @@
--- Messages and markets cut down to some locates.
+-- Messages and markets restricted to some locates.
 use Rattle.std.specs.Prelude.{ℕ, Bool, false, not, List, Option, Some, None}
 use Rattle.std.specs.List.{filter}
 use Rattle.std.specs.FinMap as map

@@ -12,7 +12,7 @@ use Rattle.itch_market.specs.declared.refusal.Refusal.{Refusal}
 use Rattle.itch_market.specs.declared.refusal.Refusal.TheVariants.{UnknownLocate, StockMismatch, ZeroShares, DuplicateRef, UnknownRef, LocateMismatch, TooManyShares, UnexpectedEnd}
 use Rattle.itch_market.specs.Content.{Content, Listing}
 
--- a check that fails gives this reason, else the later checks count
+-- a check that fails gives this reason; otherwise the later checks decide
 abbrev pub refuse : Bool → Refusal → Option Refusal → Option Refusal
 refuse fails why later = if fails then Some why else later
 

@@ -1,12 +1,13 @@
 -- What a replay does to its reader and its market, step by step.
-use Rattle.std.specs.Prelude.{◌≡◌, ◌≢◌, ℕ, ◌-◌, ◌<◌, ◌≤◌, ◌^◌, ◌==◌, ◌⊎◌, Bool, true, false, IsTrue, List, [], map, length, ⊤, Option, Some, None, Result, Ok, Err, IfSome}
+use Rattle.std.specs.Prelude.{◌≡◌, ◌≢◌, ℕ, ◌-◌, ◌<◌, ◌≤◌, ◌^◌, ◌==◌, ◌⊎◌, Bool, true, false, IsTrue, List, [], map, length, ⊤, Option, Some, None, Result, Ok, Err}
 use Rattle.std.specs.List.{AllByRecursion}
-use Rattle.std.specs.Io.KnownBytes.{Keeps, Consumes, IsAtEnd}
+use Rattle.std.specs.Borrow.{Bor}
+use Rattle.std.specs.Io.KnownBytes.{Consumes}
 use Rattle.itch_codec.specs.Messages.{fault, message_of}
 use Rattle.itch_codec.specs.Widths.{IsMessage}
-use Rattle.itch_frame.specs.Blocks.{block, blocks, Open, IsFull}
+use Rattle.itch_frame.specs.Blocks.{block, blocks, IsFull}
 use Rattle.itch_frame.specs.Counting.{failed}
-use Rattle.itch_frame.specs.Reading.{Reading}
+use Rattle.itch_frame.specs.Reading.{Reading, bytes_left, EndsHere, FailsHere}
 use Rattle.itch_frame.specs.declared.reader.Stage.TheVariants.{Going, Given, Ended, Cut}
 use Rattle.itch_frame.specs.declared.tally.Failures.{Failures}
 use Rattle.itch_frame.specs.declared.fault.FrameFault.TheVariants.{Read, Truncated, Write, TooLong}
@@ -28,7 +29,7 @@ NoCause m payloads = (k : ℕ) → k < length payloads → cause_at m payloads k
 abbrev pub Fits : List ℕ → Type 0
 Fits payload = IsMessage (message_of payload)
 
--- a message was refused: for its reason, or for want of memory where it has none and takes some
+-- a message was refused: for its reason, or because memory ran out if it has none and takes memory
 abbrev pub IsRefusal : Option Refusal → Bool → Refusal → Type 0
 IsRefusal None takes why = (why ≡ OutOfMemory) × IsTrue takes
 IsRefusal (Some reason) takes why = why ≡ reason
@@ -49,16 +50,21 @@ TakesOne m payload (Err TooManyMessages) n = ⊥
 abbrev pub TakesOff : Option (List ℕ) → Option (List ℕ) → List ℕ → Type 0
 TakesOff old new payload = IsFull payload × Consumes old new (block payload)
 
--- why no further message is taken, from a market to which as many as may be were applied (`full`) or not
+-- why no further message is taken, apart from what it says; `full` says that there are as many as there may be
+abbrev pub StopsHere : Bool → Option (List ℕ) → Option (List ℕ) → Stop → Type 0
+StopsHere full old new End = EndsHere old new
+StopsHere full old new (Frame fault) = FailsHere fault old new
+StopsHere full old new TooManyMessages = (payload : List ℕ) × TakesOff old new payload × (full ≡ true)
+StopsHere full old new (Codec f) = ⊥
+StopsHere full old new (Rule why) = ⊥
+
+-- why no further message is applied to this market; `full` says that as many were applied as there may be
 abbrev pub Halts : Bool → Content → Option (List ℕ) → Option (List ℕ) → Stop → Type 0
-Halts full m old new End = IsAtEnd old ⊎ Consumes old new (block [])
-Halts full m old new (Frame (Truncated held)) = IfSome old (λ bytes. Open bytes × (held ≡ length bytes))
-Halts full m old new (Frame (Read error)) = Keeps old new
-Halts full m old new (Frame (Write sent error)) = ⊥
-Halts full m old new (Frame TooLong) = ⊥
 Halts full m old new (Codec f) = (payload : List ℕ) × TakesOff old new payload × (full ≡ false) × (fault payload ≡ Some f)
 Halts full m old new (Rule why) = (payload : List ℕ) × TakesOff old new payload × (full ≡ false) × Refuses m payload why
-Halts full m old new TooManyMessages = (payload : List ℕ) × TakesOff old new payload × (full ≡ true)
+Halts full m old new End = StopsHere full old new End
+Halts full m old new (Frame fault) = StopsHere full old new (Frame fault)
+Halts full m old new TooManyMessages = StopsHere full old new TooManyMessages
 
 -- a failed read is counted with its error, and nothing else is
 abbrev pub Counts : Stop → Failures → Failures → Type 0
@@ -75,7 +81,7 @@ abbrev pub CountsFirst : Option Stop → Failures → Failures → Type 0
 CountsFirst None old new = new ≡ old
 CountsFirst (Some stop) old new = Counts stop old new
 
--- where a stop leaves the reader of blocks, as `NextBlock` says it of one block
+-- how a stop leaves the reader of blocks, as `NextBlock` says for one block
 abbrev pub LeavesReader : {R : Type 0} → Stop → Reading R → Type 0
 LeavesReader End new = (new.held ≡ []) × ((new.stage ≡ Ended) ⊎ (new.stage ≡ Given))
 LeavesReader (Frame (Truncated held)) new = (new.stage ≡ Cut) × (held ≡ length new.held)
@@ -86,17 +92,28 @@ LeavesReader (Codec f) new = (new.held ≡ []) × (new.stage ≡ Given)
 LeavesReader (Rule why) new = (new.held ≡ []) × (new.stage ≡ Given)
 LeavesReader TooManyMessages new = (new.held ≡ []) × (new.stage ≡ Given)
 
--- Once the input has ended, or a block was truncated there, each replay stops so at once, and reads nothing.
+-- Once the input has ended, or a block was truncated there, each replay stops at once in the same way, and reads nothing.
 abbrev pub StopsAgain : {R : Type 0} → Reading R → ℕ → Stop → Reading R → Type 0
 StopsAgain old count stop new =
     (old.stage ≡ Ended → (count ≡ 0) × (stop ≡ End) × (new ≡ old))
     × (old.stage ≡ Cut → (count ≡ 0) × (stop ≡ Frame (Truncated (length old.held))) × (new ≡ old))
 
--- the same where n messages are wanted: without any, the reader is left alone
+-- the same if n messages are wanted: if none are, the reader is left as it was
 abbrev pub LeavesReaderFirst : {R : Type 0} → Reading R → ℕ → Option Stop → Reading R → Type 0
 LeavesReaderFirst old count None new =
     (count ≡ 0 → new ≡ old) × (0 < count → (new.held ≡ []) × (new.stage ≡ Given) × (old.stage ≢ Ended) × (old.stage ≢ Cut))
 LeavesReaderFirst old count (Some stop) new = LeavesReader stop new × StopsAgain old count stop new
+
+module _ {R : Type 0} (remaining : R → Option (List ℕ)) (failures : R → Failures) where
+  -- what a call that asks for the payload of the next message may return, and leave; `full` says that the caller has as many as there may be
+  abbrev pub NextPayload : Bool → Reading R → Result (Bor (List ℕ)) Stop → Reading R → Type 0
+  -- its block came off the front
+  NextPayload full old (Ok p) new =
+      TakesOff (bytes_left remaining old) (bytes_left remaining new) p.now × (full ≡ false) × (failures new.reader ≡ failures old.reader)
+      × LeavesReaderFirst old 1 None new
+  NextPayload full old (Err stop) new =
+      StopsHere full (bytes_left remaining old) (bytes_left remaining new) stop × Counts stop (failures old.reader) (failures new.reader)
+      × LeavesReaderFirst old 0 (Some stop) new
 
 -- what one block does: its message is applied, or the replay stops
 abbrev pub Step : Bool → Content → Option (List ℕ) → Option (List ℕ) → Result (Unit {0}) Stop → Content → Type 0
@@ -123,7 +140,7 @@ ReplaysFirst most m old new count (Some stop) n = (count < most) × Replays m ol
 ReplaysFirst most m old new count None n =
     (count ≡ most) × (count ≤ 10 ^ 19 - 1) × (payloads : List (List ℕ)) × Takes m old new payloads n × (length payloads ≡ count)
 
--- a stop that the file alone decides: no read failed, and memory was not refused
+-- a stop that the file alone decides: no read failed, and no allocation
 abbrev pub IsDecided : Stop → Type 0
 IsDecided End = ⊤
 IsDecided (Frame (Truncated held)) = ⊤

@@ -4,7 +4,7 @@ use Rattle.std.specs.FinMap as map
 use Rattle.std.specs.Map.{keys_of}
 use Rattle.itch_market.specs.Content.{Listing, Securities}
 
--- the securities of slots of which the first has a locate, with their locates, rising
+-- the securities of slots, of which the first has this locate, with their locates in ascending order
 abbrev pub entries_from : ℕ → List (Option Listing) → List (ℕ × Listing)
 entries_from locate [] = []
 entries_from locate (None ∷ slots) = entries_from (suc locate) slots

@@ -23,7 +23,7 @@ cause m payload = cause_by (fault payload) m payload
 abbrev pub cause_at : Content → List (List ℕ) → ℕ → Option Stop
 cause_at m payloads k = option_and_then (cause (after m (map message_of (take k payloads)))) (slice_get payloads k)
 
--- how a day's rest stops a replay: as an end where it is nothing or begins with an empty block, else as an unfinished block
+-- how a day's rest stops a replay: as an end if it is nothing or begins with an empty block, and otherwise as an unfinished block
 abbrev pub end_of : List ℕ → Stop
 end_of [] = End
 end_of (x ∷ []) = Frame (Truncated 1)

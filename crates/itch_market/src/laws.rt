@@ -1,4 +1,4 @@
-//! What holds of all good markets and messages, of whatever size.
+//! What holds of all good markets and messages, of any size.
 //!
 //! Each function does nothing: its clauses are the laws.
 ghost use Rattle.std.specs.Prelude.{◌≡◌, ℕ, ◌≤◌, ◌<◌, ◌^◌, Bool, List, None, map, length, take};
@@ -38,22 +38,22 @@ pub fn good_stays_good()
     ensures after { (m : Content) → (ms : List Message) → IsGood m → AllByRecursion IsMessage ms → FollowsFrom m ms → IsGood (after m ms) }
 {}
 
-/// The same markets refuse the same messages, each for one reason, and are the same after each message that they take.
+/// Markets that are the same refuse the same messages for the same reasons, and are the same after each message that they take.
 #[tactic(auto, using(crate::proofs::LawRules::same_laws))]
 pub fn same_stay_same()
     ensures reason { (m n : Content) → (x : Message) → IsGood m → IsGood n → Same m n → reason m x ≡ reason n x }
     ensures effect { (m n : Content) → (x : Message) → IsGood m → IsGood n → IsMessage x → reason m x ≡ None → Same m n → Same (effect m x) (effect n x) }
 {}
 
-/// Where messages follow the order rules, those that are not skipped follow them too, and leave the market that all of them
-/// leave, cut down to the wanted locates.
+/// If messages follow the order rules, those that are not skipped follow them too, and leave the market that all of them
+/// leave, restricted to the wanted locates.
 #[tactic(auto, using(crate::proofs::LawRules::kept_laws))]
 pub fn kept_run()
     ensures follows { (wanted : ℕ → Bool) → (ms : List Message) → AllByRecursion IsMessage ms → Follows ms → Follows (kept wanted ms) }
     ensures leaves { (wanted : ℕ → Bool) → (ms : List Message) → AllByRecursion IsMessage ms → Follows ms → run (kept wanted ms) ≡ only wanted (run ms) }
 {}
 
-/// A day file stops a replay at one place, for one reason, and at some place.
+/// Every day file stops a replay at exactly one place, for exactly one reason.
 #[tactic(auto, using(crate::proofs::OneStop::stop_laws))]
 pub fn one_stop()
     ensures place { (m : Content) → (bytes : List ℕ) → (k j : ℕ) → (s t : Stop) → Stops m bytes k s → Stops m bytes j t → k ≡ j }
@@ -72,7 +72,7 @@ pub fn stopped_files()
         → FollowsFrom m (map message_of (take k ps)) }
 {}
 
-/// A replay of a day file ends exactly if the file has an end, none of its payloads has a fault, its messages follow the
+/// A replay of a day file ends if and only if the file has an end, none of its payloads has a fault, its messages follow the
 /// order rules, and there are at most 10^19 - 1 of them. Then it has counted all of them.
 pub fn day_files()
     ensures count { (m : Content) → (bytes : List ℕ) → (ps : List (List ℕ)) → (rest : List ℕ) → (k : ℕ) → Day bytes ps rest → Stops m bytes k End → k ≡ length ps }

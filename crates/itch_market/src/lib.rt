@@ -1,8 +1,8 @@
 //! The market of a feed: the directory of its securities, their trading states and live orders, and the order rules.
 //!
-//! [`Market::apply`] takes a message that follows the order rules, or refuses it for its reason and stays as it was.
+//! [`Market::apply`] applies a message that follows the order rules, or returns why it is refused and leaves the market as it was.
 //! [`replay`] does so with the messages of a day file, up to its end or to the first message that is refused. A [`LocateSet`]
-//! names the locates that are wanted, where not all are. `laws` has what holds of every market.
+//! names the locates that are wanted, if not all are. `laws` states what holds of every market.
 //!
 //! ```
 //! let mut market: Market<IndexedBook> = Market::new(alloc);
@@ -18,6 +18,7 @@ pub mod laws;
 mod locate_set;
 mod locates;
 mod market;
+mod messages;
 mod positions;
 mod refusal;
 mod replaying;
@@ -29,6 +30,7 @@ pub use halts::Halts;
 pub use locate_set::LocateSet;
 pub use locates::Locates;
 pub use market::Market;
+pub use messages::next_message;
 pub use positions::Positions;
 pub use refusal::Refusal;
 pub use replaying::{replay, replay_first};

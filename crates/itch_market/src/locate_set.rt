@@ -24,7 +24,7 @@ impl<A: Allocator> Model for LocateSet<A> {
 }
 
 impl<A: Allocator> LocateSet<A> {
-    /// The empty set. It takes no memory.
+    /// The empty set, which allocates nothing.
     pub fn new(alloc: A) -> Self
         ensures { (locate : ℕ) → has result locate ≡ false }
     {
@@ -34,7 +34,7 @@ impl<A: Allocator> LocateSet<A> {
         }
     }
 
-    /// The set of all locates. It takes no memory.
+    /// The set of all locates, which allocates nothing.
     pub fn all(alloc: A) -> Self
         ensures { (locate : ℕ) → has result locate ≡ true }
     {
@@ -44,7 +44,7 @@ impl<A: Allocator> LocateSet<A> {
         }
     }
 
-    /// Inserts a locate. Only one that the set does not contain takes memory; where that is refused, the set stays as it
+    /// Inserts a locate. Only one that the set does not contain may need an allocation; if that fails, the set is left as it
     /// was.
     pub fn insert(&mut self, locate: u16) -> Result<(), AllocError>
     where

@@ -7,11 +7,11 @@ use crate::security::Security;
 use std::alloc::{AllocError, Allocator};
 use std::marker::Model;
 
-/// The locates of the directory, rising.
+/// The locates of the directory, in ascending order.
 #[derive(Drop)]
 pub struct Locates<'a, A: Allocator> {
     slots: &'a [Option<Security<A>>],
-    // The first locate that was not looked at.
+    // The first locate that was not visited.
     next: usize,
 }
 
@@ -36,7 +36,7 @@ impl<'a, A: Allocator> Locates<'a, A> {
     }
 }
 
-/// A second iterator over the locates that are left. It takes no memory.
+/// A second iterator over the locates that are left. It allocates nothing.
 impl<A: Allocator> Clone for Locates<'_, A> {
     ghost is_clone = { λ locates copy. copy ≡ locates };
 

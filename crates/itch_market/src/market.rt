@@ -44,7 +44,7 @@ impl<B: OrderBook> Model for Market<B> {
 }
 
 impl<B: OrderBook> Market<B> {
-    /// The market before any message, which takes no memory yet.
+    /// The market before any message, which allocates nothing.
     pub fn new(alloc: B::Alloc) -> Self
         ensures { result ≡ empty }
     {
@@ -55,7 +55,7 @@ impl<B: OrderBook> Market<B> {
         }
     }
 
-    /// The code of the last system event, if any came.
+    /// The phase of the day, which is the last event's code: that of the last System Event message, if one came.
     pub fn phase(&self) -> Option<u8>
         ensures { result ≡ self.now.event }
     {
@@ -69,7 +69,7 @@ impl<B: OrderBook> Market<B> {
         self.securities.get(locate)
     }
 
-    /// The locates of the directory, rising.
+    /// The locates of the directory, in ascending order.
     pub fn locates(&self) -> Locates<'_, B::Alloc>
         ensures { result ≡ map.keys self.now.securities }
     {
@@ -83,10 +83,10 @@ impl<B: OrderBook> Market<B> {
         self.book.front(locate, side)
     }
 
-    /// Changes the market by a message, or says which of the order rules refuses it.
+    /// Applies a message, or returns why it is refused.
     ///
-    /// A refusal leaves the market as it was. [`Refusal::OutOfMemory`] comes only of a message that no rule refuses
-    /// and that adds an order, a directory entry, a halt's market code or a market participant, and only where memory was refused.
+    /// A refusal leaves the market as it was. [`Refusal::OutOfMemory`] is returned only for a message that no rule refuses and
+    /// that adds an order, a directory entry, a halt's market code or a market participant, and only if an allocation failed.
     pub fn apply(&mut self, message: &Message<'_>) -> Result<(), Refusal>
         ensures refused { IfSome (reason self.old message.now) (λ why. result ≡ Err why) }
         ensures accepted { IfNone (reason self.old message.now) (IsOkUnless result Refusal.OutOfMemory) }
@@ -110,7 +110,7 @@ impl<B: OrderBook> Market<B> {
         &self.book
     }
 
-    /// No effect at run time: recalls for a proof that the market is good, and that its orders stand in snapshot order.
+    /// Does nothing at run time. It tells a proof that the market is good, and that its orders are in snapshot order.
     pub fn recall_invariant(&self)
         ensures good { IsGood self.now }
         ensures in_order { laid self.now ≡ self.now }

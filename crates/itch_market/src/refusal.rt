@@ -14,7 +14,7 @@ pub enum Refusal {
     /// The directory has another stock at the locate.
     #[error("stock mismatch")]
     StockMismatch,
-    /// An order of no shares.
+    /// The order has no shares.
     #[error("zero shares")]
     ZeroShares,
     /// The new order's reference is that of a live order.
@@ -26,13 +26,13 @@ pub enum Refusal {
     /// The live order of the reference has another locate.
     #[error("locate mismatch")]
     LocateMismatch,
-    /// More shares than remain.
+    /// More shares than the order has left.
     #[error("too many shares, {remain} remain")]
     TooManyShares { remain: u32 },
-    /// End of Snapshot does not belong into a feed.
+    /// End of Snapshot does not belong in a feed.
     #[error("unexpected end")]
     UnexpectedEnd,
-    /// Memory was refused.
+    /// An allocation failed.
     #[error("out of memory")]
     OutOfMemory,
 }

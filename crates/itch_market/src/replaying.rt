@@ -9,6 +9,7 @@ ghost use Rattle.itch_market.specs.Stops.{Stops};
 ghost use Rattle.itch_market.specs.Replays.{Counts, CountsFirst, LeavesReader, LeavesReaderFirst, StopsAgain, Step, TakesOne, Replays, ReplaysFirst, IsDecided};
 
 use crate::market::Market;
+use crate::messages::next_message;
 use crate::stop::{ReplayEnd, Stop};
 use itch_book::OrderBook;
 use itch_codec::{MOST_MESSAGES, decode};
@@ -17,14 +18,14 @@ use std::alloc::Allocator;
 
 /// Applies the messages of a day file, up to the first that is not taken, and returns how many there were and why it stopped.
 ///
-/// The market is that of the messages before the stop. A block that was refused has been read, and nothing after an end
-/// block is read. After `Frame(Read)` a second call goes on where the first stopped; after the end of input, or a block
-/// truncated there, it stops so again and reads nothing.
+/// The market left is that of the messages before the stop. The block of a refused message has been read, and nothing after an
+/// end block is read. After `Frame(Read)` a second call continues where the first stopped; after the end of input, or a block
+/// truncated there, it stops in the same way and reads nothing.
 pub fn replay<R: CountedRead, A: Allocator, B: OrderBook>(
     reader: &mut BlockReader<R, A>,
     market: &mut Market<B>,
 ) -> ReplayEnd
-    // The file alone decides where it stops, unless a read failed or memory was refused.
+    // The file alone decides where it stops, unless a read or an allocation failed.
     ensures stops { IfSome (bytes_left R.remaining reader.old) (λ bytes. IsDecided result.stop → Stops market.old bytes result.count result.stop) }
     // The market left is that of the file's first messages.
     ensures content { IfSome (bytes_left R.remaining reader.old) (λ bytes. (payloads : List (List ℕ)) → (rest : List ℕ) → Day bytes payloads rest
@@ -41,7 +42,7 @@ pub fn replay<R: CountedRead, A: Allocator, B: OrderBook>(
     }
 }
 
-/// Applies the first `most` messages of a day file and reads no further, or stops before, and says why.
+/// Applies the first `most` messages of a day file and reads no further, or stops before that and returns why.
 pub fn replay_first<R: CountedRead, A: Allocator, B: OrderBook>(
     reader: &mut BlockReader<R, A>,
     market: &mut Market<B>,
@@ -60,42 +61,26 @@ pub fn replay_first<R: CountedRead, A: Allocator, B: OrderBook>(
     (most, None)
 }
 
-// Applies the message of the next block, unless there were as many as may be.
+// Applies the next message, unless there were as many as may be (`is_full`).
 fn step<R: CountedRead, A: Allocator, B: OrderBook>(
     reader: &mut BlockReader<R, A>,
     market: &mut Market<B>,
-    full: bool,
+    is_full: bool,
 ) -> Result<(), Stop>
-    ensures step { Step full market.old (bytes_left R.remaining reader.old) (bytes_left R.remaining reader.new) result market.new }
+    ensures step { Step is_full market.old (bytes_left R.remaining reader.old) (bytes_left R.remaining reader.new) result market.new }
     ensures failures { MatchResult result (λ _. R.failures reader.new.reader ≡ R.failures reader.old.reader)
         (λ stop. Counts stop (R.failures reader.old.reader) (R.failures reader.new.reader)) }
     ensures reader { MatchResult result (λ _. LeavesReaderFirst reader.old 1 None reader.new) (λ stop. LeavesReaderFirst reader.old 0 (Some stop) reader.new) }
 {
-    match reader.next_block() {
-        Ok(Some(payload)) => {
-            if payload.is_empty() {
-                return Err(Stop::End);
-            }
-            if full {
-                return Err(Stop::TooManyMessages);
-            }
-            take(market, payload)
-        }
-        Ok(None) => Err(Stop::End),
-        Err(fault) => Err(Stop::Frame(fault)),
-    }
+    let payload = next_message(reader, is_full)?;
+    take(market, payload)
 }
 
 // Applies the message of a payload.
 fn take<B: OrderBook>(market: &mut Market<B>, payload: &[u8]) -> Result<(), Stop>
     ensures { TakesOne market.old payload.now result market.new }
 {
-    let message = match decode(payload) {
-        Ok(message) => message,
-        Err(fault) => return Err(Stop::Codec(fault)),
-    };
-    match market.apply(&message) {
-        Ok(()) => Ok(()),
-        Err(why) => Err(Stop::Rule(why)),
-    }
+    let message = decode(payload)?;
+    market.apply(&message)?;
+    Ok(())
 }

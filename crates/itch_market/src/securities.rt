@@ -14,9 +14,9 @@ use std::marker::Model;
 
 /// What is kept of the securities, each at its locate.
 ///
-/// A look-up is one step. An entry of a locate beyond all others takes memory: a slot for each locate up to it, and as many again
-/// at most, so that entries with rising locates seldom copy the slots. The first halt at a market code and the first position of a
-/// market participant take memory, and nothing else does.
+/// A look-up is one step. An entry at a locate beyond all others allocates: a slot for each locate up to it, and at most as many
+/// again, so that entries with ascending locates seldom copy the slots. The first halt at a market code and the first position of a
+/// market participant allocate, and nothing else does.
 #[derive(Drop)]
 pub(crate) struct Securities<A: Allocator = Global> {
     slots: Vec<Option<Security<A>>, A>,
@@ -40,7 +40,7 @@ impl<A: Allocator> Model for Securities<A> {
 }
 
 impl<A: Allocator + Copy> Securities<A> {
-    /// No securities, which take no memory.
+    /// No securities, which need no allocation.
     pub(crate) fn new(alloc: A) -> Self
         ensures { result ≡ map.empty }
     {
@@ -59,7 +59,7 @@ impl<A: Allocator + Copy> Securities<A> {
         }
     }
 
-    /// Puts a directory entry at a locate. What else is kept of a security there stays. Where memory is refused, nothing changes.
+    /// Puts a directory entry at a locate. Whatever else is kept of a security there stays. If an allocation fails, nothing changes.
     pub(crate) fn enter(&mut self, locate: u16, entry: Directory) -> Result<(), AllocError>
         ensures ok { OnOk result (self.new ≡ map.insert self.old locate (entered (map.get self.old locate) entry)) }
         ensures err { OnErr result (self.new ≡ self.old) }
@@ -99,7 +99,7 @@ impl<A: Allocator + Copy> Securities<A> {
         }
     }
 
-    /// Changes the action at a market code of a locate, if a security is there. Where memory is refused, nothing changes.
+    /// Changes the action at a market code of a locate, if a security is there. If an allocation fails, nothing changes.
     pub(crate) fn set_halt(
         &mut self,
         locate: u16,
@@ -119,7 +119,7 @@ impl<A: Allocator + Copy> Securities<A> {
         kept
     }
 
-    /// Changes a market participant's position at a locate, if a security is there. Where memory is refused, nothing changes.
+    /// Changes a market participant's position at a locate, if a security is there. If an allocation fails, nothing changes.
     pub(crate) fn set_position(
         &mut self,
         locate: u16,
@@ -139,7 +139,7 @@ impl<A: Allocator + Copy> Securities<A> {
         kept
     }
 
-    /// The locates, rising.
+    /// The locates, in ascending order.
     pub(crate) fn locates(&self) -> Locates<'_, A>
         ensures { result ≡ map.keys self.now }
     {
@@ -147,7 +147,7 @@ impl<A: Allocator + Copy> Securities<A> {
     }
 }
 
-// Takes the security out of a slot, into which it is put again.
+// Takes the security out of a slot, to be put back there.
 fn take<A: Allocator>(slots: &mut Vec<Option<Security<A>>, A>, at: usize) -> Option<Security<A>>
     ensures security { result ≡ map.get (directory slots.old.items) at }
     ensures none { IsNone result → directory slots.new.items ≡ directory slots.old.items }
@@ -162,7 +162,7 @@ fn take<A: Allocator>(slots: &mut Vec<Option<Security<A>>, A>, at: usize) -> Opt
     }
 }
 
-// Makes slots this long, unless they are longer. Where memory is refused, nothing changes.
+// Extends the slots to this length, unless they are longer. If an allocation fails, nothing changes.
 fn grow_to<A: Allocator>(
     slots: &mut Vec<Option<Security<A>>, A>,
     len: usize,

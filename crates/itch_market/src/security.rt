@@ -13,13 +13,13 @@ use std::marker::Model;
 /// A security's trading action: the last Stock Trading Action without its reserved byte.
 #[derive(Clone, Copy, Debug, PartialEq, Eq)]
 pub struct Action {
-    /// The trading state, as `T` for trading.
+    /// The trading state, such as `T` for trading.
     pub state: u8,
-    /// Why the state was taken.
+    /// The reason for the state.
     pub reason: [u8; 4],
 }
 
-/// What is kept of a security beside its orders.
+/// What is kept of a security apart from its orders.
 #[derive(Drop)]
 pub struct Security<A: Allocator> {
     /// Its last entry in the directory.
@@ -53,7 +53,7 @@ impl<A: Allocator> Model for Security<A> {
 }
 
 impl<A: Allocator> Security<A> {
-    /// The security of a new directory entry, which takes no memory.
+    /// The security of a new directory entry, which needs no allocation.
     pub(crate) fn new(alloc: A, entry: Directory) -> Self
     where
         A: Copy,
@@ -117,7 +117,7 @@ impl<A: Allocator> Security<A> {
         Ok(())
     }
 
-    /// The last action of an operational halt at each market code, by rising code.
+    /// The last action of an operational halt at each market code, by ascending code.
     pub fn halts(&self) -> Halts<'_>
         ensures { result ≡ map.entries self.now.halts }
     {
@@ -142,7 +142,7 @@ impl<A: Allocator> Security<A> {
         self.positions.len()
     }
 
-    /// The last position of each market participant, by rising bytes.
+    /// The last position of each market participant, in ascending order of their bytes.
     pub fn positions(&self) -> Positions<'_>
         ensures { result ≡ map.entries self.now.positions }
     {

@@ -1,4 +1,6 @@
 //! Where and why a replay stops.
+ghost use Rattle.std.specs.Prelude.{◌≡◌};
+ghost use Rattle.itch_market.specs.declared.stop.Stop.TheVariants.{Frame, Codec, Rule};
 
 use crate::refusal::Refusal;
 use itch_codec::CodecFault;
@@ -8,21 +10,45 @@ use thiserror::Error;
 /// Why a replay stopped.
 #[derive(Clone, Copy, Debug, Error)]
 pub enum Stop {
-    /// The end of input at a block's border, or a block of length 0, after which nothing was read.
+    /// The input ended where a block would begin, or a block of length 0 came, after which nothing was read.
     #[error("end of input")]
     End,
     /// A read failed, or the input ended in an unfinished block.
     #[error("{0}")]
     Frame(FrameFault),
-    /// The payload of the next block is no message.
+    /// The payload of the next block is not a message.
     #[error("{0}")]
     Codec(CodecFault),
-    /// An order rule refuses the next message, or memory was refused.
+    /// An order rule refuses the next message, or an allocation failed.
     #[error("{0}")]
     Rule(Refusal),
     /// A further block after 10^19 - 1 messages.
     #[error("too many messages")]
     TooManyMessages,
+}
+
+impl From<FrameFault> for Stop {
+    ghost from_gives = { λ fault stop. stop ≡ Frame fault };
+
+    fn from(fault: FrameFault) -> Stop {
+        Stop::Frame(fault)
+    }
+}
+
+impl From<CodecFault> for Stop {
+    ghost from_gives = { λ fault stop. stop ≡ Codec fault };
+
+    fn from(fault: CodecFault) -> Stop {
+        Stop::Codec(fault)
+    }
+}
+
+impl From<Refusal> for Stop {
+    ghost from_gives = { λ why stop. stop ≡ Rule why };
+
+    fn from(why: Refusal) -> Stop {
+        Stop::Rule(why)
+    }
 }
 
 /// How a replay ended: how many messages were applied, and why no further one was.

@@ -8,6 +8,7 @@ use Rattle.itch_codec.specs.Messages.{fault, message_of}
 use Rattle.itch_codec.specs.Widths.{IsMessage}
 use Rattle.itch_codec.proofs.Spelling.{Spells-message_of}
 use Rattle.itch_frame.specs.Blocks.{IsPayload, IsFull, blocks, Ends}
+use Rattle.itch_frame.specs.Reading.{EndsHere}
 use Rattle.itch_frame.specs.declared.fault.FrameFault.TheVariants.{Read, Truncated, Write, TooLong}
 use Rattle.itch_book.proofs.Lists.{All-weaker_rec, All-map_rec}
 use Rattle.itch_market.specs.Content.{Content, empty, laid}
@@ -17,11 +18,11 @@ use Rattle.itch_market.specs.declared.stop.Stop.TheVariants as stop
 use Rattle.itch_market.specs.Stops.{Stops}
 use Rattle.itch_market.specs.Replays.{TakesOff, Takes}
 use Rattle.itch_market.proofs.Causes.{none_clean, none_follows}
-use Rattle.itch_market.proofs.Decided.{replays_stop}
+use Rattle.itch_market.proofs.ReplayedFiles.{replays_stop}
 use Rattle.itch_snapshot.specs.declared.fault.SnapFault.{SnapFault}
 use Rattle.itch_snapshot.specs.declared.fault.SnapFault.TheVariants.{NoEnd, Frame, Codec, Rule, AfterEnd, TooManyMessages}
 use Rattle.itch_snapshot.specs.TakenMessages.{number_by, closing_number}
-use Rattle.itch_snapshot.specs.Reads.{EndsHere, ReadsPayload, ReadsNext, ReadsEnd, ReadsSnapshot, IsDecidedFault}
+use Rattle.itch_snapshot.specs.Reads.{ReadsPayload, ReadsNext, ReadsEnd, ReadsSnapshot, IsDecidedFault}
 use Rattle.itch_snapshot.specs.Files.{AreSpelled, ClosesBefore, IsSnapshotFile, StopsAt, IsFaultOf, IsMarketOf}
 use Rattle.itch_snapshot.proofs.FileLemmas.{Spells-number, at_place, closes_once, file_no_fault}
 

@@ -22,7 +22,7 @@ use Rattle.itch_market.specs.declared.stop.Stop.{Stop}
 use Rattle.itch_market.specs.declared.stop.Stop.TheVariants as stop
 use Rattle.itch_market.specs.Stops.{cause_by, cause, Stops}
 use Rattle.itch_market.specs.Replays.{NoCause}
-use Rattle.itch_market.proofs.Stopping.{one_stops, full_stops}
+use Rattle.itch_market.proofs.ReplayStops.{one_stops, full_stops}
 use Rattle.itch_market.proofs.OneStop.{stops_place, stops_reason}
 use Rattle.itch_snapshot.specs.declared.fault.SnapFault.{SnapFault}
 use Rattle.itch_snapshot.specs.declared.fault.SnapFault.TheVariants.{NoEnd, Frame, Codec, Rule, AfterEnd, TooManyMessages}

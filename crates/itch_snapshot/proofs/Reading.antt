@@ -6,7 +6,7 @@ use Rattle.itch_market.specs.GoodMarkets.{IsGood}
 use Rattle.itch_market.specs.Runs.{after}
 use Rattle.itch_market.specs.Replays.{Takes}
 use Rattle.itch_market.proofs.Causes.{refuses-laid}
-use Rattle.itch_market.proofs.Taking.{Going, going_on}
+use Rattle.itch_market.proofs.ReplayProgress.{Going, going_on}
 use Rattle.itch_snapshot.specs.declared.fault.SnapFault.{SnapFault}
 use Rattle.itch_snapshot.specs.declared.fault.SnapFault.TheVariants.{NoEnd, Frame, Codec, Rule, AfterEnd, TooManyMessages}
 use Rattle.itch_snapshot.specs.Reads.{ReadsNext, ReadsEnd, ReadsAll, ReadsSnapshot}

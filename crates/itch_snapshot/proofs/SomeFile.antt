@@ -20,8 +20,8 @@ use Rattle.itch_market.specs.Stops.{cause_by, cause, cause_at, end_of, Stops}
 use Rattle.itch_market.specs.Replays.{NoCause}
 use Rattle.itch_market.proofs.Causes.{cause_after, cause_before, none_clean, none_follows}
 use Rattle.itch_market.proofs.OneStop.{stops_somewhere}
-use Rattle.itch_market.proofs.Places.{none_before, place}
-use Rattle.itch_market.proofs.Stopping.{ends_stop, open_stops}
+use Rattle.itch_market.proofs.StopPlaces.{none_before, place}
+use Rattle.itch_market.proofs.ReplayStops.{ends_stop, open_stops}
 use Rattle.itch_snapshot.specs.declared.fault.SnapFault.{SnapFault}
 use Rattle.itch_snapshot.specs.declared.fault.SnapFault.TheVariants.{NoEnd, Frame, Codec, Rule, AfterEnd, TooManyMessages}
 use Rattle.itch_snapshot.specs.TakenMessages.{closing_number}

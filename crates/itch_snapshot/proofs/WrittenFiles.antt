@@ -14,7 +14,7 @@ use Rattle.itch_market.specs.Content.{Content, laid}
 use Rattle.itch_market.specs.GoodMarkets.{IsGood}
 use Rattle.itch_market.specs.Runs.{run}
 use Rattle.itch_market.proofs.GoodMarkets.{run_good, laid_good}
-use Rattle.itch_market.proofs.Laid.{laid_twice}
+use Rattle.itch_market.proofs.LaidMarkets.{laid_twice}
 use Rattle.itch_snapshot.specs.Snapshot.{snap}
 use Rattle.itch_snapshot.specs.Bytes.{canon, closing}
 use Rattle.itch_snapshot.specs.Files.{AreSpelled, ClosesBefore, IsSnapshotFile, IsMarketOf}

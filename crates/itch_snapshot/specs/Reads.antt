@@ -1,12 +1,10 @@
 -- What the reading of a snapshot does to its reader, step by step.
-use Rattle.std.specs.Prelude.{◌≡◌, ℕ, ◌-◌, ◌≤◌, ◌^◌, ◌⊎◌, List, [], map, length, ⊤, Option, Some, None, Result, Ok, Err, IfSome}
-use Rattle.std.specs.Io.KnownBytes.{Keeps, Consumes, IsAtEnd}
+use Rattle.std.specs.Prelude.{◌≡◌, ℕ, ◌-◌, ◌≤◌, ◌^◌, ◌⊎◌, List, map, length, ⊤, Option, Some, None, Result, Ok, Err}
 use Rattle.itch_codec.specs.Messages.{message_of}
-use Rattle.itch_frame.specs.Blocks.{block, Open}
 use Rattle.itch_frame.specs.Counting.{failed}
+use Rattle.itch_frame.specs.Reading.{EndsHere, FailsHere}
 use Rattle.itch_frame.specs.declared.tally.Failures.{Failures}
-use Rattle.itch_frame.specs.declared.fault.FrameFault.{FrameFault}
-use Rattle.itch_frame.specs.declared.fault.FrameFault.TheVariants.{Read, Truncated, Write, TooLong}
+use Rattle.itch_frame.specs.declared.fault.FrameFault.TheVariants.{Read}
 use Rattle.itch_market.specs.declared.stop.Stop.TheVariants as stop
 use Rattle.itch_market.specs.Content.{Content, empty}
 use Rattle.itch_market.specs.Runs.{after}
@@ -14,17 +12,6 @@ use Rattle.itch_market.specs.Replays.{TakesOff, Takes, IsDecided}
 use Rattle.itch_snapshot.specs.declared.fault.SnapFault.{SnapFault}
 use Rattle.itch_snapshot.specs.declared.fault.SnapFault.TheVariants.{NoEnd, Frame, Codec, Rule, AfterEnd, TooManyMessages}
 use Rattle.itch_snapshot.specs.TakenMessages.{closing_number, TakesNext}
-
--- the input is at its end, or an empty block came off the front
-abbrev pub EndsHere : Option (List ℕ) → Option (List ℕ) → Type 0
-EndsHere old new = IsAtEnd old ⊎ Consumes old new (block [])
-
--- why no block came off the front
-abbrev pub FailsHere : FrameFault → Option (List ℕ) → Option (List ℕ) → Type 0
-FailsHere (Truncated held) old new = IfSome old (λ bytes. Open bytes × (held ≡ length bytes))
-FailsHere (Read error) old new = Keeps old new
-FailsHere (Write sent error) old new = ⊥
-FailsHere TooLong old new = ⊥
 
 -- a payload came off the front, and this is true of it
 abbrev pub ReadsPayload : Option (List ℕ) → Option (List ℕ) → (List ℕ → Type 0) → Type 0

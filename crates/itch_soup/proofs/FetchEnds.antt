@@ -10,7 +10,7 @@ use Rattle.itch_market.specs.declared.stop.Stop.TheVariants as stop
 use Rattle.itch_market.specs.Content.{Content, laid}
 use Rattle.itch_market.specs.Runs.{run}
 use Rattle.itch_market.specs.Stops.{cause_by, cause}
-use Rattle.itch_market.proofs.Decided.{refused}
+use Rattle.itch_market.proofs.ReplayedFiles.{refused}
 use Rattle.itch_snapshot.specs.declared.fault.SnapFault.{SnapFault}
 use Rattle.itch_snapshot.specs.declared.fault.SnapFault.TheVariants as snap
 use Rattle.itch_snapshot.specs.TakenMessages.{Load, Loads, number_by, closing_number, is_full}

@@ -15,7 +15,7 @@ use Rattle.itch_market.specs.GoodMarkets.{IsGood}
 use Rattle.itch_market.specs.Runs.{after, run}
 use Rattle.itch_market.specs.Replays.{NoCause, Fits}
 use Rattle.itch_market.proofs.Causes.{none_clean, none_more, none_follows, after_more}
-use Rattle.itch_market.proofs.Taking.{taken_on, not_full}
+use Rattle.itch_market.proofs.ReplayProgress.{taken_on, not_full}
 use Rattle.itch_snapshot.specs.declared.reader.Stage.TheVariants.{Taking, Closed}
 use Rattle.itch_snapshot.specs.TakenMessages.{Load, begun, Loads, TakesAt, TakesNext, Finishes, closing_number}
 use Rattle.itch_snapshot.proofs.Decided.{clean_spelled}

@@ -15,7 +15,7 @@ use Rattle.itch_market.specs.declared.refusal.Refusal.{Refusal}
 use Rattle.itch_market.specs.declared.stop.Stop.TheVariants as stop
 use Rattle.itch_market.specs.Content.{Content, laid}
 use Rattle.itch_market.specs.Effects.{effect, takes_memory}
-use Rattle.itch_market.proofs.Rules.{Reasoned, reason_decided}
+use Rattle.itch_market.proofs.RuleReasons.{Reasoned, reason_decided}
 use Rattle.itch_market.specs.Reasons.{reason}
 use Rattle.itch_market.specs.Replays.{IsRefusal}
 use Rattle.itch_market.specs.Stops.{cause_by, cause}

@@ -9,6 +9,7 @@ use Rattle.itch_codec.specs.Messages.{spelling}
 use Rattle.itch_codec.specs.declared.message.Message.{Message}
 use Rattle.itch_frame.specs.Blocks.{blocks}
 use Rattle.itch_frame.specs.Counting.{failed}
+use Rattle.itch_frame.specs.Reading.{FailsHere}
 use Rattle.itch_frame.specs.declared.fault.FrameFault.{FrameFault}
 use Rattle.itch_frame.specs.declared.fault.FrameFault.TheVariants.{Read, Truncated, Write, TooLong}
 use Rattle.itch_frame.specs.declared.tally.Failures.{Failures}
@@ -22,10 +23,10 @@ use Rattle.itch_market.specs.Stops.{Stops}
 use Rattle.itch_market.specs.declared.stop.Stop.{Stop}
 use Rattle.itch_market.specs.declared.stop.Stop.TheVariants.{End, Frame, Codec, Rule, TooManyMessages}
 use Rattle.itch_market.specs.Wanted.{Wanted, has}
-use Rattle.itch_market.proofs.Decided.{replays_stop}
+use Rattle.itch_market.proofs.ReplayedFiles.{replays_stop}
 use Rattle.itch_snapshot.specs.Bytes.{canon, closing}
 use Rattle.itch_snapshot.specs.Files.{IsFaultOf}
-use Rattle.itch_snapshot.specs.Reads.{IsDecidedFault, CountsFault, FailsHere, ReadsSnapshot}
+use Rattle.itch_snapshot.specs.Reads.{IsDecidedFault, CountsFault, ReadsSnapshot}
 use Rattle.itch_snapshot.specs.Snapshot.{snap}
 use Rattle.itch_snapshot.specs.declared.fault.SnapFault.{SnapFault}
 use Rattle.itch_snapshot.specs.declared.fault.SnapFault.TheVariants as snap_fault

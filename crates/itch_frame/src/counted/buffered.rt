@@ -1,4 +1,4 @@
-//! Counted reading through a standard buffer, cheap for many short reads.
+//! Counted reads through a standard buffer, cheap if there are many short ones.
 ghost use Rattle.std.specs.Prelude.{◌≡◌, None, length, take, min};
 ghost use Rattle.std.specs.Io.Buffered.{reader_remaining};
 
@@ -9,7 +9,7 @@ use std::io::{self, BufRead, BufReader, Read};
 
 /// Counts the failures of a buffered reader, as [`Counted`] does, and gives the same bytes.
 ///
-/// A read that finds bytes in the buffer copies them from there and calls nothing below; only one that finds it empty does.
+/// A read copies what is in the buffer, and reads from below only if the buffer is empty.
 #[derive(Drop)]
 pub struct Buffered<T, A: Allocator = Global> {
     counted: Counted<BufReader<T, A>>,
@@ -41,7 +41,7 @@ impl<T: Read, A: Allocator> CountedRead for Buffered<T, A> {
     ghost failures = { λ b. b.counted.failures };
 
     #[inline(always)]
-    #[tactic(auto, using(crate::proofs::Ahead::passed_over))]
+    #[tactic(auto, using(crate::proofs::BufferedBytes::passed_over))]
     fn read_some(&mut self, buf: &mut [u8]) -> io::Result<usize> {
         let ahead = self.counted.inner.buffer();
         if ahead.is_empty() {
@@ -53,7 +53,7 @@ impl<T: Read, A: Allocator> CountedRead for Buffered<T, A> {
     }
 }
 
-// Copies as many bytes as there are and fit, and returns how many.
+// Copies as many bytes as there are and as fit, and returns how many.
 #[inline(always)]
 fn copy_front(from: &[u8], to: &mut [u8]) -> usize
     ensures count { result ≡ min (length from.now) (length to.new) }

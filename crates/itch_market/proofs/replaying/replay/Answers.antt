@@ -1,4 +1,4 @@
-use Rattle.itch_market.proofs.Decided.{replays_stop, replays_content}
+use Rattle.itch_market.proofs.ReplayedFiles.{replays_stop, replays_content}
 use Rattle.itch_market.proofs.replaying.replay.Goals as goal
 
 pub returns-clause-stops : goal.returns-clause-stops

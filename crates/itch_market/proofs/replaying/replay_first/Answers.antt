@@ -1,6 +1,6 @@
 use Rattle.std.proofs.Common.{refl, ◌∙◌}
-use Rattle.itch_market.proofs.Standing.{standing_first, standing_on, standing_stops}
-use Rattle.itch_market.proofs.Taking.{going_first, going_on, going_halts}
+use Rattle.itch_market.proofs.ReplayReaders.{standing_first, standing_on, standing_stops}
+use Rattle.itch_market.proofs.ReplayProgress.{going_first, going_on, going_halts}
 use Rattle.itch_market.proofs.replaying.replay_first.Goals as goal
 
 pub loop-count-init : goal.loop-count-init

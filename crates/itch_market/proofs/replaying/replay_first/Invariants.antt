@@ -1,7 +1,7 @@
 use Rattle.std.proofs.Common.{◌≡◌}
 use Rattle.itch_frame.specs.Reading.{bytes_left}
-use Rattle.itch_market.proofs.Standing.{Standing}
-use Rattle.itch_market.proofs.Taking.{Going}
+use Rattle.itch_market.proofs.ReplayReaders.{Standing}
+use Rattle.itch_market.proofs.ReplayProgress.{Going}
 use Rattle.itch_market.proofs.replaying.replay_first.Given as goal
 
 abbrev pub invariant-loop-count : goal.invariant-loop-count

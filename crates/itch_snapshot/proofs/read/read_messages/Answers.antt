@@ -1,6 +1,6 @@
 use Rattle.std.proofs.Common.{refl, ◌∙◌}
 use Rattle.std.proofs.lemmas.Result.{err_from_is_err_and}
-use Rattle.itch_market.proofs.Taking.{going_first}
+use Rattle.itch_market.proofs.ReplayProgress.{going_first}
 use Rattle.itch_snapshot.proofs.Reading.{message_read, fault_read}
 use Rattle.itch_snapshot.proofs.read.read_messages.Goals as goal
 

@@ -1,6 +1,6 @@
 use Rattle.std.proofs.Common.{◌≡◌}
 use Rattle.itch_frame.specs.Reading.{bytes_left}
-use Rattle.itch_market.proofs.Taking.{Going}
+use Rattle.itch_market.proofs.ReplayProgress.{Going}
 use Rattle.itch_snapshot.proofs.read.read_messages.Given as goal
 
 abbrev pub invariant-loop-taken : goal.invariant-loop-taken

@@ -1,5 +1,5 @@
 use Rattle.std.proofs.Common.{refl, ◌∙◌}
-use Rattle.itch_market.proofs.Standing.{standing_first, standing_on, standing_stops}
+use Rattle.itch_market.proofs.ReplayReaders.{standing_first, standing_on, standing_stops}
 use Rattle.itch_commands.proofs.FeedsTaken.{feeding_first, on_along, feeding_few, feeding_below, delivered_along}
 use Rattle.itch_commands.proofs.join.feed.deliver.Goals as goal
 

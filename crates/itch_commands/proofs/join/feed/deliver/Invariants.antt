@@ -1,7 +1,7 @@
 use Rattle.std.proofs.Common.{◌≡◌}
 use Rattle.itch_frame.specs.Reading.{bytes_left}
 use Rattle.itch_market.specs.Wanted.{has}
-use Rattle.itch_market.proofs.Standing.{Standing}
+use Rattle.itch_market.proofs.ReplayReaders.{Standing}
 use Rattle.itch_commands.specs.AsRead.{as_read}
 use Rattle.itch_commands.specs.Joiners.{IsJoined, position_of, start_of}
 use Rattle.itch_commands.proofs.FeedsTaken.{Feeding}

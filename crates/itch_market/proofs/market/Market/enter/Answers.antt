@@ -1,6 +1,6 @@
 use Rattle.std.proofs.Common.{◌<◌, rules, sym}
 use Rattle.itch_market.proofs.GoodMarkets.{entered_good}
-use Rattle.itch_market.proofs.Laid.{laid_already}
+use Rattle.itch_market.proofs.LaidMarkets.{laid_already}
 use Rattle.itch_market.proofs.market.Market.enter.Goals as goal
 
 pub invariant_of-self-2 : goal.invariant_of-self-2

@@ -1,7 +1,7 @@
 use Rattle.std.proofs.Common.{subst}
 use Rattle.itch_book.specs.Orders.{IsBook}
 use Rattle.itch_market.specs.Content.{Content}
-use Rattle.itch_market.proofs.Laid.{laid_already}
+use Rattle.itch_market.proofs.LaidMarkets.{laid_already}
 use Rattle.itch_market.proofs.market.Market.recall_invariant.Goals as goal
 
 pub returns-clause-in_order : goal.returns-clause-in_order

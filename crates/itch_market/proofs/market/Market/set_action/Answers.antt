@@ -2,7 +2,7 @@ use Rattle.std.proofs.Common.{sym, rules}
 use Rattle.itch_market.specs.Effects.{with_action, action_of}
 use Rattle.itch_market.proofs.Bytes.{bytes_by_place}
 use Rattle.itch_market.proofs.GoodMarkets.{changed_good, new_action}
-use Rattle.itch_market.proofs.Laid.{laid_already}
+use Rattle.itch_market.proofs.LaidMarkets.{laid_already}
 use Rattle.itch_market.proofs.market.Market.set_action.Goals as goal
 
 pub invariant_of-self : goal.invariant_of-self

@@ -1,5 +1,5 @@
 use Rattle.std.proofs.Common.{sym}
-use Rattle.itch_market.proofs.Laid.{laid_already}
+use Rattle.itch_market.proofs.LaidMarkets.{laid_already}
 use Rattle.itch_market.proofs.market.Market.set_event.Goals as goal
 
 pub returns : goal.returns

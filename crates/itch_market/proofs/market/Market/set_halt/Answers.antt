@@ -1,7 +1,7 @@
 use Rattle.std.proofs.Common.{sym, rules}
 use Rattle.itch_market.specs.Effects.{with_halt}
 use Rattle.itch_market.proofs.GoodMarkets.{changed_good, new_halt}
-use Rattle.itch_market.proofs.Laid.{laid_already}
+use Rattle.itch_market.proofs.LaidMarkets.{laid_already}
 use Rattle.itch_market.proofs.market.Market.set_halt.Goals as goal
 
 pub invariant_of-self-2 : goal.invariant_of-self-2

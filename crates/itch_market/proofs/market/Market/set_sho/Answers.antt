@@ -1,7 +1,7 @@
 use Rattle.std.proofs.Common.{sym, rules}
 use Rattle.itch_market.specs.Effects.{with_sho}
 use Rattle.itch_market.proofs.GoodMarkets.{changed_good, new_sho}
-use Rattle.itch_market.proofs.Laid.{laid_already}
+use Rattle.itch_market.proofs.LaidMarkets.{laid_already}
 use Rattle.itch_market.proofs.market.Market.set_sho.Goals as goal
 
 pub invariant_of-self : goal.invariant_of-self

@@ -7,7 +7,7 @@ use Rattle.itch_market.specs.declared.stop.Stop.TheVariants.{TooManyMessages}
 use Rattle.itch_market.specs.Content.{Content}
 use Rattle.itch_market.specs.FirstPlaces.{IsFirst}
 use Rattle.itch_market.specs.Stops.{cause_at, end_of, last_stop, stop_at}
-use Rattle.itch_market.proofs.Stopping.{chosen, passed_over, stop_after, stop_before}
+use Rattle.itch_market.proofs.ReplayStops.{chosen, passed_over, stop_after, stop_before}
 
 module _ (m : Content) (ps : List (List ℕ)) (rest : List ℕ) (k : ℕ) (why : Stop) (first : IsFirst (stop_at (10 ^ 19 - 1) m ps rest) k why) where
   not_later : min (10 ^ 19 - 1) (length ps) < k → ⊥

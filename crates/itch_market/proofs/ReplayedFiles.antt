@@ -17,14 +17,14 @@ use Rattle.itch_market.specs.Effects.{takes_memory}
 use Rattle.itch_market.specs.Runs.{after}
 use Rattle.itch_market.specs.Stops.{cause_by, cause, Stops}
 use Rattle.itch_market.specs.Replays.{IsRefusal, Refuses, TakesOff, Halts, Takes, Replays, IsDecided}
-use Rattle.itch_market.proofs.Taking.{not_full}
-use Rattle.itch_market.proofs.Stopping.{none_ends, one_stops, full_stops, ends_stop, open_stops}
+use Rattle.itch_market.proofs.ReplayProgress.{not_full}
+use Rattle.itch_market.proofs.ReplayStops.{none_ends, one_stops, full_stops, ends_stop, open_stops}
 
 -- a payload with a fault is not taken for that
 faulty : (m : Content) (p : List ℕ) (f : CodecFault) → fault p ≡ Some f → cause m p ≡ Some (Codec f)
 faulty m p f is = ap (λ o. cause_by o m p) is
 
--- a message that is refused, and not for want of memory, is refused for its reason
+-- a message that is refused, and not because memory ran out, is refused for its reason
 pub refused : (m : Content) (p : List ℕ) (why : Refusal) → IsDecided (Rule why) → Refuses m p why → cause m p ≡ Some (Rule why)
 refused m p why decided (clean, refusal) = ap (λ o. cause_by o m p) clean ∙ ap (option_map Rule) (by_reason (reason m (message_of p)) refusal) where
   by_reason : (r : Option Refusal) → IsRefusal r (takes_memory m (message_of p)) why → r ≡ Some why

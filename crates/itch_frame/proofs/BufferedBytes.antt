@@ -1,4 +1,4 @@
--- What it does to the known bytes to pass over some that lie in a buffer.
+-- What happens to the known bytes when some of those in a buffer are passed over.
 use Rattle.std.proofs.Common.{◌≡◌, ℕ, List, ◌++◌, take, drop, Bool, true, false, sym, ap, subst, ◌∙◌, append_assoc, Option, Some, None}
 use Rattle.std.specs.Prelude.{if◌then◌else◌, ◌==◌}
 use Rattle.std.specs.declared.io.buffered.BufReader.{BufReader}
@@ -6,7 +6,7 @@ use Rattle.std.specs.Io.Buffered.{reader_buffer, reader_capacity, reader_inner, 
 use Rattle.std.specs.Io.KnownBytes.{prepend_known, Consumes}
 use Rattle.std.proofs.lemmas.List.{take-append-drop}
 
--- the first n bytes ahead go, if any are known: none are in a buffer of no size
+-- the first n bytes of a buffer go, if any are known: a buffer of no size has none
 passed : (is_none : Bool) (ahead : List ℕ) (rest : Option (List ℕ)) (n : ℕ)
     → Consumes (if is_none then None else prepend_known ahead rest) (if is_none then None else prepend_known (drop n ahead) rest) (take n ahead)
 passed true ahead rest n = tt

@@ -13,7 +13,7 @@ use Rattle.itch_market.specs.Runs.{after}
 use Rattle.itch_market.specs.Stops.{cause}
 use Rattle.itch_market.specs.Replays.{Fits, Halts, Step, Takes, Replays, ReplaysFirst}
 use Rattle.itch_market.proofs.GoodMarkets.{effect_good}
-use Rattle.itch_market.proofs.Laid.{effect-laid}
+use Rattle.itch_market.proofs.LaidMarkets.{effect-laid}
 use Rattle.itch_market.proofs.Causes.{cause-laid, halts-laid, no_reason, none_more, after_more}
 
 -- some payloads were taken, and the market that they leave is good

@@ -1,4 +1,4 @@
--- No rule gives want of memory as its reason.
+-- No rule gives out of memory as its reason.
 use Rattle.std.proofs.Common.{◌≢◌, ℕ, ◌==◌, Bool, true, false, List, Option, Some, None, subst}
 use Rattle.std.specs.FinMap as map
 use Rattle.itch_codec.specs.declared.message.Message.{Message}
