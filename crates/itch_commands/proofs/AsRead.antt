@@ -9,7 +9,7 @@ use Rattle.itch_codec.proofs.Spelling.{message_of-spelling, fault-spelling, spel
 use Rattle.itch_frame.specs.Blocks.{IsFull}
 use Rattle.itch_market.specs.Replays.{Fits}
 use Rattle.itch_snapshot.specs.TakenMessages.{number_in, number_by, closing_number, is_skipped}
-use Rattle.itch_join.proofs.Skipping.{skipped_number, none_skipped}
+use Rattle.itch_join.proofs.SkippedMessages.{skipped_number, none_skipped}
 use Rattle.itch_commands.specs.AsRead.{idle, as_read, read_by}
 
 pub idle_fits : IsMessage idle

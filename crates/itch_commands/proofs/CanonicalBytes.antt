@@ -16,7 +16,7 @@ use Rattle.itch_snapshot.specs.Bytes.{canon, closing}
 use Rattle.itch_snapshot.specs.Snapshot.{snap}
 use Rattle.std.specs.List.{AllByRecursion}
 use Rattle.itch_book.proofs.Lists.{All-right_rec}
-use Rattle.itch_snapshot.proofs.Sent.{IsShort, snap_short}
+use Rattle.itch_snapshot.proofs.WrittenBlocks.{IsShort, snap_short}
 use Rattle.itch_commands.specs.Canons.{StripsFront}
 
 -- what is stripped in two parts is stripped

@@ -20,8 +20,8 @@ use Rattle.itch_snapshot.specs.TakenMessages.{Load, begun}
 use Rattle.itch_snapshot.specs.Reads.{ReadsNext, ReadsAll, ReadsEnd, CountsFault}
 use Rattle.itch_snapshot.specs.Snapshot.{snap}
 use Rattle.itch_snapshot.specs.declared.reader.Stage.TheVariants.{Taking}
-use Rattle.itch_snapshot.proofs.Reading.{message_read, fault_read, first_fault, later_fault, no_fault}
-use Rattle.itch_snapshot.proofs.Decided.{closes_here, reads_market, reads_fault}
+use Rattle.itch_snapshot.proofs.ReadSteps.{message_read, fault_read, first_fault, later_fault, no_fault}
+use Rattle.itch_snapshot.proofs.KnownFiles.{closes_here, reads_market, reads_fault}
 use Rattle.itch_snapshot.proofs.WrittenFiles.{written_alone}
 use Rattle.itch_commands.specs.Canons.{CountsRefusal, CopiesNext, CopiesAll, EndsFile, ChecksSnap}
 use Rattle.itch_commands.specs.Outputs.{closed_bytes}

@@ -35,11 +35,11 @@ use Rattle.itch_join.specs.Rules.{Rules, refused_by, market_rules, rules_of}
 use Rattle.itch_join.specs.States.{Reading, State, unread, is_number}
 use Rattle.itch_join.specs.Applying.{Front, front_of, advanced, at_hand, Applies, standing, result_by}
 use Rattle.itch_join.specs.Steps.{SnapFails, message_case, payload_case, snapshot_case, Takes, SnapshotBy, started, live_case, LiveBy, NextBy}
-use Rattle.itch_join.proofs.Cases.{IsLiveCase, live_case_is}
-use Rattle.itch_join.proofs.Lawful.{faultless, reasonless}
+use Rattle.itch_join.proofs.CallCases.{IsLiveCase, live_case_is}
+use Rattle.itch_join.proofs.LawfulRules.{faultless, reasonless}
 use Rattle.itch_join.proofs.Maps.{get-remove, get-from}
-use Rattle.itch_join.proofs.Skipping.{refused_here, effect_here, memory_here, refused_skipped, effect_skipped}
-use Rattle.itch_join.proofs.Taking.{case_here}
+use Rattle.itch_join.proofs.SkippedMessages.{refused_here, effect_here, memory_here, refused_skipped, effect_skipped}
+use Rattle.itch_join.proofs.SnapshotMessages.{case_here}
 use Rattle.itch_commands.specs.AsRead.{idle, as_read}
 use Rattle.itch_commands.proofs.AsRead.{idle_clean, idle_read, idle_fitting, read_skipped, read_stays, read_number}
 use Rattle.itch_commands.specs.Joiners.{half_market, IsReading, position_of, IsJoined, FeedsOne, IsOfSnapshot, snapshot_fault, IsOfFeed, feed_stop}

@@ -6,7 +6,7 @@ use Rattle.itch_market.specs.Wanted.{Wanted, has}
 use Rattle.itch_snapshot.specs.Bytes.{canon, closing}
 use Rattle.itch_snapshot.specs.Snapshot.{snap}
 use Rattle.itch_snapshot.proofs.OneSnapshot.{snap-laid}
-use Rattle.itch_snapshot.proofs.Wires.{canon-laid}
+use Rattle.itch_snapshot.proofs.CanonicalBytes.{canon-laid}
 use Rattle.itch_join.specs.Positions.{Position}
 use Rattle.itch_join.specs.States.{State}
 use Rattle.itch_commands.specs.declared.fault.ToolFault.{ToolFault}

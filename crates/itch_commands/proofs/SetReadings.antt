@@ -26,14 +26,14 @@ use Rattle.itch_market.proofs.Runs.{after-append, follows-append, follows_rest}
 use Rattle.itch_market.proofs.SameMarkets.{laid_is_same, same_back, same_chain, follows_same, after_same}
 use Rattle.itch_snapshot.specs.Snapshot.{snap}
 use Rattle.itch_snapshot.specs.TakenMessages.{is_skipped}
-use Rattle.itch_snapshot.proofs.Cut.{snap_only}
+use Rattle.itch_snapshot.proofs.PartialSnapshots.{snap_only}
 use Rattle.itch_snapshot.proofs.OneSnapshot.{snap_follows, run-snap, replayed_same}
-use Rattle.itch_snapshot.proofs.Spelled.{snap_messages}
+use Rattle.itch_snapshot.proofs.SpelledMessages.{snap_messages}
 use Rattle.itch_join.specs.declared.fault.Cause.{Cause}
 use Rattle.itch_join.specs.declared.fault.Cause.TheVariants as cause
 use Rattle.itch_join.specs.Rules as rules
 use Rattle.itch_join.specs.Rules.{Rules, first_bad, refused_by, market_rules, rules_of}
-use Rattle.itch_join.proofs.Skipping.{faultless_skips, refused_here, effect_here, memory_here, refused_skipped, effect_skipped}
+use Rattle.itch_join.proofs.SkippedMessages.{faultless_skips, refused_here, effect_here, memory_here, refused_skipped, effect_skipped}
 use Rattle.itch_join.proofs.SetSnapshots.{same_only}
 use Rattle.itch_commands.specs.AsRead.{idle, as_read}
 use Rattle.itch_commands.specs.Joining.{from_number}

@@ -14,7 +14,7 @@ use Rattle.itch_snapshot.specs.declared.fault.SnapFault.TheVariants.{NoEnd, Fram
 use Rattle.itch_snapshot.specs.Files.{IsFaultOf}
 use Rattle.itch_snapshot.specs.TakenMessages.{TakesNext}
 use Rattle.itch_snapshot.specs.Reads.{ReadsNext, IsDecidedFault}
-use Rattle.itch_snapshot.proofs.Decided.{reads_fault, ends_here}
+use Rattle.itch_snapshot.proofs.KnownFiles.{reads_fault, ends_here}
 use Rattle.itch_commands.specs.AsRead.{as_read, TakesAs, ReadsNextAs, ReadsAs, IsFaultAs}
 use Rattle.itch_commands.proofs.AsRead.{read_full, all_full}
 

@@ -20,10 +20,10 @@ use Rattle.itch_market.proofs.SameMarkets.{laid_is_same}
 use Rattle.itch_snapshot.specs.Bytes.{canon, closing}
 use Rattle.itch_snapshot.specs.Snapshot.{snap}
 use Rattle.itch_snapshot.specs.Reads.{ReadsSnapshot}
-use Rattle.itch_snapshot.proofs.Cut.{snap_only}
+use Rattle.itch_snapshot.proofs.PartialSnapshots.{snap_only}
 use Rattle.itch_snapshot.proofs.OneSnapshot.{snap_same, snap-laid}
 use Rattle.itch_snapshot.proofs.Sizes.{short_snap}
-use Rattle.itch_snapshot.proofs.Wires.{canon-laid}
+use Rattle.itch_snapshot.proofs.CanonicalBytes.{canon-laid}
 use Rattle.itch_commands.specs.Outputs.{snapshot_of, snapshot_in}
 use Rattle.itch_commands.proofs.DayReadings.{Applied}
 

@@ -18,7 +18,7 @@ use Rattle.itch_join.specs.States.{HalfRead, State, unread}
 use Rattle.itch_join.specs.Applying.{Front, front_of, advanced, at_hand, Applies, CatchesUp}
 use Rattle.itch_join.specs.Steps.{live_case, LiveBy, NextBy, SnapshotCase, SnapHalted, SnapJoined, SnapBroken, SnapFails, SnapEnds, SnapTakes, snapshot_case, SnapshotBy, started, restarted, ResumeBy, Resumes, Call, CallLive, CallSnapshot, CallRestart, CallResume, Step}
 use Rattle.itch_join.specs.Deliveries.{Event, LeadsTo, History}
-use Rattle.itch_join.proofs.Cases.{IsLiveCase, live_case_is}
+use Rattle.itch_join.proofs.CallCases.{IsLiveCase, live_case_is}
 use Rattle.itch_join.proofs.Maps.{len_removed, len_from}
 
 -- a message that is applied waits no longer, and none is added

@@ -27,10 +27,10 @@ use Rattle.itch_market.proofs.LaidMarkets.{reason-laid, effect-laid, laid_twice}
 use Rattle.itch_market.proofs.SameMarkets.{laid_is_same}
 use Rattle.itch_snapshot.specs.Snapshot.{snap}
 use Rattle.itch_snapshot.specs.TakenMessages.{closing_number, number_by, number_in, is_skipped}
-use Rattle.itch_snapshot.proofs.Cut.{snap_only}
-use Rattle.itch_snapshot.proofs.Loading.{snap_leads}
+use Rattle.itch_snapshot.proofs.PartialSnapshots.{snap_only}
+use Rattle.itch_snapshot.proofs.SnapshotReplays.{snap_leads}
 use Rattle.itch_snapshot.proofs.Sizes.{short_snap}
-use Rattle.itch_snapshot.proofs.Spelled.{snap_messages}
+use Rattle.itch_snapshot.proofs.SpelledMessages.{snap_messages}
 use Rattle.itch_join.specs.declared.fault.Cause.TheVariants as cause
 use Rattle.itch_join.specs.Rules.{Rules, run, after, first_bad, bad, refused_by, market_rules, rules_of}
 use Rattle.itch_join.specs.States.{Reading}
@@ -38,8 +38,8 @@ use Rattle.itch_join.specs.Steps.{SnapEnds, SnapTakes, payload_case, half_case}
 use Rattle.itch_join.specs.Deliveries.{IsOfFeed}
 use Rattle.itch_join.specs.Premise.{half_next, half_after, half_of_snapshot}
 use Rattle.itch_join.proofs.Feeds.{first_fine, none_there, good}
-use Rattle.itch_join.proofs.Lawful.{only_lawful, faultless, reasonless}
-use Rattle.itch_join.proofs.Skipping.{skipped_faultless, faultless_skips, skipped_number, refused_here, effect_here, refused_skipped, effect_skipped, all_rules}
+use Rattle.itch_join.proofs.LawfulRules.{only_lawful, faultless, reasonless}
+use Rattle.itch_join.proofs.SkippedMessages.{skipped_faultless, faultless_skips, skipped_number, refused_here, effect_here, refused_skipped, effect_skipped, all_rules}
 use Rattle.itch_snapshot.proofs.FileLemmas.{unrefused_number}
 
 pub take_short : (k : ℕ) (F : List (List ℕ)) → length (map message_of (take k F)) ≤ k

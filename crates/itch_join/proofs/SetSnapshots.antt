@@ -21,7 +21,7 @@ use Rattle.itch_market.proofs.LaidMarkets.{reason-laid, effect-laid}
 use Rattle.itch_market.proofs.SameMarkets.{laid_is_same, laid_same, same_back, same_chain}
 use Rattle.itch_snapshot.specs.Snapshot.{snap}
 use Rattle.itch_snapshot.specs.TakenMessages.{closing_number}
-use Rattle.itch_snapshot.proofs.Cut.{snap_only}
+use Rattle.itch_snapshot.proofs.PartialSnapshots.{snap_only}
 use Rattle.itch_snapshot.proofs.OneSnapshot.{snap_same, same_snap}
 use Rattle.itch_snapshot.proofs.Sizes.{short_snap}
 use Rattle.itch_join.specs.declared.fault.Cause.{Cause}
@@ -32,7 +32,7 @@ use Rattle.itch_join.specs.Steps.{SnapFails, SnapEnds, half_case, payload_case, 
 use Rattle.itch_join.specs.Deliveries.{IsOfFeed}
 use Rattle.itch_join.specs.Premise.{half_next, half_after, half_of_snapshot}
 use Rattle.itch_join.proofs.Feeds.{good}
-use Rattle.itch_join.proofs.Lawful.{market_lawful, faultless, reasonless}
+use Rattle.itch_join.proofs.LawfulRules.{market_lawful, faultless, reasonless}
 use Rattle.itch_join.proofs.Premises.{laid_empty, take_short, reads_on, ends_so, meets}
 use Rattle.itch_join.proofs.RestrictedFeeds.{led, restricted}
 

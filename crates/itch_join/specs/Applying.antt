@@ -2,8 +2,11 @@
 use Rattle.std.specs.Prelude.{◌≡◌, ℕ, ◌+◌, Bool, true, false, not, List, [], ◌∷◌, Option, Some, None, Result, Ok, Err}
 use Rattle.std.specs.FinMap as map
 use Rattle.itch_market.specs.Content.{Content, laid}
+use Rattle.itch_market.specs.declared.refusal.Refusal.{Refusal}
+use Rattle.itch_market.specs.declared.refusal.Refusal.TheVariants.{OutOfMemory}
+use Rattle.itch_join.specs.declared.fault.Cause.TheVariants.{Rule}
 use Rattle.itch_join.specs.declared.fault.JoinFault.{JoinFault}
-use Rattle.itch_join.specs.declared.fault.JoinFault.TheVariants.{Halted, OutOfMemory}
+use Rattle.itch_join.specs.declared.fault.JoinFault.TheVariants as fault
 use Rattle.itch_join.specs.declared.state.Halt.{Halt}
 use Rattle.itch_join.specs.declared.state.Stopped.{Stopped}
 use Rattle.itch_join.specs.declared.state.Stopped.TheVariants.{Refused, NoMemory}
@@ -30,6 +33,11 @@ advanced R a p = record { wait = map.remove a.wait a.next; next = a.next + 1; ma
 -- the message that waits under the next number
 abbrev pub at_hand : Front → Option (List ℕ)
 at_hand a = map.get a.wait a.next
+
+-- a market's refusal: a rule's, or want of memory
+abbrev pub stopped_by : Refusal → Stopped
+stopped_by OutOfMemory = NoMemory
+stopped_by why = Refused (Rule why)
 
 -- why a message is not applied: it is refused; or it takes memory, and memory was refused
 abbrev pub Stops : Rules → Content → List ℕ → Stopped → Type 0
@@ -66,8 +74,8 @@ standing half ending b = record { wait = b.wait; half = half; joined = Some (rec
 
 -- the fault of a call that has stopped at this number
 abbrev pub fault_of : Bool → Stopped → ℕ → JoinFault
-fault_of taken (Refused cause) next = Halted next cause
-fault_of taken NoMemory next = OutOfMemory taken
+fault_of taken (Refused cause) next = fault.Halted next cause
+fault_of taken NoMemory next = fault.OutOfMemory taken
 
 -- the result of a call in which applying has ended
 abbrev pub result_by : {T : Type 0} → (ℕ → T) → Bool → Result (Unit {0}) Stopped → ℕ → Result T JoinFault

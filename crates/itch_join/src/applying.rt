@@ -3,11 +3,10 @@ ghost use Rattle.itch_market.specs.Wanted.{has};
 ghost use Rattle.itch_join.specs.Rules.{rules_of};
 ghost use Rattle.itch_join.specs.Applying.{AppliesOne};
 
-use crate::fault::Cause;
 use crate::state::Stopped;
 use itch_book::OrderBook;
 use itch_codec::decode;
-use itch_market::{LocateSet, Market, Refusal};
+use itch_market::{LocateSet, Market};
 
 // Applies the message that a payload spells, unless it is at a locate that the set does not contain.
 pub(crate) fn apply<B: OrderBook>(
@@ -17,17 +16,11 @@ pub(crate) fn apply<B: OrderBook>(
 ) -> Result<(), Stopped>
     ensures { AppliesOne (rules_of (has set.now)) market.old payload.now result market.new }
 {
-    let message = match decode(payload) {
-        Ok(message) => message,
-        Err(fault) => return Err(Stopped::Refused(Cause::Codec(fault))),
-    };
+    let message = decode(payload)?;
     market.recall_invariant();
     if set.skips(&message) {
         return Ok(());
     }
-    match market.apply(&message) {
-        Ok(()) => Ok(()),
-        Err(Refusal::OutOfMemory) => Err(Stopped::NoMemory),
-        Err(why) => Err(Stopped::Refused(Cause::Rule(why))),
-    }
+    market.apply(&message)?;
+    Ok(())
 }

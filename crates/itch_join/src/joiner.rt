@@ -136,20 +136,16 @@ impl<B: OrderBook> Joiner<B> {
     pub fn next(&self) -> Option<u64>
         ensures { result ≡ option_map (λ j. j.next) self.now.state.joined }
     {
-        match &self.joined {
-            Some(position) => Some(position.next),
-            None => None,
-        }
+        let position = self.joined.as_ref()?;
+        Some(position.next)
     }
 
     /// The market of the feed's messages before the next one, once joined.
     pub fn market(&self) -> Option<&Market<B>>
         ensures { option_copied result ≡ option_map (λ j. j.market) self.now.state.joined }
     {
-        match &self.joined {
-            Some(position) => Some(&position.market),
-            None => None,
-        }
+        let position = self.joined.as_ref()?;
+        Some(&position.market)
     }
 
     /// The number of messages that wait.
@@ -216,9 +212,7 @@ impl<B: OrderBook> Joiner<B> {
         ensures cap { self.new.cap ≡ self.old.cap }
         ensures set { self.new.set ≡ self.old.set }
     {
-        let Some(mut position) = self.joined.take() else {
-            unreachable!()
-        };
+        let mut position = self.joined.take().unwrap();
         let waits = self.wait.has(number);
         let ended = advance(&mut self.wait, &self.set, &mut position, payload);
         let next = position.next;
@@ -313,10 +307,8 @@ impl<B: OrderBook> Joiner<B> {
             Ok(None) => Ok(Snap::More),
             Ok(Some(_)) => {
                 let half = replace(&mut self.half, SnapshotReader::new(self.alloc));
-                match half.finish() {
-                    Ok((market, next)) => self.start(next.value(), market),
-                    Err(_) => unreachable!(),
-                }
+                let (market, next) = half.finish().unwrap();
+                self.start(next.value(), market)
             }
             Err(fault) => Err(join_fault_of(fault)),
         }

@@ -1,6 +1,12 @@
 //! What decides a joiner's calls.
+ghost use Rattle.std.specs.Prelude.{◌≡◌};
+ghost use Rattle.itch_join.specs.declared.fault.Cause.TheVariants.{Codec};
+ghost use Rattle.itch_join.specs.declared.state.Stopped.TheVariants.{Refused};
+ghost use Rattle.itch_join.specs.Applying.{stopped_by};
 
 use crate::fault::Cause;
+use itch_codec::CodecFault;
+use itch_market::Refusal;
 
 /// The number of the message that is refused, and why.
 #[derive(Clone, Copy, Debug)]
@@ -14,6 +20,25 @@ pub struct Halt {
 pub enum Stopped {
     Refused(Cause),
     NoMemory,
+}
+
+impl From<CodecFault> for Stopped {
+    ghost from_gives = { λ fault stopped. stopped ≡ Refused (Codec fault) };
+
+    fn from(fault: CodecFault) -> Stopped {
+        Stopped::Refused(Cause::Codec(fault))
+    }
+}
+
+impl From<Refusal> for Stopped {
+    ghost from_gives = { λ why stopped. stopped ≡ stopped_by why };
+
+    fn from(why: Refusal) -> Stopped {
+        match why {
+            Refusal::OutOfMemory => Stopped::NoMemory,
+            why => Stopped::Refused(Cause::Rule(why)),
+        }
+    }
 }
 
 /// What is true of a delivery of the live feed. The first that is true decides.

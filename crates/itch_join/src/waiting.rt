@@ -53,10 +53,8 @@ impl<A: Allocator + Copy> Waiting<A> {
         ensures found { MatchOption result (map.get self.now number ≡ None) (λ p. map.get self.now number ≡ Some p.now) }
         ensures numbers { AreNumbers self.now }
     {
-        match self.messages.get(&number) {
-            Some(payload) => Some(payload.as_slice()),
-            None => None,
-        }
+        let payload = self.messages.get(&number)?;
+        Some(payload.as_slice())
     }
 
     /// Whether a message waits under a number.

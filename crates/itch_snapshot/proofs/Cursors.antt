@@ -25,10 +25,7 @@ parts_of m (e ∷ es) here = ap₂ ◌++◌ (ap (found_part m.orders e.0) here.0
 pub left_snap : (m : Content) → left m m.event None None (finite.keys m.securities) ≡ snap m
 left_snap m = ap (λ parts. event_part m.event ++ parts) (parts_of m (finite.entries m.securities) (each_entry m.securities))
 
-pub cursor_begins : (m : Content) → IsCursor m None (finite.keys m.securities)
-cursor_begins m = record { live = tt; listed = each_listed m.securities }
-
--- the same of some of the locates
+-- a cursor over some of the locates
 pub cursor_among : (m : Content) (wanted : ℕ → Bool) → IsCursor m None (filter wanted (finite.keys m.securities))
 cursor_among m wanted = record { live = tt; listed = All-filter_rec (λ l. IsSome (finite.get m.securities l)) wanted (finite.keys m.securities) (each_listed m.securities) }
 

@@ -3,9 +3,9 @@ use Rattle.itch_market.proofs.SameMarkets.{laid_same, same_laid}
 use Rattle.itch_snapshot.proofs.OneSnapshot.{snap_follows, run-snap, replayed_same, snap_same, snap-laid, same_snap}
 use Rattle.itch_snapshot.proofs.LateStart.{late_follows, late_same}
 use Rattle.itch_snapshot.proofs.Sizes.{snap_step, short_snap}
-use Rattle.itch_snapshot.proofs.Spelled.{snap_messages}
-use Rattle.itch_snapshot.proofs.Wires.{canon_same, same_canon, canon_again, canon-laid, runs_same}
-use Rattle.itch_snapshot.proofs.Closed.{closed_market, closed_number}
+use Rattle.itch_snapshot.proofs.SpelledMessages.{snap_messages}
+use Rattle.itch_snapshot.proofs.CanonicalBytes.{canon_same, same_canon, canon_again, canon-laid, runs_same}
+use Rattle.itch_snapshot.proofs.WholeSnapshots.{closed_market, closed_number}
 
 pub ruleset replay_laws = (snap_messages, snap_follows, run-snap, replayed_same)
 

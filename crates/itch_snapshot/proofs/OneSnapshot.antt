@@ -11,7 +11,7 @@ use Rattle.itch_market.specs.Runs.{run, Follows}
 use Rattle.itch_market.specs.SameMarkets.{Same}
 use Rattle.itch_market.proofs.SameMarkets.{laid_is_same, laid_same, same_laid}
 use Rattle.itch_snapshot.specs.Snapshot.{snap, event_part, locate_messages, locate_part}
-use Rattle.itch_snapshot.proofs.Loading.{snap_leads}
+use Rattle.itch_snapshot.proofs.SnapshotReplays.{snap_leads}
 
 pub snap_follows : (m : Content) → IsGood m → Follows (snap m)
 snap_follows m good = (snap_leads m good).follows

@@ -27,7 +27,7 @@ use Rattle.itch_snapshot.specs.declared.fault.SnapFault.TheVariants.{NoEnd, Fram
 use Rattle.itch_snapshot.specs.TakenMessages.{closing_number}
 use Rattle.itch_snapshot.specs.Files.{ClosesBefore, IsSnapshotFile, StopsAt, IsFaultOf}
 use Rattle.itch_snapshot.proofs.FileLemmas.{Spells-number}
-use Rattle.itch_snapshot.proofs.Decided.{clean_spelled}
+use Rattle.itch_snapshot.proofs.KnownFiles.{clean_spelled}
 
 abbrev IsRead : List ℕ → Type 0
 IsRead bytes = ((ms : List Message) × (next : ℕ) × IsSnapshotFile bytes ms next) ⊎ ((fault : SnapFault) × IsFaultOf bytes fault)

@@ -10,7 +10,7 @@ use Rattle.itch_market.specs.Stops.{Stops}
 use Rattle.itch_market.specs.declared.stop.Stop.TheVariants.{End}
 use Rattle.itch_market.proofs.DayFiles.{day_follows, day_messages}
 use Rattle.itch_snapshot.specs.Bytes.{canon}
-use Rattle.itch_snapshot.proofs.Wires.{canon_same, runs_same}
+use Rattle.itch_snapshot.proofs.CanonicalBytes.{canon_same, runs_same}
 
 module _ (b c : List ℕ) (ps qs : List (List ℕ)) (r s : List ℕ) (j k : ℕ) (wide : AreBytes b) (wide_too : AreBytes c) (day : Day b ps r) (other : Day c qs s)
     (ends : Stops empty b j End) (ends_too : Stops empty c k End) where

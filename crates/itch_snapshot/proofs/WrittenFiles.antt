@@ -22,8 +22,8 @@ use Rattle.itch_snapshot.proofs.FileLemmas.{closes_once}
 use Rattle.itch_snapshot.proofs.OneFile.{file_messages, file_number}
 use Rattle.itch_snapshot.proofs.OneSnapshot.{snap_follows, run-snap}
 use Rattle.itch_snapshot.proofs.Bounds.{read_short}
-use Rattle.itch_snapshot.proofs.Spelled.{IsSpelled, snap_spelled, snap_messages}
-use Rattle.itch_snapshot.proofs.Wires.{canon-laid}
+use Rattle.itch_snapshot.proofs.SpelledMessages.{IsSpelled, snap_spelled, snap_messages}
+use Rattle.itch_snapshot.proofs.CanonicalBytes.{canon-laid}
 
 each_spelled : (ms : List Message) → AllByRecursion IsSpelled ms → AreSpelled ms (map spelling ms)
 each_spelled [] fit = tt

@@ -7,6 +7,7 @@ use Rattle.itch_codec.specs.declared.message.Message.{Message}
 use Rattle.itch_book.specs.declared.order.Order.{Order}
 use Rattle.itch_book.specs.Orders as book
 use Rattle.itch_market.specs.Content.{Content, Listing}
+use Rattle.itch_market.specs.Partial.{only}
 use Rattle.itch_market.specs.Wanted.{Wanted, has}
 use denote.Ref.{Bor}
 use Rattle.itch_snapshot.specs.declared.named_order.NamedOrder.{NamedOrder}
@@ -42,6 +43,11 @@ left m event states order locates = event_part event ++ (listed states ++ (order
 abbrev pub in_set : Option (Bor Wanted) → ℕ → Bool
 in_set None locate = true
 in_set (Some set) locate = has set.now locate
+
+-- the market of the locates that are wanted
+abbrev pub cut_to : Option (Bor Wanted) → Content → Content
+cut_to None m = m
+cut_to (Some set) m = only (has set.now) m
 
 -- the next order is live, and the locates are of the directory
 pub record IsCursor (m : Content) (order : Option NamedOrder) (locates : List ℕ) : Type 0 where

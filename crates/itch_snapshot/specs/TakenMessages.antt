@@ -7,11 +7,11 @@ use Rattle.itch_codec.specs.Messages.{fault, message_of}
 use Rattle.itch_market.specs.declared.refusal.Refusal.TheVariants.{OutOfMemory}
 use Rattle.itch_market.specs.declared.stop.Stop.TheVariants as stop
 use Rattle.itch_codec.specs.Widths.{IsMessage}
-use Rattle.itch_market.specs.Content.{Content, empty, laid}
-use Rattle.itch_market.specs.Effects.{effect, takes_memory}
-use Rattle.itch_market.specs.Reasons.{reason}
-use Rattle.itch_market.specs.Replays.{IsRefusal, TakesOne}
+use Rattle.itch_market.specs.Content.{Content, empty}
+use Rattle.itch_market.specs.Replays.{TakesOne}
 use Rattle.itch_market.specs.Partial.{skips}
+use Rattle.itch_market.specs.Wanted.{Wanted, has}
+use denote.Ref.{Bor}
 use Rattle.itch_snapshot.specs.declared.fault.SnapFault.{SnapFault}
 use Rattle.itch_snapshot.specs.declared.fault.SnapFault.TheVariants.{NoEnd, Frame, Codec, Rule, AfterEnd, TooManyMessages}
 use Rattle.itch_snapshot.specs.declared.reader.Stage.{Stage}
@@ -43,17 +43,6 @@ IsNext taken payload (Err (Rule place why)) = ⊥
 IsNext taken payload (Err NoEnd) = ⊥
 IsNext taken payload (Err (Frame f)) = ⊥
 IsNext taken payload (Err AfterEnd) = ⊥
-
--- the message at this place is applied, or refused
-abbrev pub AppliesAt : ℕ → Content → Message → Result (Option ℕ) SnapFault → Content → Type 0
-AppliesAt place m x (Ok None) n = (reason m x ≡ None) × (n ≡ laid (effect m x))
-AppliesAt place m x (Err (Rule at why)) n = (at ≡ place) × (n ≡ m) × IsRefusal (reason m x) (takes_memory m x) why
-AppliesAt place m x (Ok (Some next)) n = ⊥
-AppliesAt place m x (Err (Codec at f)) n = ⊥
-AppliesAt place m x (Err TooManyMessages) n = ⊥
-AppliesAt place m x (Err NoEnd) n = ⊥
-AppliesAt place m x (Err (Frame f)) n = ⊥
-AppliesAt place m x (Err AfterEnd) n = ⊥
 
 -- the message of a payload is applied after `taken` others, or it is End of Snapshot, or neither
 abbrev pub TakesNext : ℕ → Content → List ℕ → Result (Option ℕ) SnapFault → Content → Type 0
@@ -91,6 +80,16 @@ TakesNextOnly wanted taken m payload (Err NoEnd) n = ⊥
 TakesNextOnly wanted taken m payload (Err (Frame f)) n = ⊥
 TakesNextOnly wanted taken m payload (Err AfterEnd) n = ⊥
 
+-- whether a message is skipped where those of all locates are taken, or of a set
+abbrev pub skips_for : Option (Bor Wanted) → Message → Bool
+skips_for None x = false
+skips_for (Some set) x = skips (has set.now) x
+
+-- the one relation or the other
+abbrev pub TakesFor : Option (Bor Wanted) → ℕ → Content → List ℕ → Result (Option ℕ) SnapFault → Content → Type 0
+TakesFor None = TakesNext
+TakesFor (Some set) = TakesNextOnly (has set.now)
+
 -- what contracts see of a snapshot that is read message by message: the number of messages taken, the market that they leave, and how far it is
 pub record Load : Type 0 where
   pub taken : ℕ
@@ -118,24 +117,26 @@ stage_after (Ok None) = Taking
 stage_after (Ok (Some next)) = Closed next
 stage_after (Err fault) = broken_by fault
 
--- the next message at each stage
+-- the next message at each stage, where the relation says what taking it does to the market
+abbrev pub TakesBy : (ℕ → Content → List ℕ → Result (Option ℕ) SnapFault → Content → Type 0) → Stage → Load → List ℕ → Result (Option ℕ) SnapFault → Load → Type 0
+TakesBy Takes Taking old payload answer new =
+    Takes old.taken old.market payload answer new.market × (new.taken ≡ taken_after old.taken answer) × (new.stage ≡ stage_after answer)
+TakesBy Takes (Broken fault) old payload answer new = (answer ≡ Err fault) × (new ≡ old)
+TakesBy Takes (Closed next) old payload answer new = (answer ≡ Err AfterEnd) × (new ≡ old)
+
+-- of all locates
 abbrev pub TakesAt : Stage → Load → List ℕ → Result (Option ℕ) SnapFault → Load → Type 0
-TakesAt Taking old payload answer new =
-    TakesNext old.taken old.market payload answer new.market × (new.taken ≡ taken_after old.taken answer) × (new.stage ≡ stage_after answer)
-TakesAt (Broken fault) old payload answer new = (answer ≡ Err fault) × (new ≡ old)
-TakesAt (Closed next) old payload answer new = (answer ≡ Err AfterEnd) × (new ≡ old)
+TakesAt = TakesBy TakesNext
+
+-- where messages of some locates are skipped
+abbrev pub TakesAtOnly : (ℕ → Bool) → Stage → Load → List ℕ → Result (Option ℕ) SnapFault → Load → Type 0
+TakesAtOnly wanted = TakesBy (TakesNextOnly wanted)
 
 -- what taking a message does, and returns
 abbrev pub Loads : Load → List ℕ → Result (Option ℕ) SnapFault → Load → Type 0
 Loads old payload answer new = TakesAt old.stage old payload answer new
 
--- the same at each stage, where messages of some locates are skipped
-abbrev pub TakesAtOnly : (ℕ → Bool) → Stage → Load → List ℕ → Result (Option ℕ) SnapFault → Load → Type 0
-TakesAtOnly wanted Taking old payload answer new =
-    TakesNextOnly wanted old.taken old.market payload answer new.market × (new.taken ≡ taken_after old.taken answer) × (new.stage ≡ stage_after answer)
-TakesAtOnly wanted (Broken fault) old payload answer new = (answer ≡ Err fault) × (new ≡ old)
-TakesAtOnly wanted (Closed next) old payload answer new = (answer ≡ Err AfterEnd) × (new ≡ old)
-
+-- the same, where messages of some locates are skipped
 abbrev pub LoadsOnly : (ℕ → Bool) → Load → List ℕ → Result (Option ℕ) SnapFault → Load → Type 0
 LoadsOnly wanted old payload answer new = TakesAtOnly wanted old.stage old payload answer new
 

@@ -6,7 +6,7 @@ ghost use Rattle.itch_codec.specs.declared.message.Message.{Message};
 ghost use Rattle.itch_market.specs.Partial.{only};
 ghost use Rattle.itch_market.specs.Wanted.{has};
 ghost use Rattle.itch_snapshot.specs.Snapshot.{snap};
-ghost use Rattle.itch_snapshot.specs.Cursor.{left, in_set, IsCursor};
+ghost use Rattle.itch_snapshot.specs.Cursor.{cut_to, left, in_set, IsCursor};
 
 use crate::messages::{header_at, named, order_message};
 use crate::named_order::NamedOrder;
@@ -46,19 +46,22 @@ impl<'a, B: OrderBook> SnapshotIter<'a, B> {
     pub fn new(market: &'a Market<B>) -> SnapshotIter<'a, B>
         ensures { result ≡ snap market.now }
     {
-        SnapshotIter {
-            market,
-            event: market.phase(),
-            states: None,
-            order: None,
-            locates: market.locates(),
-            set: None,
-        }
+        SnapshotIter::of(market, None)
     }
 
     /// All messages of the snapshot of the market cut down to the locates of the set are still to come.
     pub fn only(market: &'a Market<B>, set: &'a LocateSet<B::Alloc>) -> SnapshotIter<'a, B>
         ensures { result ≡ snap (only (has set.now) market.now) }
+    {
+        SnapshotIter::of(market, Some(set))
+    }
+
+    // All messages of the snapshot are still to come: of the whole market, or of it cut down to the locates of a set.
+    pub(crate) fn of(
+        market: &'a Market<B>,
+        set: Option<&'a LocateSet<B::Alloc>>,
+    ) -> SnapshotIter<'a, B>
+        ensures { result ≡ snap (cut_to set.entry market.now) }
     {
         SnapshotIter {
             market,
@@ -66,7 +69,7 @@ impl<'a, B: OrderBook> SnapshotIter<'a, B> {
             states: None,
             order: None,
             locates: market.locates(),
-            set: Some(set),
+            set,
         }
     }
 
@@ -75,10 +78,7 @@ impl<'a, B: OrderBook> SnapshotIter<'a, B> {
         requires { length self.now < 2 ^ 64 }
         ensures { result ≡ length self.now }
     {
-        let Ok(rest) = self.clone() else {
-            unreachable!()
-        };
-        rest.count() as u64
+        self.clone().unwrap().count() as u64
     }
 }
 

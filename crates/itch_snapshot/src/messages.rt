@@ -14,13 +14,10 @@ use itch_codec::{AddOrder, Alpha, AttributedAddOrder, Header, Message, Stamp};
 pub(crate) fn header_at(locate: u16) -> Header
     ensures { result ≡ header_at locate }
 {
-    let Some(stamp) = Stamp::new(0) else {
-        unreachable!()
-    };
     Header {
         locate,
         tracking: 0,
-        stamp,
+        stamp: Stamp::new(0).unwrap(),
     }
 }
 

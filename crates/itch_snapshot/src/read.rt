@@ -70,15 +70,9 @@ fn read_message<R: CountedRead, A: Allocator, B: OrderBook>(
     ensures failures { MatchResult result (λ _. R.failures reader.new.reader ≡ R.failures reader.old.reader)
         (λ fault. CountsFault fault (R.failures reader.old.reader) (R.failures reader.new.reader)) }
 {
-    match reader.next_block() {
-        Ok(Some(payload)) => {
-            if payload.is_empty() {
-                return Err(SnapFault::NoEnd);
-            }
-            take(market, payload, taken)
-        }
-        Ok(None) => Err(SnapFault::NoEnd),
-        Err(fault) => Err(SnapFault::Frame(fault)),
+    match reader.next_message()? {
+        Some(payload) => take(market, None, payload, taken),
+        None => Err(SnapFault::NoEnd),
     }
 }
 
@@ -88,14 +82,8 @@ fn read_end<R: CountedRead, A: Allocator>(reader: &mut BlockReader<R, A>) -> Res
     ensures failures { MatchResult result (λ _. R.failures reader.new.reader ≡ R.failures reader.old.reader)
         (λ fault. CountsFault fault (R.failures reader.old.reader) (R.failures reader.new.reader)) }
 {
-    match reader.next_block() {
-        Ok(Some(payload)) => {
-            if payload.is_empty() {
-                return Ok(());
-            }
-            Err(SnapFault::AfterEnd)
-        }
-        Ok(None) => Ok(()),
-        Err(fault) => Err(SnapFault::Frame(fault)),
+    match reader.next_message()? {
+        Some(_) => Err(SnapFault::AfterEnd),
+        None => Ok(()),
     }
 }

@@ -1,13 +1,13 @@
 //! Snapshots message by message.
 ghost use Rattle.std.specs.Prelude.{◌≡◌, ◌<◌, ◌≤◌, ◌-◌, ◌^◌, IfOk, IfNone};
-ghost use Rattle.itch_market.specs.Wanted.{has};
-ghost use Rattle.itch_snapshot.specs.TakenMessages.{IsNext, AppliesAt, TakesNext, TakesNextOnly};
+ghost use Rattle.itch_snapshot.specs.TakenMessages.{IsNext, TakesFor, skips_for};
 ghost use Rattle.itch_snapshot.specs.Stages.{opened};
 
 use crate::fault::SnapFault;
 use itch_book::OrderBook;
 use itch_codec::{MOST_MESSAGES, Message, Seq, decode};
 use itch_market::{LocateSet, Market, Refusal};
+use std::alloc::Allocator;
 use std::marker::Model;
 
 // How far the reading of a snapshot is.
@@ -83,7 +83,7 @@ impl<B: OrderBook> SnapshotReader<B> {
     {
         let stage = self.stage;
         stage.open()?;
-        let taken = take(&mut self.market, payload, self.taken);
+        let taken = take(&mut self.market, None, payload, self.taken);
         self.settle(taken)
     }
 
@@ -98,7 +98,7 @@ impl<B: OrderBook> SnapshotReader<B> {
     {
         let stage = self.stage;
         stage.open()?;
-        let taken = take_only(&mut self.market, set, payload, self.taken);
+        let taken = take(&mut self.market, Some(set), payload, self.taken);
         self.settle(taken)
     }
 
@@ -167,58 +167,39 @@ fn message_of(payload: &[u8], taken: u64) -> Result<Message<'_>, SnapFault>
     }
 }
 
-// Applies the message at this place.
-fn apply<B: OrderBook>(
-    market: &mut Market<B>,
-    message: &Message<'_>,
-    place: u64,
-) -> Result<Option<Seq>, SnapFault>
-    ensures { AppliesAt place market.old message.now result market.new }
+// Whether the message is at a locate that is not wanted: where there is no set, all are.
+fn is_skipped<A: Allocator>(set: Option<&LocateSet<A>>, message: &Message<'_>) -> bool
+    ensures { result ≡ skips_for set.entry message.now }
 {
-    match market.apply(message) {
-        Ok(()) => Ok(None),
-        Err(reason) => Err(SnapFault::Rule { place, reason }),
+    match set {
+        Some(set) => set.skips(message),
+        None => false,
     }
 }
 
-// Takes the message of a payload after `taken` others.
-pub(crate) fn take<B: OrderBook>(
-    market: &mut Market<B>,
+// Takes the message of a payload after `taken` others. Where there is a set, a message at a locate that it does not contain
+// changes nothing.
+pub(crate) fn take<'a, B: OrderBook>(
+    market: &'a mut Market<B>,
+    set: Option<&'a LocateSet<B::Alloc>>,
     payload: &[u8],
     taken: u64,
 ) -> Result<Option<Seq>, SnapFault>
     requires { taken ≤ 10 ^ 19 - 1 }
-    ensures { TakesNext taken market.old payload.now result market.new }
+    ensures { TakesFor set.entry taken market.old payload.now result market.new }
 {
-    let message = match message_of(payload, taken) {
-        Ok(message) => message,
-        Err(fault) => return Err(fault),
-    };
+    let message = message_of(payload, taken)?;
     if let Message::End { next } = &message {
         return Ok(Some(*next));
     }
-    apply(market, &message, taken + 1)
-}
-
-// The same, but a message at a locate that the set does not contain changes nothing.
-fn take_only<B: OrderBook>(
-    market: &mut Market<B>,
-    set: &LocateSet<B::Alloc>,
-    payload: &[u8],
-    taken: u64,
-) -> Result<Option<Seq>, SnapFault>
-    requires { taken ≤ 10 ^ 19 - 1 }
-    ensures { TakesNextOnly (has set.now) taken market.old payload.now result market.new }
-{
-    let message = match message_of(payload, taken) {
-        Ok(message) => message,
-        Err(fault) => return Err(fault),
-    };
-    if let Message::End { next } = &message {
-        return Ok(Some(*next));
-    }
-    if set.skips(&message) {
+    if is_skipped(set, &message) {
         return Ok(None);
     }
-    apply(market, &message, taken + 1)
+    match market.apply(&message) {
+        Ok(()) => Ok(None),
+        Err(reason) => Err(SnapFault::Rule {
+            place: taken + 1,
+            reason,
+        }),
+    }
 }

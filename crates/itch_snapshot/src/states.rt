@@ -118,8 +118,5 @@ fn action_message(header: Header, stock: Alpha<8>, action: Action) -> TradingAct
 pub(crate) fn next_state<'m>(states: &mut Option<States<'_>>) -> Option<Message<'m>>
     ensures { MatchOption result ((listed states.old ≡ []) × (listed states.new ≡ [])) (λ x. listed states.old ≡ x ∷ listed states.new) }
 {
-    match states {
-        Some(states) => states.take_first(),
-        None => None,
-    }
+    states.as_mut()?.take_first()
 }

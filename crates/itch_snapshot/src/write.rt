@@ -1,12 +1,11 @@
 //! Snapshots to a writer.
 ghost use Rattle.std.specs.Prelude.{◌<◌, ◌^◌, length};
-ghost use Rattle.std.specs.List.{AllByRecursion};
 ghost use Rattle.itch_codec.specs.Messages.{spelling};
 ghost use Rattle.itch_codec.specs.Widths.{IsMessage};
-ghost use Rattle.itch_frame.specs.Blocks.{IsPayload};
 ghost use Rattle.itch_frame.specs.Writing.{WriteBlock};
 ghost use Rattle.itch_market.specs.Partial.{only};
 ghost use Rattle.itch_market.specs.Wanted.{has};
+ghost use Rattle.itch_snapshot.specs.Cursor.{cut_to};
 ghost use Rattle.itch_snapshot.specs.Snapshot.{snap};
 ghost use Rattle.itch_snapshot.specs.Writes.{WritesClosed, WritesSnapshot};
 
@@ -29,8 +28,7 @@ pub fn write_snapshot<W: CountedWrite, B: OrderBook>(
     requires { length (snap market.now) < 10 ^ 19 }
     ensures { WritesSnapshot W.contents W.failures market.now next writer.old result writer.new }
 {
-    market.recall_invariant();
-    write_closed(SnapshotIter::new(market), next, writer)
+    Ok(write_of(market, None, next, writer)?)
 }
 
 /// Writes the canonical bytes of a market cut down to the locates of a set and the block of an End of Snapshot with `next`,
@@ -44,22 +42,22 @@ pub fn write_partial<W: CountedWrite, B: OrderBook>(
     requires { length (snap (only (has set.now) market.now)) < 10 ^ 19 }
     ensures { WritesSnapshot W.contents W.failures (only (has set.now) market.now) next writer.old result writer.new }
 {
-    market.recall_invariant();
-    write_closed(SnapshotIter::only(market, set), next, writer)
+    Ok(write_of(market, Some(set), next, writer)?)
 }
 
-// Writes the blocks of messages, and that of an End of Snapshot.
-fn write_closed<W: CountedWrite, B: OrderBook>(
-    messages: SnapshotIter<'_, B>,
+// Writes the blocks of a market's snapshot, or of that of the market cut down to a set, and the block of an End of Snapshot.
+fn write_of<'a, W: CountedWrite, B: OrderBook>(
+    market: &'a Market<B>,
+    set: Option<&'a LocateSet<B::Alloc>>,
     next: Seq,
     writer: &mut W,
-) -> Result<u64, SnapFault>
-    requires few { length messages < 10 ^ 19 }
-    requires short { AllByRecursion (λ x. IsPayload (spelling x)) messages }
-    ensures { WritesClosed W.contents W.failures messages.entry next writer.old result writer.new }
+) -> Result<u64, FrameFault>
+    requires { length (snap (cut_to set market.now)) < 10 ^ 19 }
+    ensures { WritesClosed W.contents W.failures (snap (cut_to set.entry market.now)) next writer.old result writer.new }
 {
+    market.recall_invariant();
     let mut count = 0u64;
-    for message in messages {
+    for message in SnapshotIter::of(market, set) {
         write_message(writer, &message)?;
         count += 1;
     }

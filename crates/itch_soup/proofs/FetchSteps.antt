@@ -18,7 +18,7 @@ use Rattle.itch_market.proofs.Causes.{none_clean, none_more, none_follows, after
 use Rattle.itch_market.proofs.ReplayProgress.{taken_on, not_full}
 use Rattle.itch_snapshot.specs.declared.reader.Stage.TheVariants.{Taking, Closed}
 use Rattle.itch_snapshot.specs.TakenMessages.{Load, begun, Loads, TakesAt, TakesNext, Finishes, closing_number}
-use Rattle.itch_snapshot.proofs.Decided.{clean_spelled}
+use Rattle.itch_snapshot.proofs.KnownFiles.{clean_spelled}
 use Rattle.itch_snapshot.proofs.FileLemmas.{Spells-number}
 use Rattle.itch_soup.specs.declared.connection.Stage.{Stage}
 use Rattle.itch_soup.specs.declared.connection.Stage.TheVariants as stage

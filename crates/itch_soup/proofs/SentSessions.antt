@@ -19,7 +19,7 @@ use Rattle.itch_market.specs.Content.{Content, Listing}
 use Rattle.itch_market.specs.GoodMarkets.{IsGood}
 use Rattle.itch_market.specs.Runs.{AreMessages}
 use Rattle.itch_snapshot.specs.Snapshot.{snap, event_part, action_part, sho_part, halt_part, position_part, states_part, add_of, attributed, order_part, locate_messages, locate_part}
-use Rattle.itch_snapshot.proofs.Spelled.{snap_messages}
+use Rattle.itch_snapshot.proofs.SpelledMessages.{snap_messages}
 use Rattle.itch_soup.specs.declared.login.ServerConfig.{ServerConfig}
 use Rattle.itch_soup.specs.declared.connection.Stage.{Stage}
 use Rattle.itch_soup.specs.declared.packet.LoginRequest.{LoginRequest}

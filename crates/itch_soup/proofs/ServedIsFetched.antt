@@ -19,7 +19,7 @@ use Rattle.itch_market.proofs.SameMarkets.{laid_is_same, laid_same}
 use Rattle.itch_snapshot.specs.Files.{AreSpelled}
 use Rattle.itch_snapshot.specs.Snapshot.{snap}
 use Rattle.itch_snapshot.proofs.OneSnapshot.{snap_follows, run-snap}
-use Rattle.itch_snapshot.proofs.Spelled.{snap_messages}
+use Rattle.itch_snapshot.proofs.SpelledMessages.{snap_messages}
 use Rattle.itch_soup.specs.declared.client.ClientAct.{ClientAct}
 use Rattle.itch_soup.specs.declared.client.ClientAct.TheVariants as act
 use Rattle.itch_soup.specs.declared.connection.Stage.{Stage}

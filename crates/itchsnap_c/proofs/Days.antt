@@ -31,9 +31,9 @@ use Rattle.itch_snapshot.specs.Snapshot.{snap}
 use Rattle.itch_snapshot.specs.declared.fault.SnapFault.{SnapFault}
 use Rattle.itch_snapshot.specs.declared.fault.SnapFault.TheVariants as snap_fault
 use Rattle.itchsnap_c.specs.Markets.{IsRefusedFor}
-use Rattle.itch_snapshot.proofs.Cut.{snap_only}
+use Rattle.itch_snapshot.proofs.PartialSnapshots.{snap_only}
 use Rattle.itch_snapshot.proofs.OneSnapshot.{snap-laid}
-use Rattle.itch_snapshot.proofs.Wires.{canon-laid}
+use Rattle.itch_snapshot.proofs.CanonicalBytes.{canon-laid}
 use Rattle.itch_commands.specs.Readings.{AreTaken, IsShort, HaltsPart, ReadsMarket, CountsRead}
 use Rattle.itch_commands.specs.declared.fault.Source.TheVariants.{Only}
 use Rattle.itch_commands.specs.declared.fault.ToolFault.{ToolFault}

@@ -1,6 +1,6 @@
 use Rattle.itch_join.specs.Rules.{market_rules, rules_of}
-use Rattle.itch_join.proofs.Lawful.{market_lawful, only_lawful}
-use Rattle.itch_join.proofs.Results.{last_right}
+use Rattle.itch_join.proofs.LawfulRules.{market_lawful, only_lawful}
+use Rattle.itch_join.proofs.LastResults.{last_right}
 use Rattle.itch_join.proofs.laws.last_result.Goals as goal
 
 pub returns-clause-market : goal.returns-clause-market

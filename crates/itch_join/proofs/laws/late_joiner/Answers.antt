@@ -1,6 +1,6 @@
 use Rattle.itch_join.specs.Rules.{market_rules, rules_of}
-use Rattle.itch_join.proofs.Lawful.{market_lawful, only_lawful}
-use Rattle.itch_join.proofs.Standing.{stands}
+use Rattle.itch_join.proofs.LawfulRules.{market_lawful, only_lawful}
+use Rattle.itch_join.proofs.JoinerSteps.{stands}
 use Rattle.itch_join.proofs.laws.late_joiner.Goals as goal
 
 pub returns-clause-market : goal.returns-clause-market

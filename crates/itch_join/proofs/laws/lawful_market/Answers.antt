@@ -1,5 +1,5 @@
-use Rattle.itch_join.proofs.Lawful.{market_lawful, only_lawful}
-use Rattle.itch_join.proofs.Skipping.{all_rules}
+use Rattle.itch_join.proofs.LawfulRules.{market_lawful, only_lawful}
+use Rattle.itch_join.proofs.SkippedMessages.{all_rules}
 use Rattle.itch_join.proofs.laws.lawful_market.Goals as goal
 
 pub returns-clause-market : goal.returns-clause-market

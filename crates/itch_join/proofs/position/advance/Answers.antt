@@ -4,7 +4,7 @@ use Rattle.itch_market.specs.Wanted.{has}
 use Rattle.itch_join.specs.Rules.{rules_of}
 use Rattle.itch_join.specs.States.{Wait}
 use Rattle.itch_join.specs.Applying.{Front}
-use Rattle.itch_join.proofs.Draining.{applied, stopped}
+use Rattle.itch_join.proofs.AppliedMessages.{applied, stopped}
 use Rattle.itch_join.proofs.position.advance.Goals as goal
 
 pub returns-in_err-apply : goal.returns-in_err-apply

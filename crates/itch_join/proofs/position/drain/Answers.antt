@@ -6,7 +6,7 @@ use Rattle.itch_join.specs.Rules.{rules_of}
 use Rattle.itch_join.specs.States.{Wait}
 use Rattle.itch_join.specs.Applying.{Front, at_hand}
 use Rattle.itch_join.proofs.Maps.{len_less}
-use Rattle.itch_join.proofs.Draining.{applied, stopped, nothing_left}
+use Rattle.itch_join.proofs.AppliedMessages.{applied, stopped, nothing_left}
 use Rattle.itch_join.proofs.position.drain.Goals as goal
 
 pub loop-payload-init : goal.loop-payload-init

@@ -1,5 +1,5 @@
-use Rattle.itch_snapshot.proofs.Cut.{snap_only}
-use Rattle.itch_snapshot.proofs.Covering.{parts_determine}
+use Rattle.itch_snapshot.proofs.PartialSnapshots.{snap_only}
+use Rattle.itch_snapshot.proofs.CoveringSets.{parts_determine}
 use Rattle.itch_snapshot.proofs.laws.parts_of_a_market.Goals as goal
 
 pub returns-clause-list : goal.returns-clause-list

@@ -1,7 +1,7 @@
 use Rattle.std.proofs.Common.{refl, ◌∙◌}
 use Rattle.std.proofs.lemmas.Result.{err_from_is_err_and}
 use Rattle.itch_market.proofs.ReplayProgress.{going_first}
-use Rattle.itch_snapshot.proofs.Reading.{message_read, fault_read}
+use Rattle.itch_snapshot.proofs.ReadSteps.{message_read, fault_read}
 use Rattle.itch_snapshot.proofs.read.read_messages.Goals as goal
 
 pub loop-taken-init : goal.loop-taken-init

@@ -1,8 +1,8 @@
 use Rattle.std.proofs.Common.{Ok}
 use Rattle.std.proofs.lemmas.Result.{err_from_is_err_and}
 use Rattle.itch_frame.specs.Reading.{bytes_left}
-use Rattle.itch_snapshot.proofs.Reading.{first_fault, later_fault, no_fault}
-use Rattle.itch_snapshot.proofs.Decided.{reads_file, reads_fault, reads_market}
+use Rattle.itch_snapshot.proofs.ReadSteps.{first_fault, later_fault, no_fault}
+use Rattle.itch_snapshot.proofs.KnownFiles.{reads_file, reads_fault, reads_market}
 use Rattle.itch_snapshot.proofs.read.read_snapshot.Goals as goal
 
 pub returns-in_err-next-clause-steps : goal.returns-in_err-next-clause-steps

@@ -8,8 +8,8 @@ use Rattle.itch_join.specs.States.{Joining, State}
 use Rattle.itch_join.specs.Steps.{NextBy}
 use Rattle.itch_join.specs.Applying.{front, front_of, result_by, halt_of, fault_of, is_empty}
 use Rattle.itch_join.specs.HalfReads.{half_of}
-use Rattle.itch_join.proofs.Going.{went, nexted, taken_first, taken_then, is_next}
-use Rattle.itch_join.proofs.Draining.{was_any}
+use Rattle.itch_join.proofs.CatchUps.{went, nexted, taken_first, taken_then, is_next}
+use Rattle.itch_join.proofs.AppliedMessages.{was_any}
 use Rattle.itch_join.proofs.joiner.Joiner.apply_next.Goals as goal
 use Rattle.itch_join.proofs.joiner.Joiner.apply_next.Goals.{in-Ok, in-Err, then-waits, else-waits}
 
@@ -21,7 +21,7 @@ returns-clause-goes g c =
     let ending = c.advance-ended.result in
     let j = c.advance-ended.new.position in
     let number_is : c.position.inside.next ≡ j.next = ap (λ (k : Position). k.next) c.position.view_is in
-    let first = c.in-Some.position in
+    let first = c.unwrap-position.result in
     let there : s.joined ≡ Some first = search rules in
     let number : first.next ≡ c.args.number = is_next s.joined first c.args.number there (rw (← c.self.view_is) at c.requires.joined) in
     let ps = c.advance-ended.ensures.0 in

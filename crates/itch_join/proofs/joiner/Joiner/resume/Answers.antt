@@ -6,7 +6,7 @@ use Rattle.itch_join.specs.States.{Joining, State}
 use Rattle.itch_join.specs.Steps.{ResumeBy}
 use Rattle.itch_join.specs.Applying.{front_of, at_hand, result_by, halt_of, fault_of}
 use Rattle.itch_join.specs.HalfReads.{half_of}
-use Rattle.itch_join.proofs.Going.{went, resumed}
+use Rattle.itch_join.proofs.CatchUps.{went, resumed}
 use Rattle.itch_join.proofs.joiner.Joiner.resume.Goals as goal
 use Rattle.itch_join.proofs.joiner.Joiner.resume.Goals.{in-Ok, in-Err}
 

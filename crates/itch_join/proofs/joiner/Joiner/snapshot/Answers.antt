@@ -2,7 +2,7 @@ use Rattle.std.proofs.Common.{◌≡◌, None, false, is_some, refl, rules}
 use Rattle.itch_market.specs.Wanted.{has}
 use Rattle.itch_join.specs.States.{State}
 use Rattle.itch_join.specs.HalfReads.{half_of}
-use Rattle.itch_join.proofs.Taking.{took, failed}
+use Rattle.itch_join.proofs.SnapshotMessages.{took, failed}
 use Rattle.itch_join.proofs.joiner.Joiner.snapshot.Goals as goal
 
 pub returns-in-Ok-None-clause-step : goal.returns-in-Ok-None-clause-step

@@ -8,7 +8,7 @@ use Rattle.itch_join.specs.States.{Wait, Joining, unread}
 use Rattle.itch_join.specs.Steps.{started}
 use Rattle.itch_join.specs.Applying.{at_hand, result_by, halt_of, fault_of}
 use Rattle.itch_join.specs.Applying.{Drains}
-use Rattle.itch_join.proofs.Going.{went}
+use Rattle.itch_join.proofs.CatchUps.{went}
 use Rattle.itch_join.proofs.joiner.Joiner.start.Goals as goal
 use Rattle.itch_join.proofs.joiner.Joiner.start.Goals.{in-Ok, in-Err}
 

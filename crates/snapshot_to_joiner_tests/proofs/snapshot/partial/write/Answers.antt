@@ -3,7 +3,7 @@ use Rattle.std.proofs.lemmas.List.Filters.{length-filter_both}
 use Rattle.itch_market.specs.Partial.{skips}
 use Rattle.itch_market.specs.Wanted.{has}
 use Rattle.itch_snapshot.specs.Snapshot.{snap}
-use Rattle.itch_snapshot.proofs.Cut.{snap_only}
+use Rattle.itch_snapshot.proofs.PartialSnapshots.{snap_only}
 use Rattle.snapshot_to_joiner_tests.proofs.snapshot.partial.write.Goals as goal
 
 pub write_partial-requires : goal.write_partial-requires

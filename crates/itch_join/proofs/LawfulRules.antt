@@ -17,7 +17,7 @@ use Rattle.itch_market.specs.GoodMarkets.{IsGood}
 use Rattle.itch_market.specs.SameMarkets.{Same}
 use Rattle.itch_snapshot.specs.TakenMessages.{is_skipped}
 use Rattle.itch_join.specs.Rules.{Rules, refused_by, market_rules, rules_of, AreLawful}
-use Rattle.itch_join.proofs.Skipping.{refused_here, effect_here, refused_skipped, effect_skipped}
+use Rattle.itch_join.proofs.SkippedMessages.{refused_here, effect_here, refused_skipped, effect_skipped}
 
 pub faultless : (m : Content) (p : List ℕ) (f : Option CodecFault) → refused_by f m p ≡ None → f ≡ None
 faultless m p None h = refl

@@ -18,12 +18,14 @@ use Rattle.itch_book.proofs.StableLemmas.{All-in_order}
 use Rattle.itch_book.proofs.OrderLemmas.{both_queues, locate_is, in_is}
 use Rattle.itch_market.specs.declared.security.Action.{Action}
 use Rattle.itch_market.specs.Content.{Content, Listing}
+use Rattle.itch_market.specs.Wanted.{Wanted, has}
+use denote.Ref.{Bor}
 use Rattle.itch_market.specs.Partial.{locate_of, is_out, skips, kept, only}
 use Rattle.itch_market.proofs.Trees.{same_entries_of}
 use Rattle.itch_snapshot.specs.Snapshot.{snap, event_part, action_part, sho_part, halt_part, position_part, states_part, add_of, attributed, order_part, locate_messages, locate_part}
-use Rattle.itch_snapshot.specs.Cursor.{part_at, left}
+use Rattle.itch_snapshot.specs.Cursor.{cut_to, in_set, part_at, left}
 use Rattle.itch_snapshot.proofs.Locates.{each_entry}
-use Rattle.itch_snapshot.proofs.Cursors.{parts_of}
+use Rattle.itch_snapshot.proofs.Cursors.{all_in, left_snap, parts_of}
 
 module _ (wanted : ℕ → Bool) where
   -- an entry at a wanted locate
@@ -153,3 +155,8 @@ module _ (wanted : ℕ → Bool) where
       snap_cut m
       ∙ sym (filter-append stays (event_part m.event) (flat_map (locate_part m.orders) (finite.entries m.securities))
       ∙ ap₂ ◌++◌ (event_stays m.event) (locates_stay m.orders (finite.entries m.securities)))
+
+-- at first all of the snapshot list is left, of the market of the locates that are wanted
+pub left_in : (set : Option (Bor Wanted)) (m : Content) → left m m.event None None (filter (in_set set) (finite.keys m.securities)) ≡ snap (cut_to set m)
+left_in None m = ap (left m m.event None None) (all_in (finite.keys m.securities)) ∙ left_snap m
+left_in (Some set) m = left_only (has set.now) m

@@ -16,7 +16,7 @@ use Rattle.itch_market.proofs.SameMarkets.{laid_is_same}
 use Rattle.itch_snapshot.specs.Bytes.{canon}
 use Rattle.itch_snapshot.specs.Snapshot.{snap}
 use Rattle.itch_snapshot.proofs.OneSnapshot.{snap_same, same_snap, replayed_same}
-use Rattle.itch_snapshot.proofs.Spelled.{IsSpelled, snap_spelled}
+use Rattle.itch_snapshot.proofs.SpelledMessages.{IsSpelled, snap_spelled}
 use Rattle.itch_codec.proofs.Spelling.{Spells-spelling, same_message}
 
 -- one spelling is that of one message

@@ -1,5 +1,5 @@
 -- The blocks of messages, and of an End of Snapshot after them, written one after another.
-use Rattle.std.proofs.Common.{◌≡◌, ℕ, ◌+◌, List, [], ◌∷◌, ◌++◌, map, length, Option, Ok, Err, refl, sym, ap, subst, ◌∙◌, append_assoc, append-nil, arith, length-append}
+use Rattle.std.proofs.Common.{◌≡◌, ℕ, ◌+◌, List, [], ◌∷◌, ◌++◌, map, length, Option, Some, None, Ok, Err, refl, sym, ap, subst, ◌∙◌, append_assoc, append-nil, arith, length-append}
 use Rattle.std.specs.List.{AllByRecursion}
 use Rattle.std.specs.Io.KnownBytes.{Appends}
 use Rattle.std.proofs.KnownBytes.{Appends-nil}
@@ -16,11 +16,15 @@ use Rattle.itch_frame.specs.declared.tally.Failures.{Failures}
 use Rattle.itch_book.proofs.Lists.{All-right_rec, All-weaker_rec}
 use Rattle.itch_market.specs.Content.{Content}
 use Rattle.itch_market.specs.GoodMarkets.{IsGood}
-use Rattle.itch_snapshot.specs.declared.fault.SnapFault.TheVariants.{Frame}
+use denote.Ref.{Bor}
+use Rattle.itch_market.specs.Partial.{only}
+use Rattle.itch_market.specs.Wanted.{Wanted, has}
+use Rattle.itch_market.proofs.Partials.{only_good}
+use Rattle.itch_snapshot.specs.Cursor.{cut_to}
 use Rattle.itch_snapshot.specs.Snapshot.{snap}
 use Rattle.itch_snapshot.specs.Bytes.{closing}
 use Rattle.itch_snapshot.specs.Writes.{closed_payloads, WritesClosed}
-use Rattle.itch_snapshot.proofs.Spelled.{IsSpelled, snap_spelled}
+use Rattle.itch_snapshot.proofs.SpelledMessages.{IsSpelled, snap_spelled}
 
 -- the spelling fits a block
 abbrev pub IsShort : Message → Type 0
@@ -29,6 +33,11 @@ IsShort x = IsPayload (spelling x)
 -- as that of each message of a snapshot list does
 pub snap_short : (m : Content) → IsGood m → AllByRecursion IsShort (snap m)
 snap_short m good = All-weaker_rec IsSpelled IsShort (λ x spelled. spelled.short) (snap m) (snap_spelled m good)
+
+-- and of the market of the locates that are wanted
+pub cut_short : (set : Option (Bor Wanted)) (m : Content) → IsGood m → AllByRecursion IsShort (snap (cut_to set m))
+cut_short None m good = snap_short m good
+cut_short (Some set) m good = snap_short (only (has set.now) m) (only_good (has set.now) m good)
 
 -- the payloads of what was written, of the next message, and of the others
 payloads_at : (ms : List Message) (next : ℕ) (seen left : List Message) (x : Message) → ms ≡ seen ++ x ∷ left
@@ -64,7 +73,7 @@ module _ {W : Type 0} (contents : W → Option (List ℕ)) (failures : W → Fai
   -- the next block was not written whole
   pub message_failed : (ms : List Message) (next : ℕ) (old mid new : W) (seen left rest : List Message) (count : ℕ) (x : Message) (fault : FrameFault) → AllByRecursion IsShort ms
       → WrittenSoFar ms old seen left count mid → left ≡ x ∷ rest → WriteBlock contents failures mid (spelling x) (Err fault) new
-      → WritesClosed contents failures ms next old (Err (Frame fault)) new
+      → WritesClosed contents failures ms next old (Err fault) new
   message_failed ms next old mid new seen left rest count x fault short so_far here wrote =
       let messages = so_far.messages ∙ ap (λ ms. seen ++ ms) here in
       let of_rest : AllByRecursion IsShort (x ∷ rest) = All-right_rec IsShort seen (x ∷ rest) (subst (AllByRecursion IsShort) messages short) in
@@ -76,7 +85,7 @@ module _ {W : Type 0} (contents : W → Option (List ℕ)) (failures : W → Fai
 
   -- or the closing block was not
   pub end_failed : (ms : List Message) (next : ℕ) (old mid new : W) (seen left : List Message) (count : ℕ) (fault : FrameFault) → WrittenSoFar ms old seen left count mid
-      → left ≡ [] → IsMessage (is.End next) → WriteBlock contents failures mid (spelling (is.End next)) (Err fault) new → WritesClosed contents failures ms next old (Err (Frame fault)) new
+      → left ≡ [] → IsMessage (is.End next) → WriteBlock contents failures mid (spelling (is.End next)) (Err fault) new → WritesClosed contents failures ms next old (Err fault) new
   end_failed ms next old mid new seen left count fault so_far none fits wrote =
       part_written contents failures old mid new (map spelling seen) (spelling (is.End next)) [] (closed_payloads ms next)
       (ap (λ ms. map spelling ms ++ spelling (is.End next) ∷ []) (all_seen ms seen left so_far.messages none)) (spelling_short (is.End next) fits (λ kept. kept)) so_far.wrote so_far.failed fault wrote

@@ -22,10 +22,10 @@ use Rattle.itch_join.specs.States.{Wait, State, HalfRead, Reading, Broken, unrea
 use Rattle.itch_join.specs.Steps.{live_case, LiveBy, NextBy, SnapshotCase, SnapHalted, SnapJoined, SnapBroken, SnapFails, SnapEnds, SnapTakes, snapshot_case, SnapshotBy, restarted, ResumeBy, Resumes, Call, CallLive, CallSnapshot, CallRestart, CallResume, Step}
 use Rattle.itch_join.specs.Deliveries.{Event, IsOfFeed, Fits, History, accepted, start_by, by_live_fault, settled}
 use Rattle.itch_join.specs.Stands.{is_from, Stands}
-use Rattle.itch_join.proofs.Moving.{some_is}
+use Rattle.itch_join.proofs.Fronts.{some_is}
 use Rattle.itch_join.proofs.Caps.{at_most, leads}
-use Rattle.itch_join.proofs.Cases.{IsLiveCase, live_case_is, IsSnapshotCase, snapshot_case_is}
-use Rattle.itch_join.proofs.Keeping.{and_first, and_second, unheard, HalfIsGood, IsKeptUp, then_call, stay, refuse_live, next_at, store_at, end_at, resume_at}
+use Rattle.itch_join.proofs.CallCases.{IsLiveCase, live_case_is, IsSnapshotCase, snapshot_case_is}
+use Rattle.itch_join.proofs.JoinerInvariant.{and_first, and_second, unheard, HalfIsGood, IsKeptUp, then_call, stay, refuse_live, next_at, store_at, end_at, resume_at}
 
 module _ (R : Rules) (lawful : AreLawful R) (cap : ℕ) (feed : List (List ℕ)) (bytes : AllByRecursion AreBytes feed) where
   abbrev Keeps : List Event → State → Type 0

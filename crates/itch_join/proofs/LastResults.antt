@@ -23,11 +23,11 @@ use Rattle.itch_join.specs.Applying.{Front, front_of, Applies, standing, result_
 use Rattle.itch_join.specs.Steps.{live_case, LiveBy, NextBy, SnapshotCase, SnapHalted, SnapJoined, SnapBroken, SnapFails, SnapEnds, SnapTakes, snapshot_case, SnapshotBy, ResumeBy, Resumes, Call, CallLive, CallSnapshot, CallRestart, CallResume, Step}
 use Rattle.itch_join.specs.Deliveries.{Event, Fits, History, halt_in, halt_returned}
 use Rattle.itch_join.specs.Stands.{IsBadAt, IsResultRight, LastIsRight}
-use Rattle.itch_join.proofs.Cases.{IsLiveCase, live_case_is, IsSnapshotCase, snapshot_case_is}
+use Rattle.itch_join.proofs.CallCases.{IsLiveCase, live_case_is, IsSnapshotCase, snapshot_case_is}
 use Rattle.itch_join.proofs.Caps.{at_most, leads}
 use Rattle.itch_join.proofs.Feeds.{market_at, market_good, bad_next}
-use Rattle.itch_join.proofs.Keeping.{IsKeptUp, at_bad}
-use Rattle.itch_join.proofs.Standing.{always}
+use Rattle.itch_join.proofs.JoinerInvariant.{IsKeptUp, at_bad}
+use Rattle.itch_join.proofs.JoinerSteps.{always}
 use Rattle.std.proofs.lemmas.Slice.Eq.{bytes_eq-Decides}
 
 abbrev HaltStays : {T : Type 0} → Result T JoinFault → State → Type 0

@@ -26,10 +26,10 @@ use Rattle.itch_join.specs.Deliveries.{Event, is_taken, accepts, accepted, start
 use Rattle.itch_join.specs.Stands.{is_from, IsBadAt, IsHaltedAt}
 use Rattle.itch_join.proofs.Maps.{get-from}
 use Rattle.itch_market.proofs.Maps.{get-insert}
-use Rattle.itch_join.proofs.Draining.{counted}
+use Rattle.itch_join.proofs.AppliedMessages.{counted}
 use Rattle.itch_join.proofs.Feeds.{market_at, market_good, bad_here}
-use Rattle.itch_join.proofs.Moving.{Going, Ended, move, go_on, some_is}
-use Rattle.itch_join.proofs.Cases.{IsAbove}
+use Rattle.itch_join.proofs.Fronts.{Going, Ended, move, go_on, some_is}
+use Rattle.itch_join.proofs.CallCases.{IsAbove}
 
 pub or_right : (a b : Bool) → b ≡ true → (a || b) ≡ true
 or_right true b h = refl

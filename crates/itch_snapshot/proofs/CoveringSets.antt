@@ -20,9 +20,9 @@ use Rattle.itch_market.proofs.Maps.{same_map}
 use Rattle.itch_market.proofs.Partials.{get_here, only_good}
 use Rattle.itch_snapshot.specs.Bytes.{canon}
 use Rattle.itch_snapshot.specs.Covers.{Covers, HaveSameParts}
-use Rattle.itch_snapshot.proofs.Cut.{queue_kept, snap_only}
+use Rattle.itch_snapshot.proofs.PartialSnapshots.{queue_kept, snap_only}
 use Rattle.itch_snapshot.proofs.OneSnapshot.{snap_same}
-use Rattle.itch_snapshot.proofs.Wires.{same_canon}
+use Rattle.itch_snapshot.proofs.CanonicalBytes.{same_canon}
 
 -- the parts of the same markets have the same bytes
 part_same : (wanted : ℕ → Bool) (m n : Content) → Same m n → canon (only wanted m) ≡ canon (only wanted n)

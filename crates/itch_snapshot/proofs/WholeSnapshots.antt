@@ -16,8 +16,8 @@ use Rattle.itch_market.specs.SameMarkets.{Same}
 use Rattle.itch_snapshot.specs.Bytes.{canon, closing}
 use Rattle.itch_snapshot.specs.Snapshot.{snap}
 use Rattle.itch_snapshot.proofs.OneSnapshot.{same_snap}
-use Rattle.itch_snapshot.proofs.Spelled.{IsSpelled, snap_spelled}
-use Rattle.itch_snapshot.proofs.Wires.{wire_one}
+use Rattle.itch_snapshot.proofs.SpelledMessages.{IsSpelled, snap_spelled}
+use Rattle.itch_snapshot.proofs.CanonicalBytes.{wire_one}
 
 -- the snapshot list with End of Snapshot
 abbrev ended : Content → ℕ → List Message
