@@ -8,7 +8,7 @@ use Rattle.itch_codec.specs.declared.message.Message.TheVariants as message
 use Rattle.itch_codec.specs.Messages.{Spells, message_of}
 use Rattle.itch_codec.specs.Widths.{IsMessage}
 use Rattle.itch_frame.specs.Blocks.{IsPayload, blocks}
-use Rattle.itch_frame.specs.Reading.{Reading, bytes_left, FailsHere}
+use Rattle.itch_frame.specs.Reading.{Reading, bytes_left}
 use Rattle.itch_frame.specs.Writing.{WriteBlock}
 use Rattle.itch_frame.specs.declared.tally.Failures.{Failures}
 use Rattle.itch_frame.specs.declared.fault.FrameFault.{FrameFault}

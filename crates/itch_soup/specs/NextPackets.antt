@@ -3,9 +3,8 @@ use Rattle.std.specs.Prelude.{◌≡◌, ⊤, ℕ, ◌^◌, ◌==◌, Bool, true
 use Rattle.std.specs.Borrow.{Bor}
 use Rattle.std.specs.Io.KnownBytes.{Consumes, IsAtEnd}
 use Rattle.itch_frame.specs.Blocks.{IsPayload, block}
-use Rattle.itch_frame.specs.Reading.{Reading, NextBlock}
+use Rattle.itch_frame.specs.Reading.{Reading, NextBlock, FailsHere}
 use Rattle.itch_frame.specs.declared.tally.Failures.{Failures}
-use Rattle.itch_snapshot.specs.Reads.{FailsHere}
 use Rattle.itch_soup.specs.declared.fault.SoupFault.{SoupFault}
 use Rattle.itch_soup.specs.declared.fault.SoupFault.TheVariants as broke
 use Rattle.itch_soup.specs.declared.reading.ReadFault.{ReadFault}

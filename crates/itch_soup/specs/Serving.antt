@@ -5,7 +5,7 @@ use Rattle.std.specs.Io.KnownBytes.{Consumes}
 use Rattle.itch_frame.specs.Blocks.{IsPayload, blocks}
 use Rattle.itch_frame.specs.Counting.{failed}
 use Rattle.itch_frame.specs.declared.tally.Failures.{Failures}
-use Rattle.itch_frame.specs.Reading.{Reading, bytes_left, FailsHere}
+use Rattle.itch_frame.specs.Reading.{Reading, bytes_left}
 use Rattle.itch_frame.specs.declared.fault.FrameFault.TheVariants.{Read}
 use Rattle.itch_market.specs.Content.{Content}
 use Rattle.itch_soup.specs.declared.login.ServerConfig.{ServerConfig}
