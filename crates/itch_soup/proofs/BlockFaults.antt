@@ -79,7 +79,7 @@ pub of_block : (block : List ℕ) (from : Origin) → OfBlock (packet_fault bloc
 of_block [] from = tt
 of_block (kind ∷ rest) from = of_type (type_of kind) kind (kind ∷ rest) from
 
--- what holds of each of them, holds of every fault of a block
+-- what holds for each of them holds for every fault of a block
 pub of_each : (P : SoupFault → Type 0) → P broke.EmptyPacket → ((kind : ℕ) → P (broke.UnknownType kind)) → ((kind : ℕ) → P (broke.WrongSide kind))
     → ((kind want got : ℕ) → P (broke.WrongLength kind want got)) → ((offset : ℕ) → P (broke.BadText offset)) → ((offset : ℕ) → P (broke.BadNumber offset))
     → (f : SoupFault) → OfBlock (Some f) → P f

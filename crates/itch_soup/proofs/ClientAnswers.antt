@@ -1,11 +1,11 @@
--- Answers that say which messages come: the first one, and what the later ones say.
+-- A client's answers to packets, and the messages that they report: the first answer, and the later ones.
 use Rattle.std.proofs.Common.{◌≡◌, ℕ, ◌+◌, Bool, true, false, List, [], ◌∷◌, refl, sym, ap}
 use Rattle.itch_soup.specs.declared.client.ClientAct.{ClientAct}
 use Rattle.itch_soup.specs.declared.client.ClientAct.TheVariants as act
 use Rattle.itch_soup.specs.declared.fault.SoupFault.{SoupFault}
 use Rattle.itch_soup.specs.Fetching.{noted, numbered, Hears}
 
--- what answers say, before the login was accepted or after it
+-- the answers report these messages, before the login was accepted or after it
 abbrev pub Says : Bool → ℕ → List ClientAct → List (List ℕ) → Type 0
 Says false n acts qs = Hears acts qs
 Says true n acts qs = acts ≡ numbered n qs

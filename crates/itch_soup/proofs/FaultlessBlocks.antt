@@ -28,7 +28,7 @@ size_has : (kind : ℕ) (size : Option ℕ) (byte : ℕ) (rest : List ℕ) → s
 size_has kind None byte rest h = omega arith
 size_has kind (Some size) byte rest h = eqb-true _ size (long_none kind size (byte ∷ rest) _ refl h)
 
--- a block without a fault, whose type is the packet's, spells the packet where its parts hold the packet's values
+-- a block without a fault, whose type is the packet's, spells the packet if its parts hold the packet's values
 spelled_by : (packet : Packet) (kind : ℕ) (rest : List ℕ) (from : Origin) → kind ≡ (packet_type packet).kind
     → fault_by_type (Some (packet_type packet)) kind (kind ∷ rest) from ≡ None
     → (parts_fault (kind ∷ rest) (packet_type packet).parts ≡ None → HasParts (kind ∷ rest) (packet_type packet).parts (packet_values packet))
@@ -89,7 +89,7 @@ request_spelled kind rest from same h =
       )),
     )
 
--- either the block is of this type, or its type is looked for among the later ones
+-- the block is of this type, or of one of the later ones
 by_type : (t : PacketType) (others : Option PacketType) (kind : ℕ) (rest : List ℕ) (from : Origin)
     → (kind ≡ t.kind → fault_by_type (Some t) kind (kind ∷ rest) from ≡ None → IsSpelled (kind ∷ rest) from)
     → (fault_by_type others kind (kind ∷ rest) from ≡ None → IsSpelled (kind ∷ rest) from)

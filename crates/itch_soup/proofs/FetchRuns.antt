@@ -73,7 +73,7 @@ Run k c ps (packet ∷ packets) (q ∷ qs) b r =
     × Run (k + 1) (client_after_packet c packet 0) (heard_by (client_answer c packet) ps) packets qs b r
 Run k c ps packets read b r = ⊥
 
--- it does not end where it goes on
+-- it does not end at a packet after which it goes on
 goes_no_end : (enough : Bool) (c : Client) (ps : List (List ℕ)) (packet : Packet) (q rest : List ℕ) (r : Answer) → enough ≡ false → IsPayload q → PacketSpells packet q Server → IsGood (so_far ps)
     → Goes (client_answer c packet) ps → EndsHere enough c ps (block q ++ rest) r → IsDecidedFetch r → ⊥
 goes_no_end enough c ps packet q rest r room fits spelled good goes ends decided =

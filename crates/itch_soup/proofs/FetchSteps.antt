@@ -1,4 +1,4 @@
--- What a client has heard so far, and one packet more.
+-- A fetch step by step: what a client has received so far, and one packet more.
 use Rattle.std.proofs.Common.{◌≡◌, ℕ, ◌+◌, ◌-◌, ◌^◌, ◌≤◌, nat_lt, Bool, true, false, List, [], ◌∷◌, ◌++◌, map, length, drop, Option, None, Some, Ok, Err, refl, sym, ap, subst, ◌∙◌, append-nil, arith, length-append}
 use Rattle.std.proofs.lemmas.List.{length-map, length-drop}
 use Rattle.std.specs.List.{AllByRecursion}
@@ -34,7 +34,7 @@ use Rattle.itch_soup.specs.NextPackets.{is_enough}
 use Rattle.itch_soup.specs.Fetching.{ArePackets, noted, news, after_packets, numbered, Hears, SpellsSnapshot, Fetched, HearsNext, TakesAnswer, EndsFetch, Receives, load_of}
 use Rattle.itch_soup.proofs.LoginWaits.{one_more}
 
--- what a turn of a session says of its stage and number
+-- what a turn of a session means for its stage and number
 abbrev pub Shows : Packet → Stage → ℕ → ClientAct → Stage → ℕ → Type 0
 Shows packet at next act.Nothing later number = (later ≡ at) × (number ≡ next)
 Shows packet at next (act.Accepted first) later number = (at ≡ stage.Before) × (later ≡ stage.Accepted) × (number ≡ first)
@@ -52,36 +52,20 @@ data_shows next payload true e = rw e (refl, refl, refl, refl, refl)
 data_shows next payload false e = rw e tt
 
 pub turn_shows : (at : Stage) (next : ℕ) (packet : Packet) → TurnShows at next packet
-turn_shows stage.Closed next packet = tt
 turn_shows stage.Before next (is.Debug text) = (refl, refl)
 turn_shows stage.Before next (is.LoginAccepted login) = (refl, refl, refl)
-turn_shows stage.Before next (is.LoginRejected code) = tt
-turn_shows stage.Before next (is.SequencedData payload) = tt
 turn_shows stage.Before next is.ServerHeartbeat = (refl, refl)
-turn_shows stage.Before next is.EndOfSession = tt
-turn_shows stage.Before next (is.LoginRequest login) = tt
 turn_shows stage.Before next (is.UnsequencedData payload) = (refl, refl)
-turn_shows stage.Before next is.ClientHeartbeat = tt
-turn_shows stage.Before next is.LogoutRequest = tt
 turn_shows stage.Accepted next (is.Debug text) = (refl, refl)
-turn_shows stage.Accepted next (is.LoginAccepted login) = tt
-turn_shows stage.Accepted next (is.LoginRejected code) = tt
 turn_shows stage.Accepted next (is.SequencedData payload) = data_shows next payload (nat_lt next (10 ^ 19)) refl
 turn_shows stage.Accepted next is.ServerHeartbeat = (refl, refl)
-turn_shows stage.Accepted next is.EndOfSession = tt
-turn_shows stage.Accepted next (is.LoginRequest login) = tt
 turn_shows stage.Accepted next (is.UnsequencedData payload) = (refl, refl)
-turn_shows stage.Accepted next is.ClientHeartbeat = tt
-turn_shows stage.Accepted next is.LogoutRequest = tt
+turn_shows at next packet = tt
 
 -- one packet more
 noted-append : (answer : ClientAct) (xs ys : List ClientAct) → noted answer (xs ++ ys) ≡ noted answer xs ++ ys
 noted-append act.Nothing xs ys = refl
-noted-append (act.Accepted next) xs ys = refl
-noted-append (act.Rejected code) xs ys = refl
-noted-append (act.Data n payload) xs ys = refl
-noted-append act.Ended xs ys = refl
-noted-append (act.Fault f) xs ys = refl
+noted-append answer xs ys = refl
 
 news-push : (c : Client) (packets : List Packet) (packet : Packet) → news c (packets ++ packet ∷ []) ≡ news c packets ++ noted (client_answer (after_packets c packets) packet) []
 news-push c [] packet = refl
@@ -106,7 +90,7 @@ packets-push [] (q ∷ qs) packet payload spelled fits last = absurd spelled
 packets-push (p ∷ ps) [] packet payload spelled fits last = absurd spelled
 packets-push (p ∷ ps) (q ∷ qs) packet payload spelled fits last = (spelled.0, packets-push ps qs packet payload spelled.1 fits last)
 
--- how far a session is, by what it has received
+-- the stage of a session, by what it has received
 abbrev Phase : Stage → ℕ → List ClientAct → List (List ℕ) → Type 0
 Phase stage.Before next acts payloads = (acts ≡ []) × (payloads ≡ [])
 Phase stage.Accepted next acts payloads = (acts ≡ act.Accepted 1 ∷ numbered 1 payloads) × (next ≡ 1 + length payloads)
@@ -165,7 +149,7 @@ pub record Hearing (start : Client) (old new : Option (List ℕ)) (count : ℕ) 
   pub applied : Applied payloads load.taken load.market
   pub taking : load.stage ≡ Taking
 
--- at first nothing was
+-- at the start, none did
 pub hearing_first : (start : Client) (bytes : Option (List ℕ)) (load : Load) → start.connection.stage ≡ stage.Before → load ≡ begun → IsGood load.market → laid load.market ≡ load.market
     → Hearing start bytes bytes 0 start load
 hearing_first start bytes load before is good in_order = record {
@@ -217,7 +201,7 @@ phase_data at later next number n payload acts all payloads e f same up more pha
 data_fits : (payload block : List ℕ) → IsPayload block → PacketSpells (is.SequencedData payload) block Server → IsPayload payload
 data_fits payload block fits spelled = let inside : payload ≡ drop 1 block = spelled.parts.0 in omega (arith, ap length inside, length-drop 1 block)
 
--- one packet more was heard, which did not close the snapshot
+-- one packet more came, which did not close the snapshot
 module _ (start : Client) (old mid new : Option (List ℕ)) (count : ℕ) (c : Client) (load after : Load) (so_far : Hearing start old mid count c load) (packet : Packet) (block_read : List ℕ)
     (room : is_enough count ≡ false) (fits : IsPayload block_read) (consumed : Consumes mid new (block block_read)) (spelled : PacketSpells packet block_read Server) where
   abbrev later : Client
@@ -273,11 +257,9 @@ module _ (start : Client) (old mid new : Option (List ℕ)) (count : ℕ) (c : C
       (each-push IsPayload so_far.payloads payload so_far.fit (data_fits payload block_read fits (subst (λ p. PacketSpells p block_read Server) seen.4 spelled)))
       (phase_data _ _ _ _ number payload _ _ so_far.payloads seen.0 seen.1 seen.2 seen.3 (more_news ∙ ap (λ a. news start so_far.packets ++ noted a []) is) so_far.phase)
       took.0 took.1
-  heard_answer (act.Rejected code) is takes = absurd takes
-  heard_answer act.Ended is takes = absurd takes
-  heard_answer (act.Fault f) is takes = absurd takes
+  heard_answer answer is takes = absurd takes
 
-  -- or it did: the message was the End of Snapshot
+  -- or it did close it: its message was the End of Snapshot
   closed_by : (payload : List ℕ) (taken : Option ℕ) → Loads load payload (Ok taken) after → true ≡ is_some taken
       → (next : ℕ) × (closing_number payload ≡ Some next) × (after.market ≡ load.market) × (after.stage ≡ Closed next)
   closed_by payload None loads closed = absurd (let no_one : ⊥ = cc in no_one)
@@ -312,11 +294,9 @@ module _ (start : Client) (old mid new : Option (List ℕ)) (count : ℕ) (c : C
           (so_far.packets, ap (λ p. so_far.packets ++ p ∷ []) seen.4),
         ),
       )
-  heard_end (act.Rejected code) is takes done finishes = absurd takes
-  heard_end act.Ended is takes done finishes = absurd takes
-  heard_end (act.Fault f) is takes done finishes = absurd takes
+  heard_end answer is takes done finishes = absurd takes
 
--- the next packet, as the step has it
+-- the next packet was taken
 pub hearing_on : (start : Client) (old mid new : Option (List ℕ)) (count : ℕ) (c later : Client) (load after : Load) → Hearing start old mid count c load
     → HearsNext (is_enough count) c load mid new (Ok false) later after → Hearing start old new (count + 1) later after
 hearing_on start old mid new count c c_after load after so_far (packet, (room, (payload, fits, consumed, spelled)), is, takes) =
@@ -328,7 +308,7 @@ pub hearing_closed : (start : Client) (old mid new : Option (List ℕ)) (count :
 hearing_closed start old mid new count c c_after load after so_far (packet, (room, (payload, fits, consumed, spelled)), is, takes) done finishes =
     heard_end start old mid new count c load after so_far packet payload room fits consumed spelled (client_answer c packet) refl takes done finishes
 
--- and the snapshot's reader is at its end
+-- it closed the snapshot, and the snapshot's reader is at its end
 pub hearing_closes : (start : Client) (old mid new : Option (List ℕ)) (count : ℕ) (c later : Client) (load after : Load) → Hearing start old mid count c load
     → HearsNext (is_enough count) c load mid new (Ok true) later after → (next : ℕ) × (after.stage ≡ Closed next)
 hearing_closes start old mid new count c c_after load after so_far (packet, (room, (read, fits, consumed, spelled)), is, takes) = closes_by (client_answer c packet) takes where
@@ -337,15 +317,13 @@ hearing_closes start old mid new count c c_after load after so_far (packet, (roo
   closes_by (act.Accepted next) (one, unclosed, same) = absurd (let no_one : ⊥ = cc in no_one)
   closes_by (act.Data number payload) (taken, loads, closed) =
       let (next, number_is, market, at_end) = closed_by start old mid new count c load after so_far packet read room fits consumed spelled payload taken loads closed in (next, at_end)
-  closes_by (act.Rejected code) takes = absurd takes
-  closes_by act.Ended takes = absurd takes
-  closes_by (act.Fault f) takes = absurd takes
+  closes_by answer takes = absurd takes
 
--- the snapshot's reader has taken what was heard
+-- the snapshot's reader has taken these messages
 loaded : (payloads : List (List ℕ)) (load : Load) → Applied payloads load.taken load.market → load.stage ≡ Taking → load ≡ load_of payloads
 loaded payloads load applied taking = λ i. record { taken = sym applied.counted i; market = applied.left i; stage = taking i }
 
--- or the fetch ends there
+-- the fetch ends at the next packet
 pub hearing_ends : (start : Client) (old mid new : Option (List ℕ)) (count : ℕ) (c later : Client) (load after : Load) (fault_met : SoupFault) → Hearing start old mid count c load
     → HearsNext (is_enough count) c load mid new (Err fault_met) later after → Receives start old new (Err fault_met)
 hearing_ends start old mid new count c c_after load after fault_met so_far ends = (

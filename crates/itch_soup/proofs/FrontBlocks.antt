@@ -1,4 +1,4 @@
--- What stands at the front of the bytes that the other side sent: a block, or none.
+-- What is at the front of the bytes that the other side sent: a block, or none.
 use Rattle.std.proofs.Common.{◌≡◌, ℕ, ◌+◌, ◌<◌, List, [], ◌∷◌, ◌++◌, length, Option, Some, None, Result, Err, sym, ap, subst, arith}
 use Rattle.itch_frame.specs.Blocks.{IsPayload, block, HasNoBlock}
 use Rattle.itch_frame.specs.declared.fault.FrameFault.TheVariants.{Truncated}
@@ -19,7 +19,7 @@ some_block b (Some c) P none (payload, short, consumed, h) = none payload c shor
 pub no_bytes : (q rest : List ℕ) → block q ++ rest ≡ [] → ⊥
 no_bytes q rest same = let no_one : ⊥ = cc in no_one
 
--- how what is read ends where no block stands at the front: by the end of the bytes, or in an unfinished block
+-- how reading ends if no block is at the front: at the end of the bytes, or in an unfinished block
 abbrev pub ends_by : {A : Type 0} → Result A SoupFault → List ℕ → Result A SoupFault
 ends_by at_end [] = at_end
 ends_by at_end (x ∷ xs) = Err (broke.Frame (Truncated (length (x ∷ xs))))

@@ -20,7 +20,7 @@ use Rattle.itch_soup.specs.Packets.{Requests, PacketSpells, packet_spelling}
 
 pub ruleset putting = (take-put_mid)
 
--- a block whose fields were written one after the other is their bytes
+-- a block whose fields were written in order is their bytes
 pub written : (named passed asked block user password session number : List ℕ) → length block ≡ 47 → take 7 named ≡ 76 ∷ user
     → take 17 passed ≡ take 7 named ++ password
     → take 27 asked ≡ take 17 passed ++ session → take 47 block ≡ take 27 asked ++ number
@@ -99,7 +99,7 @@ login-spelled login block user password session number e =
       );
     }
 
--- the same of an acceptance
+-- the same for an acceptance
 pub accepted_written : (named block session number : List ℕ) → length block ≡ 31 → take 11 named ≡ 65 ∷ session → take 31 block ≡ take 11 named ++ number
     → block ≡ 65 ∷ (session ++ (number ++ []))
 accepted_written named block session number long e1 e2 = sym (take_all 31 block (omega arith)) ∙ rw (e2, e1) (simp append-nil)

@@ -1,4 +1,4 @@
--- The wait for a login so far, and one packet more.
+-- A wait for a login step by step: the packets ignored so far, and one more.
 use Rattle.std.proofs.Common.{rules, ◌≡◌, ℕ, ◌+◌, ◌^◌, ◌≤◌, Bool, true, false, List, [], ◌∷◌, ◌++◌, length, Option, None, Ok, refl, sym, subst, arith, length-append}
 use Rattle.std.proofs.lemmas.Bool.Decides.{nat_tests}
 use Rattle.std.specs.List.{AllByRecursion}
@@ -22,11 +22,11 @@ use Rattle.itch_soup.specs.Packets.{PacketSpells}
 use Rattle.itch_soup.specs.NextPackets.{is_enough}
 use Rattle.itch_soup.specs.Serving.{IsIdle, IsPassedOver, EndsWait, WaitsOn, WaitsForLogin, Wait}
 
--- not as many as may be
+-- one packet more may be read
 pub one_more : (count : ℕ) → count ≤ 10 ^ 19 → is_enough count ≡ false → count + 1 ≤ 10 ^ 19
 one_more count few room = grind (arith, nat_tests)
 
--- as many packets were passed over
+-- this many packets were ignored
 pub record Waiting (old new : Option (List ℕ)) (count : ℕ) : Type 0 where
   pub passed : List (List ℕ)
   pub each : AllByRecursion IsPassedOver passed
@@ -56,20 +56,7 @@ waiting_ends old mid new count wait so_far ends = (
   subst (λ n. EndsWait (is_enough n) mid new wait) (sym so_far.counted) ends,
 )
 
--- a client's packet that is neither a login nor a logout is passed over
-pub idle : (packet : Packet) (block : List ℕ) → PacketSpells packet block Client → ((login : _) → packet ≡ is.LoginRequest login → ⊥) → (packet ≡ is.LogoutRequest → ⊥) → IsIdle packet
-idle (is.Debug payload) block h no_login no_logout = tt
-idle (is.LoginAccepted login) block h no_login no_logout = absurd (let side = h.side in search rules)
-idle (is.LoginRejected code) block h no_login no_logout = absurd (let side = h.side in search rules)
-idle (is.SequencedData payload) block h no_login no_logout = absurd (let side = h.side in search rules)
-idle is.ServerHeartbeat block h no_login no_logout = absurd (let side = h.side in search rules)
-idle is.EndOfSession block h no_login no_logout = absurd (let side = h.side in search rules)
-idle (is.LoginRequest login) block h no_login no_logout = absurd (no_login login refl)
-idle (is.UnsequencedData payload) block h no_login no_logout = tt
-idle is.ClientHeartbeat block h no_login no_logout = tt
-idle is.LogoutRequest block h no_login no_logout = absurd (no_logout refl)
-
--- what the server's table answers while a login is waited for
+-- what the server's table answers during a wait for a login
 pub idle_turn : (config : ServerConfig) (total : ℕ) (packet : Packet) → IsIdle packet → server_turn config total stage.Before packet ≡ (server.Nothing, stage.Before)
 idle_turn config total (is.Debug payload) idle = refl
 idle_turn config total (is.UnsequencedData payload) idle = refl

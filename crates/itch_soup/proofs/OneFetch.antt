@@ -31,7 +31,7 @@ use Rattle.itch_soup.proofs.FetchEnds.{Answer, so_far, Closes, EndsHere}
 use Rattle.itch_soup.proofs.FetchRuns.{Goes, heard_by, Run, one_run}
 use Rattle.itch_soup.proofs.ClientAnswers.{Says, Next, next_heard, nothing_heard}
 
--- fewer messages than packets, once the login was accepted
+-- there are fewer messages than packets after the login was accepted
 abbrev Few : Bool → ℕ → ℕ → Type 0
 Few false k taken = taken ≤ k
 Few true k taken = taken + 1 ≤ k

@@ -65,7 +65,7 @@ requests-requested field n h = requested_by field n _ refl h
 number_requested : (field : List ℕ) (n : ℕ) → Requests field n → n ≡ requested_number field
 number_requested field n h = sym (ap (λ found. unwrap_or found 0) (requests-requested field n h))
 
--- a packet is what stands in each block that spells it
+-- a packet is what is in each block that spells it
 pub packet_at-spelled : (packet : Packet) (block : List ℕ) (from : Origin) → PacketSpells packet block from → packet ≡ packet_at (byte_at 0 block) block
 packet_at-spelled (is.Debug payload) block from h = rw h.first (ap is.Debug h.parts.0)
 packet_at-spelled (is.LoginAccepted login) block from h =
@@ -128,27 +128,11 @@ typed_none t kind values block from h =
 
 type_of-kind : (packet : Packet) → type_of (packet_type packet).kind ≡ Some (packet_type packet)
 type_of-kind (is.Debug payload) = refl
-type_of-kind (is.LoginAccepted login) = refl
-type_of-kind (is.LoginRejected code) = refl
-type_of-kind (is.SequencedData payload) = refl
-type_of-kind is.ServerHeartbeat = refl
-type_of-kind is.EndOfSession = refl
-type_of-kind (is.LoginRequest login) = refl
-type_of-kind (is.UnsequencedData payload) = refl
-type_of-kind is.ClientHeartbeat = refl
-type_of-kind is.LogoutRequest = refl
+type_of-kind packet = refl
 
 not_empty : (packet : Packet) → HasSize (packet_type packet).size [] → ⊥
 not_empty (is.Debug payload) h = omega (arith, h)
-not_empty (is.LoginAccepted login) h = omega (arith, h)
-not_empty (is.LoginRejected code) h = omega (arith, h)
-not_empty (is.SequencedData payload) h = omega (arith, h)
-not_empty is.ServerHeartbeat h = omega (arith, h)
-not_empty is.EndOfSession h = omega (arith, h)
-not_empty (is.LoginRequest login) h = omega (arith, h)
-not_empty (is.UnsequencedData payload) h = omega (arith, h)
-not_empty is.ClientHeartbeat h = omega (arith, h)
-not_empty is.LogoutRequest h = omega (arith, h)
+not_empty packet h = omega (arith, h)
 
 -- what is spelled has no fault
 pub spelled-none : (packet : Packet) (block : List ℕ) (from : Origin) → PacketSpells packet block from → packet_fault block from ≡ None
@@ -157,7 +141,7 @@ spelled-none packet (kind ∷ rest) from h =
     ap (λ t. fault_by_type t kind (kind ∷ rest) from) (ap type_of h.first ∙ type_of-kind packet)
     ∙ typed_none (packet_type packet) kind (packet_values packet) (kind ∷ rest) from h
 
--- so a function that reads packets returns each that is spelled
+-- so a function that reads packets returns the packet that a block spells
 pub only_read : (answer : Result Packet SoupFault) (block : List ℕ) (from : Origin)
     → Reads (λ packet. PacketSpells packet block from) (packet_fault block from) answer
     → (packet : Packet) → PacketSpells packet block from → answer ≡ Ok packet

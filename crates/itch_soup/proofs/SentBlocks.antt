@@ -1,4 +1,4 @@
--- Blocks that are sent one after another.
+-- Blocks that are sent in order.
 use Rattle.std.proofs.Common.{◌≡◌, ℕ, ◌+◌, ◌-◌, ◌/◌, ◌%◌, List, [], ◌∷◌, ◌++◌, length, take, Option, Result, Ok, Err, refl, sym, ap, subst, ◌∙◌, append_assoc, arith, length-append}
 use Rattle.std.proofs.KnownBytes.{Appends-nil}
 use Rattle.std.proofs.Math.Seq.{take-append-add}
@@ -24,7 +24,7 @@ module _ {W : Type 0} (contents : W → Option (List ℕ)) (failures : W → Fai
   one_sent old mid new done payload so_far wrote =
       (Appends-block (contents old) (contents mid) (contents new) done payload so_far.0 wrote.1.0, wrote.1.1 ∙ so_far.1)
 
-  -- or a part of it
+  -- or only a part of it
   pub one_failed : (T : Type 0) (old mid new : W) (done : List (List ℕ)) (payload : List ℕ) (more all : List (List ℕ)) (fault : FrameFault)
       → all ≡ done ++ payload ∷ more → IsPayload payload → Sends contents failures {T = Unit {0}} old done (Ok tt) mid
       → WriteBlock contents failures mid payload (Err fault) new → Sends contents failures {T = T} old all (Err fault) new
@@ -65,7 +65,7 @@ module _ {W : Type 0} (contents : W → Option (List ℕ)) (failures : W → Fai
   short old new ps qs (Read error) h = absurd h
   short old new ps qs (Truncated held) h = absurd h
 
-  -- not even the first ones
+  -- writing failed among the first blocks
   pub sent_short : (S T : Type 0) (old new : W) (ps qs : List (List ℕ)) (fault : FrameFault)
       → Sends contents failures {T = S} old ps (Err fault) new → Sends contents failures {T = T} old (ps ++ qs) (Err fault) new
   sent_short S T old new ps qs fault wrote = short old new ps qs fault wrote

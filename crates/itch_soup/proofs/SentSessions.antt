@@ -1,4 +1,4 @@
--- The packets of a session: each fits a block, and they come one after another.
+-- The packets of a session that are sent: each fits a block, and they are written in order.
 use Rattle.std.proofs.Common.{◌≡◌, ℕ, zero, suc, ◌+◌, ◌-◌, ◌<◌, ◌≤◌, nat_le, Bool, true, false, List, [], ◌∷◌, ◌++◌, map, length, drop, flat_map, Option, None, Some, Result, Ok, Err, refl, sym, ap, subst, ◌∙◌, append_assoc, append-nil, arith, length-append}
 use Rattle.std.specs.List.{AllByRecursion}
 use Rattle.std.specs.FinMap as finite
@@ -104,11 +104,11 @@ drop_fits zero xs fit = fit
 drop_fits (suc n) [] fit = tt
 drop_fits (suc n) (x ∷ xs) fit = drop_fits n xs fit.1
 
--- the packets of a good market's snapshot fit blocks, from wherever they are sent
+-- the packets of a good market's snapshot fit blocks, whatever number they are sent from
 pub snap_fits : (m : Content) (n : ℕ) → IsGood m → FitPackets (drop n (snap m))
 snap_fits m n good = drop_fits n (snap m) (packets_fit (snap m) (snap_messages m good) (snap_decoded m))
 
--- the messages from a number on are those of the snapshot list, and the End of Snapshot where it is among them
+-- the messages from a number on are those of the snapshot list, and the End of Snapshot if it is among them
 pub from_parts : (m : Content) (next n : ℕ) (with_end : Bool) → (with_end ≡ true → n - 1 ≤ length (snap m)) → (with_end ≡ false → length (snap m) < n - 1)
     → messages_from n m next ≡ drop (n - 1) (snap m) ++ end_part with_end next
 from_parts m next n true early late = drop-append-le (n - 1) (snap m) (message.End next ∷ []) (early refl)
@@ -208,7 +208,7 @@ module _ {W : Type 0} (contents : W → Option (List ℕ)) (failures : W → Fai
         (sent_then contents failures old mid new (map packet_spelling (accepted ∷ [])) (body ++ end) x result first
         (sent_then contents failures mid late_mid new body end y result second third))
 
--- a login that is rejected, where the packet that says so was not written whole
+-- a login is rejected, but the packet that says so was not written whole
 pub rejected : {W : Type 0} (contents : W → Option (List ℕ)) (failures : W → Failures) (m : Content) (next : ℕ) (config : ServerConfig) (login : LoginRequest) (total code : ℕ) (answer : ServerAct × Stage)
     (fault : FrameFault) (old new : W) → total ≡ length (snap m) → answer ≡ judged config (total + 1) login → answer.0 ≡ act.Reject code
     → WriteBlock contents failures old (74 ∷ code ∷ []) (Err fault) new → WriteBlocks contents failures old (map packet_spelling (served_packets m next config login)) (Err fault) new
@@ -218,7 +218,7 @@ rejected contents failures m next config login total code answer fault old new a
     subst (λ a. WriteBlocks contents failures old (map packet_spelling (packets_for m next config a)) (Err fault) new) (sym decided)
     (one_failed contents failures (Unit {0}) old old new [] (74 ∷ code ∷ []) [] ((74 ∷ code ∷ []) ∷ []) fault refl (omega arith) (none_sent contents failures old) wrote)
 
--- the first message of what is left was passed over
+-- the first of the remaining messages was skipped
 pub one_passed : (all old new : List Message) (count : ℕ) (found : Option Message) → YieldsFirst (λ (s : List Message). s) old found new → old ≡ drop count all → new ≡ drop (count + 1) all
 one_passed all old new count None steps is = steps.1 ∙ sym (ap (drop 1) (sym is ∙ steps.0)) ∙ drop-drop 1 count all
 one_passed all old new count (Some x) steps is = sym (ap (drop 1) (sym is ∙ steps)) ∙ drop-drop 1 count all

@@ -52,7 +52,7 @@ data_packets : (xs : List Message) → FitPackets xs → ArePackets (map data_pa
 data_packets [] fit = tt
 data_packets (x ∷ xs) fit = ((fit.0, data-spelled x), data_packets xs fit.1)
 
--- a session that was accepted takes each message under the next number
+-- after its acceptance a session gives each message the next number
 data_turn : (at : Stage) (next : ℕ) (payload : List ℕ) → at ≡ stage.Accepted → nat_lt next (10 ^ 19) ≡ true
     → client_turn next at (is.SequencedData payload) ≡ (act.Data next payload, stage.Accepted, next + 1)
 data_turn at next payload e k = rw e (rw k refl)

@@ -1,4 +1,4 @@
--- What stands before the spaces at the end of a field, and what is padded with spaces.
+-- Session names: a field without the spaces at its ends, and a name padded with spaces.
 use Rattle.std.proofs.Common.{◌≡◌, ℕ, ◌-◌, ◌≤◌, Bool, List, ◌++◌, length, take, drop, replicate, length-append, IsTrue, ◌↔◌, sym, ap, ◌∙◌, arith}
 use Rattle.std.specs.Prelude.{reverse}
 use Rattle.std.specs.List.{All, prefix_len}
@@ -16,7 +16,7 @@ use Rattle.itch_soup.specs.Names.{session_name, server_session}
 abbrev spaces : ℕ → List ℕ
 spaces n = replicate n 32
 
--- what stands before the spaces at the end is the front of a field
+-- a field without the spaces at its end is its front
 before_spaces-take : (field : List ℕ) → prefix_len is_space (reverse field) ≤ length field
     → before_spaces field ≡ take (length field - prefix_len is_space (reverse field)) field
 unfolding before_spaces after_spaces
@@ -29,7 +29,7 @@ before_spaces-take field within =
     let long : length (reverse back) ≡ n = omega (arith, within, length-reverse back, length-drop k field) in
     ap (λ xs. reverse (drop n xs)) turned ∙ ap reverse (drop_at (reverse back) (reverse front) n long) ∙ reverse-reverse front
 
--- the name of a session is printable where its field is
+-- the name of a session is printable if its field is
 pub name_printable : (field : List ℕ) → IsPrintable field → IsPrintable (session_name field)
 unfolding after_spaces
 name_printable field h =
@@ -74,7 +74,7 @@ server_session-fits field (width, printable) =
     let within = name_within field in
     padded_on_left-fits 10 (session_name field) (omega (arith, within, width)) (name_printable field printable)
 
--- a test that is true exactly where two texts are equal
+-- a test that is true exactly if two texts are equal
 pub tested-bytes_eq : (test : Bool) (text other : List ℕ) → IsTrue test ↔ (text ≡ other) → test ≡ bytes_eq text other
 tested-bytes_eq test text other h = same_from_decides _ _ h (bytes_eq-Decides text other)
 

@@ -54,27 +54,9 @@ data_decided true next payload = tt
 data_decided false next payload = tt
 
 turn_decided : (at : Stage) (next : ℕ) (packet : Packet) → DecidedTurn (client_turn next at packet).0
-turn_decided stage.Closed next packet = tt
 turn_decided stage.Before next (is.Debug text) = tt
-turn_decided stage.Before next (is.LoginAccepted login) = tt
-turn_decided stage.Before next (is.LoginRejected code) = tt
-turn_decided stage.Before next (is.SequencedData payload) = tt
-turn_decided stage.Before next is.ServerHeartbeat = tt
-turn_decided stage.Before next is.EndOfSession = tt
-turn_decided stage.Before next (is.LoginRequest login) = tt
-turn_decided stage.Before next (is.UnsequencedData payload) = tt
-turn_decided stage.Before next is.ClientHeartbeat = tt
-turn_decided stage.Before next is.LogoutRequest = tt
-turn_decided stage.Accepted next (is.Debug text) = tt
-turn_decided stage.Accepted next (is.LoginAccepted login) = tt
-turn_decided stage.Accepted next (is.LoginRejected code) = tt
 turn_decided stage.Accepted next (is.SequencedData payload) = data_decided _ next payload
-turn_decided stage.Accepted next is.ServerHeartbeat = tt
-turn_decided stage.Accepted next is.EndOfSession = tt
-turn_decided stage.Accepted next (is.LoginRequest login) = tt
-turn_decided stage.Accepted next (is.UnsequencedData payload) = tt
-turn_decided stage.Accepted next is.ClientHeartbeat = tt
-turn_decided stage.Accepted next is.LogoutRequest = tt
+turn_decided at next packet = tt
 
 -- the next packet is taken, and fewer bytes are left; or the snapshot is closed; or the fetch ends
 abbrev Outcome : Bool → Client → Load → List ℕ → Type 0

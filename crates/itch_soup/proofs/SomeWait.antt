@@ -16,7 +16,7 @@ use Rattle.itch_soup.proofs.FaultlessBlocks.{faultless-spelled}
 use Rattle.itch_soup.proofs.BlockFaults.{OfBlock, of_block, of_each}
 use Rattle.itch_soup.proofs.LoginWaits.{Waiting, waiting_first, waiting_on, waiting_ends}
 
--- the next packet is passed over, and fewer bytes are left; or the wait ends
+-- the next packet is ignored, and fewer bytes are left; or the wait ends
 abbrev Outcome : Bool → List ℕ → Type 0
 Outcome enough rest =
     ((more : List ℕ) × WaitsOn enough (Some rest) (Some more) (Ok None) × (length more < length rest))
@@ -51,11 +51,7 @@ module _ (q more : List ℕ) (fits : IsPayload q) where
   by_packet is.ClientHeartbeat spelled = passed_over is.ClientHeartbeat spelled tt
   by_packet (is.LoginRequest login) spelled = inr (Some more, Ok (Login login), (refl, (q, fits, refl, spelled)), tt)
   by_packet is.LogoutRequest spelled = inr (Some more, Ok Leave, inr (refl, (q, fits, refl, spelled)), tt)
-  by_packet (is.LoginAccepted login) spelled = absurd (let side = spelled.side in search rules)
-  by_packet (is.LoginRejected code) spelled = absurd (let side = spelled.side in search rules)
-  by_packet (is.SequencedData payload) spelled = absurd (let side = spelled.side in search rules)
-  by_packet is.ServerHeartbeat spelled = absurd (let side = spelled.side in search rules)
-  by_packet is.EndOfSession spelled = absurd (let side = spelled.side in search rules)
+  by_packet packet spelled = absurd (let side = spelled.side in search rules)
 
   by_fault : (o : Option SoupFault) → packet_fault q Client ≡ o → Here
   by_fault (Some f) e = faulty f e (subst OfBlock e (of_block q Client))

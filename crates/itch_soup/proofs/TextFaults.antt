@@ -1,4 +1,4 @@
--- What the codec's readers of a field say, in the words of the packets' faults.
+-- Texts that are refused: the first byte that is not printable.
 use Rattle.std.proofs.Common.{◌≡◌, ℕ, ◌<◌, Bool, true, false, not, ltb, List, length, Option, None, Some, refl, arith}
 use Rattle.std.specs.Prelude.{option_map}
 use Rattle.std.proofs.lemmas.Bool.Decides.{nat_tests}

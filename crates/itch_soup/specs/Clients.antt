@@ -1,4 +1,4 @@
--- The client's side of a session (SoupBinTCP 3.00): its login, its answer to each packet, and how far it comes.
+-- The client's side of a session (SoupBinTCP 3.00): its login, its answer to each packet, and its state after it.
 use Rattle.std.specs.Prelude.{ℕ, ◌+◌, ◌^◌, nat_lt, if◌then◌else◌}
 use Rattle.itch_soup.specs.declared.login.Credentials.{Credentials}
 use Rattle.itch_soup.specs.declared.packet.LoginRequest.{LoginRequest}
@@ -15,15 +15,15 @@ use Rattle.itch_soup.specs.Packets.{packet_type}
 use Rattle.itch_soup.specs.Names.{client_session}
 use Rattle.itch_soup.specs.Connections.{opened, after_packet, after_tick, after_sent}
 
--- a client's session: what it logs in with, the first number that it asks for, the number of the next message, and how
--- its connection stands
+-- a client's session: what it logs in with, the first number that it asks for, the number of the next message, and the
+-- state of its connection
 pub record Client : Type 0 where
   pub credentials : Credentials
   pub from : ℕ
   pub next : ℕ
   pub connection : Connection
 
--- the login that the credentials and the number mean: its session's name stands padded on the right
+-- the login with these credentials and this number: its session's name is padded on the right
 abbrev pub login_with : Credentials → ℕ → LoginRequest
 login_with credentials number = record {
   username = credentials.username;
@@ -52,7 +52,7 @@ client_turn next stage.Accepted (is.LoginAccepted login) = (act.Fault fault.Seco
 client_turn next stage.Accepted (is.LoginRejected code) = (act.Fault fault.SecondLogin, stage.Closed, next)
 client_turn next at packet = (act.Fault (fault.WrongSide (packet_type packet).kind), stage.Closed, next)
 
--- a session that begins at this moment, and asks for the messages from this number on
+-- a session that begins at this time, and asks for the messages from this number on
 abbrev pub new_client : Credentials → ℕ → ℕ → Client
 new_client credentials from now = record { credentials = credentials; from = from; next = from; connection = opened now }
 
@@ -60,16 +60,16 @@ new_client credentials from now = record { credentials = credentials; from = fro
 abbrev pub client_answer : Client → Packet → ClientAct
 client_answer c packet = (client_turn c.next c.connection.stage packet).0
 
--- the session after a packet that is heard at this moment
+-- the session after a packet received at this time
 abbrev pub client_after_packet : Client → Packet → ℕ → Client
 client_after_packet c packet now =
     let turn = client_turn c.next c.connection.stage packet in
     record c { next = turn.2; connection = after_packet c.connection turn.1 now }
 
--- the session after a tick at this moment
+-- the session after a tick at this time
 abbrev pub client_after_tick : Client → ℕ → Client
 client_after_tick c now = record c { connection = after_tick c.connection now }
 
--- the session after something is sent at this moment
+-- the session after something is sent at this time
 abbrev pub client_after_sent : Client → ℕ → Client
 client_after_sent c now = record c { connection = after_sent c.connection now }

@@ -1,4 +1,4 @@
--- Sessions over lists of calls: once closed, a session answers nothing but that.
+-- Sessions over lists of calls: once closed, a session stays closed.
 use Rattle.std.specs.Prelude.{ℕ, List, [], ◌∷◌}
 use Rattle.itch_soup.specs.declared.packet.Packet.{Packet}
 use Rattle.itch_soup.specs.declared.fault.SoupFault.TheVariants as fault
@@ -18,7 +18,7 @@ pub data Call : Type 0 where
   OnTick : (now : ℕ) → Call
   OnSent : (now : ℕ) → Call
 
--- a call's answer: that to a packet, that to a tick, or none
+-- a call's answer: to a packet, to a tick, or none
 pub data Answer (Act : Type 0) : Type 0 where
   ToPacket : (act : Act) → Answer Act
   ToTick : (tick : Tick) → Answer Act
@@ -36,7 +36,7 @@ server_after s (OnPacket packet now) = server_after_packet s packet now
 server_after s (OnTick now) = server_after_tick s now
 server_after s (OnSent now) = server_after_sent s now
 
--- a server's answers to these calls, one after the other
+-- a server's answers to these calls, in order
 abbrev pub server_replies : Server → List Call → List (Answer ServerAct)
 server_replies s [] = []
 server_replies s (call ∷ calls) = server_reply s call ∷ server_replies (server_after s call) calls
@@ -53,7 +53,7 @@ client_after c (OnPacket packet now) = client_after_packet c packet now
 client_after c (OnTick now) = client_after_tick c now
 client_after c (OnSent now) = client_after_sent c now
 
--- a client's answers to these calls, one after the other
+-- a client's answers to these calls, in order
 abbrev pub client_replies : Client → List Call → List (Answer ClientAct)
 client_replies c [] = []
 client_replies c (call ∷ calls) = client_reply c call ∷ client_replies (client_after c call) calls
@@ -74,7 +74,7 @@ ClientCloses (ToPacket (client.Fault found)) = Unit {0}
 ClientCloses (ToTick tick.Lost) = Unit {0}
 ClientCloses answer = ⊥
 
--- a closed session answers each packet with `Closed`, and each tick with nothing
+-- a closed session answers each packet with this, and each tick with `Nothing`
 abbrev pub closed_reply : {Act : Type 0} → Act → Call → Answer Act
 closed_reply closed (OnPacket packet now) = ToPacket closed
 closed_reply closed (OnTick now) = ToTick tick.Nothing

@@ -1,4 +1,4 @@
--- One fetched session: what a client hears after its login, and the snapshot that it makes of it.
+-- A snapshot fetched in one session: what a client receives after its login, and what it makes of it.
 use Rattle.std.specs.Prelude.{OnOk, ◌≡◌, ◌≢◌, ℕ, ◌+◌, ◌-◌, ◌^◌, ◌≤◌, ◌⊎◌, Bool, true, false, List, [], ◌∷◌, ◌++◌, map, length, ⊤, Option, None, Some, Result, Ok, Err}
 use Rattle.std.specs.List.{AllByRecursion}
 use Rattle.std.specs.Option.{is_some}
@@ -8,7 +8,7 @@ use Rattle.itch_codec.specs.declared.message.Message.TheVariants as message
 use Rattle.itch_codec.specs.Messages.{Spells, message_of}
 use Rattle.itch_codec.specs.Widths.{IsMessage}
 use Rattle.itch_frame.specs.Blocks.{IsPayload, blocks}
-use Rattle.itch_frame.specs.Reading.{Reading, bytes_left, FailsHere}
+use Rattle.itch_frame.specs.Reading.{Reading, bytes_left}
 use Rattle.itch_frame.specs.Writing.{WriteBlock}
 use Rattle.itch_frame.specs.declared.tally.Failures.{Failures}
 use Rattle.itch_frame.specs.declared.fault.FrameFault.{FrameFault}
@@ -52,7 +52,7 @@ abbrev pub noted : ClientAct → List ClientAct → List ClientAct
 noted act.Nothing later = later
 noted answer later = answer ∷ later
 
--- what a session answers to packets, one after the other, without the answers that mean nothing
+-- what a session answers to packets, in order, without the answers that mean nothing
 abbrev pub news : Client → List Packet → List ClientAct
 news c [] = []
 news c (packet ∷ packets) = noted (client_answer c packet) (news (client_after_packet c packet 0) packets)
@@ -67,12 +67,12 @@ abbrev pub numbered : ℕ → List (List ℕ) → List ClientAct
 numbered n [] = []
 numbered n (payload ∷ payloads) = act.Data n payload ∷ numbered (n + 1) payloads
 
--- nothing yet; or the login is accepted with number 1, and then these messages come
+-- nothing yet; or the login is accepted from number 1, and then these messages come
 abbrev pub Hears : List ClientAct → List (List ℕ) → Type 0
 Hears [] payloads = payloads ≡ []
 Hears answers payloads = answers ≡ act.Accepted 1 ∷ numbered 1 payloads
 
--- packets came off the front, and all that they mean is an acceptance with number 1 and these messages
+-- packets came off the front, and what they mean is an acceptance from number 1 and these messages
 pub record Heard (c : Client) (old new : Option (List ℕ)) (payloads : List (List ℕ)) : Type 0 where
   pub packets : List Packet
   pub read : List (List ℕ)
@@ -96,7 +96,7 @@ pub record SpellsSnapshot (payloads : List (List ℕ)) (ms : List Message) (next
 abbrev pub IsLast : List Packet → List ℕ → Type 0
 IsLast packets payload = (before : List Packet) × (packets ≡ before ++ is.SequencedData payload ∷ [])
 
--- the messages heard are those of a snapshot and its End of Snapshot, and nothing after it was read
+-- the messages received are those of a snapshot and its End of Snapshot, and nothing after it was read
 abbrev pub Fetched : Client → Option (List ℕ) → Option (List ℕ) → Content × ℕ → Type 0
 Fetched c old new done =
     (payloads : List (List ℕ)) × (heard : Heard c old new payloads)
@@ -113,7 +113,7 @@ abbrev pub IsRefused : Load → ClientAct → Load → Result (Option ℕ) SoupF
 IsRefused old (act.Data number payload) new (Err (Snapshot fault)) = Loads old payload (Err fault) new
 IsRefused old answer new result = ⊥
 
--- why a fetch ends without a snapshot, but for a fault that the session finds: what stands at the front, and how it is taken
+-- why a fetch ends without a snapshot, if the session finds no fault: what is at the front, and how it is taken
 abbrev pub EndsOtherwise : Bool → Client → Load → Option (List ℕ) → Option (List ℕ) → SoupFault → Load → Type 0
 EndsOtherwise enough c load old new EndedEarly after = PacketHere Server enough old new (Ok None) ⊎ HearsPacket enough c old new (λ answer. answer ≡ act.Ended)
 EndsOtherwise enough c load old new (Rejected code) after = HearsPacket enough c old new (λ answer. answer ≡ act.Rejected code)
@@ -151,14 +151,14 @@ Receives c old new (Err fault) =
     (payloads : List (List ℕ)) × (mid : Option (List ℕ)) × (heard : Heard c old mid payloads) × NoCause empty payloads × AllByRecursion Fits payloads
     × ((load : Load) × EndsFetch (is_enough (length heard.packets)) (after_packets c heard.packets) (load_of payloads) mid new fault load)
 
--- what a fetch does once the login was written, or was not
+-- what a fetch does after the login was written, or was not
 abbrev pub FetchesAfterLogin : {R : Type 0} → (R → Option (List ℕ)) → (R → Failures) → Credentials → Result (Unit {0}) FrameFault → Reading R → Result (Content × ℕ) SoupFault → Reading R → Type 0
 FetchesAfterLogin remaining reads credentials (Ok done) reader result reader_after =
     Receives (asking credentials) (bytes_left remaining reader) (bytes_left remaining reader_after) result × CountsWait result (reads reader.reader) (reads reader_after.reader)
     × OnOk result (reader_after.held ≡ [])
 FetchesAfterLogin remaining reads credentials (Err fault) reader result reader_after = (result ≡ Err (Frame fault)) × (reader_after ≡ reader)
 
--- what a fetch does: the login is written, and then what answers it is read
+-- what a fetch does: the login is written, and then its answer is read
 abbrev pub Fetches : {R W : Type 0} → (R → Option (List ℕ)) → (R → Failures) → (W → Option (List ℕ)) → (W → Failures) → Credentials → Reading R → W → Result (Content × ℕ) SoupFault → Reading R → W → Type 0
 Fetches remaining reads contents writes credentials reader writer result reader_after writer_after =
     (sent : Result (Unit {0}) FrameFault) × WriteBlock contents writes writer (login_bytes credentials) sent writer_after

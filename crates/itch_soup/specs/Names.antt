@@ -6,12 +6,12 @@ use Rattle.std.specs.Str.{bytes_eq}
 use Rattle.itch_codec.specs.Text.{padded_to, before_spaces}
 use Rattle.itch_codec.specs.Numbers.{is_space, after_spaces, padded_on_left}
 
--- user names and passwords are compared without the spaces at their end, A to Z taken as a to z
+-- user names and passwords are compared without the spaces at their end, and without the case of ASCII letters
 abbrev pub is_same_name : List ℕ → List ℕ → Bool
 is_same_name name other =
     bytes_eq (map to_ascii_lowercase (before_spaces name)) (map to_ascii_lowercase (before_spaces other))
 
--- a session's name is what stands between the spaces at both ends
+-- a session's name is the field without the spaces at both ends
 abbrev pub session_name : List ℕ → List ℕ
 session_name field = after_spaces (before_spaces field)
 

@@ -21,8 +21,8 @@ is_enough count = count == 10 ^ 19
 abbrev pub ReadsBlock : Option (List ℕ) → Option (List ℕ) → (List ℕ → Type 0) → Type 0
 ReadsBlock old new P = (payload : List ℕ) × IsPayload payload × Consumes old new (block payload) × P payload
 
--- what stands at the front: a packet from that side, the end of the input, or a fault; after as many packets as may be,
--- any block is one too many
+-- what is at the front: a packet from that side, the end of the input, or a fault; after as many packets as may be, any
+-- block is one too many
 abbrev pub PacketHere : Origin → Bool → Option (List ℕ) → Option (List ℕ) → Result (Option Packet) SoupFault → Type 0
 PacketHere from enough old new (Ok (Some packet)) = (enough ≡ false) × ReadsBlock old new (λ payload. PacketSpells packet payload from)
 PacketHere from enough old new (Ok None) = IsAtEnd old
@@ -30,7 +30,7 @@ PacketHere from enough old new (Err (broke.Frame fault)) = FailsHere fault old n
 PacketHere from enough old new (Err broke.TooManyMessages) = (enough ≡ true) × ReadsBlock old new (λ payload. ⊤)
 PacketHere from enough old new (Err fault) = (enough ≡ false) × ReadsBlock old new (λ payload. packet_fault payload from ≡ Some fault)
 
--- the fault that ends a session where a packet was not read
+-- the fault that ends a session if a packet was not read
 abbrev pub ends_session : ReadFault → SoupFault
 ends_session TooMany = broke.TooManyMessages
 ends_session (Frame fault) = broke.Frame fault

@@ -6,13 +6,13 @@ use Rattle.itch_soup.specs.declared.origin.Origin.TheVariants.{Client, Server}
 use Rattle.itch_soup.specs.declared.packet_types.Sender.{Sender}
 use Rattle.itch_soup.specs.declared.packet_types.Sender.TheVariants.{Only, Either}
 
--- what stands after the type byte: a field as messages have it, the number that a login asks for, or all bytes from a place on
+-- what follows the type byte: a field as messages have it, the number that a login asks for, or all bytes from an offset on
 pub data Part : Type 0 where
   Field : (column : Column) → Part
   Request : (offset : ℕ) → Part
   Rest : (offset : ℕ) → Part
 
--- a packet type: its byte, who sends it, its length with the type byte (none: any from 1), and what stands after the type byte
+-- a packet type: its byte, who sends it, its length with the type byte (none: any from 1), and what follows the type byte
 pub record PacketType : Type 0 where
   pub kind : ℕ
   pub sender : Sender

@@ -34,7 +34,7 @@ login_accepted_values login = Bytes login.session ∷ Number login.next ∷ []
 abbrev pub login_request_values : LoginRequest → List Value
 login_request_values login = Bytes login.username ∷ Bytes login.password ∷ Bytes login.session ∷ Number login.number ∷ []
 
--- what stands after the type byte of a packet, in the order of its type
+-- the values after the type byte of a packet, in the order of its type
 abbrev pub packet_values : Packet → List Value
 packet_values (is.Debug payload) = Bytes payload ∷ []
 packet_values (is.LoginAccepted login) = login_accepted_values login
@@ -44,7 +44,7 @@ packet_values (is.LoginRequest login) = login_request_values login
 packet_values (is.UnsequencedData payload) = Bytes payload ∷ []
 packet_values packet = []
 
--- the number that a field asks for: 0 where the field is blank, else the number that it spells
+-- the number that a field asks for: 0 if the field is blank, else the number that it spells
 abbrev pub Requests : List ℕ → ℕ → Type 0
 Requests field number = MatchBool (list_all is_space field) (number ≡ 0) (SpellsNumber field number)
 
@@ -61,7 +61,7 @@ HasParts block [] [] = Unit {0}
 HasParts block (part ∷ parts) (value ∷ values) = HasPart block part value × HasParts block parts values
 HasParts block parts values = ⊥
 
--- the block is as long as packets of this size are
+-- the block has the length of packets of this size
 abbrev pub HasSize : Option ℕ → List ℕ → Type 0
 HasSize None block = 0 < length block
 HasSize (Some size) block = length block ≡ size
@@ -93,12 +93,12 @@ joined_parts parts values = []
 abbrev pub packet_spelling : Packet → List ℕ
 packet_spelling packet = (packet_type packet).kind ∷ joined_parts (packet_type packet).parts (packet_values packet)
 
--- a number that is not there is a fault where the field begins
+-- a missing number is a fault at the offset of its field
 abbrev pub number_fault : ℕ → Option ℕ → Option SoupFault
 number_fault offset None = Some (BadNumber offset)
 number_fault offset (Some number) = None
 
--- the number that a field asks for: 0 where it is blank, else the one that it spells, if it spells one
+-- the number that a field asks for: 0 if it is blank, else the one that it spells, if any
 abbrev pub requested : List ℕ → Option ℕ
 requested field = if list_all is_space field then Some 0 else read20 field
 
@@ -119,7 +119,7 @@ abbrev pub parts_fault : List ℕ → List Part → Option SoupFault
 parts_fault block [] = None
 parts_fault block (part ∷ parts) = first_of (part_fault block part) (parts_fault block parts)
 
--- another length than the one that the type allows
+-- the fault of a length that is not the type's
 abbrev pub size_fault : ℕ → Option ℕ → List ℕ → Option SoupFault
 size_fault kind None block = None
 size_fault kind (Some size) block = if length block == size then None else Some (WrongLength kind size (length block))

@@ -45,7 +45,7 @@ end_part false next = []
 abbrev pub FitPackets : List Message → Type 0
 FitPackets xs = AllByRecursion (λ x. IsPayload (packet_spelling (data_packet x))) xs
 
--- the packets that an answer stands for
+-- the packets for an answer
 abbrev pub packets_for : Content → ℕ → ServerConfig → ServerAct → List Packet
 packets_for m next config (act.Accept n) = is.LoginAccepted (acceptance config n) ∷ session_packets (messages_from n m next)
 packets_for m next config (act.Reject code) = is.LoginRejected code ∷ []
@@ -64,11 +64,11 @@ abbrev pub served : Content → ℕ → ServerConfig → LoginRequest → List �
 served m next config login = blocks (map packet_spelling (served_packets m next config login))
 
 module _ {W : Type 0} (contents : W → Option (List ℕ)) (failures : W → Failures) where
-  -- the blocks of these payloads were written, or some whole and exactly the bytes of the next one up to `sent`
+  -- the blocks of these payloads were written; or only some of them, and the first `sent` bytes of the next one
   abbrev pub Sends : {T : Type 0} → W → List (List ℕ) → Result T FrameFault → W → Type 0
   Sends old payloads (Ok done) new = Appends (contents old) (contents new) (blocks payloads) × (failures new ≡ failures old)
   Sends old payloads (Err fault) new = WriteBlocks contents failures old payloads (Err fault) new
 
-  -- the same of packets
+  -- the same for packets
   abbrev pub SendsPackets : {T : Type 0} → W → List Packet → Result T FrameFault → W → Type 0
   SendsPackets old packets result new = Sends old (map packet_spelling packets) result new

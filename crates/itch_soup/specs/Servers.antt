@@ -1,4 +1,4 @@
--- The server's side of a session (SoupBinTCP 3.00): its answer to each packet, and how far it comes.
+-- The server's side of a session (SoupBinTCP 3.00): its answer to each packet, and its state after it.
 use Rattle.std.specs.Prelude.{ℕ, ◌+◌, ◌&&◌, max, nat_lt, Bool, not, if◌then◌else◌}
 use Rattle.itch_soup.specs.declared.login.ServerConfig.{ServerConfig}
 use Rattle.itch_soup.specs.declared.packet.LoginRequest.{LoginRequest}
@@ -15,7 +15,7 @@ use Rattle.itch_soup.specs.Packets.{packet_type}
 use Rattle.itch_soup.specs.Names.{is_same_name, asks_for_session, server_session}
 use Rattle.itch_soup.specs.Connections.{opened, after_packet, after_tick, after_sent}
 
--- a server's session: whom it lets in, how many messages it has, and how its connection stands
+-- a server's session: who may log in, how many messages it has, and the state of its connection
 pub record Server : Type 0 where
   pub config : ServerConfig
   pub total : ℕ
@@ -44,7 +44,7 @@ judged config total login =
     if nat_lt (total + 1) (first_asked login) then (act.Reject not_available, stage.Closed) else (
     (act.Accept (first_asked login), stage.Accepted))))
 
--- the acceptance of a login from this number on: the name of the server's session stands padded on the left
+-- the acceptance of a login from this number on: the name of the server's session is padded on the left
 abbrev pub acceptance : ServerConfig → ℕ → LoginAccepted
 acceptance config next = record { session = server_session config.session; next = next }
 
@@ -59,7 +59,7 @@ server_turn config total stage.Before (is.LoginRequest login) = judged config to
 server_turn config total stage.Accepted (is.LoginRequest login) = (act.Fault fault.SecondLogin, stage.Closed)
 server_turn config total at packet = (act.Fault (fault.WrongSide (packet_type packet).kind), stage.Closed)
 
--- a session of n messages that begins at this moment
+-- a session of this many messages that begins at this time
 abbrev pub new_server : ServerConfig → ℕ → ℕ → Server
 new_server config total now = record { config = config; total = total; connection = opened now }
 
@@ -67,15 +67,15 @@ new_server config total now = record { config = config; total = total; connectio
 abbrev pub server_answer : Server → Packet → ServerAct
 server_answer s packet = (server_turn s.config s.total s.connection.stage packet).0
 
--- the session after a packet that is heard at this moment
+-- the session after a packet received at this time
 abbrev pub server_after_packet : Server → Packet → ℕ → Server
 server_after_packet s packet now =
     record s { connection = after_packet s.connection (server_turn s.config s.total s.connection.stage packet).1 now }
 
--- the session after a tick at this moment
+-- the session after a tick at this time
 abbrev pub server_after_tick : Server → ℕ → Server
 server_after_tick s now = record s { connection = after_tick s.connection now }
 
--- the session after something is sent at this moment
+-- the session after something is sent at this time
 abbrev pub server_after_sent : Server → ℕ → Server
 server_after_sent s now = record s { connection = after_sent s.connection now }

@@ -1,11 +1,11 @@
--- One served connection: what a server reads up to a login, and what it does then.
+-- A snapshot served in one session: what a server reads up to a login, and what it does then.
 use Rattle.std.specs.Prelude.{◌≡◌, OnOk, [], ℕ, ◌^◌, ◌≤◌, ◌⊎◌, Bool, true, false, List, length, ⊤, Option, Some, None, Result, Ok, Err}
 use Rattle.std.specs.List.{AllByRecursion}
 use Rattle.std.specs.Io.KnownBytes.{Consumes}
 use Rattle.itch_frame.specs.Blocks.{IsPayload, blocks}
 use Rattle.itch_frame.specs.Counting.{failed}
 use Rattle.itch_frame.specs.declared.tally.Failures.{Failures}
-use Rattle.itch_frame.specs.Reading.{Reading, bytes_left, FailsHere}
+use Rattle.itch_frame.specs.Reading.{Reading, bytes_left}
 use Rattle.itch_frame.specs.declared.fault.FrameFault.TheVariants.{Read}
 use Rattle.itch_market.specs.Content.{Content}
 use Rattle.itch_soup.specs.declared.login.ServerConfig.{ServerConfig}
@@ -24,7 +24,7 @@ use Rattle.itch_soup.specs.Packets.{PacketSpells}
 use Rattle.itch_soup.specs.NextPackets.{is_enough, ReadsBlock, PacketHere}
 use Rattle.itch_soup.specs.Sending.{messages_from, verdict, served_packets, SendsPackets}
 
--- a packet of a client that a server passes over before a login
+-- a packet of a client that a server ignores before a login
 abbrev pub IsIdle : Packet → Type 0
 IsIdle (is.Debug text) = Unit {0}
 IsIdle (is.UnsequencedData payload) = Unit {0}
@@ -39,25 +39,25 @@ IsPassedOver payload = IsPayload payload × ((packet : Packet) × PacketSpells p
 abbrev pub Wait : Type 0
 Wait = Result Opening SoupFault
 
--- what stands at the front ends the wait
+-- what is at the front ends the wait
 abbrev pub EndsWait : Bool → Option (List ℕ) → Option (List ℕ) → Wait → Type 0
 EndsWait enough old new (Ok (Login login)) = PacketHere Client enough old new (Ok (Some (is.LoginRequest login)))
 EndsWait enough old new (Ok Leave) = PacketHere Client enough old new (Ok None) ⊎ PacketHere Client enough old new (Ok (Some is.LogoutRequest))
 EndsWait enough old new (Err fault) = PacketHere Client enough old new (Err fault)
 
--- the next block: it is passed over, or the wait is over
+-- the next block is ignored, or ends the wait
 abbrev pub WaitsOn : Bool → Option (List ℕ) → Option (List ℕ) → Result (Option Opening) SoupFault → Type 0
 WaitsOn enough old new (Ok None) = (enough ≡ false) × ReadsBlock old new IsPassedOver
 WaitsOn enough old new (Ok (Some opening)) = EndsWait enough old new (Ok opening)
 WaitsOn enough old new (Err fault) = EndsWait enough old new (Err fault)
 
--- some packets are passed over, and what stands after them ends the wait
+-- some packets are ignored, and what follows them ends the wait
 abbrev pub WaitsForLogin : Option (List ℕ) → Option (List ℕ) → Wait → Type 0
 WaitsForLogin old new wait =
     (passed : List (List ℕ)) × (mid : Option (List ℕ)) × AllByRecursion IsPassedOver passed × Consumes old mid (blocks passed)
     × (length passed ≤ 10 ^ 19) × EndsWait (is_enough (length passed)) mid new wait
 
--- a failed read is counted with its error, and nothing else is
+-- a failed read is counted with its error, and no other fault is
 abbrev pub CountsFault : SoupFault → Failures → Failures → Type 0
 CountsFault (Frame (Read error)) old new = new ≡ failed error old
 CountsFault fault old new = new ≡ old
@@ -78,13 +78,13 @@ module _ {W : Type 0} (contents : W → Option (List ℕ)) (failures : W → Fai
       SendsPackets contents failures {T = Unit {0}} old (served_packets m next config login) (Err fault) new
   AnswersLogin m next config login old result new = ⊥
 
-  -- what is done once the wait is over
+  -- what is done after the wait
   abbrev pub Replies : Content → ℕ → ServerConfig → Wait → W → Result Served SoupFault → W → Type 0
   Replies m next config (Ok (Login login)) old result new = AnswersLogin m next config login old result new
   Replies m next config (Ok Leave) old result new = (result ≡ Ok Left) × (new ≡ old)
   Replies m next config (Err fault) old result new = (result ≡ Err fault) × (new ≡ old)
 
--- what serving one connection does: packets are read up to a login, or up to what stands in its place, and answered
+-- what serving one connection does: packets are read up to a login, or to what comes in its place, which is answered
 abbrev pub Serves : {R W : Type 0} → (R → Option (List ℕ)) → (R → Failures) → (W → Option (List ℕ)) → (W → Failures) → Content → ℕ → ServerConfig
     → Reading R → W → Result Served SoupFault → Reading R → W → Type 0
 Serves remaining reads contents writes m next config reader writer result reader_after writer_after =

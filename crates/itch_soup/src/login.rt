@@ -22,10 +22,7 @@ pub struct ServerConfig {
 
 impl Debug for ServerConfig {
     fn fmt<W: fmt::Write>(&self, f: &mut Formatter<W>) -> fmt::Result {
-        f.debug_struct("ServerConfig")
-            .field("username", &self.username)
-            .field("session", &self.session)
-            .finish_non_exhaustive()
+        show_names(f, "ServerConfig", &self.username, &self.session)
     }
 }
 
@@ -42,11 +39,21 @@ pub struct Credentials {
 
 impl Debug for Credentials {
     fn fmt<W: fmt::Write>(&self, f: &mut Formatter<W>) -> fmt::Result {
-        f.debug_struct("Credentials")
-            .field("username", &self.username)
-            .field("session", &self.session)
-            .finish_non_exhaustive()
+        show_names(f, "Credentials", &self.username, &self.session)
     }
+}
+
+// Writes a struct without its password.
+fn show_names<W: fmt::Write>(
+    f: &mut Formatter<W>,
+    name: &str,
+    username: &Alpha<6>,
+    session: &Alpha<10>,
+) -> fmt::Result {
+    f.debug_struct(name)
+        .field("username", username)
+        .field("session", session)
+        .finish_non_exhaustive()
 }
 
 /// Whether two user names or passwords are the same, apart from spaces at their end and the case of ASCII letters.

@@ -166,15 +166,21 @@ pub(crate) fn judge(config: &ServerConfig, total: u64, login: &LoginRequest) -> 
     ensures { result ≡ judged config.now total login.now }
 {
     if !is_user(config, login) {
-        return (ServerAct::Reject(NOT_AUTHORISED), Stage::Closed);
+        return rejecting(NOT_AUTHORISED);
     }
     if !asks_for_session(&config.session, &login.session) {
-        return (ServerAct::Reject(NOT_AVAILABLE), Stage::Closed);
+        return rejecting(NOT_AVAILABLE);
     }
     match Seq::new(login.number.max(1)) {
         Some(next) if next.value() <= total + 1 => (ServerAct::Accept { next }, Stage::Accepted),
-        _ => (ServerAct::Reject(NOT_AVAILABLE), Stage::Closed),
+        _ => rejecting(NOT_AVAILABLE),
     }
+}
+
+fn rejecting(code: u8) -> (ServerAct, Stage)
+    ensures { result ≡ (ServerAct.Reject code, Stage.Closed) }
+{
+    (ServerAct::Reject(code), Stage::Closed)
 }
 
 fn is_user(config: &ServerConfig, login: &LoginRequest) -> bool
