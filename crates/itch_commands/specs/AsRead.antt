@@ -1,4 +1,4 @@
--- How payloads are read where only some locates are wanted, and what is read so of a snapshot.
+-- How payloads are read if only some locates are wanted, and what is read of a snapshot in that way.
 use Rattle.std.specs.Prelude.{◌≡◌, ℕ, ◌-◌, ◌≤◌, ◌^◌, Bool, false, List, ◌++◌, map, length, Option, None, Some, Result, Ok, Err, if◌then◌else◌}
 use Rattle.std.specs.List.{AllByRecursion}
 use Rattle.std.specs.Io.KnownBytes.{Consumes}
@@ -19,11 +19,11 @@ use Rattle.itch_snapshot.specs.Files.{IsFaultOf}
 use Rattle.itch_snapshot.specs.TakenMessages.{closing_number, is_skipped, TakesNext}
 use Rattle.itch_snapshot.specs.Reads.{ReadsPayload}
 
--- a message that no order rule is about, and that changes nothing
+-- a message to which no order rule applies, and that changes nothing
 abbrev pub idle : Message
 idle = BrokenTrade (record { header = record { locate = 0; tracking = 0; stamp = 0 }; match_number = 0 })
 
--- a payload whose message is skipped is read as the idle one, every other as it is
+-- a payload whose message is skipped is read as the idle message, every other as it is
 abbrev pub as_read : (ℕ → Bool) → List ℕ → List ℕ
 as_read wanted payload = if is_skipped wanted payload then spelling idle else payload
 
@@ -40,7 +40,7 @@ pub record TakesAs (read : List ℕ → List ℕ) (old new : Option (List ℕ)) 
   pub fits : AllByRecursion Fits (map read payloads)
   pub left : n ≡ laid (run (map message_of (map read payloads)))
 
--- what is read of a snapshot after `taken` messages, and what it does to the market that they left
+-- what is read of a snapshot after `taken` messages, and what it does to the market that they leave
 abbrev pub ReadsNextAs : (List ℕ → List ℕ) → ℕ → Content → Option (List ℕ) → Option (List ℕ) → Result (Option ℕ) SnapFault → Content → Type 0
 ReadsNextAs read taken m old new (Err snapshot.NoEnd) n = (n ≡ m) × EndsHere old new
 ReadsNextAs read taken m old new (Err (snapshot.Frame f)) n = (n ≡ m) × FailsHere f old new

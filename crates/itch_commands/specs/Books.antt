@@ -15,7 +15,7 @@ use Rattle.itch_market.specs.Runs.{run}
 use Rattle.itch_commands.specs.declared.fault.ToolFault.{ToolFault}
 use Rattle.itch_commands.specs.declared.fault.ToolFault.TheVariants as tool
 
--- the prices of these orders, each once, as they first come
+-- the prices of these orders, each once, in the order in which they first come
 abbrev pub prices : List Order → List ℕ
 prices [] = []
 prices (x ∷ xs) = x.price ∷ filter (λ price. not (price == x.price)) (prices xs)
@@ -25,12 +25,12 @@ abbrev pub level_line : Side → ℕ → ℕ → ℕ → List ℕ
 level_line side price shares orders =
     side_byte side ∷ 32 ∷ (price_text price ++ 32 ∷ (decimal shares ++ 32 ∷ (decimal orders ++ 10 ∷ [])))
 
--- the line of a price: all shares of the orders at it, and their number
+-- the line of a price: the shares of all orders at it, and the number of these orders
 abbrev pub price_line : Side → List Order → ℕ → List ℕ
 price_line side orders price =
     level_line side price (sum_by (λ x. x.shares) (filter (is_at_price price) orders)) (length (filter (is_at_price price) orders))
 
--- the lines of a side, whose orders stand by priority: the best price first
+-- the lines of a side, whose orders are in priority order: the best price first
 abbrev pub side_lines : Side → List Order → List ℕ
 side_lines side orders = flat_map (price_line side orders) (prices orders)
 
@@ -43,11 +43,11 @@ abbrev pub book_lines : ℕ → List ℕ → List Order → List ℕ
 book_lines locate stock orders =
     title_line locate stock ++ (side_lines Buy (queue orders locate Buy) ++ side_lines Sell (queue orders locate Sell))
 
--- the same of what the messages of a file leave
+-- the same for the market that the messages of a file leave
 abbrev pub book_of : ℕ → List (List ℕ) × List ℕ → List ℕ
 book_of locate read = let m : Content = run (map message_of read.0) in book_lines locate read.1 m.orders
 
--- a file is read in which a locate has a directory entry, with this stock; or the file is refused, or has no such entry
+-- a file is read, and a locate has a directory entry there, with this stock; or the file is refused, or has no such entry
 abbrev pub ReadsListed : ℕ → (Result (List (List ℕ)) ToolFault → Type 0) → Result (List (List ℕ) × List ℕ) ToolFault → Type 0
 ReadsListed locate reads (Ok read) =
     reads (Ok read.0)

@@ -1,4 +1,4 @@
--- Whether a snapshot file is canonical: its bytes, all of them, are the snapshot of the market that its messages leave, closed
+-- Whether a snapshot file is canonical: all of its bytes are those of the snapshot of the market that its messages leave, closed
 -- with its number.
 use Rattle.std.specs.Prelude.{◌≡◌, ◌≢◌, ℕ, ◌-◌, ◌<◌, ◌≤◌, ◌^◌, ◌⊎◌, ◌↔◌, Bool, true, false, List, [], ◌++◌, length, codes, MatchOption, MatchResult, Option, IfSome, Result, Ok, Err}
 use Rattle.std.specs.Borrow.{Bor}
@@ -20,11 +20,11 @@ abbrev pub canonical_line : Bool → List ℕ
 canonical_line true = codes "canonical\n"
 canonical_line false = codes "not canonical\n"
 
--- the bytes after these at the front, or none where they do not stand there
+-- the bytes after these at the front, or none if these are not at the front
 abbrev pub StripsFront : List ℕ → List ℕ → Option (Bor (List ℕ)) → Type 0
 StripsFront bytes front rest = MatchOption rest ((more : List ℕ) → bytes ≢ front ++ more) (λ r. bytes ≡ front ++ r.now)
 
--- a failed read is counted with its error, and nothing else is
+-- a failed read is counted with its error, and no other fault is
 abbrev pub CountsRefusal : ToolFault → Failures → Failures → Type 0
 CountsRefusal (tool.Snap at fault) old new = CountsFault fault old new
 CountsRefusal fault old new = new ≡ old
@@ -32,8 +32,8 @@ CountsRefusal fault old new = new ≡ old
 abbrev pub CountsSnap : {X : Type 0} → Result X ToolFault → Failures → Failures → Type 0
 CountsSnap result old new = MatchResult result (λ _. new ≡ old) (λ fault. CountsRefusal fault old new)
 
--- The next message is taken, or End of Snapshot is, and the bytes of its block are copied; or it is refused; or memory for these
--- bytes is, once it was taken.
+-- The next message, or End of Snapshot, is taken, and the bytes of its block are copied; or it is refused; or it is taken, but
+-- there is no memory for these bytes.
 abbrev pub CopiesNext : ℕ → Content → Option (List ℕ) → Option (List ℕ) → List ℕ → Result (Option ℕ) ToolFault → Content → List ℕ → Type 0
 CopiesNext taken m old new copy (Ok found) n more =
     ReadsNext taken m old new (Ok found) n × ((bytes : List ℕ) × Consumes old new bytes × (more ≡ copy ++ bytes))
@@ -41,7 +41,7 @@ CopiesNext taken m old new copy (Err (tool.Snap at fault)) n more = (at ≡ Only
 CopiesNext taken m old new copy (Err tool.OutOfMemory) n more = (found : Option ℕ) × ReadsNext taken m old new (Ok found) n
 CopiesNext taken m old new copy (Err fault) n more = ⊥
 
--- messages were taken, at least one, or End of Snapshot was after them: it was the last block for which memory was refused
+-- at least one message, or End of Snapshot after some, was taken, and there was no memory for the bytes of the last block
 abbrev pub LacksRoom : Option (List ℕ) → Option (List ℕ) → Type 0
 LacksRoom old new =
     ((payloads : List (List ℕ)) × (n : Content) × Takes empty old new payloads n × (0 < length payloads) × (length payloads ≤ 10 ^ 19 - 1))
@@ -62,8 +62,8 @@ EndsFile old new (Err (tool.Snap at fault)) = (at ≡ Only) × ReadsEnd old new 
 EndsFile old new (Err fault) = ⊥
 
 module _ {R : Type 0} (remaining : R → Option (List ℕ)) (failures : R → Failures) where
-  -- What reading a snapshot file says of its bytes, and leaves of its reader. It is refused as any reading of it is; and
-  -- memory may be, for the bytes of the messages taken, all of which are copied.
+  -- What checking a snapshot file says about its bytes, and leaves of its reader. The file is refused as by any reading; and
+  -- there may be no memory for a copy of the bytes of the messages taken.
   abbrev pub ChecksSnap : Reading R → Reading R → Result Bool ToolFault → Type 0
   ChecksSnap old new (Ok canonical) =
       (done : Content × ℕ) × ReadsSnap remaining failures Only old new (Ok done)

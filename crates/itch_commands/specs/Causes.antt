@@ -1,4 +1,4 @@
--- What the system said where a command failed at a device.
+-- The system's error if a command failed at a device.
 use Rattle.std.specs.Prelude.{Option, Some, None}
 use Rattle.itch_frame.specs.declared.fault.FrameFault.{FrameFault}
 use Rattle.itch_frame.specs.declared.fault.FrameFault.TheVariants.{Read, Write}
@@ -20,7 +20,7 @@ device_cause device (Read error) = Some (record { device = device; error = error
 device_cause device (Write sent error) = Some (record { device = device; error = error })
 device_cause device fault = None
 
--- a stop of a replay of a file
+-- a stop of a replay
 abbrev pub stop_cause : Device → Stop → Option Cause
 stop_cause device (stop.Frame fault) = device_cause device fault
 stop_cause device stopped = None
@@ -35,7 +35,7 @@ abbrev pub soup_cause : SoupFault → Option Cause
 soup_cause (soup.Frame fault) = device_cause Socket fault
 soup_cause fault = None
 
--- the device that failed, with the system's error, where it was a device that did
+-- the device that failed, with the system's error, if a device failed
 abbrev pub cause_of : ToolFault → Option Cause
 cause_of (tool.Stopped file end) = stop_cause (File file) end.stop
 cause_of (tool.Snap file fault) = snapshot_cause (File file) fault

@@ -1,4 +1,4 @@
--- What each command reads, writes and returns: said once of it, for a reader of bytes and for a reader of blocks.
+-- What each command reads, writes and returns, for a reader of bytes and for a reader of blocks alike.
 use Rattle.std.specs.Prelude.{◌≡◌, ℕ, Bool, true, List, Option, None, is_none, Result}
 use Rattle.itch_frame.specs.declared.tally.Failures.{Failures}
 use Rattle.itch_market.specs.Content.{Content}
@@ -17,7 +17,7 @@ module _ {R W : Type 0} (remaining : R → Option (List ℕ)) (failed_reads : R 
   abbrev pub Checks : From R (List (List ℕ)) → W → Result Bool ToolFault → W → Type 0
   Checks from = Outputs contents failed_writes (from (ReadsDay remaining failed_reads Only None)) ok_line_of (λ _. true)
 
-  -- `snap`: the snapshot after a day file's messages, or after the first ones; cut down to a set, where there is one
+  -- `snap`: the snapshot after a day file's messages, or after the first ones; cut down to a set, if there is one
   abbrev pub Snaps : Option ℕ → Option Wanted → From R (List (List ℕ)) → W → Result Bool ToolFault → W → Type 0
   Snaps after set from = Outputs contents failed_writes (from (ReadsDay remaining failed_reads Only after)) (snapshot_in set) (λ _. true)
 
@@ -36,13 +36,13 @@ module _ {R W : Type 0} (remaining : R → Option (List ℕ)) (failed_reads : R 
 
 module _ {R S W : Type 0} (remaining : R → Option (List ℕ)) (failed_reads : R → Failures) (remaining_then : S → Option (List ℕ)) (failed_then : S → Failures)
     (contents : W → Option (List ℕ)) (failed_writes : W → Failures) where
-  -- `compare`: where the markets that two day files leave part
+  -- `compare`: where the markets that two day files leave differ
   abbrev pub Compares : From R (Option ℕ) → From S (Option ℕ) → W → Result Bool ToolFault → W → Type 0
   Compares first second =
       Outputs contents failed_writes (first (λ a b. second (λ c d.
       PartsAt (ReadsBoth (ReadsDay remaining failed_reads First None a b) (d ≡ c) (ReadsDay remaining_then failed_then Second None c d))))) place_line is_none
 
-  -- `join`: the snapshot after a snapshot and the feed that goes on after it, whose payloads are so read
+  -- `join`: the snapshot after a snapshot and the feed that continues after it, with payloads read in this way
   abbrev pub Joins : (List ℕ → List ℕ) → From R (Start × List (List ℕ)) → From S (Start × List (List ℕ)) → W → Result Bool ToolFault → W → Type 0
   Joins read snapshot feed =
       Outputs contents failed_writes (snapshot (λ a b. feed (λ c d.

@@ -9,23 +9,23 @@ use Rattle.itch_snapshot.specs.Snapshot.{snap}
 use Rattle.itch_commands.specs.declared.fault.ToolFault.{ToolFault}
 use Rattle.itch_commands.specs.Readings.{Then}
 
--- What is read of two files, the first wholly before the second. Where the first is refused, the second is left as it was.
+-- What is read of two files, the first wholly before the second. If the first is refused, the second is left as it was.
 abbrev pub ReadsBoth : {X Y : Type 0} → (Result X ToolFault → Type 0) → Type 0 → (Result Y ToolFault → Type 0) → Result (X × Y) ToolFault → Type 0
 ReadsBoth first untouched second = Then first untouched (λ _. second)
 
--- the place, counted from 1, of the first message in which the snapshots of two markets differ, or the shorter length and 1;
--- none exactly where the markets are the same
+-- the place, counted from 1, of the first message in which the snapshots of two markets differ, or the shorter length plus 1;
+-- none exactly if the markets are the same
 pub record IsPartPlace (m n : Content) (place : Option ℕ) : Type 0 where
   pub same : IsNone place ↔ Same m n
   pub parts : IfSome place (λ k. (0 < k) × IsParting (snap m) (snap n) (k - 1))
 
--- where the markets that two files leave part
+-- where the markets that two files leave differ
 abbrev pub PartsAt : (Result (List (List ℕ) × List (List ℕ)) ToolFault → Type 0) → Result (Option ℕ) ToolFault → Type 0
 PartsAt reads (Ok place) =
     (both : List (List ℕ) × List (List ℕ)) × reads (Ok both) × IsPartPlace (run (map message_of both.0)) (run (map message_of both.1)) place
 PartsAt reads (Err fault) = reads (Err fault)
 
--- the line that says where, or that the markets are the same
+-- the line with this place, or the line that says that the markets are the same
 abbrev pub place_line : Option ℕ → List ℕ
 place_line None = codes "same\n"
 place_line (Some place) = codes "different at " ++ decimal place ++ codes "\n"

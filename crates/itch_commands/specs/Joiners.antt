@@ -1,4 +1,4 @@
--- A joiner in which nothing waits: while it reads a snapshot, and once it has joined.
+-- A joiner in which nothing waits: while it reads a snapshot, and after it has joined.
 use Rattle.std.specs.Prelude.{◌≡◌, ℕ, ◌+◌, ◌-◌, ◌<◌, ◌≤◌, ◌^◌, ◌==◌, ◌⊎◌, true, false, Bool, List, map, length, ⊤, Option, Some, None, Result, Ok, Err}
 use Rattle.std.specs.FinMap as finite
 use Rattle.itch_codec.specs.Widths.{IsSequence}
@@ -29,7 +29,7 @@ abbrev pub half_market : HalfRead → Content
 half_market (Reading taken m) = m
 half_market (Broken place why) = empty
 
--- nothing but this many messages of a snapshot was taken
+-- the joiner has taken this many messages of a snapshot, and nothing else
 pub record IsReading (taken : ℕ) (s : State) : Type 0 where
   pub waits : (i : ℕ) → finite.get s.wait i ≡ None
   pub half : s.half ≡ Reading taken (half_market s.half)
@@ -40,17 +40,17 @@ abbrev pub position_by : Option Position → Position
 position_by None = record { next = 0; market = empty }
 position_by (Some j) = j
 
--- where a joiner stands
+-- the position of a joiner
 abbrev pub position_of : State → Position
 position_of s = position_by s.joined
 
--- a joiner has joined, and stands there
+-- a joiner has joined, and is at its position
 pub record IsJoined (s : State) : Type 0 where
   pub waits : (i : ℕ) → finite.get s.wait i ≡ None
   pub joined : s.joined ≡ Some (position_of s)
   pub running : s.halt ≡ None
 
--- the market of a snapshot after one message: it is taken, it is End of Snapshot, or it is refused
+-- the market of a snapshot after one message, which is taken, is End of Snapshot, or is refused
 abbrev pub started_market : State → Result (Option ℕ) SnapFault → State → Content
 started_market old (Ok None) new = half_market new.half
 started_market old (Ok (Some next)) new = half_market old.half
@@ -62,51 +62,51 @@ Starts taken old (Ok None) new = IsReading (taken + 1) new
 Starts taken old (Ok (Some next)) new = IsJoined new × (position_of new ≡ record { next = next; market = half_market old.half })
 Starts taken old (Err fault) new = ⊤
 
--- the message of a feed with this number is below the joiner's, or it is applied, or refused
+-- the message of a feed with this number is below the joiner's next one, or it is applied, or refused
 abbrev pub FeedsOne : ℕ → Position → List ℕ → Result (Unit {0}) Stop → Position → Type 0
 FeedsOne number old payload (Ok done) new =
     ((number < old.next) × (new ≡ old)) ⊎ ((old.next ≡ number) × TakesOne old.market payload (Ok done) new.market × (new.next ≡ number + 1))
 FeedsOne number old payload (Err why) new = (old.next ≡ number) × TakesOne old.market payload (Err why) old.market
 
--- what the block after `count` of a feed does: its message is taken, or the reading stops
+-- what the block after `count` others of a feed does: its message is taken, or the reading stops
 abbrev pub FeedStep : (List ℕ → List ℕ) → ℕ → Position → Option (List ℕ) → Option (List ℕ) → Result (Unit {0}) Stop → Position → Type 0
 FeedStep read count old before after (Ok done) new =
     (payload : List ℕ) × TakesOff before after payload × ((count == 10 ^ 19 - 1) ≡ false) × FeedsOne (count + 1) old (read payload) (Ok done) new
 FeedStep read count old before after (Err why) new = (IsOfMessage why → old.next ≤ count + 1) × HaltsAs read (count == 10 ^ 19 - 1) old.market before after why
 
--- a joiner goes on after a message, and is left as it was at the end of the feed
+-- a joiner stays joined after a message, and is left as it was at the end of the feed
 abbrev pub StaysJoined : State → Result (Unit {0}) Stop → State → Type 0
 StaysJoined old (Ok done) new = IsJoined new
 StaysJoined old (Err stop.End) new = new ≡ old
 StaysJoined old (Err why) new = ⊤
 
--- a message of a snapshot may be refused so by a joiner that has not joined
+-- a joiner that has not joined may refuse a message of a snapshot for this
 abbrev pub IsOfSnapshot : JoinFault → Type 0
 IsOfSnapshot (join.BadSnapshot place why) = ⊤
 IsOfSnapshot (join.OutOfMemory taken) = ⊤
 IsOfSnapshot fault = ⊥
 
--- and the fault of the snapshot is then this, where the message stands at this place
+-- the fault of the snapshot then, for the message at this place
 abbrev pub snapshot_fault : JoinFault → ℕ → SnapFault
 snapshot_fault (join.BadSnapshot at (cause.Codec f)) place = snapshot.Codec at f
 snapshot_fault (join.BadSnapshot at (cause.Rule reason)) place = snapshot.Rule at reason
 snapshot_fault (join.BadSnapshot at cause.TooMany) place = snapshot.TooManyMessages
 snapshot_fault fault place = snapshot.Rule place why.OutOfMemory
 
--- the next message of a feed may be refused so
+-- a joiner may refuse the next message of a feed for this
 abbrev pub IsOfFeed : JoinFault → Type 0
 IsOfFeed (join.Halted number (cause.Codec f)) = ⊤
 IsOfFeed (join.Halted number (cause.Rule reason)) = ⊤
 IsOfFeed (join.OutOfMemory taken) = ⊤
 IsOfFeed fault = ⊥
 
--- and this then stops the reading of the feed
+-- what stops the reading of the feed then
 abbrev pub feed_stop : JoinFault → Stop
 feed_stop (join.Halted number (cause.Codec f)) = stop.Codec f
 feed_stop (join.Halted number (cause.Rule reason)) = stop.Rule reason
 feed_stop fault = stop.Rule why.OutOfMemory
 
--- the market and the number where a joiner stands
+-- the market and the number at a position
 abbrev pub start_of : Position → Start
 start_of j = (j.market, j.next)
 
@@ -127,7 +127,7 @@ abbrev pub StartsJoiner : (Result Start ToolFault → Type 0) → Result (Unit {
 StartsJoiner reads (Ok done) now = reads (Ok (start_of (position_of now))) × IsJoined now × IsStart (start_of (position_of now))
 StartsJoiner reads (Err fault) now = reads (Err fault)
 
--- a joiner stands after these payloads of a feed
+-- the joiner has taken these payloads of a feed
 pub record IsAfter (start : Start) (payloads : List (List ℕ)) (s : State) : Type 0 where
   pub joined : IsJoined s
   pub good : IsGood (joined_market start payloads)
@@ -147,7 +147,7 @@ FeedsJoiner reads old (Ok done) now =
 FeedsJoiner reads old (Err fault) now = reads (start_of old) (Err fault)
 
 module _ {W : Type 0} (contents : W → Option (List ℕ)) (failures : W → Failures) where
-  -- the snapshot of a market is written where it has room for its End of Snapshot
+  -- the snapshot of a market is written if it has room for its End of Snapshot
   abbrev pub WritesRoom : Position → W → Result Bool ToolFault → W → Type 0
   WritesRoom j old result new =
       ((result ≡ Err tool.TooMany) × (10 ^ 19 ≤ length (snap j.market)) × (new ≡ old))

@@ -1,4 +1,4 @@
--- What is read of a snapshot and of the feed that is joined to it. Payloads of a feed stand here as they are read.
+-- What is read of a snapshot and of the feed that is joined to it. Payloads of a feed are given here as they are read.
 use Rattle.std.specs.Prelude.{◌≡◌, ◌≢◌, ℕ, ◌+◌, ◌-◌, ◌≤◌, ◌<◌, ◌^◌, ◌==◌, ◌⊎◌, max, min, nat_lt, if◌then◌else◌, List, map, length, drop, ⊤, Option, Some, None, IfSome, Result, Ok, Err}
 use Rattle.std.specs.List.{AllByRecursion}
 use Rattle.std.specs.Io.KnownBytes.{Consumes}
@@ -21,7 +21,7 @@ use Rattle.itch_commands.specs.declared.fault.Source.TheVariants.{Only, Snapshot
 use Rattle.itch_commands.specs.AsRead.{ReadsAs, IsFaultAs, HaltsAs}
 use Rattle.itch_commands.specs.Readings.{IsWhole, LeavesDay}
 
--- the market that a snapshot leaves, and the number of the feed's first message that it does not contain
+-- the market that a snapshot leaves, and the number of the first message of the feed that is not in it
 abbrev pub Start : Type 0
 Start = Content × ℕ
 
@@ -33,7 +33,7 @@ from_number number payloads = drop (number - 1) payloads
 abbrev pub joined_market : Start → List (List ℕ) → Content
 joined_market start payloads = after start.0 (map message_of (from_number start.1 payloads))
 
--- the number of the first message that this market does not contain
+-- the number of the first message that is not in this market
 abbrev pub joined_next : Start → List (List ℕ) → ℕ
 joined_next start payloads = max start.1 (length payloads + 1)
 
@@ -42,26 +42,26 @@ abbrev pub joined : Start × List (List ℕ) → Content × ℕ
 joined both = (joined_market both.0 both.1, joined_next both.0 both.1)
 
 -- These payloads of a feed came off the front, and none is empty. As they are read, none from the snapshot's number on is
--- faulty or refused; nothing is asked of those below it.
+-- faulty or refused; those below it may be anything.
 pub record TakesFeed (read : List ℕ → List ℕ) (start : Start) (old new : Option (List ℕ)) (payloads : List (List ℕ)) : Type 0 where
   pub bytes : Consumes old new (blocks payloads)
   pub full : AllByRecursion IsFull payloads
   pub taken : NoCause start.0 (from_number start.1 (map read payloads))
   pub few : length payloads ≤ 10 ^ 19 - 1
 
--- a message is the cause of the stop
+-- the stop is because of a message
 abbrev pub IsOfMessage : Stop → Type 0
 IsOfMessage (stop.Codec f) = ⊤
 IsOfMessage (stop.Rule why) = ⊤
 IsOfMessage why = ⊥
 
--- These payloads are taken, and then this keeps the next one from being taken: no message below the snapshot's number does.
+-- These payloads are taken, and then this stop comes: it is not because of a message below the snapshot's number.
 abbrev pub EndsFeed : (List ℕ → List ℕ) → Start → Option (List ℕ) → Option (List ℕ) → List (List ℕ) → Stop → Type 0
 EndsFeed read start old new payloads why =
     (mid : Option (List ℕ)) × TakesFeed read start old mid payloads × (IsOfMessage why → start.1 ≤ length payloads + 1)
     × HaltsAs read (length payloads == 10 ^ 19 - 1) (joined_market start (map read payloads)) mid new why
 
--- why the payload after the first k of a feed is not taken: one below the snapshot's number always is
+-- why the payload after the first k of a feed is not taken, if it is not: one below the snapshot's number always is
 abbrev pub feed_cause_at : Start → List (List ℕ) → ℕ → Option Stop
 feed_cause_at start payloads k = if nat_lt (k + 1) start.1 then None else cause_at start.0 (from_number start.1 payloads) (k - (start.1 - 1))
 
@@ -70,7 +70,7 @@ abbrev pub feed_stop_at : Start → List (List ℕ) → List ℕ → ℕ → Opt
 feed_stop_at start payloads rest k =
     if k == min (10 ^ 19 - 1) (length payloads) then Some (last_stop (10 ^ 19 - 1) payloads rest) else feed_cause_at start payloads k
 
--- the first k messages of a feed are taken after a snapshot, and then this stops it: a search of the whole feed for its first bad place
+-- the first k messages of a feed are taken after a snapshot, and then this stops it: it is the first bad place of the whole feed
 pub record StopsFeed (read : List ℕ → List ℕ) (start : Start) (bytes : List ℕ) (k : ℕ) (why : Stop) : Type 0 where
   pub payloads : List (List ℕ)
   pub rest : List ℕ
@@ -82,7 +82,7 @@ module _ (read : List ℕ → List ℕ) {R : Type 0} (remaining : R → Option (
   abbrev pub ReadsStart : Reading R → Reading R → Result Start ToolFault → Type 0
   ReadsStart old new (Ok start) =
       ReadsAs read (bytes_left remaining old) (bytes_left remaining new) (Ok start.1) start.0 × (failures new.reader ≡ failures old.reader)
-  -- where the file alone decides, it is the file's one fault
+  -- if the file alone decides, it is the file's one fault
   ReadsStart old new (Err (tool.Snap at fault)) =
       (at ≡ Snapshot) × ((n : Content) × ReadsAs read (bytes_left remaining old) (bytes_left remaining new) (Err fault) n)
       × IfSome (bytes_left remaining old) (λ b. IsDecidedFault fault → IsFaultAs read b fault) × CountsFault fault (failures old.reader) (failures new.reader)
@@ -94,7 +94,7 @@ module _ (read : List ℕ → List ℕ) {R : Type 0} (remaining : R → Option (
       (payloads : List (List ℕ)) × (seen ≡ map read payloads)
       × IfSome (bytes_left remaining old) (λ b. IsWhole b payloads) × EndsFeed read start (bytes_left remaining old) (bytes_left remaining new) payloads stop.End
       × (failures new.reader ≡ failures old.reader) × LeavesDay (Ok (length payloads)) None old new
-  -- or this many were taken, and then this stopped it; where the file alone decides, it is the first bad place of the feed
+  -- or this many were taken, and then this stopped it; if the file alone decides, it is the first bad place of the feed
   ReadsFeed old new start (Err (tool.Stopped at end)) =
       (at ≡ Only) × (end.stop ≢ stop.End)
       × ((payloads : List (List ℕ)) × (length payloads ≡ end.count) × EndsFeed read start (bytes_left remaining old) (bytes_left remaining new) payloads end.stop)

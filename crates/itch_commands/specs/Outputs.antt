@@ -16,7 +16,7 @@ use Rattle.itch_commands.specs.declared.fault.ToolFault.TheVariants as tool
 abbrev pub ok_line : ℕ → List ℕ
 ok_line count = codes "ok " ++ decimal count ++ codes " messages\n"
 
--- the same of these payloads
+-- the same for the number of these payloads
 abbrev pub ok_line_of : List (List ℕ) → List ℕ
 ok_line_of payloads = ok_line (length payloads)
 
@@ -24,12 +24,12 @@ ok_line_of payloads = ok_line (length payloads)
 abbrev pub snapshot_of : List (List ℕ) → List ℕ
 snapshot_of payloads = canon (run (map message_of payloads)) ++ closing (length payloads + 1)
 
--- the same cut down to the locates of a set, where there is one
+-- the same cut down to the locates of a set, if there is one
 abbrev pub snapshot_in : Option Wanted → List (List ℕ) → List ℕ
 snapshot_in None payloads = snapshot_of payloads
 snapshot_in (Some set) payloads = canon (only (has set) (run (map message_of payloads))) ++ closing (length payloads + 1)
 
--- the bytes of the snapshot of a market, with the number of the first message that it does not contain
+-- the bytes of the snapshot of a market, with the number of the first message that is not in it
 abbrev pub closed_bytes : Content × ℕ → List ℕ
 closed_bytes done = canon done.0 ++ closing done.1
 
@@ -45,13 +45,13 @@ module _ {W : Type 0} (contents : W → Option (List ℕ)) (failures : W → Fai
       (sent : ℕ) × (sent < length bytes) × Appends (contents old) (contents new) (take sent bytes) × (failures new ≡ failed error (failures old))
   WritesText bytes old (Err fault) new = ⊥
 
-  -- the same, and then this is the verdict
+  -- the same, and the result is this verdict
   abbrev pub WritesOutput : List ℕ → Bool → W → Result Bool ToolFault → W → Type 0
   WritesOutput bytes verdict old (Ok answer) new = (answer ≡ verdict) × WritesText bytes old (Ok tt) new
   WritesOutput bytes verdict old (Err fault) new = WritesText bytes old (Err fault) new
 
-  -- What a command writes and returns that first reads and then writes: the reading was refused and nothing is written; or
-  -- it read this, and wrote what `output` makes of it, with the verdict on it.
+  -- What a command writes and returns that first reads and then writes: the reading was refused and nothing is written; or it
+  -- read this, and wrote what `output` makes of it, with the verdict on it.
   abbrev pub Outputs : {X : Type 0} → (Result X ToolFault → Type 0) → (X → List ℕ) → (X → Bool) → W → Result Bool ToolFault → W → Type 0
   Outputs {X} reads output verdict old result new =
       ((fault : ToolFault) × (result ≡ Err fault) × reads (Err fault) × (new ≡ old))

@@ -19,8 +19,8 @@ use Rattle.itch_commands.specs.declared.fault.ToolFault.{ToolFault}
 use Rattle.itch_commands.specs.declared.fault.ToolFault.TheVariants as tool
 use Rattle.itch_commands.specs.declared.fault.Source.{Source}
 
--- these payloads were taken, one after another, from the empty market: none is empty, faulty or refused, and there are as many
--- as are wanted
+-- these payloads were taken in order, from the empty market: none is empty, faulty or refused, and there are as many as are
+-- wanted
 pub record AreTaken (after : Option ℕ) (payloads : List (List ℕ)) : Type 0 where
   pub full : AllByRecursion IsFull payloads
   pub taken : NoCause empty payloads
@@ -62,12 +62,12 @@ ReadsMarket file after m old new (Err (tool.Stopped at end)) n = (at ≡ file) �
 ReadsMarket file after m old new (Err (tool.Short count)) n = IsSome after × HaltsPart after m old new count End n
 ReadsMarket file after m old new (Err fault) n = ⊥
 
--- a failed read is counted with its error, and nothing else is
+-- a failed read is counted with its error, and no other fault is
 abbrev pub CountsRead : {X : Type 0} → Result X ToolFault → Failures → Failures → Type 0
 CountsRead (Err (tool.Stopped at end)) old new = Counts end.stop old new
 CountsRead result old new = new ≡ old
 
--- the payloads came off the front: nothing more, where only the first n are wanted; else the end of the file was seen
+-- the payloads came off the front: nothing more, if only the first n are wanted; else the end of the file was reached
 abbrev pub LeavesPart : Option ℕ → Option (List ℕ) → Option (List ℕ) → List (List ℕ) → Type 0
 LeavesPart None old new payloads = (mid : Option (List ℕ)) × Consumes old mid (blocks payloads) × (IsAtEnd mid ⊎ Consumes mid new (block []))
 LeavesPart (Some most) old new payloads = Consumes old new (blocks payloads)
@@ -81,14 +81,14 @@ LeavesDay (Err (tool.Short count)) after old new = LeavesReaderFirst old count (
 LeavesDay (Err fault) after old new = ⊥
 
 module _ {R : Type 0} (remaining : R → Option (List ℕ)) (failures : R → Failures) where
-  -- What reading a day file, or its first messages, from the empty market returns, and leaves of its reader. Every command
-  -- that reads a day file says so by this table.
+  -- What reading a day file, or its first messages, from the empty market returns, and leaves of its reader. The contract of
+  -- every command that reads a day file cites this table.
   abbrev pub ReadsDay : Source → Option ℕ → Reading R → Reading R → Result (List (List ℕ)) ToolFault → Type 0
   ReadsDay file after old new (Ok payloads) =
       AreTaken after payloads × IfSome (bytes_left remaining old) (λ b. IsPart after b payloads)
       × LeavesPart after (bytes_left remaining old) (bytes_left remaining new) payloads
       × (failures new.reader ≡ failures old.reader) × LeavesDay (Ok (length payloads)) after old new
-  -- this many messages were taken, and then this stopped it; where the file alone decides, it is the first bad place of the file
+  -- this many messages were taken, and then this stopped it; if the file alone decides, it is the first bad place of the file
   ReadsDay file after old new (Err (tool.Stopped at end)) =
       (at ≡ file) × (end.stop ≢ End) × ((n : Content) × HaltsPart after empty (bytes_left remaining old) (bytes_left remaining new) end.count end.stop n)
       × IfSome (bytes_left remaining old) (λ b. IsDecided end.stop → Stops empty b end.count end.stop)
@@ -106,7 +106,7 @@ module _ {R : Type 0} (remaining : R → Option (List ℕ)) (failures : R → Fa
   ReadsSnap file old new (Ok done) =
       IfSome (bytes_left remaining old) (λ b. IsMarketOf b done) × ReadsSnapshot (bytes_left remaining old) (bytes_left remaining new) (Ok done)
       × (failures new.reader ≡ failures old.reader)
-  -- where the file alone decides, it is the file's one fault
+  -- if the file alone decides, it is the file's one fault
   ReadsSnap file old new (Err (tool.Snap at fault)) =
       (at ≡ file) × ReadsSnapshot (bytes_left remaining old) (bytes_left remaining new) (Err fault)
       × IfSome (bytes_left remaining old) (λ b. IsDecidedFault fault → IsFaultOf b fault) × CountsFault fault (failures old.reader) (failures new.reader)
@@ -118,21 +118,21 @@ LeavesMarket reads (Ok market) =
     (payloads : List (List ℕ)) × reads (Ok payloads) × AllByRecursion Fits payloads × (market ≡ laid (run (map message_of payloads)))
 LeavesMarket reads (Err fault) = reads (Err fault)
 
--- of which reader this is read
+-- what is read, and from which reader
 abbrev pub From : Type 0 → Type 0 → Type 1
 From R X = (Reading R → Reading R → Result X ToolFault → Type 0) → Result X ToolFault → Type 0
 
--- what is read of a reader of blocks that is lent, from this state of it to that
+-- what is read from a reader of blocks that is lent, from this state to that
 abbrev pub FromBlocks : {R X : Type 0} → Reading R → Reading R → (Reading R → Reading R → Result X ToolFault → Type 0) → Result X ToolFault → Type 0
 FromBlocks old new reads result = reads old new result
 
--- what is read of a reader that is handed over: a reader of blocks is made of it first, for which memory may be refused
+-- what is read from a reader that is handed over: a reader of blocks is made of it first, for which memory may be refused
 abbrev pub FromReader : {R X : Type 0} → R → (Reading R → Reading R → Result X ToolFault → Type 0) → Result X ToolFault → Type 0
 FromReader reader reads result =
     (result ≡ Err tool.OutOfMemory)
     ⊎ ((old : Reading _) × (new : Reading _) × (old.reader ≡ reader) × (old.held ≡ []) × (old.stage ≡ Going) × reads old new result)
 
--- One reading, and then another that depends on it. Where the first is refused, what the second reads is left as it was.
+-- One reading, and then another that depends on it. If the first is refused, what the second reads is left as it was.
 abbrev pub Then : {X Y : Type 0} → (Result X ToolFault → Type 0) → Type 0 → (X → Result Y ToolFault → Type 0) → Result (X × Y) ToolFault → Type 0
 Then first untouched second (Ok both) = first (Ok both.0) × second both.0 (Ok both.1)
 Then {X} first untouched second (Err fault) = (first (Err fault) × untouched) ⊎ ((x : X) × first (Ok x) × second x (Err fault))

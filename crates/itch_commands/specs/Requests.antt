@@ -12,7 +12,7 @@ use Rattle.itch_commands.specs.Commands.{Snaps, Checks, WritesCanon, ChecksCanon
 use Rattle.itch_commands.specs.Readings.{FromBlocks}
 use Rattle.itch_commands.specs.Showing.{Shows}
 
--- the path of the file that a fault of a request names so; none where it is standard input
+-- the path of the file that a fault of a request names; none if it is standard input
 abbrev pub file_of : Request → Source → Option (List ℕ)
 file_of (Snap file after only) source = option_map (λ path. path.now) file
 file_of (Check file) source = option_map (λ path. path.now) file
@@ -24,13 +24,13 @@ file_of (Compare first second) source = option_map (λ path. path.now) first
 file_of (Join snapshot feed only) Snapshot = option_map (λ path. path.now) snapshot
 file_of (Join snapshot feed only) source = option_map (λ path. path.now) feed
 
--- the list of the locates that a request wants, where it is not all of them
+-- the list of the locates that a request wants, if not all of them
 abbrev pub only_of : Request → Option (List ℕ)
 only_of (Snap file after only) = option_map (λ list. list.now) only
 only_of (Join snapshot feed only) = option_map (λ list. list.now) only
 only_of request = None
 
--- the requests whose output is a snapshot, which is no text
+-- the requests whose output is a snapshot, not text
 abbrev pub is_binary : Request → Bool
 is_binary (Snap file after only) = true
 is_binary (Canon file false) = true

@@ -34,7 +34,7 @@ pub record ReadsOff (old new : Option (List ℕ)) (payloads : List (List ℕ)) :
   pub clean : AllByRecursion IsClean payloads
   pub few : length payloads ≤ 10 ^ 19 - 1
 
--- a stop that is no order rule's
+-- a stop that is not because of an order rule
 abbrev pub IsNoRule : Stop → Type 0
 IsNoRule stop.End = ⊤
 IsNoRule (stop.Frame fault) = ⊤
@@ -42,7 +42,7 @@ IsNoRule (stop.Codec fault) = ⊤
 IsNoRule (stop.Rule why) = ⊥
 IsNoRule stop.TooManyMessages = ⊤
 
--- why the message with this number is not shown, as of a replay that applies no rule
+-- why the message after `count` others is not shown: as in a replay that applies no rule
 abbrev pub Withholds : ℕ → Option (List ℕ) → Option (List ℕ) → Stop → Type 0
 Withholds count old new why = IsNoRule why × Halts (count == 10 ^ 19 - 1) empty old new why
 
@@ -67,14 +67,14 @@ abbrev pub finish : ToolFault → Result Bool ToolFault
 finish (tool.Stopped file end) = finish_at end.stop (tool.Stopped file end)
 finish fault = Err fault
 
--- where the next block leaves the reader of blocks
+-- how the next block leaves the reader of blocks
 abbrev pub LeavesNext : {R : Type 0} → Result (Unit {0}) ToolFault → Reading R → Reading R → Type 0
 LeavesNext (Ok done) old new = LeavesReaderFirst old 1 None new
 LeavesNext (Err (tool.Stopped file end)) old new = LeavesReaderFirst old 0 (Some end.stop) new
 LeavesNext (Err fault) old new = LeavesReaderFirst old 1 None new
 
 module _ {W : Type 0} (contents : W → Option (List ℕ)) (failures : W → Failures) where
-  -- a write failed, after the first bytes and a beginning of the last ones
+  -- a write failed after the first bytes and a beginning of the last ones
   abbrev pub WritesPart : List ℕ → List ℕ → Error → W → W → Type 0
   WritesPart first last error old new =
       (sent : ℕ) × (sent < length last) × Appends (contents old) (contents new) (first ++ take sent last) × (failures new ≡ failed error (failures old))
@@ -93,14 +93,14 @@ module _ {W : Type 0} (contents : W → Option (List ℕ)) (failures : W → Fai
       (payload : List ℕ) × ReadsNext count old new payload × WritesText contents failures (line_of (count + 1) (message_of payload)) out result out'
 
   module _ {R : Type 0} (remaining : R → Option (List ℕ)) (failed_reads : R → Failures) where
-    -- the lines of the first messages are written, and then this keeps the next one from being shown
+    -- the lines of the first messages are written, and then this stop comes
     abbrev pub ShowsUntil : ℕ → Stop → Reading R → Reading R → W → W → Type 0
     ShowsUntil count why old new out out' =
         (payloads : List (List ℕ)) × (mid : Option (List ℕ)) × ReadsOff (bytes_left remaining old) mid payloads × (length payloads ≡ count)
         × Withholds count mid (bytes_left remaining new) why × Wrote contents failures (lines_from 1 payloads) out out'
         × Counts why (failed_reads old.reader) (failed_reads new.reader) × LeavesReaderFirst old count (Some why) new
 
-    -- a write failed within the line of the message at hand
+    -- a write failed within the line of the last message read
     abbrev pub ShowsPart : Error → Reading R → Reading R → W → W → Type 0
     ShowsPart error old new out out' =
         (payloads : List (List ℕ)) × (payload : List ℕ) × ReadsOff (bytes_left remaining old) (bytes_left remaining new) (payloads ++ payload ∷ [])

@@ -19,7 +19,7 @@ frame_status (Read error) = 3
 frame_status (Write sent error) = 3
 frame_status fault = 1
 
--- a message that was refused: 4 for want of memory, 1 for any other reason
+-- a message that was refused: 4 if memory ran out, 1 for any other reason
 abbrev pub refusal_status : Refusal → ℕ
 refusal_status refusal.OutOfMemory = 4
 refusal_status reason = 1

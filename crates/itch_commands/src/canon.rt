@@ -39,7 +39,7 @@ pub fn canon<R: CountedRead + Drop, A: Allocator + Copy, W: CountedWrite>(
     canon_blocks(alloc, &mut reader, check, out)
 }
 
-/// The same over a reader of blocks, which is left at the place where reading ended.
+/// The same over a reader of blocks, which is left where the reading ended.
 pub fn canon_blocks<R: CountedRead, B: Allocator, A: Allocator + Copy, W: CountedWrite>(
     alloc: A,
     reader: &mut BlockReader<R, B>,

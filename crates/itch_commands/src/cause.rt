@@ -1,4 +1,4 @@
-//! The system's error where a command failed at a file, at its output or at a socket.
+//! The system's error if a command failed at a file, at its output or at a socket.
 ghost use Rattle.std.specs.Prelude.{◌≡◌};
 ghost use Rattle.itch_commands.specs.Causes.{device_cause, stop_cause, snapshot_cause, cause_of};
 

@@ -35,10 +35,10 @@ impl fmt::Display for Source {
     }
 }
 
-/// Why a command failed. `Write` leaves a beginning of the output; with other faults only `show` and `serve` leave any, the lines
-/// before.
+/// Why a command failed. At `Write` a beginning of the output has been written. At other faults nothing has, except by `show`
+/// and `serve`, which have written the lines before.
 ///
-/// `Display` gives the line for standard error, without its line feed, and takes no memory.
+/// `Display` gives the line for standard error, without its line feed, and allocates nothing.
 #[derive(Debug, Drop)]
 pub enum ToolFault {
     /// A replay of a file stopped before its end.

@@ -1,7 +1,7 @@
 //! The commands over files: each is a public function over readers and a writer.
 //!
 //! A command has a module of its own, with two functions. One takes a reader of bytes and makes the reader of their blocks, which
-//! takes memory; the other, with `_blocks` in its name, takes the readers of blocks. Both return true, except that `compare`
+//! allocates memory; the other, with `_blocks` in its name, takes the readers of blocks. Both return true, except that `compare`
 //! returns false for two markets that differ, and `canon` for a file that is not canonical. A [`ToolFault`] says why a command
 //! failed; it has the line for standard error and the program's status.
 //!

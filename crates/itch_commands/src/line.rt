@@ -6,7 +6,7 @@ use arrayvec::ArrayVec;
 use itoa::{Buffer, Integer};
 use std::marker::Model;
 
-/// A line of at most 192 bytes. It lies in the value itself and takes no memory.
+/// A line of at most 192 bytes. It is held in the value itself and allocates nothing.
 #[derive(Drop)]
 pub struct Line {
     bytes: ArrayVec<u8, 192>,

@@ -13,7 +13,7 @@ use itch_frame::{BlockReader, CountedRead, CountedWrite};
 use itch_market::LocateSet;
 use std::alloc::Allocator;
 
-/// Performs a request over the blocks of its file, by the command of its name.
+/// Performs a request over the blocks of its file.
 pub fn perform<R: CountedRead, B: Allocator, A: Allocator + Copy, W: CountedWrite>(
     alloc: A,
     request: Request<'_>,

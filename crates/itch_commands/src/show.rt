@@ -10,7 +10,7 @@ use crate::fault::{Source, ToolFault};
 use crate::writing::write_text;
 use itch_codec::{MOST_MESSAGES, decode, show as show_message};
 use itch_frame::{BlockReader, CountedRead, CountedWrite};
-use itch_market::{ReplayEnd, Stop};
+use itch_market::{ReplayEnd, Stop, next_message};
 use std::alloc::Allocator;
 
 /// Writes a line for each message of a day file or a snapshot file, in the form of [`itch_codec::show`].
@@ -73,18 +73,9 @@ fn show_next<R: CountedRead, A: Allocator, W: CountedWrite>(
     ensures failures { CountsRead result (R.failures reader.old.reader) (R.failures reader.new.reader) }
     ensures reader { LeavesNext result reader.old reader.new }
 {
-    match reader.next_block() {
-        Ok(Some(payload)) => {
-            if payload.is_empty() {
-                return Err(stopped(count, Stop::End));
-            }
-            if count == MOST_MESSAGES {
-                return Err(stopped(count, Stop::TooManyMessages));
-            }
-            show_payload(payload, count, out)
-        }
-        Ok(None) => Err(stopped(count, Stop::End)),
-        Err(fault) => Err(stopped(count, Stop::Frame(fault))),
+    match next_message(reader, count == MOST_MESSAGES) {
+        Ok(payload) => show_payload(payload, count, out),
+        Err(stop) => Err(stopped(count, stop)),
     }
 }
 

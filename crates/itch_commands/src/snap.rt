@@ -32,8 +32,7 @@ pub fn snap<R: CountedRead + Drop, A: Allocator + Copy, W: CountedWrite>(
     snap_blocks(alloc, &mut reader, after, only, out)
 }
 
-/// The same over a reader of blocks, which is left at the place where reading ended: after the first messages, if only those are
-/// wanted.
+/// The same over a reader of blocks, which is left where the reading ended: after the first messages, if only those are wanted.
 pub fn snap_blocks<R: CountedRead, B: Allocator, A: Allocator + Copy, W: CountedWrite>(
     alloc: A,
     reader: &mut BlockReader<R, B>,

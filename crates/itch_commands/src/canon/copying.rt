@@ -17,7 +17,7 @@ use std::alloc::{AllocError, Allocator};
 
 /// Reads a snapshot file up to its End of Snapshot, of which the number is returned, and copies the bytes that it reads.
 ///
-/// A message is taken before its bytes are copied, so that a fault of the file is returned before memory for them can run out.
+/// A message is taken before its bytes are copied, so that a fault in it is returned even if there is no memory for them.
 pub fn copy_snapshot<R: CountedRead, C: Allocator, B: OrderBook, A: Allocator>(
     reader: &mut BlockReader<R, C>,
     loader: &mut SnapshotReader<B>,
@@ -37,7 +37,7 @@ pub fn copy_snapshot<R: CountedRead, C: Allocator, B: OrderBook, A: Allocator>(
     unreachable!()
 }
 
-// Takes the message of the next block, and copies the block's bytes.
+// Takes the next message, and copies the bytes of its block.
 fn copy_next<R: CountedRead, C: Allocator, B: OrderBook, A: Allocator>(
     reader: &mut BlockReader<R, C>,
     loader: &mut SnapshotReader<B>,
@@ -48,11 +48,8 @@ fn copy_next<R: CountedRead, C: Allocator, B: OrderBook, A: Allocator>(
     ensures loader { IfOk result (λ found. (loader.new.taken ≡ taken_after loader.old.taken (Ok found)) × (loader.new.stage ≡ stage_after (Ok found))) }
     ensures failures { CountsSnap result (R.failures reader.old.reader) (R.failures reader.new.reader) }
 {
-    match reader.next_block() {
+    match reader.next_message() {
         Ok(Some(payload)) => {
-            if payload.is_empty() {
-                return Err(refused(SnapFault::NoEnd));
-            }
             let found = loader.message(payload).map_err(refused)?;
             copy_block(copy, payload)?;
             Ok(found)

@@ -13,7 +13,7 @@ use itch_book::OrderBook;
 use itch_codec::MOST_MESSAGES;
 use itch_frame::{BlockReader, CountedRead};
 use itch_join::{Cause, JoinFault, Joiner};
-use itch_market::{Refusal, ReplayEnd, Stop};
+use itch_market::{Refusal, ReplayEnd, Stop, next_message};
 use std::alloc::Allocator;
 
 /// Delivers the messages of a feed to a joiner that has joined, numbered from 1, up to the first that is not taken.
@@ -55,7 +55,7 @@ fn deliver<R: CountedRead, A: Allocator, B: OrderBook>(
     unreachable!()
 }
 
-// Delivers the message of the next block, after `count` others.
+// Delivers the next message, after `count` others.
 fn deliver_next<R: CountedRead, A: Allocator, B: OrderBook>(
     reader: &mut BlockReader<R, A>,
     joiner: &mut Joiner<B>,
@@ -71,19 +71,8 @@ fn deliver_next<R: CountedRead, A: Allocator, B: OrderBook>(
         (λ stop. Counts stop (R.failures reader.old.reader) (R.failures reader.new.reader)) }
     ensures reader { MatchResult result (λ _. LeavesReaderFirst reader.old 1 None reader.new) (λ stop. LeavesReaderFirst reader.old 0 (Some stop) reader.new) }
 {
-    match reader.next_block() {
-        Ok(Some(payload)) => {
-            if payload.is_empty() {
-                return Err(Stop::End);
-            }
-            if count == MOST_MESSAGES {
-                return Err(Stop::TooManyMessages);
-            }
-            deliver_message(joiner, payload, count + 1)
-        }
-        Ok(None) => Err(Stop::End),
-        Err(fault) => Err(Stop::Frame(fault)),
-    }
+    let payload = next_message(reader, count == MOST_MESSAGES)?;
+    deliver_message(joiner, payload, count + 1)
 }
 
 // Delivers the message with this number.
@@ -106,7 +95,7 @@ fn deliver_message<B: OrderBook>(
     }
 }
 
-// The stop where a joiner refuses the next message.
+// The stop at a message that a joiner refuses.
 fn feed_stop(fault: JoinFault) -> Stop
     requires { IsOfFeed fault }
     ensures { result ≡ feed_stop fault }

@@ -54,7 +54,7 @@ fn start<R: CountedRead, A: Allocator, B: OrderBook>(
     unreachable!()
 }
 
-// Gives a joiner the message of the next block, after `taken` others, and returns the number of an End of Snapshot.
+// Gives a joiner the next message, after `taken` others, and returns the number of an End of Snapshot.
 fn start_next<R: CountedRead, A: Allocator, B: OrderBook>(
     reader: &mut BlockReader<R, A>,
     joiner: &mut Joiner<B>,
@@ -69,19 +69,13 @@ fn start_next<R: CountedRead, A: Allocator, B: OrderBook>(
     ensures failures { MatchResult result (λ _. R.failures reader.new.reader ≡ R.failures reader.old.reader)
         (λ fault. CountsFault fault (R.failures reader.old.reader) (R.failures reader.new.reader)) }
 {
-    match reader.next_block() {
-        Ok(Some(payload)) => {
-            if payload.is_empty() {
-                return Err(SnapFault::NoEnd);
-            }
-            start_message(joiner, payload, taken)
-        }
-        Ok(None) => Err(SnapFault::NoEnd),
-        Err(fault) => Err(SnapFault::Frame(fault)),
+    match reader.next_message()? {
+        Some(payload) => start_message(joiner, payload, taken),
+        None => Err(SnapFault::NoEnd),
     }
 }
 
-// The same of a payload.
+// Gives a joiner the message of a payload.
 fn start_message<B: OrderBook>(
     joiner: &mut Joiner<B>,
     payload: &[u8],
@@ -100,7 +94,7 @@ fn start_message<B: OrderBook>(
     }
 }
 
-// The fault of a snapshot whose message at this place a joiner refuses.
+// The fault of a snapshot if a joiner refuses its message at this place.
 fn snapshot_fault(fault: JoinFault, place: u64) -> SnapFault
     requires { IsOfSnapshot fault }
     ensures { result ≡ snapshot_fault fault place }
