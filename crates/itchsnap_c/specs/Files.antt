@@ -65,7 +65,8 @@ Checks day o =
 abbrev pub market_of : List (List ℕ) → Content
 market_of payloads = run (map message_of payloads)
 
--- The snapshot of what the messages leave, or of what it is cut down to, stands at the front of the memory, or there is no room for it, or memory is refused; or the file is.
+-- The snapshot of what the messages leave, or of what it is cut down to, is at the front of the memory; or there is no room for
+-- it, or memory is refused, or the file is.
 abbrev pub Snaps : (Content → Content) → List ℕ → Option ℕ → List ℕ → Outcome → List ℕ → Type 0
 Snaps cut day after old o new =
     ((payloads : List (List ℕ)) × (written : Written) × Reads day after payloads × (o ≡ outcome (length payloads) written.len 0 written.code)

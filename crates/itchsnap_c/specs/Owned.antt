@@ -12,7 +12,7 @@ use Rattle.itchsnap_c.specs.declared.object.Object.{Object}
 abbrev pub object_row : RattleType
 object_row = object.the_row
 
--- the object at the pointer, and the right to free its block; nothing where there is none
+-- the object at the pointer, and the right to free its block; nothing if there is no object
 abbrev pub kept_owns : Ptr → Option Object → Fml
 kept_owns p None = ftrue
 kept_owns p (Some x) = box_owns (λ ty q. heap.ghosts.dealloc_token (record { memory = record { seal = tt } }) ty q) object_row p x

@@ -38,7 +38,7 @@ credentials_of login = record { username = login.username; password = login.pass
 abbrev pub config_of : Login → ServerConfig
 config_of login = record { username = login.username; password = login.password; session = login.session }
 
--- a handle is filled with a new session, unless a text is none, or else the number is above the most, for which this is the code
+-- a handle is filled with a new session, unless a text is invalid, or else the number is above the most, for which this is the code
 abbrev pub FillsSession : Login → ℕ → ℕ → ℕ → Object → Option Object → Answer → Option Object → Type 0
 FillsSession login number most code session old answer new =
     (AreTexts login × (number ≤ most) × Fills old session answer new)
@@ -53,7 +53,7 @@ FillsClient login number now = FillsSession login number (10 ^ 19) 54 (Client (s
 abbrev pub FillsServer : Login → ℕ → ℕ → Option Object → Answer → Option Object → Type 0
 FillsServer config total now = FillsSession config total (10 ^ 19 - 1) 33 (Server (soup_server.new_server (config_of config) total now))
 
--- a block is a packet of this side, and is answered so; or it is none, and leaves the session
+-- a block is a packet of this side, and is answered in this way; or it is not, and the session is left as it was
 abbrev pub Hears : {S : Type 0} → Origin → (S → Packet → Act) → (S → Packet → S) → List ℕ → S → Act → S → Type 0
 Hears side answer_to after block s answer t =
     ((packet : Packet) × PacketSpells packet block side × (answer ≡ answer_to s packet) × (t ≡ after s packet))
@@ -85,7 +85,7 @@ held_client held = option_and_then client_of held
 abbrev pub held_server : Option Object → Option soup_server.Server
 held_server held = option_and_then server_of held
 
--- the login request of a session, or zeros where there is none
+-- the login request of a session, or zeros if there is no session
 abbrev pub login_in : Option soup.Client → LoginPacket
 login_in (Some c) = record { bytes = packet_spelling (is.LoginRequest (soup.login_of c)); code = 0 }
 login_in None = record { bytes = replicate 47 0; code = 50 }

@@ -20,7 +20,7 @@ is_listed locates locate = list_any (nat_eq locate) locates
 abbrev pub unwritten : ℕ → Written
 unwritten code = record { len = 0; code = code }
 
--- the bytes stand at the front of the memory, or it is too short and as it was
+-- the bytes are at the front of the memory, or it is too short and left as it was
 abbrev pub Copies : List ℕ → List ℕ → Written → List ℕ → Type 0
 Copies bytes old written new =
     ((written ≡ record { len = length bytes; code = 0 }) × (length bytes ≤ length old) × (new ≡ bytes ++ drop (length bytes) old))
@@ -30,8 +30,8 @@ Copies bytes old written new =
 abbrev pub Writes : List ℕ → List ℕ → Written → List ℕ → Type 0
 Writes bytes old written new = Copies bytes old written new ⊎ ((written ≡ unwritten 48) × (new ≡ old))
 
--- What a snapshot of a market, or of what it was cut down to, closed with a number, leaves. It is refused exactly where the
--- number is none, and else exactly where the market has too many messages.
+-- What writing the snapshot of a market, or of what it was cut down to, closed with a number, returns and leaves. It is refused
+-- if and only if the number is no sequence number, or else the market has too many messages.
 abbrev pub Puts : Content → Content → ℕ → List ℕ → Written → List ℕ → Type 0
 Puts m cut next old written new =
     (IsNumber next × (length (snap m) < 10 ^ 19) × Writes (canon cut ++ closing next) old written new)
@@ -43,8 +43,8 @@ abbrev pub PutsHeld : (Content → Content) → Option Content → ℕ → List 
 PutsHeld cut (Some m) next old written new = Puts m (cut m) next old written new
 PutsHeld cut None next old written new = (written ≡ unwritten 50) × (new ≡ old)
 
--- The number that closes the snapshot of a market, or the code of why there is none: the number is none, or else the market has
--- too many messages.
+-- The number that closes the snapshot of a market, or the code of why there is none: the number is no sequence number, or else
+-- the market has too many messages.
 abbrev pub Closes : Content → ℕ → Result ℕ ℕ → Type 0
 Closes m next (Ok number) = (number ≡ next) × IsNumber next × (length (snap m) < 10 ^ 19)
 Closes m next (Err code) = ((code ≡ 54) × (¬ IsNumber next)) ⊎ ((code ≡ 33) × IsNumber next × (10 ^ 19 ≤ length (snap m)))

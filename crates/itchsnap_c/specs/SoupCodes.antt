@@ -33,7 +33,7 @@ soup_fault_act (fault.WrongStart next) = act 101 0 0
 soup_fault_act fault.EndedEarly = act 101 0 0
 soup_fault_act (fault.Snapshot why) = act 101 0 0
 
--- what a client learns; the bytes of a message stand after the first of its packet
+-- what a client learns; the bytes of a message follow the first byte of its packet
 abbrev pub client_act : ClientAct → Act
 client_act (client.Accepted next) = act 80 next 0
 client_act (client.Rejected code) = act 81 0 code

@@ -80,7 +80,7 @@ EndsOver m next config reader writer ending =
 abbrev pub EndsAs : Content → ℕ → ServerConfig → Option (List ℕ) → Option (List ℕ) → Ending → Type 0
 EndsAs m next config sent written ending = EndsOver m next config (unread sent) (sound written) ending
 
--- what serving one connection returns: its ending, or want of memory
+-- what serving one connection returns: its ending, or that memory ran out
 abbrev pub ServesPeer : Content → ℕ → ServerConfig → Option (List ℕ) → Option (List ℕ) → Result Ending ToolFault → Type 0
 ServesPeer m next config sent written (Ok ending) = EndsAs m next config sent written ending
 ServesPeer m next config sent written (Err tool.OutOfMemory) = Unit {0}
