@@ -20,12 +20,12 @@ walk f zero from = []
 walk f (suc n) None = []
 walk f (suc n) (Some k) = k ∷ walk f n (next_of (f k))
 
--- the first key, or what stands after the list
+-- the first key, or what follows the list
 abbrev pub first_or : List ℕ → Option ℕ → Option ℕ
 first_or [] after = after
 first_or (k ∷ ks) after = Some k
 
--- the last key, or what stands before the list
+-- the last key, or what comes before the list
 abbrev pub last_or : Option ℕ → List ℕ → Option ℕ
 last_or before [] = before
 last_or before (k ∷ ks) = last_or (Some k) ks

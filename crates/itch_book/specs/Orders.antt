@@ -160,7 +160,7 @@ level orders locate side price = filter (is_level locate side price) orders
 abbrev pub level_total : List Order → ℕ → Side → ℕ → ℕ × ℕ
 level_total orders locate side price = (sum_by (λ x. x.shares) (level orders locate side price), length (level orders locate side price))
 
--- the order that stands first
+-- the first order
 abbrev pub first : List Order → Option Order
 first [] = None
 first (x ∷ xs) = Some x

@@ -1,8 +1,8 @@
--- Lists in order by a comparison, where elements that tie keep the order in which they came.
+-- Lists in order by a comparison, in which elements that tie keep the order in which they came.
 use Rattle.std.specs.Prelude.{◌≡◌, Bool, false, List, [], ◌∷◌, cond}
 use Rattle.std.specs.List.{AllByRecursion}
 
--- x, which came earlier than all of the list, goes in front of the first that is not before it
+-- x, which came earlier than all of the list, goes before the first that is not before it
 abbrev pub earlier_in : {A : Type 0} → (A → A → Bool) → A → List A → List A
 earlier_in before x [] = x ∷ []
 earlier_in before x (y ∷ ys) = cond (before y x) (y ∷ earlier_in before x ys) (x ∷ y ∷ ys)

@@ -1,4 +1,4 @@
--- What is returned where shares were taken.
+-- What is returned when shares are taken.
 use Rattle.std.specs.Prelude.{◌≡◌, ℕ, ◌<◌}
 use Rattle.itch_book.specs.declared.order.Taken.{Taken}
 use Rattle.itch_book.specs.declared.order.Taken.TheVariants.{Left, Gone}

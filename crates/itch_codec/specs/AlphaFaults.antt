@@ -8,6 +8,6 @@ use Rattle.itch_codec.specs.Text.{first_unprintable}
 abbrev pub bytes_fault : List ℕ → Option AlphaFault
 bytes_fault bytes = option_map NotPrintable (first_unprintable bytes)
 
--- a text that is longer than its field, or else its first byte that is not printable
+-- that a text is longer than its field, or otherwise its first byte that is not printable
 abbrev pub text_fault : ℕ → List ℕ → Option AlphaFault
 text_fault width text = if nat_lt width (length text) then Some TooLong else bytes_fault text

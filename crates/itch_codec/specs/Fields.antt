@@ -71,7 +71,7 @@ joined (column ∷ columns) (value ∷ values) = bytes_at column.class column.wi
 abbrev pub side_of : ℕ → Side
 side_of byte = if byte == 66 then Buy else Sell
 
--- the value in a field, where it has no fault
+-- the value in a field, if it has no fault
 abbrev pub value_by : Class → ℕ → ℕ → List ℕ → Value
 value_by Integer offset width payload = Number (number_at offset width payload)
 value_by Price offset width payload = Number (number_at offset width payload)
@@ -81,7 +81,7 @@ value_by Code offset width payload = Number (byte_at offset payload)
 value_by Codes offset width payload = Bytes (slice_at offset width payload)
 value_by Digits offset width payload = Number (unwrap_or (read20 (slice_at offset width payload)) 0)
 
--- the value in a column's field, where it has no fault
+-- the value in a column's field, if it has no fault
 abbrev pub value_at : List ℕ → Column → Value
 value_at payload column = value_by column.class column.offset column.width payload
 

@@ -84,7 +84,7 @@ laid_fault layout payload =
     then first_fault payload layout.columns
     else Some (WrongLength layout.kind layout.size (length payload))
 
--- the fault of a payload of this layout, or none where its type is not in the table
+-- the fault of a payload of this layout, or none if its type is not in the table
 abbrev pub fault_by_layout : Option Layout → List ℕ → Option CodecFault
 fault_by_layout None payload = None
 fault_by_layout (Some layout) payload = laid_fault layout payload
@@ -115,7 +115,7 @@ made kind values =
     if kind == broken_trade.kind then is.BrokenTrade (broken_trade_of values) else (
     is.End (number 0 values)))))))))))))))))
 
--- the message of a payload of this layout, or the payload where its type is not in the table
+-- the message of a payload of this layout, or the payload if its type is not in the table
 abbrev pub message_by_layout : Option Layout → List ℕ → Message
 message_by_layout None payload = is.Other payload
 message_by_layout (Some layout) payload = made layout.kind (map (value_at payload) layout.columns)

@@ -12,7 +12,7 @@ use std::alloc::Allocator;
 ///
 /// `End` where the messages end, `Frame` for a fault, and `TooManyMessages` for a message if the caller has as many as a day
 /// file may have (`is_full`); that message has been read. After the end of input, or a block truncated there, each call
-/// returns the same and reads nothing.
+/// returns the same and reads nothing; after an empty block the next call reads on.
 pub fn next_message<R: CountedRead, A: Allocator>(
     reader: &mut BlockReader<R, A>,
     is_full: bool,
