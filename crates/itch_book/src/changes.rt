@@ -84,9 +84,6 @@ pub(crate) fn exchange<A: Allocator>(
         price,
         ..old
     };
-    match put_in(orders, order) {
-        Ok(()) => {}
-        // The removed order left room.
-        Err(_) => unreachable!(),
-    }
+    // The removed order left room.
+    put_in(orders, order).unwrap();
 }

@@ -64,10 +64,8 @@ impl<A: Allocator + Copy> Index<A> {
         ensures order { option_copied result ≡ get self.now reference }
         ensures book { IsBook self.now }
     {
-        match node_at(&self.references, reference) {
-            Some(key) => Some(self.queues.order(key)),
-            None => None,
-        }
+        let key = node_at(&self.references, reference)?;
+        Some(self.queues.order(key))
     }
 
     /// Adds an order, last at its price. If an allocation fails, nothing changes.
@@ -140,10 +138,7 @@ impl<A: Allocator + Copy> Index<A> {
         ensures ok { OnOk result (self.new ≡ lay (replaced original reference shares price self.old)) }
         ensures err { OnErr result (self.new ≡ self.old) }
     {
-        let old = match self.get(original) {
-            Some(order) => *order,
-            None => unreachable!(),
-        };
+        let old = *self.get(original).unwrap();
         let order = Order {
             reference,
             shares,
@@ -192,20 +187,16 @@ impl<A: Allocator + Copy> Index<A> {
         ensures front { option_copied result ≡ find (is_of locate side) self.now }
         ensures book { IsBook self.now }
     {
-        match self.prices.next_level(locate, side, None) {
-            Some((_, queue)) => head_of(&self.queues, queue),
-            None => None,
-        }
+        let (_price, queue) = self.prices.next_level(locate, side, None)?;
+        head_of(&self.queues, queue)
     }
 
     /// The best price of a side, or the best one worse than the last.
     pub(crate) fn next_price(&self, locate: u16, side: Side, last: Option<u32>) -> Option<u32>
         ensures { result ≡ next_price self.now locate side last }
     {
-        match self.prices.next_level(locate, side, last) {
-            Some((price, _)) => Some(price),
-            None => None,
-        }
+        let (price, _queue) = self.prices.next_level(locate, side, last)?;
+        Some(price)
     }
 
     /// The shares at a price, and the number of orders.
@@ -233,10 +224,7 @@ fn known_node<A: Allocator>(references: &References<A>, reference: u64) -> usize
     requires { IsSome (node_of references.now.entries reference) }
     ensures { node_of references.now.entries reference ≡ Some result }
 {
-    match node_at(references, reference) {
-        Some(key) => key,
-        None => unreachable!(),
-    }
+    node_at(references, reference).unwrap()
 }
 
 // The queue at a price of a side, opened if there is none. If an allocation fails, nothing changes.
@@ -290,15 +278,11 @@ fn take_out<A: Allocator + Copy>(
     ensures whole { IsWhole references.old.entries prices.old.bids.entries prices.old.asks.entries (seen queues.old) → IsWhole references.new.entries prices.new.bids.entries prices.new.asks.entries (seen queues.new) }
     ensures view { IsWhole references.old.entries prices.old.bids.entries prices.old.asks.entries (seen queues.old) → indexed (seen queues.new) prices.new.bids.entries prices.new.asks.entries ≡ lay (without reference (indexed (seen queues.old) prices.old.bids.entries prices.old.asks.entries)) }
 {
-    match references.remove(&reference) {
-        Some(key) => {
-            let queue = queues.queue_of(key);
-            let order = queues.unlink(key);
-            close_empty(prices, queues, queue, order.locate, order.side, order.price);
-            order
-        }
-        None => unreachable!(),
-    }
+    let key = references.remove(&reference).unwrap();
+    let queue = queues.queue_of(key);
+    let order = queues.unlink(key);
+    close_empty(prices, queues, queue, order.locate, order.side, order.price);
+    order
 }
 
 // The first order of a queue.
@@ -307,10 +291,8 @@ fn head_of<A: Allocator>(queues: &Queues<A>, queue: usize) -> Option<&Order>
     requires live { (ks : List ℕ) → (k : ℕ) → keys_at queues.now queue ≡ Some ks → list_any (eqb k) ks ≡ true → IsSome (order_at queues.now k) }
     ensures { (ks : List ℕ) → keys_at queues.now queue ≡ Some ks → option_copied result ≡ first (found (order_at queues.now) ks) }
 {
-    match queues.first(queue) {
-        Some(key) => Some(queues.order(key)),
-        None => None,
-    }
+    let key = queues.first(queue)?;
+    Some(queues.order(key))
 }
 
 // Puts an order last in the queue of its price, under its reference. There is room for both.

@@ -114,10 +114,8 @@ impl<A: Allocator + Copy> Prices<A> {
 fn level_of(entry: Option<(&(u16, u32), &usize)>) -> Option<(u32, usize)>
     ensures { result ≡ option_map level_entry (option_map deref_pair entry.entry) }
 {
-    match entry {
-        Some((place, queue)) => Some((place.1, *queue)),
-        None => None,
-    }
+    let (place, queue) = entry?;
+    Some((place.1, *queue))
 }
 
 // The highest price of a locate below the last, and its queue.

@@ -56,10 +56,7 @@ pub(crate) fn index_of(orders: &[Order], reference: u64) -> usize
     ensures place { result ≡ position_or_len (has_reference reference) orders.now }
     ensures within { result < length orders.now }
 {
-    match place_in(orders, reference) {
-        Some(index) => index,
-        None => unreachable!(),
-    }
+    place_in(orders, reference).unwrap()
 }
 
 // The first order of a locate.

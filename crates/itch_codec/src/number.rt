@@ -59,10 +59,7 @@ impl Seq {
         let Some(value) = read(&codes_at(payload, 1)) else {
             return Err(CodecFault::BadNumber);
         };
-        match Seq::new(value) {
-            Some(next) => Ok(next),
-            None => Err(CodecFault::BadNumber),
-        }
+        Seq::new(value).ok_or(CodecFault::BadNumber)
     }
 
     // The End of Snapshot with this number.

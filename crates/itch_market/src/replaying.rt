@@ -36,9 +36,11 @@ pub fn replay<R: CountedRead, A: Allocator, B: OrderBook>(
     ensures reader { LeavesReader result.stop reader.new }
     ensures again { StopsAgain reader.old result.count result.stop reader.new }
 {
-    match replay_first(reader, market, u64::MAX) {
-        (count, Some(stop)) => ReplayEnd { count, stop },
-        (_, None) => unreachable!(),
+    // There is always a stop: a replay applies fewer messages than that.
+    let (count, stop) = replay_first(reader, market, u64::MAX);
+    ReplayEnd {
+        count,
+        stop: stop.unwrap(),
     }
 }
 

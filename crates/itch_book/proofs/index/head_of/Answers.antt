@@ -1,4 +1,5 @@
 use Rattle.std.proofs.Common.{◌≡◌, ℕ, List, [], ◌∷◌, Option, Some, None, refl, sym, ap, ◌∙◌}
+use Rattle.std.specs.Option.{option_copied}
 use Rattle.itch_book.specs.declared.order.Order.{Order}
 use Rattle.itch_book.specs.Links.{first_or}
 use Rattle.itch_book.specs.Orders.{first}
@@ -18,10 +19,10 @@ none_found orders (k ∷ ks) h = none_some h refl
 pub order-requires : goal.order-requires
 order-requires g c =
     let keys = some_of (keys_at c.args.queues.now c.args.queue) c.requires.there in
-    c.requires.live keys.0 c.in-Some.key keys.1 (first_in c.in-Some.key keys.0 (sym (c.in-Some.ensures keys.0 keys.1)))
+    c.requires.live keys.0 c.in_ok-key.key keys.1 (first_in c.in_ok-key.key keys.0 (sym (c.in_ok-key.ensures keys.0 keys.1)))
 
-pub returns-in-Some : goal.returns-in-Some
-returns-in-Some g c ks keys = first_found (order_at c.args.queues.now) c.in-Some.key c.order.result.now ks (sym (c.in-Some.ensures ks keys)) c.order.ensures
+pub returns : goal.returns
+returns g c ks keys = first_found (order_at c.args.queues.now) c.in_ok-key.key c.order.result.now ks (sym (c.in_ok-key.ensures ks keys)) c.order.ensures
 
-pub returns-in-None : goal.returns-in-None
-returns-in-None g c ks keys = none_found (order_at c.args.queues.now) ks (sym (c.in-None.ensures ks keys))
+pub returns-in_err-key : goal.returns-in_err-key
+returns-in_err-key g c ks keys = ap option_copied c.from_residual.ensures ∙ none_found (order_at c.args.queues.now) ks (sym (c.in_err-key.ensures ks keys))

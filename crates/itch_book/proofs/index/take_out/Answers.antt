@@ -11,11 +11,11 @@ returns-clause-whole g c whole =
     let refs = c.args.references.now.entries in let refs' = c.remove.new.self.entries in
     let bids = c.args.prices.now.bids.entries in let asks = c.args.prices.now.asks.entries in
     let w : Seen = seen c.args.queues.now in let is = whole.index in
-    let r = c.args.reference in let k = c.in-Some.key in let x = c.unlink-order.result in let q = c.queue_of-queue.result in
-    let node : node_of refs r ≡ Some k = sym c.in-Some.ensures.value in
+    let r = c.args.reference in let k = c.unwrap-key.result in let x = c.unlink-order.result in let q = c.queue_of-queue.result in
+    let node : node_of refs r ≡ Some k = sym c.remove.ensures.value ∙ c.unwrap-key.ensures in
     let here : order_at c.args.queues.now k ≡ Some x = c.unlink-order.ensures.order in
-    let names : (j : ℕ) → node_of refs' j ≡ at_key r None (node_of refs) j = λ j. c.in-Some.ensures.updates.0 j in
-    let len : length refs' + 1 ≡ length refs = c.in-Some.ensures.len in
+    let names : (j : ℕ) → node_of refs' j ≡ at_key r None (node_of refs) j = λ j. c.remove.ensures.updates.0 j in
+    let len : length refs' + 1 ≡ length refs = rw c.unwrap-key.ensures at c.remove.ensures.len in
     let v : Seen = record { keys = λ p. option_map (without_key k) (w.keys p); orders = at_key k None w.orders } in
     let same : seen c.unlink-order.new.self ≡ v = seen_same v (seen c.unlink-order.new.self) c.unlink-order.ensures.keys c.unlink-order.ensures.orders in
     let place = is.listed k x here in
@@ -31,11 +31,11 @@ returns-clause-view g c whole =
     let refs = c.args.references.now.entries in let refs' = c.remove.new.self.entries in
     let bids = c.args.prices.now.bids.entries in let asks = c.args.prices.now.asks.entries in
     let w : Seen = seen c.args.queues.now in let is = whole.index in
-    let r = c.args.reference in let k = c.in-Some.key in let x = c.unlink-order.result in let q = c.queue_of-queue.result in
-    let node : node_of refs r ≡ Some k = sym c.in-Some.ensures.value in
+    let r = c.args.reference in let k = c.unwrap-key.result in let x = c.unlink-order.result in let q = c.queue_of-queue.result in
+    let node : node_of refs r ≡ Some k = sym c.remove.ensures.value ∙ c.unwrap-key.ensures in
     let here : order_at c.args.queues.now k ≡ Some x = c.unlink-order.ensures.order in
-    let names : (j : ℕ) → node_of refs' j ≡ at_key r None (node_of refs) j = λ j. c.in-Some.ensures.updates.0 j in
-    let len : length refs' + 1 ≡ length refs = c.in-Some.ensures.len in
+    let names : (j : ℕ) → node_of refs' j ≡ at_key r None (node_of refs) j = λ j. c.remove.ensures.updates.0 j in
+    let len : length refs' + 1 ≡ length refs = rw c.unwrap-key.ensures at c.remove.ensures.len in
     let v : Seen = record { keys = λ p. option_map (without_key k) (w.keys p); orders = at_key k None w.orders } in
     let same : seen c.unlink-order.new.self ≡ v = seen_same v (seen c.unlink-order.new.self) c.unlink-order.ensures.keys c.unlink-order.ensures.orders in
     let place = is.listed k x here in
