@@ -39,9 +39,3 @@ snap-laid m good = snap_same (laid m) m (laid_is_same m good)
 
 pub same_snap : (m n : Content) → IsGood m → IsGood n → snap m ≡ snap n → Same m n
 same_snap m n good fine e = same_laid m n good fine (sym (run-snap m good) ∙ ap run e ∙ run-snap n fine)
-
-pub one_snap : (m n : Content) → IsGood m → IsGood n → Same m n ↔ (snap m ≡ snap n)
-one_snap m n good fine = (snap_same m n, same_snap m n good fine)
-
-pub one_laid : (m n : Content) → IsGood m → IsGood n → Same m n ↔ (laid m ≡ laid n)
-one_laid m n good fine = (laid_same m n, same_laid m n good fine)

@@ -42,21 +42,21 @@ impl<'a, B: OrderBook> Model for SnapshotIter<'a, B> {
 }
 
 impl<'a, B: OrderBook> SnapshotIter<'a, B> {
-    /// Over the snapshot of the whole market.
+    /// An iterator over the snapshot of the whole market.
     pub fn new(market: &'a Market<B>) -> SnapshotIter<'a, B>
         ensures { result ≡ snap market.now }
     {
         SnapshotIter::of(market, None)
     }
 
-    /// Over the snapshot of the market cut down to the locates of the set.
+    /// An iterator over the snapshot of the market cut down to the locates of the set.
     pub fn only(market: &'a Market<B>, set: &'a LocateSet<B::Alloc>) -> SnapshotIter<'a, B>
         ensures { result ≡ snap (only (has set.now) market.now) }
     {
         SnapshotIter::of(market, Some(set))
     }
 
-    // Over the snapshot of the whole market, or of the market cut down to the locates of a set.
+    // An iterator over the snapshot of the whole market, or of the market cut down to the locates of a set.
     pub(crate) fn of(
         market: &'a Market<B>,
         set: Option<&'a LocateSet<B::Alloc>>,
