@@ -308,17 +308,6 @@ pub hearing_closed : (start : Client) (old mid new : Option (List ℕ)) (count :
 hearing_closed start old mid new count c c_after load after so_far (packet, (room, (payload, fits, consumed, spelled)), is, takes) done finishes =
     heard_end start old mid new count c load after so_far packet payload room fits consumed spelled (client_answer c packet) refl takes done finishes
 
--- it closed the snapshot, and the snapshot's reader is at its end
-pub hearing_closes : (start : Client) (old mid new : Option (List ℕ)) (count : ℕ) (c later : Client) (load after : Load) → Hearing start old mid count c load
-    → HearsNext (is_enough count) c load mid new (Ok true) later after → (next : ℕ) × (after.stage ≡ Closed next)
-hearing_closes start old mid new count c c_after load after so_far (packet, (room, (read, fits, consumed, spelled)), is, takes) = closes_by (client_answer c packet) takes where
-  closes_by : (answer : ClientAct) → TakesAnswer answer load true after → (next : ℕ) × (after.stage ≡ Closed next)
-  closes_by act.Nothing (unclosed, same) = absurd (let no_one : ⊥ = cc in no_one)
-  closes_by (act.Accepted next) (one, unclosed, same) = absurd (let no_one : ⊥ = cc in no_one)
-  closes_by (act.Data number payload) (taken, loads, closed) =
-      let (next, number_is, market, at_end) = closed_by start old mid new count c load after so_far packet read room fits consumed spelled payload taken loads closed in (next, at_end)
-  closes_by answer takes = absurd takes
-
 -- the snapshot's reader has taken these messages
 loaded : (payloads : List (List ℕ)) (load : Load) → Applied payloads load.taken load.market → load.stage ≡ Taking → load ≡ load_of payloads
 loaded payloads load applied taking = λ i. record { taken = sym applied.counted i; market = applied.left i; stage = taking i }

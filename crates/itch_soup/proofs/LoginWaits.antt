@@ -1,12 +1,11 @@
 -- A wait for a login step by step: the packets ignored so far, and one more.
-use Rattle.std.proofs.Common.{rules, ◌≡◌, ℕ, ◌+◌, ◌^◌, ◌≤◌, Bool, true, false, List, [], ◌∷◌, ◌++◌, length, Option, None, Ok, refl, sym, subst, arith, length-append}
+use Rattle.std.proofs.Common.{◌≡◌, ℕ, ◌+◌, ◌^◌, ◌≤◌, Bool, true, false, List, [], ◌∷◌, ◌++◌, length, Option, None, Ok, refl, sym, subst, arith, length-append}
 use Rattle.std.proofs.lemmas.Bool.Decides.{nat_tests}
 use Rattle.std.specs.List.{AllByRecursion}
 use Rattle.std.specs.Io.KnownBytes.{Consumes}
 use Rattle.std.proofs.KnownBytes.{Consumes-nil}
-use Rattle.itch_frame.specs.Blocks.{block, blocks}
+use Rattle.itch_frame.specs.Blocks.{blocks}
 use Rattle.itch_frame.proofs.BlockLemmas.{consumed_more, each-push}
-use Rattle.itch_soup.specs.declared.origin.Origin.TheVariants.{Client}
 use Rattle.itch_soup.specs.declared.packet.Packet.{Packet}
 use Rattle.itch_soup.specs.declared.packet.Packet.TheVariants as is
 use Rattle.std.specs.Prelude.{nat_lt, not, if◌then◌else◌}
@@ -18,7 +17,6 @@ use Rattle.itch_soup.specs.declared.server.ServerAct.{ServerAct}
 use Rattle.itch_soup.specs.declared.server.ServerAct.TheVariants as server
 use Rattle.itch_soup.specs.Names.{asks_for_session}
 use Rattle.itch_soup.specs.Servers.{is_user, first_asked, not_authorised, not_available, judged, server_turn}
-use Rattle.itch_soup.specs.Packets.{PacketSpells}
 use Rattle.itch_soup.specs.NextPackets.{is_enough}
 use Rattle.itch_soup.specs.Serving.{IsIdle, IsPassedOver, EndsWait, WaitsOn, WaitsForLogin, Wait}
 

@@ -8,7 +8,6 @@ use Rattle.itch_codec.specs.Messages.{message_of}
 use Rattle.itch_codec.specs.Widths.{IsMessage}
 use Rattle.itch_codec.proofs.Spelling.{fault-Spells, message_of-Spells}
 use Rattle.itch_frame.specs.Blocks.{IsPayload, block, blocks}
-use Rattle.itch_market.specs.declared.stop.Stop.TheVariants as stop
 use Rattle.itch_market.specs.Content.{empty, laid}
 use Rattle.itch_market.specs.Effects.{effect}
 use Rattle.itch_market.specs.Runs.{run}

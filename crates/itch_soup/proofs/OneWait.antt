@@ -14,7 +14,7 @@ use Rattle.itch_soup.specs.declared.origin.Origin.TheVariants.{Client}
 use Rattle.itch_soup.specs.declared.packet.Packet.{Packet}
 use Rattle.itch_soup.specs.declared.packet.Packet.TheVariants as is
 use Rattle.itch_soup.specs.Packets.{PacketSpells, packet_fault}
-use Rattle.itch_soup.specs.NextPackets.{is_enough, ReadsBlock, PacketHere}
+use Rattle.itch_soup.specs.NextPackets.{is_enough, ReadsBlock}
 use Rattle.itch_soup.specs.Serving.{IsPassedOver, IsIdle, EndsWait, Wait, WaitsForLogin, IsDecidedWait}
 use Rattle.itch_soup.proofs.OnePacket.{packet_at, packet_at-spelled, spelled-none}
 use Rattle.itch_soup.proofs.FrontBlocks.{the_block, some_block, no_bytes, ends_by, cut_off}

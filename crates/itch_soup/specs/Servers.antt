@@ -11,6 +11,8 @@ use Rattle.itch_soup.specs.declared.connection.Stage.TheVariants as stage
 use Rattle.itch_soup.specs.declared.connection.Connection.{Connection}
 use Rattle.itch_soup.specs.declared.server.ServerAct.{ServerAct}
 use Rattle.itch_soup.specs.declared.server.ServerAct.TheVariants as act
+use Rattle.itch_soup.specs.declared.server.Judgement.{Judgement}
+use Rattle.itch_soup.specs.declared.server.Judgement.TheVariants.{Accepted, Rejected}
 use Rattle.itch_soup.specs.Packets.{packet_type}
 use Rattle.itch_soup.specs.Names.{is_same_name, asks_for_session, server_session}
 use Rattle.itch_soup.specs.Connections.{opened, after_packet, after_tick, after_sent}
@@ -43,6 +45,11 @@ judged config total login =
     if not (asks_for_session config.session login.session) then (act.Reject not_available, stage.Closed) else (
     if nat_lt (total + 1) (first_asked login) then (act.Reject not_available, stage.Closed) else (
     (act.Accept (first_asked login), stage.Accepted))))
+
+-- the answer to a login that is judged in this way, and the next stage
+abbrev pub turn_of : Judgement → ServerAct × Stage
+turn_of (Accepted next) = (act.Accept next, stage.Accepted)
+turn_of (Rejected code) = (act.Reject code, stage.Closed)
 
 -- the acceptance of a login from this number on: the name of the server's session is padded on the left
 abbrev pub acceptance : ServerConfig → ℕ → LoginAccepted

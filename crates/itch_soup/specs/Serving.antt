@@ -1,5 +1,5 @@
 -- A snapshot served in one session: what a server reads up to a login, and what it does then.
-use Rattle.std.specs.Prelude.{◌≡◌, OnOk, [], ℕ, ◌^◌, ◌≤◌, ◌⊎◌, Bool, true, false, List, length, ⊤, Option, Some, None, Result, Ok, Err}
+use Rattle.std.specs.Prelude.{◌≡◌, OnOk, [], ℕ, ◌^◌, ◌≤◌, ◌⊎◌, Bool, false, List, length, ⊤, Option, Some, None, Result, Ok, Err}
 use Rattle.std.specs.List.{AllByRecursion}
 use Rattle.std.specs.Io.KnownBytes.{Consumes}
 use Rattle.itch_frame.specs.Blocks.{IsPayload, blocks}

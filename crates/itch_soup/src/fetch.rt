@@ -54,10 +54,7 @@ fn receive<R: CountedRead, A: Allocator, B: OrderBook>(
     snapshot.market().recall_invariant();
     for count in 0..u64::MAX {
         if take_packet(reader, &mut session, &mut snapshot, count == MOST_PACKETS)? {
-            let Ok(done) = snapshot.finish() else {
-                unreachable!()
-            };
-            return Ok(done);
+            return Ok(snapshot.finish().unwrap());
         }
     }
     unreachable!()

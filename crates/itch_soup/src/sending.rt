@@ -61,10 +61,7 @@ pub(crate) fn messages_before_end<B: OrderBook>(market: &Market<B>) -> u64
     requires { length (snap market.now) < 10 ^ 19 - 1 }
     ensures { result ≡ length (snap market.now) }
 {
-    let Ok(len) = u64::try_from(snapshot_len(market)) else {
-        unreachable!()
-    };
-    len
+    u64::try_from(snapshot_len(market)).unwrap()
 }
 
 // Skips `count` messages of a snapshot, or all of them if it has fewer.

@@ -11,7 +11,7 @@ use crate::packet::{LoginRequest, Packet};
 use crate::parsing::parse_packet;
 use crate::reading::{MOST_PACKETS, next_packet};
 use crate::sending::{messages_before_end, write_session};
-use crate::server::{ServerAct, ServerSession, judge};
+use crate::server::{Judgement, ServerSession, judge};
 use itch_book::OrderBook;
 use itch_codec::Seq;
 use itch_frame::{BlockReader, CountedRead, CountedWrite, write_block};
@@ -78,17 +78,15 @@ fn answer<W: CountedWrite, B: OrderBook>(
     ensures { AnswersLogin W.contents W.failures market.now next config.now login.now writer.old result writer.new }
 {
     let total = messages_before_end(market) + 1;
-    let (act, _) = judge(config, total, login);
-    match act {
-        ServerAct::Accept { next: from } => {
+    match judge(config, total, login) {
+        Judgement::Accepted { next: from } => {
             let packets = write_session(writer, market, next, config, from)?;
             Ok(Served::Accepted { from, packets })
         }
-        ServerAct::Reject(code) => {
+        Judgement::Rejected(code) => {
             write_block(writer, &ServerSession::rejected(code))?;
             Ok(Served::Rejected(code))
         }
-        _ => unreachable!(),
     }
 }
 

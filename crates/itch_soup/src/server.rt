@@ -1,6 +1,6 @@
 //! The server's side of a session.
 ghost use Rattle.std.specs.Prelude.{◌≡◌, ◌<◌, ◌^◌};
-ghost use Rattle.itch_soup.specs.Servers.{server_turn, is_user, judged};
+ghost use Rattle.itch_soup.specs.Servers.{server_turn, turn_of, is_user, judged};
 
 use crate::connection::{Connection, Stage, Tick};
 use crate::fault::SoupFault;
@@ -27,6 +27,15 @@ pub enum ServerAct {
     Close,
     /// The client broke the protocol, or the session was closed before. It is closed now.
     Fault(SoupFault),
+}
+
+/// How a login is judged.
+#[derive(Clone, Copy)]
+pub(crate) enum Judgement {
+    /// It is accepted, and the messages from this number on are sent.
+    Accepted { next: Seq },
+    /// It is rejected with this code.
+    Rejected(u8),
 }
 
 /// The server's side of a session. The caller passes in packets and times, and is told what to do.
@@ -148,7 +157,10 @@ fn turn(config: &ServerConfig, total: u64, stage: Stage, packet: &Packet<'_>) ->
             (ServerAct::Nothing, stage)
         }
         (_, Packet::LogoutRequest) => (ServerAct::Close, Stage::Closed),
-        (Stage::Before, Packet::LoginRequest(login)) => judge(config, total, login),
+        (Stage::Before, Packet::LoginRequest(login)) => match judge(config, total, login) {
+            Judgement::Accepted { next } => (ServerAct::Accept { next }, Stage::Accepted),
+            Judgement::Rejected(code) => (ServerAct::Reject(code), Stage::Closed),
+        },
         (Stage::Accepted, Packet::LoginRequest(_)) => closing(SoupFault::SecondLogin),
         _ => closing(SoupFault::WrongSide(packet.kind())),
     }
@@ -160,27 +172,21 @@ fn closing(fault: SoupFault) -> (ServerAct, Stage)
     (ServerAct::Fault(fault), Stage::Closed)
 }
 
-// The answer to a login, and the next stage.
-pub(crate) fn judge(config: &ServerConfig, total: u64, login: &LoginRequest) -> (ServerAct, Stage)
+/// Judges a login to a session of `total` messages.
+pub(crate) fn judge(config: &ServerConfig, total: u64, login: &LoginRequest) -> Judgement
     requires { total < 10 ^ 19 }
-    ensures { result ≡ judged config.now total login.now }
+    ensures { turn_of result ≡ judged config.now total login.now }
 {
     if !is_user(config, login) {
-        return rejecting(NOT_AUTHORISED);
+        return Judgement::Rejected(NOT_AUTHORISED);
     }
     if !asks_for_session(&config.session, &login.session) {
-        return rejecting(NOT_AVAILABLE);
+        return Judgement::Rejected(NOT_AVAILABLE);
     }
     match Seq::new(login.number.max(1)) {
-        Some(next) if next.value() <= total + 1 => (ServerAct::Accept { next }, Stage::Accepted),
-        _ => rejecting(NOT_AVAILABLE),
+        Some(next) if next.value() <= total + 1 => Judgement::Accepted { next },
+        _ => Judgement::Rejected(NOT_AVAILABLE),
     }
-}
-
-fn rejecting(code: u8) -> (ServerAct, Stage)
-    ensures { result ≡ (ServerAct.Reject code, Stage.Closed) }
-{
-    (ServerAct::Reject(code), Stage::Closed)
 }
 
 fn is_user(config: &ServerConfig, login: &LoginRequest) -> bool

@@ -3,7 +3,7 @@ use Rattle.std.proofs.lemmas.Result.{err_from_is_err_and}
 use Rattle.itch_frame.specs.Reading.{bytes_left}
 use Rattle.itch_market.specs.Content.{laid}
 use Rattle.itch_market.specs.GoodMarkets.{IsGood}
-use Rattle.itch_soup.proofs.FetchSteps.{hearing_first, hearing_on, hearing_ends, hearing_closed, hearing_closes}
+use Rattle.itch_soup.proofs.FetchSteps.{hearing_first, hearing_on, hearing_ends, hearing_closed}
 use Rattle.itch_soup.proofs.fetch.receive.Goals as goal
 
 pub loop-count-init : goal.loop-count-init
@@ -19,11 +19,6 @@ returns-in_err-take_packet-clause-received g c =
     let p = err_from_is_err_and c.from_residual.result c.from_residual.ensures.1 in
     rw (p.1, p.2) (hearing_ends _ _ _ _ _ _ c.take_packet.new.session _ c.take_packet.new.snapshot _ c.loop-count.invariant.hearing c.in_err-take_packet.ensures.step)
 
-pub unreachable-requires : goal.unreachable-requires
-unreachable-requires g c =
-    let closed = hearing_closes _ _ _ _ _ _ _ _ _ c.loop-count.invariant.hearing (rw c.if-branch.true at c.in_ok-take_packet.ensures.step) in
-    c.in_default.ensures.1 closed.0 closed.1
-
 pub loop-count-preserved : goal.loop-count-preserved
 loop-count-preserved g c = record {
   hearing = hearing_on _ _ _ _ _ _ _ _ _ c.loop-count.invariant.hearing (rw c.if-branch.false at c.in_ok-take_packet.ensures.step);
@@ -32,4 +27,5 @@ loop-count-preserved g c = record {
 
 pub returns-then-branch-clause-received : goal.returns-then-branch-clause-received
 returns-then-branch-clause-received g c =
-    hearing_closed _ _ _ _ _ _ _ _ _ c.loop-count.invariant.hearing (rw c.if-branch.true at c.in_ok-take_packet.ensures.step) c.in-Ok.done c.in-Ok.ensures
+    hearing_closed _ _ _ _ _ _ _ _ _ c.loop-count.invariant.hearing (rw c.if-branch.true at c.in_ok-take_packet.ensures.step) c.unwrap.result
+    (rw c.unwrap.ensures at c.finish.ensures)
