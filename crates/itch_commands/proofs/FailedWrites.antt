@@ -1,5 +1,5 @@
 -- What a failed write of several blocks leaves of their joined bytes.
-use Rattle.std.proofs.Common.{Bool, ◌≡◌, ℕ, ◌+◌, ◌<◌, ◌≤◌, List, [], ◌∷◌, ◌++◌, map, length, take, Option, Err, sym, ap, subst, ◌∙◌, append-nil, arith, length-append}
+use Rattle.std.proofs.Common.{◌≡◌, ℕ, ◌+◌, ◌<◌, ◌≤◌, List, [], ◌∷◌, ◌++◌, map, length, take, Option, Err, sym, ap, subst, ◌∙◌, append-nil, arith, length-append}
 use Rattle.std.proofs.lemmas.List.{take-append-le}
 use Rattle.std.proofs.Math.Seq.{take-append-add}
 use Rattle.std.specs.declared.io.Error.{Error}
@@ -16,7 +16,7 @@ use Rattle.itch_snapshot.specs.Bytes.{canon, closing}
 use Rattle.itch_snapshot.specs.Snapshot.{snap}
 use Rattle.itch_snapshot.specs.Writes.{payloads}
 use Rattle.itch_commands.specs.declared.fault.ToolFault.TheVariants as tool
-use Rattle.itch_commands.specs.Outputs.{WritesOutput}
+use Rattle.itch_commands.specs.Outputs.{WritesText}
 
 -- some blocks and a beginning of the next one are a beginning of all of them
 beginning : (done more : List (List ℕ)) (payload : List ℕ) (sent : ℕ) → sent < length (block payload)
@@ -41,11 +41,10 @@ snapshot_blocks m next =
 
 module _ {W : Type 0} (contents : W → Option (List ℕ)) (failures : W → Failures) where
   -- a snapshot that was not written whole
-  pub snapshot_cut : (m : Content) (next after sent : ℕ) (verdict : Bool) (error : Error) (old new : W) → next ≡ after → WriteBlocks contents failures old (payloads m next) (Err (Write sent error)) new
-      → WritesOutput contents failures (canon m ++ closing after) verdict old (Err (tool.Write error)) new
-  snapshot_cut m next after sent verdict error old new same (done, payload, more, is, within, part, rises) =
-      let bytes : blocks (done ++ payload ∷ more) ≡ canon m ++ closing after =
-      ap blocks (sym is) ∙ snapshot_blocks m next ∙ ap (λ n. canon m ++ closing n) same in
+  pub snapshot_cut : (m : Content) (next sent : ℕ) (error : Error) (old new : W) → WriteBlocks contents failures old (payloads m next) (Err (Write sent error)) new
+      → WritesText contents failures (canon m ++ closing next) old (Err (tool.Write error)) new
+  snapshot_cut m next sent error old new (done, payload, more, is, within, part, rises) =
+      let bytes : blocks (done ++ payload ∷ more) ≡ canon m ++ closing next = ap blocks (sym is) ∙ snapshot_blocks m next in
       let n = length (blocks done) + sent in (
         n,
         subst (λ b. n < length b) bytes (within_all done more payload sent within),

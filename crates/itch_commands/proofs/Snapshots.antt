@@ -1,6 +1,7 @@
 -- The snapshot of what a file's messages leave.
-use Rattle.std.proofs.Common.{◌≡◌, ℕ, ◌+◌, ◌<◌, ◌≤◌, ◌^◌, List, ◌++◌, map, length, Bool, not, Option, Some, Ok, refl, sym, ap, ◌∙◌, arith}
+use Rattle.std.proofs.Common.{◌≡◌, ℕ, ◌+◌, ◌<◌, ◌≤◌, ◌^◌, List, ◌++◌, map, length, Bool, not, Option, None, Some, Ok, refl, sym, ap, ◌∙◌, arith}
 use Rattle.std.specs.List.{AllByRecursion}
+use Rattle.std.specs.Option.{option_copied}
 use Rattle.std.proofs.lemmas.List.{length-map}
 use Rattle.std.proofs.lemmas.List.Filters.{length-filter_both}
 use Rattle.itch_book.proofs.Lists.{All-map_rec}
@@ -17,7 +18,9 @@ use Rattle.itch_market.specs.Replays.{Fits, NoCause}
 use Rattle.itch_market.proofs.Causes.{none_follows}
 use Rattle.itch_market.proofs.GoodMarkets.{run_good}
 use Rattle.itch_market.proofs.SameMarkets.{laid_is_same}
+use denote.Ref.{Bor}
 use Rattle.itch_snapshot.specs.Bytes.{canon, closing}
+use Rattle.itch_snapshot.specs.Cursor.{cut_to}
 use Rattle.itch_snapshot.specs.Snapshot.{snap}
 use Rattle.itch_snapshot.specs.Reads.{ReadsSnapshot}
 use Rattle.itch_snapshot.proofs.PartialSnapshots.{snap_only}
@@ -51,11 +54,11 @@ module _ (after : Option ℕ) (bytes new : Option (List ℕ)) (count : ℕ) (n :
   good = run_good (map message_of applied.payloads) fit follow
 
   -- it has no more messages than the file
-  pub applied_short : length (snap n) ≤ count
+  applied_short : length (snap n) ≤ count
   applied_short = omega (arith, taken_short applied.payloads n applied.fits applied.taken.taken applied.left, applied.counted)
 
   -- and is the snapshot of the messages
-  pub applied_snapshot : canon n ++ closing (count + 1) ≡ snapshot_of applied.payloads
+  applied_snapshot : canon n ++ closing (count + 1) ≡ snapshot_of applied.payloads
   applied_snapshot =
       let ms = map message_of applied.payloads in
       ap (λ bytes. bytes ++ closing (count + 1)) (ap canon applied.left ∙ canon-laid (run ms) good)
@@ -69,14 +72,23 @@ module _ (after : Option ℕ) (bytes new : Option (List ℕ)) (count : ℕ) (n :
     abbrev passes : Message → Bool
     passes x = not (skips (has set) x)
 
-    pub cut_short : length (snap (only (has set) n)) ≤ count
-    cut_short =
+    set_short : length (snap (only (has set) n)) ≤ count
+    set_short =
         omega (arith, ap length (snap_only (has set) n), length-filter_both passes (λ x. not (passes x)) (λ x. refl) (snap n), applied_short)
 
     same_cut : snap (only (has set) n) ≡ snap (only (has set) (run (map message_of applied.payloads)))
     same_cut = snap_only (has set) n ∙ ap (kept (has set)) same_list ∙ sym (snap_only (has set) (run (map message_of applied.payloads)))
 
-    pub cut_snapshot : canon (only (has set) n) ++ closing (count + 1) ≡ snapshot_in (Some set) applied.payloads
-    cut_snapshot =
+    set_snapshot : canon (only (has set) n) ++ closing (count + 1) ≡ snapshot_in (Some set) applied.payloads
+    set_snapshot =
         ap (λ xs. blocks (map spelling xs) ++ closing (count + 1)) same_cut
         ∙ ap (λ k. canon (only (has set) (run (map message_of applied.payloads))) ++ closing (k + 1)) (sym applied.counted)
+
+  -- the same of the locates that are wanted
+  pub cut_short : (set : Option (Bor Wanted)) → length (snap (cut_to set n)) ≤ count
+  cut_short None = applied_short
+  cut_short (Some set) = set_short set.now
+
+  pub cut_snapshot : (set : Option (Bor Wanted)) → canon (cut_to set n) ++ closing (count + 1) ≡ snapshot_in (option_copied set) applied.payloads
+  cut_snapshot None = applied_snapshot
+  cut_snapshot (Some set) = set_snapshot set.now

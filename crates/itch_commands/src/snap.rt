@@ -6,7 +6,7 @@ ghost use Rattle.itch_commands.specs.Readings.{FromBlocks, FromReader};
 use crate::fault::{Source, ToolFault};
 use crate::order_book::Book;
 use crate::reading::read_market;
-use crate::writing::{write_closed, write_cut};
+use crate::writing::write_closed_of;
 use itch_book::OrderBook;
 use itch_codec::Seq;
 use itch_frame::{BlockReader, CountedRead, CountedWrite};
@@ -58,8 +58,5 @@ fn snap_over<R: CountedRead, A: Allocator, B: OrderBook, W: CountedWrite>(
     let mut market: Market<B> = Market::new(alloc);
     let count = read_market(reader, &mut market, after, Source::Only)?;
     let next = Seq::new(count + 1).unwrap();
-    match only {
-        Some(set) => write_cut(&market, set, next, out),
-        None => write_closed(&market, next, out),
-    }
+    write_closed_of(&market, only, next, out)
 }

@@ -1,8 +1,7 @@
 //! Text, and the snapshot of a market, on the output.
 ghost use Rattle.std.specs.Prelude.{◌<◌, ◌^◌, ◌++◌, length, true};
-ghost use Rattle.itch_market.specs.Partial.{only};
-ghost use Rattle.itch_market.specs.Wanted.{has};
 ghost use Rattle.itch_snapshot.specs.Bytes.{canon, closing};
+ghost use Rattle.itch_snapshot.specs.Cursor.{cut_to};
 ghost use Rattle.itch_snapshot.specs.Snapshot.{snap as snapshot_list};
 ghost use Rattle.itch_commands.specs.Outputs.{WritesText, WritesOutput};
 
@@ -11,7 +10,7 @@ use itch_book::OrderBook;
 use itch_codec::Seq;
 use itch_frame::{CountedWrite, FrameFault, write_part};
 use itch_market::{LocateSet, Market};
-use itch_snapshot::{SnapFault, write_partial, write_snapshot};
+use itch_snapshot::write_snapshot_of;
 
 /// Writes the snapshot of a market, closed with this number.
 pub fn write_closed<B: OrderBook, W: CountedWrite>(
@@ -22,26 +21,22 @@ pub fn write_closed<B: OrderBook, W: CountedWrite>(
     requires { length (snapshot_list market.now) < 10 ^ 19 }
     ensures { WritesOutput W.contents W.failures (canon market.now ++ closing next) true out.old result out.new }
 {
-    match write_snapshot(market, next, out) {
-        Ok(_) => Ok(true),
-        Err(SnapFault::Frame(FrameFault::Write { error, .. })) => Err(ToolFault::Write(error)),
-        Err(_) => unreachable!(),
-    }
+    write_closed_of(market, None, next, out)
 }
 
-/// The same for a market cut down to the locates of a set.
-pub fn write_cut<B: OrderBook, W: CountedWrite>(
-    market: &Market<B>,
-    set: &LocateSet<B::Alloc>,
+/// The same, for the market cut down to the locates of a set if there is one.
+pub fn write_closed_of<'a, B: OrderBook, W: CountedWrite>(
+    market: &'a Market<B>,
+    set: Option<&'a LocateSet<B::Alloc>>,
     next: Seq,
     out: &mut W,
 ) -> Result<bool, ToolFault>
-    requires { length (snapshot_list (only (has set.now) market.now)) < 10 ^ 19 }
-    ensures { WritesOutput W.contents W.failures (canon (only (has set.now) market.now) ++ closing next) true out.old result out.new }
+    requires { length (snapshot_list (cut_to set market.now)) < 10 ^ 19 }
+    ensures { WritesOutput W.contents W.failures (canon (cut_to set.entry market.now) ++ closing next) true out.old result out.new }
 {
-    match write_partial(market, set, next, out) {
+    match write_snapshot_of(market, set, next, out) {
         Ok(_) => Ok(true),
-        Err(SnapFault::Frame(FrameFault::Write { error, .. })) => Err(ToolFault::Write(error)),
+        Err(FrameFault::Write { error, .. }) => Err(ToolFault::Write(error)),
         Err(_) => unreachable!(),
     }
 }

@@ -4,8 +4,8 @@
 //! snapshot is replayed to has that snapshot again; and from a snapshot the rest of a feed leaves the market of the whole
 //! feed. `laws` says so.
 //!
-//! - [`SnapshotIter`] gives the messages, of the whole market or of some locates; [`write_snapshot`] and [`write_partial`] write
-//!   them, closed by End of Snapshot (GLIMPSE 5.0).
+//! - [`SnapshotIter`] gives the messages, of the whole market or of some locates; [`write_snapshot`], [`write_partial`], and
+//!   [`write_snapshot_of`] for either, write them, closed by End of Snapshot (GLIMPSE 5.0).
 //! - [`read_snapshot`] reads a snapshot file in any order, and [`SnapshotReader`] message by message.
 //! - [`same_market`] and [`part_place`] compare markets.
 //!
@@ -36,4 +36,4 @@ pub use iter::SnapshotIter;
 pub use length::snapshot_len;
 pub use read::read_snapshot;
 pub use reader::SnapshotReader;
-pub use write::{write_partial, write_snapshot};
+pub use write::{write_partial, write_snapshot, write_snapshot_of};

@@ -28,7 +28,7 @@ pub fn write_snapshot<W: CountedWrite, B: OrderBook>(
     requires { length (snap market.now) < 10 ^ 19 }
     ensures { WritesSnapshot W.contents W.failures market.now next writer.old result writer.new }
 {
-    Ok(write_of(market, None, next, writer)?)
+    Ok(write_snapshot_of(market, None, next, writer)?)
 }
 
 /// Writes the canonical bytes of a market cut down to the locates of a set and the block of an End of Snapshot with `next`,
@@ -42,11 +42,14 @@ pub fn write_partial<W: CountedWrite, B: OrderBook>(
     requires { length (snap (only (has set.now) market.now)) < 10 ^ 19 }
     ensures { WritesSnapshot W.contents W.failures (only (has set.now) market.now) next writer.old result writer.new }
 {
-    Ok(write_of(market, Some(set), next, writer)?)
+    Ok(write_snapshot_of(market, Some(set), next, writer)?)
 }
 
-// Writes the snapshot of the whole market, or of the market cut down to a set, and the block of an End of Snapshot.
-fn write_of<'a, W: CountedWrite, B: OrderBook>(
+/// Writes the canonical bytes of a market, cut down to the locates of a set if there is one, and the block of an End of Snapshot
+/// with `next`, and returns the number of messages written, End of Snapshot included.
+///
+/// The only fault is `Write`: the blocks before were written whole, and of this one as many bytes as the fault says.
+pub fn write_snapshot_of<'a, W: CountedWrite, B: OrderBook>(
     market: &'a Market<B>,
     set: Option<&'a LocateSet<B::Alloc>>,
     next: Seq,

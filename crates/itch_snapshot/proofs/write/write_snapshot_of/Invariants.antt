@@ -1,7 +1,7 @@
 use Rattle.itch_snapshot.specs.Cursor.{cut_to}
 use Rattle.itch_snapshot.specs.Snapshot.{snap}
 use Rattle.itch_snapshot.proofs.WrittenBlocks.{WrittenSoFar}
-use Rattle.itch_snapshot.proofs.write.write_of.Given as goal
+use Rattle.itch_snapshot.proofs.write.write_snapshot_of.Given as goal
 
 abbrev pub invariant-loop-message : goal.invariant-loop-message
 invariant-loop-message g l =

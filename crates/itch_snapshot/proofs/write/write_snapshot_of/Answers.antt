@@ -1,6 +1,6 @@
 use Rattle.std.proofs.lemmas.Result.{err_from_is_err_and}
 use Rattle.itch_snapshot.proofs.WrittenBlocks.{cut_short, none_written, one_written, message_failed, end_failed, all_written}
-use Rattle.itch_snapshot.proofs.write.write_of.Goals as goal
+use Rattle.itch_snapshot.proofs.write.write_snapshot_of.Goals as goal
 
 pub loop-message-init : goal.loop-message-init
 loop-message-init g c = rw (c.into_iter-message-iterator.ensures.into_iter_gives, c.of-message-items.ensures) (none_written _ _ _ _)
