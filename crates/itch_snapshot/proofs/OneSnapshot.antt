@@ -1,5 +1,5 @@
 -- A snapshot replays to its market, and two markets are the same exactly if they have one snapshot list.
-use Rattle.std.proofs.Common.{◌≡◌, ◌↔◌, ℕ, List, [], ◌∷◌, ◌++◌, flat_map, refl, sym, ap, ap₂, ◌∙◌, subst}
+use Rattle.std.proofs.Common.{◌≡◌, ℕ, List, [], ◌∷◌, ◌++◌, flat_map, refl, sym, ap, ap₂, ◌∙◌, subst}
 use Rattle.std.specs.FinMap as finite
 use Rattle.itch_codec.specs.declared.orders.Side.{Side}
 use Rattle.itch_codec.specs.declared.orders.Side.TheVariants.{Buy, Sell}
@@ -9,7 +9,7 @@ use Rattle.itch_market.specs.Content.{Content, laid, Listing}
 use Rattle.itch_market.specs.GoodMarkets.{IsGood}
 use Rattle.itch_market.specs.Runs.{run, Follows}
 use Rattle.itch_market.specs.SameMarkets.{Same}
-use Rattle.itch_market.proofs.SameMarkets.{laid_is_same, laid_same, same_laid}
+use Rattle.itch_market.proofs.SameMarkets.{laid_is_same, same_laid}
 use Rattle.itch_snapshot.specs.Snapshot.{snap, event_part, locate_messages, locate_part}
 use Rattle.itch_snapshot.proofs.SnapshotReplays.{snap_leads}
 

@@ -7,7 +7,6 @@ use Rattle.std.specs.FinMap as finite
 use Rattle.std.specs.FinMap.{nat_cmp-IsAntisymmetric}
 use Rattle.std.proofs.lemmas.List.Elements.{filter-append}
 use Rattle.itch_codec.specs.declared.message.Message.{Message}
-use Rattle.itch_codec.specs.declared.message.Message.TheVariants as is
 use Rattle.itch_codec.specs.declared.orders.Side.{Side}
 use Rattle.itch_codec.specs.declared.orders.Side.TheVariants.{Buy, Sell}
 use Rattle.itch_book.specs.declared.order.Order.{Order}

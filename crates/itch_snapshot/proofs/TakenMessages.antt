@@ -2,7 +2,6 @@
 use Rattle.std.proofs.Common.{◌≡◌, ℕ, ◌+◌, Bool, false, List, Option, Some, None, Result, Ok, Err, IfSome, IfNone, IsOkUnless, IsTrue, refl, sym, ap, subst, ◌∙◌}
 use denote.Ref.{Bor}
 use Rattle.itch_codec.specs.declared.message.Message.{Message}
-use Rattle.itch_codec.specs.Messages.{fault, message_of}
 use Rattle.itch_market.specs.declared.refusal.Refusal.{Refusal}
 use Rattle.itch_market.specs.declared.refusal.Refusal.TheVariants.{OutOfMemory}
 use Rattle.itch_market.specs.Content.{Content}
@@ -12,7 +11,7 @@ use Rattle.itch_market.specs.Reasons.{reason}
 use Rattle.itch_market.specs.Replays.{IsRefusal}
 use Rattle.itch_market.specs.Wanted.{Wanted, has}
 use Rattle.itch_snapshot.specs.declared.fault.SnapFault.TheVariants.{Rule}
-use Rattle.itch_snapshot.specs.TakenMessages.{IsNext, TakesNext, TakesFor, closing_number, number_in, number_by, skips_for, skipped_by}
+use Rattle.itch_snapshot.specs.TakenMessages.{IsNext, TakesNext, TakesFor, number_in, number_by, skips_for, skipped_by}
 
 -- why a message was not applied, by the clauses of a market
 pub refusal_of : (r : Option Refusal) (takes : Bool) (why : Refusal) (answer : Result (Unit {0}) Refusal) → answer ≡ Err why → IfSome r (λ x. answer ≡ Err x)
