@@ -195,7 +195,12 @@ fn a_message_comes_after_a_failed_read_and_none_of_a_truncated_block(
     let mut reader = BlockReader::new(rt.alloc(), source)?;
     assert!(rt; matches!(reader.next_message(), Err(FrameFault::Read(_))));
     gives_message(&rt, &mut reader, Some(b"z"))?;
-    assert!(rt; matches!(reader.next_message(), Err(FrameFault::Truncated { held: 1 })));
+    assert!(rt;
+        matches!(
+            reader.next_message(),
+            Err(FrameFault::Truncated { held: 1 })
+        )
+    );
     is_truncated(&rt, &mut reader, 1);
     Ok(())
 }
