@@ -5,6 +5,7 @@ import shutil
 import subprocess
 import tempfile
 import threading
+import time
 from pathlib import Path
 
 from kit import rt, rtlib
@@ -35,14 +36,17 @@ class Checker:
             for path, text in texts.items():
                 Path(room, path).write_text(text, encoding="utf-8")
             words = [rtlib.RATTLE, "check", *crate.words(flags, keeps=False), *(["--incremental", kept] if kept else [])]
+            words += ["--progress"] if self.logs else []
             return self.run(crate, [*rtlib.guarded(), *words], room)
 
     def run(self, crate, words, room):
         """Runs a command to its end, as subprocess.run does, and counts its processor time."""
         how = {"cwd": room, "stdin": subprocess.DEVNULL, "stdout": subprocess.PIPE, "stderr": subprocess.STDOUT, "errors": "replace"}
+        begin = time.monotonic()
         started = subprocess.Popen(words, **how)
-        said = started.stdout.read()
-        started.stdout.close()
+        with started.stdout:
+            timed = [(time.monotonic() - begin, line) for line in started.stdout]
+        said = "".join(line for _, line in timed)
         _, status, usage = os.wait4(started.pid, 0)
         started.returncode = os.waitstatus_to_exitcode(status)
         with self.counting:
@@ -50,7 +54,8 @@ class Checker:
             spent = usage.ru_utime + usage.ru_stime
             self.seconds[crate.name] = self.seconds.get(crate.name, 0) + spent
             if self.logs:
-                Path(self.logs, f"{crate.name}.{self.number}.log").write_text(f"{said}\nprocessor seconds: {spent:.1f}\n")
+                lines = "".join(f"{seconds:7.1f} {line}" for seconds, line in timed)
+                Path(self.logs, f"{crate.name}.{self.number}.log").write_text(f"{lines}\nprocessor seconds: {spent:.1f}\n")
         return subprocess.CompletedProcess(words, started.returncode, said)
 
 
