@@ -1,6 +1,7 @@
 /* For tests, loaded into the program by LD_PRELOAD: one call of one kind fails, as FAIL says: `memory:3` refuses the third
  * allocation, `read:1` fails the first read, `write:2` the second write, `send:1`, `recv:1` and `setsockopt:1` the first such call at
- * a socket. Where a call has failed so, the file that FAILED names is made. */
+ * a socket. With `write:2+` so does each later write to the same file. Where a call has failed so, the file that FAILED names is made.
+ * Each read and each recv gives at most as many bytes as PIECE says, and each write and each send takes at most as many. */
 #define _GNU_SOURCE
 #include <dlfcn.h>
 #include <errno.h>
@@ -27,6 +28,19 @@ static int fails(const char *kind) {
     if (file >= 0)
         close(file);
     return 1;
+}
+
+/* Whether the calls after the one that fails do so too. */
+static int goes_on(void) {
+    const char *fail = getenv("FAIL");
+    return fail && strchr(fail, '+');
+}
+
+/* So many of these bytes are read or written by one call. */
+static size_t piece(size_t count) {
+    const char *text = getenv("PIECE");
+    size_t most = text ? strtoul(text, NULL, 10) : 0;
+    return most > 0 && most < count ? most : count;
 }
 
 static void *real(const char *name) { return dlsym(RTLD_NEXT, name); }
@@ -61,18 +75,21 @@ ssize_t read(int file, void *buffer, size_t count) {
         errno = EIO;
         return -1;
     }
-    return next(file, buffer, count);
+    return next(file, buffer, piece(count));
 }
 
 ssize_t write(int file, const void *buffer, size_t count) {
     static ssize_t (*next)(int, const void *, size_t);
+    static int stuck = -1;
     if (!next)
         next = (ssize_t(*)(int, const void *, size_t))real("write");
-    if (fails("write")) {
+    if (file == stuck || fails("write")) {
+        if (goes_on())
+            stuck = file;
         errno = EIO;
         return -1;
     }
-    return next(file, buffer, count);
+    return next(file, buffer, piece(count));
 }
 
 ssize_t __write(int file, const void *buffer, size_t count) { return write(file, buffer, count); }
@@ -85,7 +102,7 @@ ssize_t send(int socket, const void *buffer, size_t count, int flags) {
         errno = EIO;
         return -1;
     }
-    return next(socket, buffer, count, flags);
+    return next(socket, buffer, piece(count), flags);
 }
 
 ssize_t recv(int socket, void *buffer, size_t count, int flags) {
@@ -96,7 +113,7 @@ ssize_t recv(int socket, void *buffer, size_t count, int flags) {
         errno = EIO;
         return -1;
     }
-    return next(socket, buffer, count, flags);
+    return next(socket, buffer, piece(count), flags);
 }
 
 int setsockopt(int socket, int level, int option, const void *value, socklen_t length) {

@@ -4,31 +4,16 @@ RUNS has a function for each run, named for what it shows; it is given the progr
 """
 import importlib
 import struct
-import subprocess
 import sys
-import tempfile
 from pathlib import Path
 
 import large
+from common import differs, ended
 
 TOP = Path(__file__).resolve().parent.parent.parent
 LONGEST = 65_535
 # Codes of itchsnap.h.
 OK, KEPT, JOINED, CONFLICT = 0, 64, 68, 73
-
-
-def ended(program, *words, **files):
-    """The status and both outputs of the program in a folder with these files, `day` being `day.itch`."""
-    with tempfile.TemporaryDirectory() as folder:
-        for name, data in files.items():
-            (Path(folder) / f"{name}.itch").write_bytes(data)
-        done = subprocess.run([program, *words], cwd=folder, capture_output=True, stdin=subprocess.DEVNULL, timeout=60)
-        return done.returncode, done.stdout, done.stderr
-
-
-def differs(label, got, wanted):
-    if got != wanted:
-        yield f"{label}: {repr(got)[:400]}, not {repr(wanted)[:400]}"
 
 
 def of_locates(snapshot, wanted):

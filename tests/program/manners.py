@@ -100,6 +100,11 @@ def lines_are_shown_on_a_terminal(program):
         got = on_terminal([program, *words])
         if got != (0, line, b""):
             yield f"{words[0]}: {got}"
+    for words in (["show", OPENING], ["snap", "--help"]):
+        got = on_terminal([program, *words])
+        elsewhere = subprocess.run([program, *words], capture_output=True, timeout=60).stdout
+        if not elsewhere or got != (0, elsewhere.replace(b"\n", b"\r\n"), b""):
+            yield f"{words}: {got}"
 
 
 def both_files_may_not_be_standard_input(program):

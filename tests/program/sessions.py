@@ -4,6 +4,7 @@ RUNS has a function for each run, named for what it shows; it is given the progr
 """
 import contextlib
 import os
+import random
 import select
 import socket
 import struct
@@ -24,8 +25,11 @@ STARTING = 60
 
 
 def free_port():
-    with socket.create_server(("127.0.0.1", 0)) as listener:
-        return listener.getsockname()[1]
+    """A port below those that the system hands out, so that no other run is given it meanwhile."""
+    while True:
+        port = random.randrange(20_000, 32_000)
+        with contextlib.suppress(OSError), socket.create_server(("127.0.0.1", port)):
+            return port
 
 
 def login_words(port, password="secret"):

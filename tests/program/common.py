@@ -1,0 +1,59 @@
+"""What the modules of runs share: files of named blocks, and the program in a folder of its own."""
+import configparser
+import functools
+import os
+import struct
+import subprocess
+import tempfile
+from pathlib import Path
+
+HERE = Path(__file__).resolve().parent
+
+
+def read_table(name):
+    table = configparser.ConfigParser(delimiters=("=",), comment_prefixes=("#",), interpolation=None)
+    table.optionxform = str
+    with open(HERE / name) as file:
+        table.read_file(file)
+    return table
+
+
+@functools.lru_cache(maxsize=1)
+def blocks():
+    """The blocks of blocks.ini, by their names."""
+    return {name: bytes.fromhex(digits) for name, digits in read_table("blocks.ini")["blocks"].items()}
+
+
+def file(words):
+    """The bytes of these blocks, each given by its name or in hexadecimal digits."""
+    return b"".join(blocks()[word] if word in blocks() else bytes.fromhex(word) for word in words.split())
+
+
+def split(data):
+    """The blocks of these bytes."""
+    found, at = [], 0
+    while at < len(data):
+        end = at + 2 + struct.unpack_from(">H", data, at)[0]
+        found.append(data[at:end])
+        at = end
+    return found
+
+
+def ended(program, *words, **files):
+    """The status and both outputs of the program in a folder with these files, `day` being `day.itch`."""
+    with tempfile.TemporaryDirectory() as folder:
+        for name, data in files.items():
+            (Path(folder) / f"{name}.itch").write_bytes(data)
+        return ended_in(folder, program, *words)
+
+
+def ended_in(folder, program, *words, **environment):
+    """The same in this folder, with these variables."""
+    done = subprocess.run([program, *words], cwd=folder, env={**os.environ, **environment}, capture_output=True, stdin=subprocess.DEVNULL,
+                          timeout=60)
+    return done.returncode, done.stdout, done.stderr
+
+
+def differs(label, got, wanted):
+    if got != wanted:
+        yield f"{label}: {repr(got)[:400]}, not {repr(wanted)[:400]}"

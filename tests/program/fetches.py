@@ -1,0 +1,214 @@
+"""Runs of `fetch` at a server that is made here, and of `serve` with clients that are: each call failing in turn, and what is answered.
+
+RUNS has a function for each run, named for what it shows; it is given the program, and yields what differs.
+"""
+import bisect
+import contextlib
+import queue
+import socket
+import struct
+import tempfile
+import threading
+from pathlib import Path
+
+import failing
+from common import differs, ended_in, file, split
+from sessions import LOGIN, Server, connect, free_port, login_words, received
+
+DAY = file("START AAPL BUY_1 BUY_2_OF_200")
+SNAPSHOT = file("START AAPL BUY_1 BUY_2_OF_200 END_5")
+ENDED = b"\0\x01Z"
+LOGIN_3 = LOGIN[:-1] + b"3"
+WRONG = LOGIN_3.replace(b"secret", b"wrong ")
+CAUSE = "Input/output error (os error 5)"
+OUT_OF_MEMORY = 4, b"", b"itchsnap: out of memory\n"
+
+
+def acceptance(first):
+    return b"\0\x1fA  ITCHSNAP" + b"%20d" % first
+
+
+def answer(first):
+    """What a login for the messages from this one on is answered."""
+    packets = [struct.pack(">H", len(it) - 1) + b"S" + it[2:] for it in split(SNAPSHOT)]
+    return acceptance(first) + b"".join(packets[first - 1:]) + ENDED
+
+
+@contextlib.contextmanager
+def answering(data):
+    """A port where each client that logs in is sent these bytes, and a queue of what each client said."""
+    said = queue.Queue()
+
+    def serve():
+        with contextlib.suppress(OSError):
+            while True:
+                with listener.accept()[0] as peer, contextlib.suppress(ConnectionError):
+                    said.put(peer.recv(len(LOGIN), socket.MSG_WAITALL))
+                    peer.sendall(data)
+
+    with socket.create_server(("127.0.0.1", 0)) as listener:
+        thread = threading.Thread(target=serve)
+        thread.start()
+        try:
+            yield listener.getsockname()[1], said
+        finally:
+            listener.shutdown(socket.SHUT_RDWR)
+            thread.join()
+
+
+@contextlib.contextmanager
+def failing_fetch(program):
+    """A function that fetches from a port in pieces of one byte, with a call failing, as `recv:3`. It returns whether one did, and what
+    the program ended with."""
+    with tempfile.TemporaryDirectory() as name:
+        shim, failed = failing.build_shim(name), Path(name) / "a call failed"
+
+        def perform(port, failure):
+            failed.unlink(missing_ok=True)
+            ending = ended_in(name, program, "fetch", *login_words(port), LD_PRELOAD=str(shim), FAIL=failure, FAILED=str(failed), PIECE="1")
+            return failed.exists(), ending
+
+        yield perform
+
+
+def fetched():
+    return False, (0, SNAPSHOT, b"")
+
+
+def each_read_of_a_fetch_fails_in_turn(program):
+    """The end of the session is not read."""
+    reads = len(answer(1)) - len(ENDED)
+    with failing_fetch(program) as perform, answering(answer(1)) as (port, said):
+        error = f"itchsnap: read failed\n  127.0.0.1:{port}: {CAUSE}\n".encode()
+        for nth in range(1, reads + 1):
+            yield from differs(f"read {nth}", perform(port, f"recv:{nth}"), (True, (3, b"", error)))
+            yield from differs(f"login {nth}", said.get(timeout=60), LOGIN)
+        yield from differs("all reads", perform(port, f"recv:{reads + 1}"), fetched())
+
+
+def each_write_of_a_login_fails_in_turn(program):
+    with failing_fetch(program) as perform, answering(answer(1)) as (port, said):
+        error = f"itchsnap: write failed\n  127.0.0.1:{port}: {CAUSE}\n".encode()
+        for at in range(len(LOGIN)):
+            yield from differs(f"write {at + 1}", perform(port, f"send:{at + 1}"), (True, (3, b"", error)))
+            yield from differs(f"login {at + 1}", said.get(timeout=60), LOGIN[:at])
+        yield from differs("all writes", perform(port, f"send:{len(LOGIN) + 1}"), fetched())
+
+
+def each_write_of_a_fetched_snapshot_fails_in_turn(program):
+    error = f"itchsnap: write failed\n  standard output: {CAUSE}\n".encode()
+    with failing_fetch(program) as perform, answering(answer(1)) as (port, _):
+        for at in range(len(SNAPSHOT)):
+            yield from differs(f"write {at + 1}", perform(port, f"write:{at + 1}+"), (True, (3, SNAPSHOT[:at], error)))
+        yield from differs("all writes", perform(port, f"write:{len(SNAPSHOT) + 1}"), fetched())
+
+
+def first_unmet(failed):
+    """The number of the first call that is not made. `failed` says whether one of this number is."""
+    return bisect.bisect_left(range(1, 1000), True, key=lambda nth: not failed(nth)) + 1
+
+
+def each_allocation_of_a_fetch_is_refused(program):
+    """The first three are those of the buffers, before the login. Those before a connection are the words' own: runs.ini has them."""
+    with failing_fetch(program) as perform, answering(answer(1)) as (port, said):
+        closed = free_port()
+        first = first_unmet(lambda nth: perform(closed, f"memory:{nth}")[0])
+        for nth in range(first, first + 64):
+            failed, ending = perform(port, f"memory:{nth}")
+            login = said.get(timeout=60)
+            if not failed:
+                yield from differs("all allocations", (failed, ending), fetched())
+                if nth < first + 5:
+                    yield f"{nth - first} allocations"
+                return
+            yield from differs(f"allocation {nth - first}", ending, OUT_OF_MEMORY)
+            yield from differs(f"login {nth - first}", login, LOGIN if nth >= first + 3 else b"")
+        yield "more than 64 allocations"
+
+
+@contextlib.contextmanager
+def day_file():
+    with tempfile.NamedTemporaryFile(suffix=".itch") as day:
+        day.write(DAY)
+        day.flush()
+        yield day.name
+
+
+def each_allocation_of_a_connection_ends_the_serving(program):
+    """Those of its buffers. Those before it are refused where the port is in use."""
+    with tempfile.TemporaryDirectory() as name, day_file() as day:
+        shim, failed = failing.build_shim(name), Path(name) / "a call failed"
+
+        def is_before(nth):
+            failed.unlink(missing_ok=True)
+            ended_in(name, program, "serve", day, *login_words(used.getsockname()[1]), "--count", "1", LD_PRELOAD=str(shim),
+                     FAIL=f"memory:{nth}", FAILED=str(failed))
+            return failed.exists()
+
+        with socket.create_server(("127.0.0.1", 0)) as used:
+            first = first_unmet(is_before)
+        for nth in range(first, first + 8):
+            failed.unlink(missing_ok=True)
+            with Server(program, day, 1, LD_PRELOAD=str(shim), FAIL=f"memory:{nth}", FAILED=str(failed)) as server:
+                with connect(server.port) as peer:
+                    peer.sendall(LOGIN_3)
+                    with contextlib.suppress(ConnectionError):
+                        received(peer)
+                output, error = server.process.communicate(timeout=60)
+            wanted = OUT_OF_MEMORY if nth < first + 3 else (0, b"connection 1: accepted from 3, 3 packets\n", b"")
+            yield from differs(f"allocation {nth - first}", (failed.exists(), server.process.returncode, output, error), (nth < first + 3, *wanted))
+
+
+def what_is_no_snapshot_is_not_written(program):
+    answers = {
+        answer(3): "session fault",
+        b"\0\x02JA": "rejected A",
+        b"\0\x02JS": "rejected S",
+        acceptance(1) + ENDED: "ended early",
+        b"": "ended early",
+        ENDED: "ended early",
+        b"\0\x1fA": "session fault",
+        b"\0\x02SS": "session fault",
+    }
+    for data, reason in answers.items():
+        with failing_fetch(program) as perform, answering(data) as (port, _):
+            yield from differs(f"answered {data!r}", perform(port, ""), (False, (1, b"", f"itchsnap: {reason}\n".encode())))
+
+
+def served(program, clients):
+    """Serves clients that all connect before the first one is answered: what each says, what it is answered, and its line."""
+    with day_file() as day, Server(program, day, len(clients)) as server, contextlib.ExitStack() as peers:
+        connected = []
+        for says, _, _ in clients:
+            peer = peers.enter_context(connect(server.port))
+            peer.sendall(says)
+            peer.shutdown(socket.SHUT_WR)
+            connected.append(peer)
+        for peer, (says, wanted, _) in zip(connected, clients):
+            yield from differs(f"the answer to {says!r}", received(peer), wanted)
+        yield from server.differences(*(line for _, _, line in clients))
+
+
+def connections_are_served_in_turn(program):
+    yield from served(program, [(LOGIN_3, answer(3), "accepted from 3, 3 packets"), (WRONG, b"\0\x02JA", "rejected A"), (b"\0\x01O", b"", "left")])
+
+
+def a_client_that_says_more_has_its_answer(program):
+    yield from served(program, [(b"\0\x01R" + LOGIN_3 + b"\0\x01R\0\x01R\0\0", answer(3), "accepted from 3, 3 packets")])
+
+
+def a_fault_of_a_client_ends_one_connection_alone(program):
+    yield from served(program, [(b"\0\0", b"", "fault"), (LOGIN_3, answer(3), "accepted from 3, 3 packets")])
+
+
+RUNS = [
+    each_read_of_a_fetch_fails_in_turn,
+    each_write_of_a_login_fails_in_turn,
+    each_write_of_a_fetched_snapshot_fails_in_turn,
+    each_allocation_of_a_fetch_is_refused,
+    each_allocation_of_a_connection_ends_the_serving,
+    what_is_no_snapshot_is_not_written,
+    connections_are_served_in_turn,
+    a_client_that_says_more_has_its_answer,
+    a_fault_of_a_client_ends_one_connection_alone,
+]

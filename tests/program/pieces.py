@@ -1,0 +1,223 @@
+"""Runs of each command over files that are read and written in pieces: each read, each write and each allocation failing in turn, and
+each beginning of each file.
+
+What is wanted is worked out from the blocks of the files. RUNS has a function for each run, named for what it shows; it is given the
+program, and yields what differs.
+"""
+import bisect
+import contextlib
+import itertools
+import re
+import tempfile
+from pathlib import Path
+from typing import NamedTuple
+
+import failing
+from common import differs, ended_in, file, split
+
+CAUSE = "Input/output error (os error 5)"
+OUT_OF_MEMORY = re.compile(rb"itchsnap: ((first|second|snapshot): )?(message \d+: )?out of memory\n")
+LINES = b"""\
+1 S 0 0 0 4f
+2 R 1 0 0 [AAPL] 51 4e 100 4e 43 5a20 50 4e 4e 31 4e 0 4e
+3 F 1 0 0 1 B 100 [AAPL] 150.0000 [ABCD]
+4 A 1 0 0 2 B 200 [AAPL] 150.0000
+5 U 1 0 0 1 3 100 150.0000
+"""
+AFTER = file("START AAPL BUY_2_OF_200 ATTRIBUTED_3 END_6")
+
+
+class Ended(NamedTuple):
+    """What the program ended with, and whether a call failed as asked for."""
+
+    failed: bool
+    status: int
+    output: bytes
+    error: bytes
+
+
+class Input:
+    """A file that a command reads, and how a fault names it."""
+
+    def __init__(self, name, blocks, prefix=""):
+        self.name, self.data, self.prefix = name, file(blocks), prefix
+        self.is_snapshot = name.endswith(".snap")
+
+    def starts(self):
+        """Where its blocks start, and its end."""
+        return list(itertools.accumulate(map(len, split(self.data)), initial=0))
+
+    def whole(self, held):
+        """How many whole blocks so many bytes have."""
+        return bisect.bisect_right(self.starts(), held) - 1
+
+    def line(self, held, fault):
+        """The line of a fault after so many bytes."""
+        place = "" if self.is_snapshot else f"message {self.whole(held) + 1}: "
+        return f"itchsnap: {self.prefix}{place}{fault}\n"
+
+
+DAY = Input("day.itch", "START AAPL ATTRIBUTED_1 BUY_2_OF_200 REPLACE_1_BY_3")
+SNAPSHOT = Input("market.snap", "START AAPL BUY_2_OF_200 ATTRIBUTED_3 END_6")
+
+
+class Command:
+    """A command over files, in the order in which it reads them. It takes memory at least so often once they are opened: for the buffer
+    and the blocks of each file, and for what the market and the check hold."""
+
+    def __init__(self, words, inputs, output, memory, status=0):
+        self.words, self.inputs, self.output, self.memory, self.status = words.split(), inputs, output, memory, status
+
+    def reads_on(self, it):
+        """Whether it reads a file to its end. Of a snapshot that a feed is joined to, nothing is read after End of Snapshot."""
+        return not (self.words[0] == "join" and it.is_snapshot)
+
+    def shown(self, held):
+        """What is written where the file fails after so many bytes: of `show` a line for each whole message."""
+        lines = self.output.splitlines(keepends=True) if self.words[0] == "show" else []
+        return b"".join(lines[:self.inputs[0].whole(held)])
+
+    @contextlib.contextmanager
+    def folder(self):
+        """A folder with its files."""
+        with tempfile.TemporaryDirectory() as name:
+            for it in self.inputs:
+                (Path(name) / it.name).write_bytes(it.data)
+            yield Path(name)
+
+    def unfailed(self):
+        return Ended(False, self.status, self.output, b"")
+
+
+COMMANDS = [
+    Command("check day.itch", [DAY], b"ok 5 messages\n", 4),
+    Command("snap day.itch", [DAY], AFTER, 4),
+    Command("compare day.itch other.itch",
+            [Input("day.itch", "START AAPL ATTRIBUTED_1 BUY_2_OF_200 REPLACE_1_BY_3", "first: "), Input("other.itch", "START AAPL BUY_1", "second: ")],
+            b"different at 3\n", 8, status=1),
+    Command("canon market.snap", [SNAPSHOT], AFTER, 4),
+    Command("canon --check market.snap", [SNAPSHOT], b"canonical\n", 5),
+    Command("canon --check end.snap", [Input("end.snap", "END_1")], b"canonical\n", 3),
+    Command("join start.snap day.itch", [Input("start.snap", "START AAPL ATTRIBUTED_1 END_4", "snapshot: "), DAY], AFTER, 6),
+    Command("show day.itch", [DAY], LINES, 2),
+    Command("book 1 day.itch", [DAY], b"1 AAPL\nB 150.0000 300 2\n", 4),
+]
+
+
+@contextlib.contextmanager
+def failing_calls(program, command):
+    """A function that performs the command in pieces, with a call failing, as `read:3`."""
+    with command.folder() as folder:
+        shim, failed = failing.build_shim(folder), folder / "a call failed"
+
+        def perform(failure, piece, words=command.words):
+            failed.unlink(missing_ok=True)
+            ending = ended_in(folder, program, *words, LD_PRELOAD=str(shim), FAIL=failure, FAILED=str(failed), PIECE=str(piece))
+            return Ended(failed.exists(), *ending)
+
+        yield perform
+
+
+def reads(command, piece):
+    """Each read of a command: its file, and how many bytes of that were read before. The last one of a file finds its end."""
+    for it in command.inputs:
+        for held in range(0, len(it.data), piece):
+            yield it, held
+        if command.reads_on(it):
+            yield it, len(it.data)
+
+
+def read_failures(program, piece):
+    for command in COMMANDS:
+        nth = 0
+        with failing_calls(program, command) as perform:
+            for nth, (it, held) in enumerate(reads(command, piece), 1):
+                error = it.line(held, "read failed") + f"  {it.name}: {CAUSE}\n"
+                yield from differs(f"{command.words}, read {nth}", perform(f"read:{nth}", piece),
+                                   Ended(True, 3, command.shown(held), error.encode()))
+            yield from differs(f"{command.words}, {nth} reads", perform(f"read:{nth + 1}", piece), command.unfailed())
+
+
+def each_read_of_one_byte_fails_in_turn(program):
+    yield from read_failures(program, 1)
+
+
+def each_read_of_50_bytes_fails_in_turn(program):
+    yield from read_failures(program, 50)
+
+
+def each_write_of_one_byte_fails_in_turn(program):
+    """Alone, and with all writes of the output after it. Then that has what was written before it."""
+    error = f"itchsnap: write failed\n  standard output: {CAUSE}\n".encode()
+    for command in COMMANDS:
+        with failing_calls(program, command) as perform:
+            for at in range(len(command.output)):
+                yield from differs(f"{command.words}, from write {at + 1}", perform(f"write:{at + 1}+", 1), Ended(True, 3, command.output[:at], error))
+                ending = perform(f"write:{at + 1}", 1)
+                if not command.output.startswith(ending.output) or ending != Ended(True, 3, ending.output, error):
+                    yield f"{command.words}, write {at + 1}: {ending}"
+            yield from differs(f"{command.words}, all writes", perform(f"write:{len(command.output) + 1}", 1), command.unfailed())
+
+
+def each_allocation_is_refused_in_pieces(program):
+    """Those before the files are opened are the words' own: the table of runs refuses them."""
+    for command in COMMANDS:
+        with failing_calls(program, command) as perform:
+            missing = [word.replace(".", ".no.") for word in command.words]
+            # Fewer than there are before the files are opened.
+            before = bisect.bisect_left(range(1, 1000), True, key=lambda nth: not perform(f"memory:{nth}", 1, missing).failed)
+            for piece in (1, 2, 7, 64, 4096):
+                yield from refusals(command, perform, piece, before)
+
+
+def refusals(command, perform, piece, before):
+    for count in range(64):
+        ending = perform(f"memory:{before + count + 1}", piece)
+        if not ending.failed:
+            yield from differs(f"{command.words}, pieces of {piece}", ending, command.unfailed())
+            if count < command.memory:
+                yield f"{command.words}, pieces of {piece}: {count} allocations"
+            return
+        if (ending.status, ending.output) != (4, b"") or not OUT_OF_MEMORY.fullmatch(ending.error):
+            yield f"{command.words}, pieces of {piece}, allocation {count}: {ending}"
+    yield f"{command.words}, pieces of {piece}: more than 64 allocations"
+
+
+def beginning(command, it, held):
+    """What a command ends with, where a file has this many of its bytes. None where it depends on the messages that are left."""
+    starts = it.starts()
+    if held not in starts:
+        truncated = held - starts[it.whole(held)]
+        return 1, command.shown(held), it.line(held, f"truncated, {truncated} bytes held").encode()
+    if it.is_snapshot:
+        return 1, b"", it.line(held, "no end of snapshot").encode()
+    return {"check": (0, b"ok %d messages\n" % it.whole(held), b""), "show": (0, command.shown(held), b"")}.get(command.words[0])
+
+
+def each_beginning_of_each_file(program):
+    for command in COMMANDS:
+        for it in command.inputs:
+            with command.folder() as folder:
+                for held in range(len(it.data)):
+                    (folder / it.name).write_bytes(it.data[:held])
+                    if wanted := beginning(command, it, held):
+                        yield from differs(f"{command.words}, {held} bytes of {it.name}", ended_in(folder, program, *command.words), wanted)
+
+
+def reads_and_writes_are_of_any_size(program):
+    """Of a file with bytes after its end block."""
+    data = Input("day.itch", "MSFT START AAPL UNRESTRICTED TRADING 0000 ff")
+    command = Command("snap day.itch", [data], file("START AAPL TRADING UNRESTRICTED MSFT END_6"), 4)
+    with failing_calls(program, command) as perform:
+        for piece in range(1, len(data.data) + 2):
+            yield from differs(f"pieces of {piece}", perform("", piece), command.unfailed())
+
+
+RUNS = [
+    each_read_of_one_byte_fails_in_turn,
+    each_read_of_50_bytes_fails_in_turn,
+    each_write_of_one_byte_fails_in_turn,
+    each_allocation_is_refused_in_pieces,
+    each_beginning_of_each_file,
+    reads_and_writes_are_of_any_size,
+]
