@@ -1,50 +1,31 @@
-//! Feeds joined to snapshots, with no set of locates and with the set of all.
+//! Feeds joined to snapshots for the set of all locates, which no words ask for.
 
 use super::blocks::*;
 use super::files::file;
-use crate::equal::same;
+use crate::equal::{holds_in, same_in};
 use itch_commands::join::join;
 use itch_commands::laws;
+use itch_frame::CountedRead;
 use itch_frame::testing::{FuseWriter, PieceReader};
 use itch_market::LocateSet;
 use std::alloc::Global;
 use std::process::Abort;
 use std::test::Fail;
 
-// The feed is joined to the snapshot so, for these locates.
-fn joined_for(
+// The feed is joined to the snapshot so, for all locates.
+fn joined<R: CountedRead + Drop, S: CountedRead + Drop>(
     rt: &impl Abort,
     alloc: Global,
-    snapshot: &[u8],
-    feed: &[u8],
-    only: Option<LocateSet<Global>>,
+    snapshot: R,
+    feed: S,
+    case: usize,
     wanted: &[u8],
 ) {
-    let mut out = FuseWriter::new(alloc, 7, None);
-    let answer = join(
-        alloc,
-        PieceReader::new(snapshot, 3, None),
-        PieceReader::new(feed, 5, None),
-        only,
-        &mut out,
-    );
-    assert!(rt; matches!(answer, Ok(true)));
-    same(rt, out.written(), wanted);
-}
-
-// The feed is joined to the snapshot so, and also for the set of all locates.
-fn joined(
-    rt: &impl Abort,
-    alloc: Global,
-    (snapshot, feed, wanted): (&[&str], &[&str], &[&str]),
-) -> Result<(), Fail> {
-    let snapshot = file(alloc, snapshot)?;
-    let feed = file(alloc, feed)?;
-    let wanted = file(alloc, wanted)?;
-    joined_for(rt, alloc, &snapshot, &feed, None, &wanted);
     let all = LocateSet::all(alloc);
-    joined_for(rt, alloc, &snapshot, &feed, Some(all), &wanted);
-    Ok(())
+    let mut out = FuseWriter::new(alloc, 7, None);
+    let answer = join(alloc, snapshot, feed, Some(all), &mut out);
+    holds_in(rt, case, matches!(answer, Ok(true)));
+    same_in(rt, case, out.written(), wanted);
 }
 
 // Snapshots, feeds, and the snapshots after all.
@@ -79,8 +60,14 @@ fn the_laws_of_what_is_read_with_a_set() {
 
 #[test]
 fn join_goes_on_after_a_snapshot(rt: HostRuntime) -> Result<(), Fail> {
-    for case in JOINED {
-        joined(&rt, rt.alloc(), case)?;
+    let alloc = rt.alloc();
+    for (case, (snapshot, feed, wanted)) in JOINED.iter().enumerate() {
+        let snapshot = file(alloc, snapshot)?;
+        let feed = file(alloc, feed)?;
+        let wanted = file(alloc, wanted)?;
+        let snapshot = PieceReader::new(snapshot.as_slice(), 3, None);
+        let feed = PieceReader::new(feed.as_slice(), 5, None);
+        joined(&rt, alloc, snapshot, feed, case, wanted.as_slice());
     }
     Ok(())
 }

@@ -1,26 +1,92 @@
 //! Lists of locates, and `snap` for the set of all.
 
+use super::blocks::*;
 use super::files::file;
-use super::snaps::ROWS;
 use crate::equal::{holds_in, same, same_in};
 use itch_commands::read_locates;
 use itch_commands::snap::snap;
+use itch_frame::CountedRead;
 use itch_frame::testing::{FuseWriter, PieceReader};
 use itch_market::LocateSet;
+use std::alloc::Global;
+use std::process::Abort;
 use std::test::Fail;
 use test_kit::Refusing;
+
+// Files, and their snapshots.
+const ROWS: [(&[&str], &[&str]); 16] = [
+    (&[], &[END_1]),
+    (
+        &[AAPL, POSITION_ZZZZ, HALT_X, POSITION_ABCD, HALT_Q, RESUME_X],
+        &[AAPL, HALT_Q, RESUME_X, POSITION_ABCD, POSITION_ZZZZ, END_7],
+    ),
+    (
+        &[START_STAMPED, AAPL_STAMPED, BUY_1_STAMPED],
+        &[START, AAPL, BUY_1, END_4],
+    ),
+    (
+        &[START_STAMPED, AAPL_STAMPED, BUY_1_STAMPED, "0000deadbeef01"],
+        &[START, AAPL, BUY_1, END_4],
+    ),
+    (&[MAX, SELL_MAX], &[MAX, SELL_MAX, END_3]),
+    (
+        &[AAPL, BUY_1, BUY_2_HIGH, BUY_3_OF_300, BUY_4_HIGH],
+        &[AAPL, BUY_2_HIGH, BUY_4_HIGH, BUY_1, BUY_3_OF_300, END_6],
+    ),
+    (
+        &[AAPL, BUY_2_HIGH, BUY_4_HIGH, BUY_1, BUY_3_OF_300],
+        &[AAPL, BUY_2_HIGH, BUY_4_HIGH, BUY_1, BUY_3_OF_300, END_6],
+    ),
+    (
+        &[AAPL, TRADING_RESERVED_0, BUY_7_OF_300, EXECUTE_7, CANCEL_7],
+        &[AAPL, TRADING, BUY_7_OF_150, END_6],
+    ),
+    (
+        &[AAPL_LATE, TRADING_RESERVED_58, BUY_7_OF_150],
+        &[AAPL, TRADING, BUY_7_OF_150, END_4],
+    ),
+    (
+        &[AAPL, ATTRIBUTED_1, BUY_2_OF_200, REPLACE_1_BY_3],
+        &[AAPL, BUY_2_OF_200, ATTRIBUTED_3, END_5],
+    ),
+    (&[AAPL, BUY_1, EXECUTE_0], &[AAPL, BUY_1, END_4]),
+    (&[AAPL, BUY_1, AAPL_LOT_200], &[AAPL_LOT_200, BUY_1, END_4]),
+    (&[AAPL, BROKEN], &[AAPL, END_3]),
+    (&[AAPL, BUY_1, EXECUTE_100], &[AAPL, END_4]),
+    (
+        &[MSFT, START, AAPL, UNRESTRICTED, TRADING],
+        &[START, AAPL, TRADING, UNRESTRICTED, MSFT, END_6],
+    ),
+    (
+        &[MSFT, START, AAPL, UNRESTRICTED, TRADING, "0000ff"],
+        &[START, AAPL, TRADING, UNRESTRICTED, MSFT, END_6],
+    ),
+];
+
+// The snapshot of this file for all locates.
+fn snapped<R: CountedRead + Drop>(
+    rt: &impl Abort,
+    alloc: Global,
+    all: &LocateSet<Global>,
+    reader: R,
+    case: usize,
+    wanted: &[u8],
+) {
+    let mut out = FuseWriter::new(alloc, 4096, None);
+    let answer = snap(alloc, reader, None, Some(all), &mut out);
+    holds_in(rt, case, matches!(answer, Ok(true)));
+    same_in(rt, case, out.written(), wanted);
+}
 
 #[test]
 fn snap_of_all_locates_is_the_whole(rt: HostRuntime) -> Result<(), Fail> {
     let alloc = rt.alloc();
     let all = LocateSet::all(alloc);
-    for (day, wanted) in ROWS {
+    for (case, (day, wanted)) in ROWS.iter().enumerate() {
         let day = file(alloc, day)?;
-        let mut out = FuseWriter::new(alloc, 4096, None);
+        let wanted = file(alloc, wanted)?;
         let reader = PieceReader::new(day.as_slice(), 7, None);
-        let answer = snap(alloc, reader, None, Some(&all), &mut out);
-        assert!(rt; matches!(answer, Ok(true)));
-        same(&rt, out.written(), file(alloc, wanted)?.as_slice());
+        snapped(&rt, alloc, &all, reader, case, wanted.as_slice());
     }
     Ok(())
 }
@@ -40,40 +106,6 @@ fn lists_are_read(rt: HostRuntime) -> Result<(), Fail> {
             holds_in(&rt, text, set.contains(*locate));
         }
         holds_in(&rt, text, !set.contains(other));
-    }
-    Ok(())
-}
-
-#[test]
-fn other_texts_are_no_lists(rt: HostRuntime) -> Result<(), Fail> {
-    let alloc = rt.alloc();
-    let texts = [
-        "",
-        ",",
-        "1,",
-        ",1",
-        "1,,2",
-        "+1",
-        "-1",
-        " 1",
-        "1 ",
-        "1, 2",
-        "1;2",
-        "x",
-        "0x1",
-        "65536",
-        "1,65536",
-        "99999999999999999999999",
-        "1.0",
-    ];
-    for text in texts {
-        let fault = read_locates(alloc, text).err().ok_or("a refusal")?;
-        same_in(&rt, text, fault.status(), 2);
-        same(
-            &rt,
-            format!(in alloc; "{fault}")?.as_str(),
-            "itchsnap: bad locate list",
-        );
     }
     Ok(())
 }

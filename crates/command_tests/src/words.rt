@@ -84,68 +84,6 @@ fn requests_are_read(rt: HostRuntime) -> Result<(), Fail> {
     Ok(())
 }
 
-// What asks for no request ends with this status.
-const OTHER_WORDS: &[(&str, i32)] = &[
-    ("snap --help", 0),
-    ("snap --only", 2),
-    ("snap --only 1 --only 2", 2),
-    ("snap --after 1000000000000", 2),
-    ("snap --after +5", 2),
-    ("snap --after -5", 2),
-    ("snap --after", 2),
-    ("snap --after 1 --after 2", 2),
-    ("snap one two", 2),
-    ("canon --check --check", 2),
-    ("canon --check=1", 2),
-    ("canon a.snap b.snap", 2),
-    ("compare - -", 2),
-    ("compare a.itch", 2),
-    ("compare", 2),
-    ("compare a.itch b.itch c.itch", 2),
-    ("join - -", 2),
-    ("join a.snap", 2),
-    ("join a.snap b.itch c.itch", 2),
-    ("show --progress", 2),
-    ("check --only 1", 2),
-    ("book 65536", 2),
-    ("book +1", 2),
-    ("book -1", 2),
-    ("book one", 2),
-    ("book", 2),
-    ("unknown 1", 2),
-    ("", 2),
-    ("--version", 0),
-    ("fetch --help", 0),
-    ("fetch --port 0 --user user --pass secret", 2),
-    ("fetch --port 65536 --user user --pass secret", 2),
-    ("fetch --port +1 --user user --pass secret", 2),
-    ("fetch --port 1 --port 1 --user user --pass secret", 2),
-    ("fetch --user user --pass secret", 2),
-    ("fetch --port 1 --pass secret", 2),
-    ("fetch --port 1 --user user", 2),
-    ("fetch day.itch --port 1 --user user --pass secret", 2),
-    ("serve --port 1 --user user --pass secret --count 1", 2),
-    ("serve day.itch --port 1 --user user --pass secret", 2),
-    ("serve - --port 1 --user user --pass secret --count 0", 2),
-    (
-        "serve - --port 1 --user user --pass secret --count 1000001",
-        2,
-    ),
-    ("serve - --port 1 --user user --pass secret --count +1", 2),
-];
-
-#[test]
-fn other_words_end_with_a_status(rt: HostRuntime) -> Result<(), Fail> {
-    for (line, status) in OTHER_WORDS {
-        let words = words(rt.alloc(), line)?;
-        match read_job(rt.alloc(), words.as_slice(), false) {
-            Ok(_) => assert!(rt; false, "{line}"),
-            Err(error) => assert_eq!(rt; error.exit_code(), *status, "{line}"),
-        }
-    }
-    Ok(())
-}
-
 const PEER: Peer<'static> = Peer {
     port: 65_535,
     user: "user",
@@ -217,27 +155,5 @@ fn a_password_is_not_shown(rt: HostRuntime) -> Result<(), Fail> {
     let shown = format!(in rt.alloc(); "{PEER:?}")?;
     assert!(rt; shown.contains("user"));
     assert!(rt; !shown.contains("secret"));
-    Ok(())
-}
-
-#[test]
-fn snapshots_are_kept_from_a_terminal(rt: HostRuntime) -> Result<(), Fail> {
-    let cases: [(&str, Option<i32>); 8] = [
-        ("snap", Some(2)),
-        ("join a.snap b.itch", Some(2)),
-        ("canon", Some(2)),
-        ("fetch --port 1 --user user --pass secret", Some(2)),
-        ("canon --check", None),
-        ("check", None),
-        ("show", None),
-        ("snap --help", Some(0)),
-    ];
-    for (line, wanted) in cases {
-        let words = words(rt.alloc(), line)?;
-        match read_job(rt.alloc(), words.as_slice(), true) {
-            Ok(_) => assert!(rt; wanted.is_none(), "{line}"),
-            Err(error) => assert_eq!(rt; Some(error.exit_code()), wanted, "{line}"),
-        }
-    }
     Ok(())
 }

@@ -1,7 +1,5 @@
-//! Each read and each write of `fetch` failing in turn: the status is 3. A failed read leaves nothing on the output; a failed write
-//! leaves a beginning of it.
-use super::{FROM_1, LOGIN_1, SNAPSHOT};
-use crate::equal::{holds_in, same, same_in};
+//! The write of each byte of a fetched snapshot failing, with no buffer before it, and the flush of an answer.
+use crate::equal::{same, same_in};
 use itch_codec::Seq;
 use itch_commands::{Book, status};
 use itch_frame::BlockReader;
@@ -14,6 +12,22 @@ use std::alloc::Global;
 use std::io::{self, Write};
 use std::process::Abort;
 use std::test::Fail;
+
+const LOGIN: &[u8] = b"\0\x2fLuser  secret                                 1";
+
+// The answer to it.
+const ANSWER: &[u8] = b"\0\x1fA  ITCHSNAP                   1\
+    \0\x0dSS\0\0\0\0\0\0\0\0\0\0O\
+    \0\x28SR\0\x01\0\0\0\0\0\0\0\0AAPL    QN\0\0\0dNCZ PNN1N\0\0\0\0N\
+    \0\x25SA\0\x01\0\0\0\0\0\0\0\0\0\0\0\0\0\0\0\x01B\0\0\0dAAPL    \0\x16\xe3\x60\
+    \0\x25SA\0\x01\0\0\0\0\0\0\0\0\0\0\0\0\0\0\0\x02B\0\0\0\xc8AAPL    \0\x16\xe3\x60\
+    \0\x16SG                   5\0\x01Z";
+
+const SNAPSHOT: &[u8] = b"\0\x0cS\0\0\0\0\0\0\0\0\0\0O\
+    \0\x27R\0\x01\0\0\0\0\0\0\0\0AAPL    QN\0\0\0dNCZ PNN1N\0\0\0\0N\
+    \0\x24A\0\x01\0\0\0\0\0\0\0\0\0\0\0\0\0\0\0\x01B\0\0\0dAAPL    \0\x16\xe3\x60\
+    \0\x24A\0\x01\0\0\0\0\0\0\0\0\0\0\0\0\0\0\0\x02B\0\0\0\xc8AAPL    \0\x16\xe3\x60\
+    \0\x15G                   5";
 
 fn login(rt: &impl Abort) -> Login {
     let Ok(login) = Login::new("user", "secret") else {
@@ -39,47 +53,12 @@ fn fetch_fails(
     same(rt, status(&answer), 3);
 }
 
-// The last 3 bytes are the end of the session, which is not read.
-#[test]
-fn reads_of_a_fetch(rt: HostRuntime) -> Result<(), Fail> {
-    let alloc = rt.alloc();
-    let credentials = credentials(&rt);
-    for read in 1..=FROM_1.len() as u64 - 3 {
-        let mut reader = BlockReader::new(alloc, PieceReader::new(FROM_1, 1, Some(read)))?;
-        let mut writer = FuseWriter::new(alloc, 64, None);
-        let mut out = FuseWriter::new(alloc, 64, None);
-        fetch_fails(&rt, alloc, &mut reader, &mut writer, &credentials, &mut out);
-        holds_in(&rt, ("read", read), out.written().is_empty());
-    }
-    Ok(())
-}
-
-#[test]
-fn writes_of_a_login(rt: HostRuntime) -> Result<(), Fail> {
-    let alloc = rt.alloc();
-    let credentials = credentials(&rt);
-    for at in 0..LOGIN_1.len() {
-        let mut reader = BlockReader::new(alloc, PieceReader::new(FROM_1, 64, None))?;
-        let mut writer = FuseWriter::new(alloc, 1, Some(at as u64 + 1));
-        let mut out = FuseWriter::new(alloc, 64, None);
-        fetch_fails(&rt, alloc, &mut reader, &mut writer, &credentials, &mut out);
-        same_in(
-            &rt,
-            ("write", at),
-            Some(writer.written()),
-            LOGIN_1.get(..at),
-        );
-        holds_in(&rt, ("write", at), out.written().is_empty());
-    }
-    Ok(())
-}
-
 #[test]
 fn writes_of_a_fetched_snapshot(rt: HostRuntime) -> Result<(), Fail> {
     let alloc = rt.alloc();
     let credentials = credentials(&rt);
     for at in 0..SNAPSHOT.len() {
-        let mut reader = BlockReader::new(alloc, PieceReader::new(FROM_1, 64, None))?;
+        let mut reader = BlockReader::new(alloc, PieceReader::new(ANSWER, 64, None))?;
         let mut writer = FuseWriter::new(alloc, 64, None);
         let mut out = FuseWriter::new(alloc, 1, Some((at as u64).saturating_add(1)));
         fetch_fails(&rt, alloc, &mut reader, &mut writer, &credentials, &mut out);
@@ -109,7 +88,7 @@ fn a_flush_of_an_answer(rt: HostRuntime) -> Result<(), Fail> {
     let next = Seq::new(1).ok_or("a number")?;
     let market: Market<Book<Global>> = Market::new(alloc);
     assert!(rt; snapshot_len(&market) < 100);
-    let mut reader = BlockReader::new(alloc, PieceReader::new(LOGIN_1, 64, None))?;
+    let mut reader = BlockReader::new(alloc, PieceReader::new(LOGIN, 64, None))?;
     let mut writer = Sending::new(Stuck);
     let ending = serve_peer(&mut reader, &mut writer, &market, next, &config);
     assert!(rt; ending.is_none());
