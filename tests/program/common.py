@@ -57,3 +57,16 @@ def ended_in(folder, program, *words, **environment):
 def differs(label, got, wanted):
     if got != wanted:
         yield f"{label}: {repr(got)[:400]}, not {repr(wanted)[:400]}"
+
+
+def first_unmet(fails):
+    """The number of the first call that is not made. `fails` runs the program with the call of a number failing, and says whether there
+    is one."""
+    low, high = 1, 1000
+    while low < high:
+        middle = (low + high) // 2
+        if fails(middle):
+            low = middle + 1
+        else:
+            high = middle
+    return low

@@ -2,7 +2,6 @@
 
 RUNS has a function for each run, named for what it shows; it is given the program, and yields what differs.
 """
-import bisect
 import contextlib
 import queue
 import socket
@@ -12,7 +11,7 @@ import threading
 from pathlib import Path
 
 import failing
-from common import differs, ended_in, file, split
+from common import differs, ended_in, file, first_unmet, split
 from sessions import LOGIN, Server, connect, free_port, login_words, received
 
 DAY = file("START AAPL BUY_1 BUY_2_OF_200")
@@ -103,13 +102,9 @@ def each_write_of_a_fetched_snapshot_fails_in_turn(program):
         yield from differs("all writes", perform(port, f"write:{len(SNAPSHOT) + 1}"), fetched())
 
 
-def first_unmet(failed):
-    """The number of the first call that is not made. `failed` says whether one of this number is."""
-    return bisect.bisect_left(range(1, 1000), True, key=lambda nth: not failed(nth)) + 1
-
-
 def each_allocation_of_a_fetch_is_refused(program):
-    """The first three are those of the buffers, before the login. Those before a connection are the words' own: runs.ini has them."""
+    """The first three are those of the buffers, before the login. Those before the connection are the words' own: the rows of runs.ini
+    refuse them."""
     with failing_fetch(program) as perform, answering(answer(1)) as (port, said):
         closed = free_port()
         first = first_unmet(lambda nth: perform(closed, f"memory:{nth}")[0])
@@ -135,7 +130,7 @@ def day_file():
 
 
 def each_allocation_of_a_connection_ends_the_serving(program):
-    """Those of its buffers. Those before it are refused where the port is in use."""
+    """Those of its buffers. As many are made before them as where the port is in use."""
     with tempfile.TemporaryDirectory() as name, day_file() as day:
         shim, failed = failing.build_shim(name), Path(name) / "a call failed"
 

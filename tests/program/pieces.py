@@ -13,10 +13,11 @@ from pathlib import Path
 from typing import NamedTuple
 
 import failing
-from common import differs, ended_in, file, split
+from common import differs, ended_in, file, first_unmet, split
 
 CAUSE = "Input/output error (os error 5)"
 OUT_OF_MEMORY = re.compile(rb"itchsnap: ((first|second|snapshot): )?(message \d+: )?out of memory\n")
+MESSAGES = "START AAPL ATTRIBUTED_1 BUY_2_OF_200 REPLACE_1_BY_3"
 LINES = b"""\
 1 S 0 0 0 4f
 2 R 1 0 0 [AAPL] 51 4e 100 4e 43 5a20 50 4e 4e 31 4e 0 4e
@@ -57,7 +58,7 @@ class Input:
         return f"itchsnap: {self.prefix}{place}{fault}\n"
 
 
-DAY = Input("day.itch", "START AAPL ATTRIBUTED_1 BUY_2_OF_200 REPLACE_1_BY_3")
+DAY = Input("day.itch", MESSAGES)
 SNAPSHOT = Input("market.snap", "START AAPL BUY_2_OF_200 ATTRIBUTED_3 END_6")
 
 
@@ -92,8 +93,7 @@ class Command:
 COMMANDS = [
     Command("check day.itch", [DAY], b"ok 5 messages\n", 4),
     Command("snap day.itch", [DAY], AFTER, 4),
-    Command("compare day.itch other.itch",
-            [Input("day.itch", "START AAPL ATTRIBUTED_1 BUY_2_OF_200 REPLACE_1_BY_3", "first: "), Input("other.itch", "START AAPL BUY_1", "second: ")],
+    Command("compare day.itch other.itch", [Input("day.itch", MESSAGES, "first: "), Input("other.itch", "START AAPL BUY_1", "second: ")],
             b"different at 3\n", 8, status=1),
     Command("canon market.snap", [SNAPSHOT], AFTER, 4),
     Command("canon --check market.snap", [SNAPSHOT], b"canonical\n", 5),
@@ -147,32 +147,32 @@ def each_read_of_50_bytes_fails_in_turn(program):
 
 
 def each_write_of_one_byte_fails_in_turn(program):
-    """Alone, and with all writes of the output after it. Then that has what was written before it."""
+    """Alone, and with each write of the output after it. Then the output is what was written before."""
     error = f"itchsnap: write failed\n  standard output: {CAUSE}\n".encode()
     for command in COMMANDS:
         with failing_calls(program, command) as perform:
-            for at in range(len(command.output)):
-                yield from differs(f"{command.words}, from write {at + 1}", perform(f"write:{at + 1}+", 1), Ended(True, 3, command.output[:at], error))
-                ending = perform(f"write:{at + 1}", 1)
-                if not command.output.startswith(ending.output) or ending != Ended(True, 3, ending.output, error):
-                    yield f"{command.words}, write {at + 1}: {ending}"
+            for nth in range(1, len(command.output) + 1):
+                wanted = Ended(True, 3, command.output[:nth - 1], error)
+                yield from differs(f"{command.words}, writes from {nth} on", perform(f"write:{nth}+", 1), wanted)
+                alone = perform(f"write:{nth}", 1)
+                if not command.output.startswith(alone.output) or alone != wanted._replace(output=alone.output):
+                    yield f"{command.words}, write {nth}: {alone}"
             yield from differs(f"{command.words}, all writes", perform(f"write:{len(command.output) + 1}", 1), command.unfailed())
 
 
 def each_allocation_is_refused_in_pieces(program):
-    """Those before the files are opened are the words' own: the table of runs refuses them."""
+    """Those before the files are opened are the words' own: the rows of runs.ini refuse them."""
     for command in COMMANDS:
         with failing_calls(program, command) as perform:
-            missing = [word.replace(".", ".no.") for word in command.words]
-            # Fewer than there are before the files are opened.
-            before = bisect.bisect_left(range(1, 1000), True, key=lambda nth: not perform(f"memory:{nth}", 1, missing).failed)
+            missing = [word.replace(".", ".missing.") for word in command.words]
+            first = first_unmet(lambda nth: perform(f"memory:{nth}", 1, missing).failed)
             for piece in (1, 2, 7, 64, 4096):
-                yield from refusals(command, perform, piece, before)
+                yield from refusals(command, perform, piece, first)
 
 
-def refusals(command, perform, piece, before):
+def refusals(command, perform, piece, first):
     for count in range(64):
-        ending = perform(f"memory:{before + count + 1}", piece)
+        ending = perform(f"memory:{first + count}", piece)
         if not ending.failed:
             yield from differs(f"{command.words}, pieces of {piece}", ending, command.unfailed())
             if count < command.memory:
@@ -205,7 +205,7 @@ def each_beginning_of_each_file(program):
 
 
 def reads_and_writes_are_of_any_size(program):
-    """Of a file with bytes after its end block."""
+    """Of a file with a byte after its end block."""
     data = Input("day.itch", "MSFT START AAPL UNRESTRICTED TRADING 0000 ff")
     command = Command("snap day.itch", [data], file("START AAPL TRADING UNRESTRICTED MSFT END_6"), 4)
     with failing_calls(program, command) as perform:
