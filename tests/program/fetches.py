@@ -150,8 +150,10 @@ def each_allocation_of_a_connection_ends_the_serving(program):
                     with contextlib.suppress(ConnectionError):
                         received(peer)
                 output, error = server.process.communicate(timeout=60)
-            wanted = OUT_OF_MEMORY if nth < first + 3 else (0, b"connection 1: accepted from 3, 3 packets\n", b"")
-            yield from differs(f"allocation {nth - first}", (failed.exists(), server.process.returncode, output, error), (nth < first + 3, *wanted))
+            is_refused = nth < first + 3
+            status, lines, fault = OUT_OF_MEMORY if is_refused else (0, b"connection 1: accepted from 3, 3 packets\n", b"")
+            wanted = is_refused, status, lines, f"listening on 127.0.0.1:{server.port}\n".encode() + fault
+            yield from differs(f"allocation {nth - first}", (failed.exists(), server.process.returncode, output, server.line + error), wanted)
 
 
 def what_is_no_snapshot_is_not_written(program):

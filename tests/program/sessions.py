@@ -3,6 +3,7 @@
 RUNS has a function for each run, named for what it shows; it is given the program, and yields what differs.
 """
 import contextlib
+import itertools
 import os
 import random
 import select
@@ -22,12 +23,13 @@ EXAMPLES = Path(__file__).resolve().parent.parent.parent / "examples"
 LOGIN = b"\0\x2fLuser  secret    " + b" " * 10 + b"1".rjust(20)
 # A server has its whole file to read before it listens.
 STARTING = 60
+PORTS = itertools.count(random.randrange(12_000))
 
 
 def free_port():
-    """A port below those that the system hands out, so that no other run is given it meanwhile."""
+    """A port below those that the system hands out, and another one at each call, so that no other run has it meanwhile."""
     while True:
-        port = random.randrange(20_000, 32_000)
+        port = 20_000 + next(PORTS) % 12_000
         with contextlib.suppress(OSError), socket.create_server(("127.0.0.1", port)):
             return port
 
