@@ -5,27 +5,21 @@ use super::files::file;
 use crate::equal::{holds_in, same_in};
 use itch_commands::join::join;
 use itch_commands::laws;
-use itch_frame::CountedRead;
 use itch_frame::testing::{FuseWriter, PieceReader};
+use itch_frame::{CountedRead, CountedWrite};
 use itch_market::LocateSet;
 use std::alloc::Global;
-use std::process::Abort;
 use std::test::Fail;
 
-// The feed is joined to the snapshot so, for all locates.
-fn joined<R: CountedRead + Drop, S: CountedRead + Drop>(
-    rt: &impl Abort,
+// Whether the feed is joined to the snapshot for all locates, without the contract of that.
+fn is_joined<R: CountedRead + Drop, S: CountedRead + Drop, W: CountedWrite>(
     alloc: Global,
     snapshot: R,
     feed: S,
-    case: usize,
-    wanted: &[u8],
-) {
+    out: &mut W,
+) -> bool {
     let all = LocateSet::all(alloc);
-    let mut out = FuseWriter::new(alloc, 7, None);
-    let answer = join(alloc, snapshot, feed, Some(all), &mut out);
-    holds_in(rt, case, matches!(answer, Ok(true)));
-    same_in(rt, case, out.written(), wanted);
+    matches!(join(alloc, snapshot, feed, Some(all), out), Ok(true))
 }
 
 // Snapshots, feeds, and the snapshots after all.
@@ -67,7 +61,9 @@ fn join_goes_on_after_a_snapshot(rt: HostRuntime) -> Result<(), Fail> {
         let wanted = file(alloc, wanted)?;
         let snapshot = PieceReader::new(snapshot.as_slice(), 3, None);
         let feed = PieceReader::new(feed.as_slice(), 5, None);
-        joined(&rt, alloc, snapshot, feed, case, wanted.as_slice());
+        let mut out = FuseWriter::new(alloc, 7, None);
+        holds_in(&rt, case, is_joined(alloc, snapshot, feed, &mut out));
+        same_in(&rt, case, out.written(), wanted.as_slice());
     }
     Ok(())
 }

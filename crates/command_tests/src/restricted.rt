@@ -5,11 +5,10 @@ use super::files::file;
 use crate::equal::{holds_in, same, same_in};
 use itch_commands::read_locates;
 use itch_commands::snap::snap;
-use itch_frame::CountedRead;
 use itch_frame::testing::{FuseWriter, PieceReader};
+use itch_frame::{CountedRead, CountedWrite};
 use itch_market::LocateSet;
 use std::alloc::Global;
-use std::process::Abort;
 use std::test::Fail;
 use test_kit::Refusing;
 
@@ -63,19 +62,14 @@ const ROWS: [(&[&str], &[&str]); 16] = [
     ),
 ];
 
-// The snapshot of this file for all locates.
-fn snapped<R: CountedRead + Drop>(
-    rt: &impl Abort,
+// Whether the snapshot of this file for these locates is written, without the contract of that.
+fn is_snapped<R: CountedRead + Drop, W: CountedWrite>(
     alloc: Global,
-    all: &LocateSet<Global>,
+    only: &LocateSet<Global>,
     reader: R,
-    case: usize,
-    wanted: &[u8],
-) {
-    let mut out = FuseWriter::new(alloc, 4096, None);
-    let answer = snap(alloc, reader, None, Some(all), &mut out);
-    holds_in(rt, case, matches!(answer, Ok(true)));
-    same_in(rt, case, out.written(), wanted);
+    out: &mut W,
+) -> bool {
+    matches!(snap(alloc, reader, None, Some(only), out), Ok(true))
 }
 
 #[test]
@@ -86,7 +80,9 @@ fn snap_of_all_locates_is_the_whole(rt: HostRuntime) -> Result<(), Fail> {
         let day = file(alloc, day)?;
         let wanted = file(alloc, wanted)?;
         let reader = PieceReader::new(day.as_slice(), 7, None);
-        snapped(&rt, alloc, &all, reader, case, wanted.as_slice());
+        let mut out = FuseWriter::new(alloc, 4096, None);
+        holds_in(&rt, case, is_snapped(alloc, &all, reader, &mut out));
+        same_in(&rt, case, out.written(), wanted.as_slice());
     }
     Ok(())
 }

@@ -1,5 +1,6 @@
 //! What the words of the command line ask for.
 
+use crate::equal::holds_in;
 use itch_commands::Request;
 use itchsnap_cli::words::{Job, Peer, read_job};
 use std::alloc::{AllocError, Global};
@@ -43,6 +44,14 @@ fn book(locate: u16, file: Option<&'static str>) -> Request<'static> {
     Request::Book { locate, file }
 }
 
+// Whether these words ask for this job.
+fn asks_for(alloc: Global, words: &[String], wanted: Job<'_>) -> bool {
+    match read_job(alloc, words, false) {
+        Ok(job) => job == wanted,
+        Err(_) => false,
+    }
+}
+
 #[test]
 fn requests_are_read(rt: HostRuntime) -> Result<(), Fail> {
     let day = Some("day.itch");
@@ -74,12 +83,11 @@ fn requests_are_read(rt: HostRuntime) -> Result<(), Fail> {
         ("book 1", book(1, None)),
         ("book 0065535 day.itch", book(65_535, day)),
     ];
-    for (line, wanted) in cases {
+    for (line, request) in cases {
         let words = words(rt.alloc(), line)?;
-        match read_job(rt.alloc(), words.as_slice(), false) {
-            Ok(Job::Files { request, .. }) => assert!(rt; request == wanted, "{line}"),
-            _ => assert!(rt; false, "{line}"),
-        }
+        let progress = false;
+        let job = Job::Files { request, progress };
+        holds_in(&rt, line, asks_for(rt.alloc(), words.as_slice(), job));
     }
     Ok(())
 }
@@ -124,10 +132,7 @@ fn words_of_sessions_are_read(rt: HostRuntime) -> Result<(), Fail> {
         for word in ["--user", "user", "--pass=secret"] {
             words.push(String::from_str(rt.alloc(), word)?)?;
         }
-        match read_job(rt.alloc(), words.as_slice(), false) {
-            Ok(job) => assert!(rt; job == wanted, "{line}"),
-            Err(_) => assert!(rt; false, "{line}"),
-        }
+        holds_in(&rt, line, asks_for(rt.alloc(), words.as_slice(), wanted));
     }
     Ok(())
 }
@@ -142,10 +147,8 @@ fn a_check_is_asked_for(rt: HostRuntime) -> Result<(), Fail> {
     ] {
         let words = words(rt.alloc(), line)?;
         let request = Request::Check { file };
-        match read_job(rt.alloc(), words.as_slice(), false) {
-            Ok(job) => assert!(rt; job == Job::Files { request, progress }),
-            Err(_) => assert!(rt; false, "{line}"),
-        }
+        let job = Job::Files { request, progress };
+        holds_in(&rt, line, asks_for(rt.alloc(), words.as_slice(), job));
     }
     Ok(())
 }

@@ -1,14 +1,15 @@
 //! The write of each byte of a fetched snapshot failing, with no buffer before it, and the flush of an answer.
 use crate::equal::{same, same_in};
+use itch_book::OrderBook;
 use itch_codec::Seq;
 use itch_commands::{Book, status};
-use itch_frame::BlockReader;
 use itch_frame::testing::{FuseWriter, PieceReader};
+use itch_frame::{BlockReader, CountedRead};
 use itch_market::Market;
 use itch_snapshot::snapshot_len;
 use itch_soup::Credentials;
 use itchsnap_cli::sessions::{Login, Sending, fetch, serve_peer};
-use std::alloc::Global;
+use std::alloc::{Allocator, Global};
 use std::io::{self, Write};
 use std::process::Abort;
 use std::test::Fail;
@@ -81,17 +82,28 @@ impl Write for Stuck {
     }
 }
 
+// Serves a market of nothing, and returns whether that is a fault. It is kept over any book, so that what owns the market is proved once.
+fn is_fault<R: CountedRead, A: Allocator, B: OrderBook, W: Write>(
+    rt: &impl Abort,
+    alloc: B::Alloc,
+    reader: &mut BlockReader<R, A>,
+    writer: &mut Sending<W>,
+    next: Seq,
+) -> bool {
+    let config = login(rt).config();
+    let market: Market<B> = Market::new(alloc);
+    assert!(rt; snapshot_len(&market) < 100);
+    serve_peer(reader, writer, &market, next, &config).is_none()
+}
+
 #[test]
 fn a_flush_of_an_answer(rt: HostRuntime) -> Result<(), Fail> {
     let alloc = rt.alloc();
-    let config = login(&rt).config();
     let next = Seq::new(1).ok_or("a number")?;
-    let market: Market<Book<Global>> = Market::new(alloc);
-    assert!(rt; snapshot_len(&market) < 100);
     let mut reader = BlockReader::new(alloc, PieceReader::new(LOGIN, 64, None))?;
     let mut writer = Sending::new(Stuck);
-    let ending = serve_peer(&mut reader, &mut writer, &market, next, &config);
-    assert!(rt; ending.is_none());
+    let is_fault = is_fault::<_, _, Book<Global>, _>(&rt, alloc, &mut reader, &mut writer, next);
+    assert!(rt; is_fault);
     same(&rt, writer.failures().count(), 1);
     Ok(())
 }
