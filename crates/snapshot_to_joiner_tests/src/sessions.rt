@@ -115,10 +115,7 @@ fn fault_over<R: CountedRead + Drop, B: OrderBook>(
     memory: B::Alloc,
     reader: R,
 ) -> Result<Option<SoupFault>, Fail> {
-    match fetched::<R, B>(rt, alloc, memory, reader)? {
-        Ok(_) => Ok(None),
-        Err(fault) => Ok(Some(fault)),
-    }
+    Ok(fetched::<R, B>(rt, alloc, memory, reader)?.err())
 }
 
 /// The fault of a fetch, if it has one.

@@ -133,10 +133,7 @@ fn fault_of<R: CountedRead, A: Allocator, B: OrderBook>(
     reader: &mut BlockReader<R, A>,
     writer: &mut FuseWriter,
 ) -> Option<SoupFault> {
-    match fetch::<R, A, B>(rt, memory, reader, writer) {
-        Ok(_) => None,
-        Err(fault) => Some(fault),
-    }
+    fetch::<R, A, B>(rt, memory, reader, writer).err()
 }
 
 // The length of the block that comes next.

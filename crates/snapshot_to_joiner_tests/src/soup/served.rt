@@ -85,11 +85,11 @@ fn check_answer<B: OrderBook>(
     market: &Market<B>,
     reader: PieceReader<'_>,
     mut writer: FuseWriter,
-    want: Served,
+    want: &Served,
     bytes: &[u8],
 ) -> Result<(), Fail> {
     let served = serve_from(rt, alloc, reader, &mut writer, market)?;
-    same_in(rt, bytes, served.expect(rt, "an answer"), want);
+    same_in(rt, bytes, &served.expect(rt, "an answer"), want);
     same(rt, writer.written(), bytes);
     Ok(())
 }
@@ -100,7 +100,7 @@ fn check_login<B: OrderBook>(
     alloc: Global,
     market: &Market<B>,
     input: &[u8],
-    want: Served,
+    want: &Served,
     bytes: &[u8],
 ) -> Result<(), Fail> {
     for piece in [1, 64] {
@@ -119,10 +119,10 @@ fn check_logins<B: OrderBook>(
     for (input, from, packets, bytes) in ACCEPTED {
         let from = seq(rt, from);
         let want = Served::Accepted { from, packets };
-        check_login(rt, alloc, market, input, want, bytes)?;
+        check_login(rt, alloc, market, input, &want, bytes)?;
     }
     for (input, want, bytes) in NOT_ACCEPTED {
-        check_login(rt, alloc, market, input, want, bytes)?;
+        check_login(rt, alloc, market, input, &want, bytes)?;
     }
     Ok(())
 }
