@@ -78,23 +78,24 @@ fn the_laws_of_sessions() {
     laws::waits_by_the_table();
 }
 
-// A login is served so, and answered by these bytes.
+// A login that comes in pieces of this length is served so, and answered by these bytes.
 fn check_answer<B: OrderBook>(
     rt: &impl Abort,
     alloc: Global,
     market: &Market<B>,
-    reader: PieceReader<'_>,
-    mut writer: FuseWriter,
+    input: &[u8],
+    piece: usize,
     want: &Served,
     bytes: &[u8],
 ) -> Result<(), Fail> {
+    let mut writer = FuseWriter::new(alloc, piece, None);
+    let reader = PieceReader::new(input, piece, None);
     let served = serve_from(rt, alloc, reader, &mut writer, market)?;
-    same_in(rt, bytes, &served.expect(rt, "an answer"), want);
+    same_in(rt, input, &served.expect(rt, "an answer"), want);
     same(rt, writer.written(), bytes);
     Ok(())
 }
 
-// The same, in whatever pieces it comes.
 fn check_login<B: OrderBook>(
     rt: &impl Abort,
     alloc: Global,
@@ -104,9 +105,7 @@ fn check_login<B: OrderBook>(
     bytes: &[u8],
 ) -> Result<(), Fail> {
     for piece in [1, 64] {
-        let reader = PieceReader::new(input, piece, None);
-        let writer = FuseWriter::new(alloc, piece, None);
-        check_answer(rt, alloc, market, reader, writer, want, bytes)?;
+        check_answer(rt, alloc, market, input, piece, want, bytes)?;
     }
     Ok(())
 }
