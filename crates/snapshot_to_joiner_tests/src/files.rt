@@ -2,8 +2,11 @@
 use itch_book::OrderBook;
 use itch_codec::Seq;
 use itch_frame::testing::{FuseWriter, PieceReader};
-use itch_frame::{BlockReader, write_block};
-use itch_market::{Market, replay};
+use itch_frame::{BlockReader, CountedRead, CountedWrite, write_block};
+use itch_market::{Market, ReplayEnd, replay};
+use itch_snapshot::{
+    SnapFault, SnapshotReader, read_snapshot, same_market, snapshot_len, write_snapshot,
+};
 use std::alloc::Global;
 use std::process::Abort;
 use std::test::Fail;
@@ -65,10 +68,75 @@ pub(crate) fn market<B: OrderBook>(
     payloads: &[&[u8]],
 ) -> Result<Market<B>, Fail> {
     let day = blocks(alloc, payloads)?;
-    let mut reader = BlockReader::new(alloc, PieceReader::new(day.written(), 64, None))?;
     let mut market = Market::new(memory);
-    replay(&mut reader, &mut market);
+    replay_from(
+        alloc,
+        PieceReader::new(day.written(), 64, None),
+        &mut market,
+    )?;
     Ok(market)
+}
+
+/// Replays what this reader gives. This helper and those below have no contract, so that a proof of a test need not carry what
+/// the call leaves.
+pub(crate) fn replay_from<R: CountedRead + Drop, B: OrderBook>(
+    alloc: Global,
+    reader: R,
+    market: &mut Market<B>,
+) -> Result<ReplayEnd, Fail> {
+    let mut reader = BlockReader::new(alloc, reader)?;
+    Ok(replay(&mut reader, market))
+}
+
+/// Writes the snapshot of a small market, closed with this number.
+pub(crate) fn write<W: CountedWrite, B: OrderBook>(
+    rt: &impl Abort,
+    market: &Market<B>,
+    next: Seq,
+    writer: &mut W,
+) -> Result<u64, SnapFault> {
+    assert!(rt; snapshot_len(market) < 9);
+    write_snapshot(market, next, writer)
+}
+
+/// What is read of a snapshot that this reader gives.
+pub(crate) fn read_from<R: CountedRead + Drop, B: OrderBook>(
+    alloc: Global,
+    memory: B::Alloc,
+    reader: R,
+) -> Result<Result<(Market<B>, Seq), SnapFault>, Fail> {
+    let mut reader = BlockReader::new(alloc, reader)?;
+    Ok(read_snapshot(memory, &mut reader))
+}
+
+/// The market and the number of a snapshot.
+pub(crate) fn read<B: OrderBook>(
+    alloc: Global,
+    memory: B::Alloc,
+    bytes: &[u8],
+) -> Result<(Market<B>, Seq), Fail> {
+    Ok(read_from(alloc, memory, PieceReader::new(bytes, 5, None))??)
+}
+
+/// The market and the number of a snapshot whose end was read.
+pub(crate) fn finished<B: OrderBook>(
+    rt: &impl Abort,
+    snapshot: SnapshotReader<B>,
+) -> (Market<B>, Seq) {
+    match snapshot.finish() {
+        Ok(finished) => finished,
+        Err(_) => panic!(rt; "kept after its end"),
+    }
+}
+
+/// Whether two small markets are the same.
+pub(crate) fn are_same<A: OrderBook, B: OrderBook>(
+    rt: &impl Abort,
+    one: &Market<A>,
+    other: &Market<B>,
+) -> bool {
+    assert!(rt; snapshot_len(one) < 9);
+    same_market(one, other)
 }
 
 pub(crate) fn seq(rt: &impl Abort, number: u64) -> Seq {

@@ -1,9 +1,9 @@
 //! Joins by what their calls return and the markets that they lead to. The helpers take a joiner over any book.
-use crate::equal::{same, same_in};
+use crate::equal::{same, same_in, same_words};
 use itch_book::{IndexedBook, ListBook, OrderBook};
 use itch_codec::{CodecFault, Message, encode};
 use itch_join::{Cause, JoinFault, Joiner, Live, Snap, laws};
-use itch_market::Refusal;
+use itch_market::{Market, Refusal};
 use itch_snapshot::SnapshotIter;
 use std::alloc::{AllocError, Global};
 use std::process::Abort;
@@ -51,7 +51,12 @@ const END_6: &[u8] = b"G                   6";
 // The snapshot of the messages before the sixth, without its End of Snapshot.
 const BEFORE_6: &[&[u8]] = &[OPENS, AAPL, ADD_1, ADD_2, ADD_3];
 
-// One call and its result. These helpers have no contract, so that a proof of a test need not carry what each call leaves.
+// A joiner for which `cap` messages may wait. This helper and those of one call and its result have no contract, so that a proof of
+// a test need not carry what each call leaves.
+fn joiner<B: OrderBook>(memory: B::Alloc, cap: usize) -> Joiner<B> {
+    Joiner::new(memory, cap)
+}
+
 fn live<B: OrderBook>(
     rt: &impl Abort,
     joiner: &mut Joiner<B>,
@@ -101,10 +106,15 @@ fn read<B: OrderBook>(rt: &impl Abort, joiner: &mut Joiner<B>, payloads: &[&[u8]
 fn spelled<B: OrderBook>(alloc: Global, joiner: &Joiner<B>) -> Result<Vec<u8>, Fail> {
     let market = joiner.market().ok_or("a market")?;
     let mut bytes = Vec::new(alloc);
-    for message in SnapshotIter::new(market) {
-        push(&mut bytes, &message)?;
-    }
+    push_all(&mut bytes, market)?;
     Ok(bytes)
+}
+
+fn push_all<B: OrderBook>(bytes: &mut Vec<u8>, market: &Market<B>) -> Result<(), AllocError> {
+    for message in SnapshotIter::new(market) {
+        push(bytes, &message)?;
+    }
+    Ok(())
 }
 
 fn push(bytes: &mut Vec<u8>, message: &Message<'_>) -> Result<(), AllocError> {
@@ -189,7 +199,7 @@ fn check<B: OrderBook>(
     cap: usize,
     steps: &[Step<'_>],
 ) -> Result<(), Fail> {
-    let mut joiner: Joiner<B> = Joiner::new(memory, cap);
+    let mut joiner: Joiner<B> = joiner(memory, cap);
     take_steps(rt, alloc, &mut joiner, steps)
 }
 
@@ -316,7 +326,7 @@ fn a_broken_snapshot_is_restarted(rt: HostRuntime) -> Result<(), Fail> {
 
 // A thousand messages wait for a joiner, the last one first.
 fn check_thousand<B: OrderBook>(rt: &impl Abort, memory: B::Alloc) {
-    let mut joiner: Joiner<B> = Joiner::new(memory, 1000);
+    let mut joiner: Joiner<B> = joiner(memory, 1000);
     for back in 0..1000u64 {
         live(rt, &mut joiner, 1000 - back, BROKEN_TRADE, Ok(Live::Kept));
     }
@@ -394,7 +404,7 @@ fn faults_have_words(rt: HostRuntime) -> Result<(), Fail> {
         ),
     ];
     for (fault, words) in rows {
-        same(&rt, format!(in rt.alloc(); "{fault}")?.as_str(), words);
+        same_words(&rt, rt.alloc(), &fault, words)?;
     }
     Ok(())
 }

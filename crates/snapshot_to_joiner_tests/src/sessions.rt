@@ -1,9 +1,9 @@
 //! A served session that the tables use: its login, its answers, and both of its ends over memory.
 use crate::equal::same;
-use crate::files::{AAPL, ADD_1, ADD_2, EVENT, market, seq};
+use crate::files::{AAPL, ADD_1, ADD_2, EVENT, are_same, market, seq};
 use itch_book::{ListBook, OrderBook};
 use itch_codec::{Alpha, Seq};
-use itch_frame::testing::FuseWriter;
+use itch_frame::testing::{FuseWriter, PieceReader};
 use itch_frame::{BlockReader, CountedRead, CountedWrite};
 use itch_market::Market;
 use itch_snapshot::snapshot_len;
@@ -70,6 +70,18 @@ pub(crate) fn serve<R: CountedRead, A: Allocator, W: CountedWrite, B: OrderBook>
     serve_one(reader, writer, market, seq(rt, 5), &config(rt))
 }
 
+/// Serves one session of what this reader gives.
+pub(crate) fn serve_from<R: CountedRead + Drop, W: CountedWrite, B: OrderBook>(
+    rt: &impl Abort,
+    alloc: Global,
+    reader: R,
+    writer: &mut W,
+    market: &Market<B>,
+) -> Result<Result<Served, SoupFault>, Fail> {
+    let mut reader = BlockReader::new(alloc, reader)?;
+    Ok(serve(rt, &mut reader, writer, market))
+}
+
 /// Fetches over a reader and a writer, and logs in for all messages.
 pub(crate) fn fetch<R: CountedRead, A: Allocator, B: OrderBook>(
     rt: &impl Abort,
@@ -81,17 +93,48 @@ pub(crate) fn fetch<R: CountedRead, A: Allocator, B: OrderBook>(
 }
 
 /// What a fetch gives.
-pub(crate) type Fetched = Result<(Market<ListBook>, Seq), SoupFault>;
+pub(crate) type Fetched<B> = Result<(Market<B>, Seq), SoupFault>;
 
 /// A fetch of what this reader gives, which logs in for all messages.
-pub(crate) fn fetched<R: CountedRead + Drop>(
+pub(crate) fn fetched<R: CountedRead + Drop, B: OrderBook>(
+    rt: &impl Abort,
+    alloc: Global,
+    memory: B::Alloc,
+    reader: R,
+) -> Result<Fetched<B>, Fail> {
+    let mut reader = BlockReader::new(alloc, reader)?;
+    let mut writer = FuseWriter::new(alloc, 64, None);
+    let result = fetch(rt, memory, &mut reader, &mut writer);
+    same(rt, writer.written(), LOGIN_1);
+    Ok(result)
+}
+
+fn fault_over<R: CountedRead + Drop, B: OrderBook>(
+    rt: &impl Abort,
+    alloc: Global,
+    memory: B::Alloc,
+    reader: R,
+) -> Result<Option<SoupFault>, Fail> {
+    Ok(fetched::<R, B>(rt, alloc, memory, reader)?.err())
+}
+
+/// The fault of a fetch, if it has one.
+pub(crate) fn fetch_fault<R: CountedRead + Drop>(
     rt: &impl Abort,
     alloc: Global,
     reader: R,
-) -> Result<Fetched, Fail> {
-    let mut reader = BlockReader::new(alloc, reader)?;
-    let mut writer = FuseWriter::new(alloc, 64, None);
-    let result = fetch(rt, alloc, &mut reader, &mut writer);
-    same(rt, writer.written(), LOGIN_1);
-    Ok(result)
+) -> Result<Option<SoupFault>, Fail> {
+    fault_over::<R, ListBook>(rt, alloc, alloc, reader)
+}
+
+/// This market is the one that is served, and this the number of its End of Snapshot.
+pub(crate) fn is_served_market<B: OrderBook>(
+    rt: &impl Abort,
+    alloc: Global,
+    market: &Market<B>,
+    next: Seq,
+) -> Result<(), Fail> {
+    assert!(rt; are_same(rt, &served_market(alloc)?, market));
+    same(rt, next.value(), 5);
+    Ok(())
 }

@@ -1,14 +1,15 @@
 //! Worked days and snapshots: what is written of each, what is read, and how each is refused.
-use crate::equal::same;
-use crate::files::{REPLACED, REPLACED_SNAPSHOT, blocks};
+use crate::equal::{same, same_words};
+use crate::files::{
+    REPLACED, REPLACED_SNAPSHOT, are_same, blocks, finished, market, read_from, seq, write,
+};
 use itch_book::{ListBook, OrderBook};
-use itch_codec::{CodecFault, Seq};
+use itch_codec::CodecFault;
+use itch_frame::FrameFault;
 use itch_frame::testing::{FuseWriter, PieceReader};
-use itch_frame::{BlockReader, FrameFault};
 use itch_market::{Market, Refusal};
 use itch_snapshot::{
-    SnapFault, SnapshotIter, SnapshotReader, laws, part_place, read_snapshot, same_market,
-    snapshot_len, write_snapshot,
+    SnapFault, SnapshotIter, SnapshotReader, laws, part_place, same_market, snapshot_len,
 };
 use std::alloc::Global;
 use std::process::Abort;
@@ -81,11 +82,6 @@ const END_5: &[u8] = b"G                   5";
 
 const END_6: &[u8] = b"G                   6";
 
-// What a day with these payloads leaves, over one kind of book.
-fn market(alloc: Global, payloads: &[&[u8]]) -> Result<Market<ListBook>, Fail> {
-    crate::files::market(alloc, alloc, payloads)
-}
-
 #[test]
 fn the_laws_of_snapshots() {
     laws::snapshot_replays();
@@ -106,18 +102,24 @@ fn check_snapshot<B: OrderBook>(
     mut writer: FuseWriter,
     want: &[&[u8]],
 ) -> Result<(), Fail> {
-    let next = Seq::new(next).expect(rt, "a sequence number");
-    let len = snapshot_len(market);
-    assert!(rt; len < 9);
-    same(rt, len + 1, want.len() as u128);
-    same(
-        rt,
-        write_snapshot(market, next, &mut writer)?,
-        want.len() as u64,
-    );
-    let want = blocks(alloc, want)?;
-    same(rt, writer.written(), want.written());
+    let len = snapshot_len(market).saturating_add(1);
+    same(rt, len, want.len() as u128);
+    let count = write(rt, market, seq(rt, next), &mut writer);
+    same(rt, count.expect(rt, "a snapshot"), want.len() as u64);
+    same(rt, writer.written(), blocks(alloc, want)?.written());
     Ok(())
+}
+
+// A day leaves a market with this snapshot, closed with the number `next`.
+fn check_day<B: OrderBook>(
+    rt: &impl Abort,
+    alloc: Global,
+    memory: B::Alloc,
+    (day, want, next): (&[&[u8]], &[&[u8]], u64),
+) -> Result<(), Fail> {
+    let market: Market<B> = market(alloc, memory, day)?;
+    let writer = FuseWriter::new(alloc, 1, None);
+    check_snapshot(rt, alloc, &market, next, writer, want)
 }
 
 #[test]
@@ -142,10 +144,8 @@ fn writes_the_snapshot_of_a_day(rt: HostRuntime) -> Result<(), Fail> {
             6,
         ),
     ];
-    for (day, want, next) in days {
-        let market = market(rt.alloc(), day)?;
-        let writer = FuseWriter::new(rt.alloc(), 1, None);
-        check_snapshot(&rt, rt.alloc(), &market, next, writer, want)?;
+    for row in days {
+        check_day::<ListBook>(&rt, rt.alloc(), rt.alloc(), row)?;
     }
     Ok(())
 }
@@ -162,21 +162,25 @@ fn check_counts<B: OrderBook>(rt: &impl Abort, market: &Market<B>, wants: &[u64]
     assert!(rt; messages.next().is_none());
 }
 
-#[test]
-fn counts_what_is_still_to_come(rt: HostRuntime) -> Result<(), Fail> {
-    check_counts(&rt, &market(rt.alloc(), &[])?, &[]);
-    check_counts(&rt, &market(rt.alloc(), REPLACED)?, &[3, 2, 1]);
+fn counts_down<B: OrderBook>(
+    rt: &impl Abort,
+    alloc: Global,
+    memory: B::Alloc,
+    day: &[&[u8]],
+    wants: &[u64],
+) -> Result<(), Fail> {
+    let market: Market<B> = market(alloc, memory, day)?;
+    check_counts(rt, &market, wants);
     Ok(())
 }
 
-// Whether two small markets are the same.
-fn are_same<A: OrderBook, B: OrderBook>(
-    rt: &impl Abort,
-    one: &Market<A>,
-    other: &Market<B>,
-) -> bool {
-    assert!(rt; snapshot_len(one) < 9);
-    same_market(one, other)
+#[test]
+fn counts_what_is_still_to_come(rt: HostRuntime) -> Result<(), Fail> {
+    let rows: [(&[&[u8]], &[u64]); 2] = [(&[], &[]), (REPLACED, &[3, 2, 1])];
+    for (day, wants) in rows {
+        counts_down::<ListBook>(&rt, rt.alloc(), rt.alloc(), day, wants)?;
+    }
+    Ok(())
 }
 
 fn check_parting<A: OrderBook, B: OrderBook>(
@@ -188,6 +192,19 @@ fn check_parting<A: OrderBook, B: OrderBook>(
     assert!(rt; snapshot_len(one) < 9);
     same(rt, part_place(one, other), want);
     same(rt, same_market(one, other), want.is_none());
+}
+
+// The snapshots of what two days leave part there.
+fn check_days<B: OrderBook>(
+    rt: &impl Abort,
+    alloc: Global,
+    memory: B::Alloc,
+    (one, other, want): (&[&[u8]], &[&[u8]], Option<u64>),
+) -> Result<(), Fail> {
+    let one: Market<B> = market(alloc, memory, one)?;
+    let other: Market<B> = market(alloc, memory, other)?;
+    check_parting(rt, &one, &other, want);
+    Ok(())
 }
 
 #[test]
@@ -207,21 +224,45 @@ fn says_where_snapshots_part(rt: HostRuntime) -> Result<(), Fail> {
         (&[AAPL, ADD_1], &[AAPL], Some(2)),
         (&[], &[AAPL], Some(1)),
     ];
-    for (one, other, want) in pairs {
-        let one = market(rt.alloc(), one)?;
-        let other = market(rt.alloc(), other)?;
-        check_parting(&rt, &one, &other, want);
+    for pair in pairs {
+        check_days::<ListBook>(&rt, rt.alloc(), rt.alloc(), pair)?;
     }
     Ok(())
 }
 
-// What is read from these bytes: the number of messages of the market's snapshot and the number in End of Snapshot, or a fault as it is printed.
-fn outcome(alloc: Global, bytes: &[u8]) -> Result<Result<(u128, u64), String>, Fail> {
-    let mut reader = BlockReader::new(alloc, PieceReader::new(bytes, 1, None))?;
-    match read_snapshot::<_, _, ListBook>(alloc, &mut reader) {
+// What is read from these bytes: the number of messages of the market's snapshot and the number in End of Snapshot, or a fault.
+fn outcome<B: OrderBook>(
+    alloc: Global,
+    memory: B::Alloc,
+    bytes: &[u8],
+) -> Result<Result<(u128, u64), SnapFault>, Fail> {
+    match read_from::<_, B>(alloc, memory, PieceReader::new(bytes, 1, None))? {
         Ok((market, next)) => Ok(Ok((snapshot_len(&market), next.value()))),
-        Err(fault) => Ok(Err(format!(in alloc; "{fault:?}")?)),
+        Err(fault) => Ok(Err(fault)),
     }
+}
+
+// The bytes of these payloads' blocks and of what stands after them.
+fn file_of(alloc: Global, payloads: &[&[u8]], rest: &[u8]) -> Result<Vec<u8>, Fail> {
+    let front = blocks(alloc, payloads)?;
+    let mut file = Vec::from_slice(alloc, front.written())?;
+    file.extend_from_slice(rest)?;
+    Ok(file)
+}
+
+// This is read, or a fault that is shown so.
+fn check_outcome(
+    rt: &impl Abort,
+    alloc: Global,
+    found: Result<(u128, u64), SnapFault>,
+    want: Result<(u128, u64), &str>,
+) -> Result<(), Fail> {
+    match (found, want) {
+        (Ok(read), Ok(want)) => same(rt, read, want),
+        (Err(fault), Err(want)) => same(rt, format!(in alloc; "{fault:?}")?.as_str(), want),
+        _ => panic!(rt; "read or refused by mistake"),
+    }
+    Ok(())
 }
 
 #[test]
@@ -244,14 +285,9 @@ fn reads_snapshots(rt: HostRuntime) -> Result<(), Fail> {
         (REPLACED_SNAPSHOT, b"", Ok((3, 5))),
     ];
     for (payloads, rest, want) in files {
-        let front = blocks(rt.alloc(), payloads)?;
-        let mut file = Vec::from_slice(rt.alloc(), front.written())?;
-        file.extend_from_slice(rest)?;
-        match (outcome(rt.alloc(), &file)?, want) {
-            (Ok(read), Ok(want)) => same(&rt, read, want),
-            (Err(said), Err(want)) => same(&rt, said.as_str(), want),
-            _ => assert!(rt; false, "read or refused by mistake"),
-        }
+        let file = file_of(rt.alloc(), payloads, rest)?;
+        let found = outcome::<ListBook>(rt.alloc(), rt.alloc(), &file)?;
+        check_outcome(&rt, rt.alloc(), found, want)?;
     }
     Ok(())
 }
@@ -269,31 +305,44 @@ fn check_end<B: OrderBook>(rt: &impl Abort, snapshot: &mut SnapshotReader<B>, en
     assert!(rt; matches!(snapshot.message(end), Err(SnapFault::AfterEnd)));
 }
 
-// A market that is the same as another is handed out after its End of Snapshot, and not before.
-fn check_finish<A: OrderBook, B: OrderBook>(
+// A snapshot whose end was not read is handed back.
+fn unfinished<B: OrderBook>(rt: &impl Abort, snapshot: SnapshotReader<B>) -> SnapshotReader<B> {
+    match snapshot.finish() {
+        Ok(_) => panic!(rt; "handed out before its end"),
+        Err(snapshot) => snapshot,
+    }
+}
+
+// A snapshot of the same market as another, up to its End of Snapshot.
+fn half_read<A: OrderBook, B: OrderBook>(
     rt: &impl Abort,
+    memory: B::Alloc,
     want: &Market<A>,
-    mut snapshot: SnapshotReader<B>,
-) {
+) -> SnapshotReader<B> {
+    let mut snapshot = SnapshotReader::new(memory);
     check_more(rt, &mut snapshot, &[AAPL, ADD_2_OF_200, NAMED_3]);
     assert!(rt; are_same(rt, want, snapshot.market()));
-    let Err(mut snapshot) = snapshot.finish() else {
-        panic!(rt; "handed out before its end");
-    };
+    snapshot
+}
+
+// A market that is the same as another is handed out after its End of Snapshot, and not before.
+fn check_finish<B: OrderBook>(
+    rt: &impl Abort,
+    alloc: Global,
+    memory: B::Alloc,
+) -> Result<(), Fail> {
+    let want: Market<B> = market(alloc, memory, REPLACED)?;
+    let mut snapshot = unfinished(rt, half_read::<B, B>(rt, memory, &want));
     check_end(rt, &mut snapshot, END_5);
-    let Ok((handed_out, next)) = snapshot.finish() else {
-        panic!(rt; "kept after its end");
-    };
+    let (handed_out, next) = finished(rt, snapshot);
     same(rt, next.value(), 5);
-    assert!(rt; are_same(rt, want, &handed_out));
+    assert!(rt; are_same(rt, &want, &handed_out));
+    Ok(())
 }
 
 #[test]
 fn hands_a_market_out_at_its_end(rt: HostRuntime) -> Result<(), Fail> {
-    let want = market(rt.alloc(), REPLACED)?;
-    let snapshot: SnapshotReader<ListBook> = SnapshotReader::new(rt.alloc());
-    check_finish(&rt, &want, snapshot);
-    Ok(())
+    check_finish::<ListBook>(&rt, rt.alloc(), rt.alloc())
 }
 
 #[test]
@@ -326,8 +375,7 @@ fn says_what_failed(rt: HostRuntime) -> Result<(), Fail> {
         (SnapFault::AfterEnd, "message after end of snapshot"),
         (SnapFault::TooManyMessages, "too many messages"),
     ] {
-        let said = format!(in rt.alloc(); "{fault}")?;
-        same(&rt, said.as_str(), want);
+        same_words(&rt, rt.alloc(), &fault, want)?;
     }
     Ok(())
 }

@@ -1,45 +1,41 @@
 //! Broken logins: each beginning of a login, each of its bytes at each value, and what may come before it.
-use crate::equal::same;
+use crate::equal::{same, same_shown};
 use crate::files::seq;
-use crate::sessions::{FROM_3, LOGIN_3, serve, served_market};
-use itch_book::ListBook;
+use crate::sessions::{FROM_3, LOGIN_3, serve_from, served_market};
+use itch_book::OrderBook;
+use itch_frame::FrameFault;
 use itch_frame::testing::{FuseWriter, PieceReader};
-use itch_frame::{BlockReader, FrameFault};
 use itch_market::Market;
 use itch_soup::{Served, SoupFault};
-use std::alloc::Global;
+use std::alloc::{AllocError, Global};
 use std::process::Abort;
 use std::test::Fail;
 
 // The answer to these bytes, of a server with five messages. Only an answer to a login writes.
-fn answer(
+fn answer<B: OrderBook>(
     rt: &impl Abort,
     alloc: Global,
-    market: &Market<ListBook>,
+    market: &Market<B>,
     input: &[u8],
 ) -> Result<Result<Served, SoupFault>, Fail> {
-    let mut reader = BlockReader::new(alloc, PieceReader::new(input, 64, None))?;
     let mut writer = FuseWriter::new(alloc, 64, None);
-    let served = serve(rt, &mut reader, &mut writer, market);
+    let reader = PieceReader::new(input, 64, None);
+    let served = serve_from(rt, alloc, reader, &mut writer, market)?;
     let is_silent = !matches!(served, Ok(Served::Accepted { .. } | Served::Rejected(_)));
     same(rt, writer.written().is_empty(), is_silent);
     Ok(served)
 }
 
 // These bytes are answered so.
-fn is_answered(
+fn is_answered<B: OrderBook>(
     rt: &impl Abort,
     alloc: Global,
-    market: &Market<ListBook>,
+    market: &Market<B>,
     input: &[u8],
     want: &Result<Served, SoupFault>,
 ) -> Result<(), Fail> {
     let found = answer(rt, alloc, market, input)?;
-    assert_eq!(rt;
-        format!(in alloc; "{found:?}")?,
-        format!(in alloc; "{want:?}")?,
-        "{input:?}"
-    );
+    same_shown(rt, alloc, input, &found, want)?;
     Ok(())
 }
 
@@ -54,14 +50,31 @@ fn truncated(held: usize) -> Result<Served, SoupFault> {
     Err(SoupFault::Frame(FrameFault::Truncated { held }))
 }
 
+// The answer to a login of which this many bytes come.
+fn cut(rt: &impl Abort, len: usize) -> Result<Served, SoupFault> {
+    if len == 0 {
+        Ok(Served::Left)
+    } else if len < LOGIN_3.len() {
+        truncated(len)
+    } else {
+        accepted(rt, 3)
+    }
+}
+
+fn check_beginnings<B: OrderBook>(
+    rt: &impl Abort,
+    alloc: Global,
+    market: &Market<B>,
+) -> Result<(), Fail> {
+    for len in 0..=LOGIN_3.len() {
+        is_answered(rt, alloc, market, &LOGIN_3[..len], &cut(rt, len))?;
+    }
+    Ok(())
+}
+
 #[test]
 fn each_beginning_of_a_login(rt: HostRuntime) -> Result<(), Fail> {
-    let market = served_market(rt.alloc())?;
-    is_answered(&rt, rt.alloc(), &market, b"", &Ok(Served::Left))?;
-    for len in 1..LOGIN_3.len() {
-        is_answered(&rt, rt.alloc(), &market, &LOGIN_3[..len], &truncated(len))?;
-    }
-    is_answered(&rt, rt.alloc(), &market, LOGIN_3, &accepted(&rt, 3))
+    check_beginnings(&rt, rt.alloc(), &served_market(rt.alloc())?)
 }
 
 // A login whose length is another one: with fewer bytes it is no login, and more do not come.
@@ -133,45 +146,84 @@ fn wanted(rt: &impl Abort, at: usize, byte: u8, own: u8) -> Result<Served, SoupF
     }
 }
 
-#[test]
-fn each_byte_of_a_login(rt: HostRuntime) -> Result<(), Fail> {
-    let market = served_market(rt.alloc())?;
+// The login with each other byte at this place is answered as it has to be.
+fn check_byte<B: OrderBook>(
+    rt: &impl Abort,
+    alloc: Global,
+    market: &Market<B>,
+    at: usize,
+) -> Result<(), Fail> {
+    assert!(rt; at < 49);
     let mut login = [0; 49];
     login.copy_from_slice(LOGIN_3);
-    for at in 0..49 {
-        let own = login[at];
-        for byte in 0..=255u8 {
-            if byte != own {
-                login[at] = byte;
-                let want = wanted(&rt, at, byte, own);
-                is_answered(&rt, rt.alloc(), &market, &login, &want)?;
-            }
+    let own = login[at];
+    for byte in 0..=255u8 {
+        if byte != own {
+            login[at] = byte;
+            is_answered(rt, alloc, market, &login, &wanted(rt, at, byte, own))?;
         }
-        login[at] = own;
     }
     Ok(())
 }
 
-// Packets that a server passes over.
+fn check_bytes<B: OrderBook>(
+    rt: &impl Abort,
+    alloc: Global,
+    market: &Market<B>,
+) -> Result<(), Fail> {
+    for at in 0..49 {
+        check_byte(rt, alloc, market, at)?;
+    }
+    Ok(())
+}
+
 #[test]
-fn ten_thousand_debug_packets_before_a_login(rt: HostRuntime) -> Result<(), Fail> {
-    let market = served_market(rt.alloc())?;
-    let mut input = Vec::new(rt.alloc());
+fn each_byte_of_a_login(rt: HostRuntime) -> Result<(), Fail> {
+    check_bytes(&rt, rt.alloc(), &served_market(rt.alloc())?)
+}
+
+// Ten thousand debug packets, and these bytes.
+fn after_debug_packets(alloc: Global, rest: &[u8]) -> Result<Vec<u8>, AllocError> {
+    let mut input = Vec::new(alloc);
     for _packet in 0..10_000 {
         input.extend_from_slice(b"\0\x03+up")?;
     }
-    is_answered(&rt, rt.alloc(), &market, &input, &Ok(Served::Left))?;
-    input.extend_from_slice(LOGIN_3)?;
-    is_answered(&rt, rt.alloc(), &market, &input, &accepted(&rt, 3))
+    input.extend_from_slice(rest)?;
+    Ok(input)
 }
 
-// Bytes that come one at a time.
+// Packets that a server passes over.
+fn check_debug_packets<B: OrderBook>(
+    rt: &impl Abort,
+    alloc: Global,
+    market: &Market<B>,
+) -> Result<(), Fail> {
+    for (rest, want) in [(b"" as &[u8], Ok(Served::Left)), (LOGIN_3, accepted(rt, 3))] {
+        let input = after_debug_packets(alloc, rest)?;
+        is_answered(rt, alloc, market, &input, &want)?;
+    }
+    Ok(())
+}
+
+#[test]
+fn ten_thousand_debug_packets_before_a_login(rt: HostRuntime) -> Result<(), Fail> {
+    check_debug_packets(&rt, rt.alloc(), &served_market(rt.alloc())?)
+}
+
+// A login is answered whose bytes come one at a time.
+fn is_answered_in_pieces<B: OrderBook>(
+    rt: &impl Abort,
+    alloc: Global,
+    market: &Market<B>,
+) -> Result<(), Fail> {
+    let mut writer = FuseWriter::new(alloc, 1, None);
+    let reader = PieceReader::new(LOGIN_3, 1, None);
+    serve_from(rt, alloc, reader, &mut writer, market)?.expect(rt, "an answer");
+    same(rt, writer.written(), FROM_3);
+    Ok(())
+}
+
 #[test]
 fn a_login_in_pieces_of_one_byte(rt: HostRuntime) -> Result<(), Fail> {
-    let market = served_market(rt.alloc())?;
-    let mut reader = BlockReader::new(rt.alloc(), PieceReader::new(LOGIN_3, 1, None))?;
-    let mut writer = FuseWriter::new(rt.alloc(), 1, None);
-    serve(&rt, &mut reader, &mut writer, &market)?;
-    same(&rt, writer.written(), FROM_3);
-    Ok(())
+    is_answered_in_pieces(&rt, rt.alloc(), &served_market(rt.alloc())?)
 }

@@ -1,5 +1,5 @@
 //! Blocks that are no packets.
-use crate::equal::same;
+use crate::equal::same_shown;
 use itch_soup::{Origin, SoupFault, parse_packet};
 use std::alloc::Global;
 use std::process::Abort;
@@ -14,11 +14,7 @@ fn is_fault(
     want: SoupFault,
 ) -> Result<(), Fail> {
     let found = parse_packet(block, from).err().expect(rt, "a fault");
-    same(
-        rt,
-        format!(in alloc; "{found:?}")?.as_str(),
-        format!(in alloc; "{want:?}")?.as_str(),
-    );
+    same_shown(rt, alloc, block, &found, &want)?;
     Ok(())
 }
 

@@ -1,14 +1,14 @@
 //! One session served and fetched.
 use crate::equal::same;
 use crate::sessions::{
-    FROM_1, FROM_3, Fetched, LOGIN_1, LOGIN_3, fetch, fetched, serve, served_market,
+    FROM_1, FROM_3, LOGIN_1, LOGIN_3, fetch, fetch_fault, serve, serve_from, served_market,
 };
-use itch_book::ListBook;
+use itch_book::{ListBook, OrderBook};
 use itch_frame::testing::{FuseWriter, PieceReader};
-use itch_frame::{BlockReader, FrameFault};
+use itch_frame::{BlockReader, CountedRead, FrameFault};
 use itch_market::Market;
 use itch_soup::{Served, SoupFault};
-use std::alloc::Global;
+use std::alloc::{Allocator, Global};
 use std::process::Abort;
 use std::test::Fail;
 
@@ -16,33 +16,50 @@ use std::test::Fail;
 const LOGIN_READS: u64 = 1 + 7;
 
 // Serves a login one read of which may fail: nothing was written, and a second call goes on.
-fn served_again(
+fn serve_again<R: CountedRead, A: Allocator, B: OrderBook>(
     rt: &impl Abort,
-    alloc: Global,
-    market: &Market<ListBook>,
+    reader: &mut BlockReader<R, A>,
+    writer: &mut FuseWriter,
+    market: &Market<B>,
     nth: u64,
-) -> Result<(), Fail> {
-    let mut reader = BlockReader::new(alloc, PieceReader::new(LOGIN_3, 7, Some(nth)))?;
-    let mut writer = FuseWriter::new(alloc, 64, None);
-    let mut served = serve(rt, &mut reader, &mut writer, market);
+) {
+    let mut served = serve(rt, reader, writer, market);
     same(rt, served.is_err(), nth <= LOGIN_READS);
     if served.is_err() {
         assert!(rt; matches!(served, Err(SoupFault::Frame(FrameFault::Read(_)))));
         assert!(rt; writer.written().is_empty());
-        served = serve(rt, &mut reader, &mut writer, market);
+        served = serve(rt, reader, writer, market);
     }
     assert!(rt; matches!(served, Ok(Served::Accepted { packets: 3, .. })));
+}
+
+fn served_again<B: OrderBook>(
+    rt: &impl Abort,
+    alloc: Global,
+    market: &Market<B>,
+    nth: u64,
+) -> Result<(), Fail> {
+    let mut reader = BlockReader::new(alloc, PieceReader::new(LOGIN_3, 7, Some(nth)))?;
+    let mut writer = FuseWriter::new(alloc, 64, None);
+    serve_again(rt, &mut reader, &mut writer, market, nth);
     same(rt, writer.written(), FROM_3);
+    Ok(())
+}
+
+fn each_is_served_again<B: OrderBook>(
+    rt: &impl Abort,
+    alloc: Global,
+    market: &Market<B>,
+) -> Result<(), Fail> {
+    for nth in 1..20 {
+        served_again(rt, alloc, market, nth)?;
+    }
     Ok(())
 }
 
 #[test]
 fn a_login_is_read_again(rt: HostRuntime) -> Result<(), Fail> {
-    let market = served_market(rt.alloc())?;
-    for nth in 1..20 {
-        served_again(&rt, rt.alloc(), &market, nth)?;
-    }
-    Ok(())
+    each_is_served_again(&rt, rt.alloc(), &served_market(rt.alloc())?)
 }
 
 // The length of each packet, and by sevens its 31, 13, 40, 37, 37 and 22 bytes.
@@ -51,10 +68,10 @@ const ANSWER_READS: u64 = 6 + 5 + 2 + 6 + 6 + 6 + 4;
 #[test]
 fn an_answer_is_not_read(rt: HostRuntime) -> Result<(), Fail> {
     for nth in 1..60 {
-        let result = fetched(&rt, rt.alloc(), PieceReader::new(FROM_1, 7, Some(nth)))?;
-        let has_failed = matches!(result, Err(SoupFault::Frame(FrameFault::Read(_))));
+        let fault = fetch_fault(&rt, rt.alloc(), PieceReader::new(FROM_1, 7, Some(nth)))?;
+        let has_failed = matches!(fault, Some(SoupFault::Frame(FrameFault::Read(_))));
         same(&rt, has_failed, nth <= ANSWER_READS);
-        same(&rt, result.is_err(), has_failed);
+        same(&rt, fault.is_some(), has_failed);
     }
     Ok(())
 }
@@ -68,45 +85,80 @@ fn is_cut(rt: &impl Abort, written: &[u8], whole: &[u8]) {
 // An answer is written, by sevens, in 2 and 31 bytes, two orders of 3 and 36, 3 and 20, and 2 and 1.
 const ANSWER_WRITES: u64 = (1 + 5) + (1 + 6) + (1 + 6) + (1 + 3) + (1 + 1);
 
-fn served_in_part(
+// The whole answer was written, or a beginning where a write failed.
+fn is_written_up_to(rt: &impl Abort, fault: Option<SoupFault>, written: &[u8]) {
+    match fault {
+        None => same(rt, written, FROM_3),
+        Some(fault) => {
+            assert!(rt; matches!(fault, SoupFault::Frame(FrameFault::Write { .. })));
+            is_cut(rt, written, FROM_3);
+        }
+    }
+}
+
+fn served_in_part<B: OrderBook>(
     rt: &impl Abort,
     alloc: Global,
-    market: &Market<ListBook>,
+    market: &Market<B>,
     nth: u64,
 ) -> Result<(), Fail> {
-    let mut reader = BlockReader::new(alloc, PieceReader::new(LOGIN_3, 64, None))?;
     let mut writer = FuseWriter::new(alloc, 7, Some(nth));
-    let served = serve(rt, &mut reader, &mut writer, market);
+    let reader = PieceReader::new(LOGIN_3, 64, None);
+    let served = serve_from(rt, alloc, reader, &mut writer, market)?;
     same(rt, served.is_err(), nth <= ANSWER_WRITES);
-    match served {
-        Ok(_) => same(rt, writer.written(), FROM_3),
-        Err(fault) => {
-            assert!(rt; matches!(fault, SoupFault::Frame(FrameFault::Write { .. })));
-            is_cut(rt, writer.written(), FROM_3);
-        }
+    is_written_up_to(rt, served.err(), writer.written());
+    Ok(())
+}
+
+fn each_is_served_in_part<B: OrderBook>(
+    rt: &impl Abort,
+    alloc: Global,
+    market: &Market<B>,
+) -> Result<(), Fail> {
+    for nth in 1..50 {
+        served_in_part(rt, alloc, market, nth)?;
     }
     Ok(())
 }
 
 #[test]
 fn an_answer_is_written_in_part(rt: HostRuntime) -> Result<(), Fail> {
-    let market = served_market(rt.alloc())?;
-    for nth in 1..50 {
-        served_in_part(&rt, rt.alloc(), &market, nth)?;
-    }
-    Ok(())
+    each_is_served_in_part(&rt, rt.alloc(), &served_market(rt.alloc())?)
+}
+
+// The fault of a fetch, if it has one.
+fn fault_of<R: CountedRead, A: Allocator, B: OrderBook>(
+    rt: &impl Abort,
+    memory: B::Alloc,
+    reader: &mut BlockReader<R, A>,
+    writer: &mut FuseWriter,
+) -> Option<SoupFault> {
+    fetch::<R, A, B>(rt, memory, reader, writer).err()
+}
+
+// The length of the block that comes next.
+fn next_len<R: CountedRead, A: Allocator>(
+    rt: &impl Abort,
+    reader: &mut BlockReader<R, A>,
+) -> Result<usize, FrameFault> {
+    Ok(reader.next_block()?.expect(rt, "a block").len())
 }
 
 // A login is written in the length and, by sevens, the 47 bytes; where it is not written whole, nothing is read.
-fn logged_in_in_part(rt: &impl Abort, alloc: Global, nth: u64) -> Result<(), Fail> {
+fn logged_in_in_part<B: OrderBook>(
+    rt: &impl Abort,
+    alloc: Global,
+    memory: B::Alloc,
+    nth: u64,
+) -> Result<(), Fail> {
     let mut reader = BlockReader::new(alloc, PieceReader::new(FROM_1, 64, None))?;
     let mut writer = FuseWriter::new(alloc, 7, Some(nth));
-    let result: Fetched = fetch(rt, alloc, &mut reader, &mut writer);
-    same(rt, result.is_err(), nth <= LOGIN_READS);
-    if result.is_err() {
-        assert!(rt; matches!(result, Err(SoupFault::Frame(FrameFault::Write { .. }))));
+    let fault = fault_of::<_, _, B>(rt, memory, &mut reader, &mut writer);
+    same(rt, fault.is_some(), nth <= LOGIN_READS);
+    if fault.is_some() {
+        assert!(rt; matches!(fault, Some(SoupFault::Frame(FrameFault::Write { .. }))));
         is_cut(rt, writer.written(), LOGIN_1);
-        same(rt, reader.next_block()?.expect(rt, "a block").len(), 31);
+        same(rt, next_len(rt, &mut reader)?, 31);
     }
     Ok(())
 }
@@ -114,7 +166,7 @@ fn logged_in_in_part(rt: &impl Abort, alloc: Global, nth: u64) -> Result<(), Fai
 #[test]
 fn a_login_is_written_in_part(rt: HostRuntime) -> Result<(), Fail> {
     for nth in 1..20 {
-        logged_in_in_part(&rt, rt.alloc(), nth)?;
+        logged_in_in_part::<ListBook>(&rt, rt.alloc(), rt.alloc(), nth)?;
     }
     Ok(())
 }

@@ -1,8 +1,8 @@
 //! Each growth of a joiner refused in turn, and the calls that take no memory.
 use super::{
     AAPL, ADD_1, ADD_1_AT_9, ADD_2, ADD_3, ADD_4, BEFORE_6, BROKEN_TRADE, CLOSES, DELETE_3, END_3,
-    END_6, EXECUTE_1, JOINED_AT_3, NAMED_5, OPENS, READ_2, REPLACE_1, Step, check_market, live,
-    read, snapshot, stands, take_steps,
+    END_6, EXECUTE_1, JOINED_AT_3, NAMED_5, OPENS, READ_2, REPLACE_1, Step, check_market, joiner,
+    live, read, snapshot, stands, take_steps,
 };
 use crate::equal::same;
 use itch_book::{IndexedBook, OrderBook};
@@ -43,6 +43,11 @@ fn live_short<B: OrderBook>(
     is_refused
 }
 
+// What a message of a snapshot leads to.
+fn taken<B: OrderBook>(joiner: &mut Joiner<B>, payload: &[u8]) -> Result<Snap, JoinFault> {
+    joiner.snapshot(payload)
+}
+
 // The same of a message of a snapshot.
 fn snapshot_short<B: OrderBook>(
     rt: &impl Abort,
@@ -52,7 +57,7 @@ fn snapshot_short<B: OrderBook>(
     payload: &[u8],
 ) -> bool {
     refusing.arm(nth);
-    let result = joiner.snapshot(payload);
+    let result = taken(joiner, payload);
     let is_refused = refusing.has_refused();
     let want = if is_refused {
         Err(NOT_TAKEN)
@@ -83,18 +88,20 @@ fn refuse_to_keep<B: OrderBook>(
     panic!(rt; "more than 16 allocations")
 }
 
-fn check_keeping<B: OrderBook>(rt: &impl Abort, memory: B::Alloc, refusing: &Refusing<Global>) {
-    let mut joiner: Joiner<B> = Joiner::new(memory, 100);
+fn check_keeping<B: OrderBook>(
+    rt: &impl Abort,
+    refusing: &Refusing<Global>,
+    joiner: &mut Joiner<B>,
+) {
     for waiting in 0..40usize {
         let number = waiting as u64 + 1;
-        assert!(rt; refuse_to_keep(rt, refusing, &mut joiner, number, waiting) > 0);
+        assert!(rt; refuse_to_keep(rt, refusing, joiner, number, waiting) > 0);
     }
 }
 
 #[test]
-fn a_message_that_would_wait(rt: HostRuntime) {
-    let refusing = Refusing::new(rt.alloc(), 0);
-    check_keeping::<Index<'_>>(&rt, &refusing, &refusing);
+fn a_message_that_would_wait(rt: HostRuntime) -> Result<(), Fail> {
+    check(&rt, rt.alloc(), 0, 100, Case::Keeping)
 }
 
 // Takes a message of the snapshot with each of its allocations refused in turn, and then with memory. Returns how many were
@@ -113,28 +120,35 @@ fn refuse_to_read<B: OrderBook>(
     panic!(rt; "more than 16 allocations")
 }
 
+// Takes each message of the snapshot so. Returns how many allocations were refused.
+fn refuse_to_read_each<B: OrderBook>(
+    rt: &impl Abort,
+    refusing: &Refusing<Global>,
+    joiner: &mut Joiner<B>,
+) -> u64 {
+    let mut refused = 0u64;
+    for payload in BEFORE_6 {
+        refused = refused.saturating_add(refuse_to_read(rt, refusing, joiner, payload));
+    }
+    refused
+}
+
 fn check_reading<B: OrderBook>(
     rt: &impl Abort,
     alloc: Global,
-    memory: B::Alloc,
     refusing: &Refusing<Global>,
+    joiner: &mut Joiner<B>,
 ) -> Result<(), Fail> {
-    let mut joiner: Joiner<B> = Joiner::new(memory, 2);
-    let mut refused = 0u64;
-    for payload in BEFORE_6 {
-        refused = refused.saturating_add(refuse_to_read(rt, refusing, &mut joiner, payload));
-    }
-    assert!(rt; refused > 0);
+    assert!(rt; refuse_to_read_each(rt, refusing, joiner) > 0);
     refusing.arm(0);
-    snapshot(rt, &mut joiner, END_6, Ok(Snap::Joined { next: 6 }));
+    snapshot(rt, joiner, END_6, Ok(Snap::Joined { next: 6 }));
     assert!(rt; !refusing.has_refused());
-    check_market(rt, alloc, &joiner, BEFORE_6)
+    check_market(rt, alloc, joiner, BEFORE_6)
 }
 
 #[test]
 fn a_message_of_the_snapshot(rt: HostRuntime) -> Result<(), Fail> {
-    let refusing = Refusing::new(rt.alloc(), 0);
-    check_reading::<Index<'_>>(&rt, rt.alloc(), &refusing, &refusing)
+    check(&rt, rt.alloc(), 0, 2, Case::Reading)
 }
 
 // As many orders as there is room for, so that the replacement takes memory.
@@ -181,32 +195,43 @@ fn resume_at_7<B: OrderBook>(
 fn refuse_at_7<B: OrderBook>(
     rt: &impl Abort,
     alloc: Global,
-    memory: B::Alloc,
     refusing: &Refusing<Global>,
     nth: u64,
+    joiner: &mut Joiner<B>,
 ) -> Result<bool, Fail> {
     refusing.arm(NONE);
-    let mut joiner: Joiner<B> = Joiner::new(memory, 2);
-    take_steps(rt, alloc, &mut joiner, JOINED_AT_6)?;
+    take_steps(rt, alloc, joiner, JOINED_AT_6)?;
     let results = [Ok(Live::Applied { next: 9 }), Err(TAKEN)];
-    let is_refused = live_short(rt, refusing, nth, &mut joiner, (6, EXECUTE_1), results);
+    let is_refused = live_short(rt, refusing, nth, joiner, (6, EXECUTE_1), results);
     if is_refused {
-        resume_at_7(rt, alloc, refusing, nth, &mut joiner)?;
+        resume_at_7(rt, alloc, refusing, nth, joiner)?;
     }
-    check_market(rt, alloc, &joiner, LEFT)?;
+    check_market(rt, alloc, joiner, LEFT)?;
     Ok(is_refused)
+}
+
+// A joiner of its own for each allocation that is refused.
+fn refuse_waiting<B: OrderBook>(
+    rt: &impl Abort,
+    alloc: Global,
+    memory: B::Alloc,
+    refusing: &Refusing<Global>,
+) -> Result<u64, Fail> {
+    for nth in 0..16 {
+        let mut joiner: Joiner<B> = joiner(memory, 2);
+        if !refuse_at_7(rt, alloc, refusing, nth, &mut joiner)? {
+            return Ok(nth);
+        }
+    }
+    panic!(rt; "more than 16 allocations")
 }
 
 #[test]
 fn a_waiting_message(rt: HostRuntime) -> Result<(), Fail> {
     let refusing = Refusing::new(rt.alloc(), NONE);
-    for nth in 0..16 {
-        if !refuse_at_7::<Index<'_>>(&rt, rt.alloc(), &refusing, &refusing, nth)? {
-            assert!(rt; nth > 0);
-            return Ok(());
-        }
-    }
-    panic!(rt; "more than 16 allocations")
+    let refused = refuse_waiting::<Index<'_>>(&rt, rt.alloc(), &refusing, &refusing)?;
+    assert!(rt; refused > 0);
+    Ok(())
 }
 
 // A message that is next and does not wait is not taken, and is delivered again. Returns how many allocations were refused.
@@ -230,31 +255,28 @@ fn refuse_at_3<B: OrderBook>(
 fn check_next<B: OrderBook>(
     rt: &impl Abort,
     alloc: Global,
-    memory: B::Alloc,
     refusing: &Refusing<Global>,
+    joiner: &mut Joiner<B>,
 ) -> Result<(), Fail> {
-    let mut joiner: Joiner<B> = Joiner::new(memory, 2);
-    take_steps(rt, alloc, &mut joiner, &[READ_2, JOINED_AT_3])?;
-    assert!(rt; refuse_at_3(rt, alloc, refusing, &mut joiner)? > 0);
-    check_market(rt, alloc, &joiner, &[OPENS, AAPL, ADD_1])
+    take_steps(rt, alloc, joiner, &[READ_2, JOINED_AT_3])?;
+    assert!(rt; refuse_at_3(rt, alloc, refusing, joiner)? > 0);
+    check_market(rt, alloc, joiner, &[OPENS, AAPL, ADD_1])
 }
 
 #[test]
 fn the_next_message(rt: HostRuntime) -> Result<(), Fail> {
-    let refusing = Refusing::new(rt.alloc(), NONE);
-    check_next::<Index<'_>>(&rt, rt.alloc(), &refusing, &refusing)
+    check(&rt, rt.alloc(), NONE, 2, Case::Next)
 }
 
 // The joiner has joined all the same, and goes on.
 fn check_end<B: OrderBook>(
     rt: &impl Abort,
     alloc: Global,
-    memory: B::Alloc,
     refusing: &Refusing<Global>,
+    joiner: &mut Joiner<B>,
 ) -> Result<(), Fail> {
-    let mut joiner: Joiner<B> = Joiner::new(memory, 2);
-    live(rt, &mut joiner, 3, ADD_1, Ok(Live::Kept));
-    read(rt, &mut joiner, &[OPENS, AAPL]);
+    live(rt, joiner, 3, ADD_1, Ok(Live::Kept));
+    read(rt, joiner, &[OPENS, AAPL]);
     refusing.arm(0);
     let steps = [
         Step::Snapshot(END_3, Err(TAKEN)),
@@ -263,13 +285,12 @@ fn check_end<B: OrderBook>(
         Step::Resume(Ok(Some(4))),
         Step::Market(&[OPENS, AAPL, ADD_1]),
     ];
-    take_steps(rt, alloc, &mut joiner, &steps)
+    take_steps(rt, alloc, joiner, &steps)
 }
 
 #[test]
 fn the_end_of_the_snapshot(rt: HostRuntime) -> Result<(), Fail> {
-    let refusing = Refusing::new(rt.alloc(), NONE);
-    check_end::<Index<'_>>(&rt, rt.alloc(), &refusing, &refusing)
+    check(&rt, rt.alloc(), NONE, 2, Case::End)
 }
 
 // No call takes memory before the second message.
@@ -302,22 +323,67 @@ const AFTER_MEMORY: &[Step<'static>] = &[
 fn check_without_memory<B: OrderBook>(
     rt: &impl Abort,
     alloc: Global,
-    memory: B::Alloc,
     refusing: &Refusing<Global>,
+    joiner: &mut Joiner<B>,
 ) -> Result<(), Fail> {
-    let mut joiner: Joiner<B> = Joiner::new(memory, 1);
-    take_steps(rt, alloc, &mut joiner, BEFORE_MEMORY)?;
+    take_steps(rt, alloc, joiner, BEFORE_MEMORY)?;
     assert!(rt; !refusing.has_refused());
     refusing.arm(NONE);
-    take_steps(rt, alloc, &mut joiner, WITH_MEMORY)?;
+    take_steps(rt, alloc, joiner, WITH_MEMORY)?;
     refusing.arm(0);
-    take_steps(rt, alloc, &mut joiner, AFTER_MEMORY)?;
+    take_steps(rt, alloc, joiner, AFTER_MEMORY)?;
     assert!(rt; !refusing.has_refused());
     Ok(())
 }
 
 #[test]
 fn calls_that_take_no_memory(rt: HostRuntime) -> Result<(), Fail> {
-    let refusing = Refusing::new(rt.alloc(), 0);
-    check_without_memory::<Index<'_>>(&rt, rt.alloc(), &refusing, &refusing)
+    check(&rt, rt.alloc(), 0, 1, Case::Calls)
+}
+
+// What one joiner is tried at.
+#[derive(Clone, Copy)]
+enum Case {
+    Keeping,
+    Reading,
+    Next,
+    End,
+    Calls,
+}
+
+fn check_case<B: OrderBook>(
+    rt: &impl Abort,
+    alloc: Global,
+    refusing: &Refusing<Global>,
+    joiner: &mut Joiner<B>,
+    case: Case,
+) -> Result<(), Fail> {
+    match case {
+        Case::Keeping => {
+            check_keeping(rt, refusing, joiner);
+            Ok(())
+        }
+        Case::Reading => check_reading(rt, alloc, refusing, joiner),
+        Case::Next => check_next(rt, alloc, refusing, joiner),
+        Case::End => check_end(rt, alloc, refusing, joiner),
+        Case::Calls => check_without_memory(rt, alloc, refusing, joiner),
+    }
+}
+
+fn check_joiner<B: OrderBook>(
+    rt: &impl Abort,
+    alloc: Global,
+    memory: B::Alloc,
+    refusing: &Refusing<Global>,
+    cap: usize,
+    case: Case,
+) -> Result<(), Fail> {
+    let mut joiner: Joiner<B> = joiner(memory, cap);
+    check_case(rt, alloc, refusing, &mut joiner, case)
+}
+
+// A joiner for which `cap` messages may wait, whose memory is refused at first after `before` allocations.
+fn check(rt: &impl Abort, alloc: Global, before: u64, cap: usize, case: Case) -> Result<(), Fail> {
+    let refusing = Refusing::new(alloc, before);
+    check_joiner::<Index<'_>>(rt, alloc, &refusing, &refusing, cap, case)
 }

@@ -24,6 +24,15 @@ fn check<B: OrderBook>(
     take_steps(rt, alloc, &mut joiner, steps)
 }
 
+fn check_indexed(
+    rt: &impl Abort,
+    alloc: Global,
+    cap: usize,
+    steps: &[Step<'_>],
+) -> Result<(), Fail> {
+    check::<IndexedBook>(rt, alloc, alloc, cap, steps)
+}
+
 // What is at other locates is counted in the snapshot and in the feed, and follows no rule.
 #[test]
 fn counts_what_it_skips(rt: HostRuntime) -> Result<(), Fail> {
@@ -37,7 +46,21 @@ fn counts_what_it_skips(rt: HostRuntime) -> Result<(), Fail> {
         Step::Stands(Some(10), 0),
         Step::Market(&[OPENS, AAPL, ADD_1, ADD_2]),
     ];
-    check::<IndexedBook>(&rt, rt.alloc(), rt.alloc(), 2, &steps)
+    check_indexed(&rt, rt.alloc(), 2, &steps)
+}
+
+// This payload of message 4 halts it.
+fn check_halt(rt: &impl Abort, alloc: Global, payload: &[u8], cause: Cause) -> Result<(), Fail> {
+    let halted = JoinFault::Halted { number: 4, cause };
+    let steps = [
+        Step::Read(&[OPENS, MSFT]),
+        Step::Snapshot(END_3, Ok(Snap::Joined { next: 3 })),
+        Step::Live(3, ADD_1_AT_9, Ok(Live::Applied { next: 4 })),
+        Step::Live(4, payload, Err(halted)),
+        Step::Stands(Some(4), 0),
+        Step::Market(&[OPENS]),
+    ];
+    check_indexed(rt, alloc, 0, &steps)
 }
 
 // A payload without a message halts it, whatever the set, and a rule broken at its own locate.
@@ -47,16 +70,7 @@ fn is_halted_by_what_it_does_not_skip(rt: HostRuntime) -> Result<(), Fail> {
         (b"" as &[u8], Cause::Codec(CodecFault::Empty)),
         (ADD_1, Cause::Rule(Refusal::UnknownLocate)),
     ] {
-        let halted = JoinFault::Halted { number: 4, cause };
-        let steps = [
-            Step::Read(&[OPENS, MSFT]),
-            Step::Snapshot(END_3, Ok(Snap::Joined { next: 3 })),
-            Step::Live(3, ADD_1_AT_9, Ok(Live::Applied { next: 4 })),
-            Step::Live(4, payload, Err(halted)),
-            Step::Stands(Some(4), 0),
-            Step::Market(&[OPENS]),
-        ];
-        check::<IndexedBook>(&rt, rt.alloc(), rt.alloc(), 0, &steps)?;
+        check_halt(&rt, rt.alloc(), payload, cause)?;
     }
     Ok(())
 }

@@ -1,15 +1,16 @@
 //! Snapshots written, read and written again, and a day cut at each of its messages.
 use super::{
     AAPL, AAPL_LATER, ADD_2_OF_200, ADD_7_OF_150, END_1, END_4, END_6, EVENT, MSFT, NAMED_1,
-    REPLACE_1, REPLACED_SNAPSHOT, RESTRICTS, TRADES, TRADES_X, are_same, blocks, market,
+    REPLACE_1, REPLACED_SNAPSHOT, RESTRICTS, TRADES, TRADES_X, are_same, blocks, market, seq,
+    write,
 };
 use crate::equal::same;
+use crate::files::{read, replay_from};
 use itch_book::{ListBook, OrderBook};
 use itch_codec::Seq;
-use itch_frame::BlockReader;
 use itch_frame::testing::{FuseWriter, PieceReader};
-use itch_market::{Market, Stop, replay};
-use itch_snapshot::{laws, read_snapshot, snapshot_len, write_snapshot};
+use itch_market::{Market, Stop};
+use itch_snapshot::laws;
 use std::alloc::Global;
 use std::process::Abort;
 use std::test::Fail;
@@ -30,40 +31,49 @@ fn written<B: OrderBook>(
     market: &Market<B>,
     next: Seq,
 ) -> Result<FuseWriter, Fail> {
-    assert!(rt; snapshot_len(market) < 9);
     let mut writer = FuseWriter::new(alloc, 3, None);
-    write_snapshot(market, next, &mut writer)?;
+    write(rt, market, next, &mut writer)?;
     Ok(writer)
 }
 
-// The market and the number of a snapshot.
-fn read(alloc: Global, bytes: &[u8]) -> Result<(Market<ListBook>, Seq), Fail> {
-    let mut reader = BlockReader::new(alloc, PieceReader::new(bytes, 5, None))?;
-    Ok(read_snapshot(alloc, &mut reader)?)
-}
-
-// The market and the number of the snapshot of a market, which has these bytes.
-fn read_again<B: OrderBook>(
+// The snapshot of a market has these bytes.
+fn is_written<B: OrderBook>(
     rt: &impl Abort,
     alloc: Global,
     market: &Market<B>,
     next: Seq,
     want: &[u8],
-) -> Result<(Market<ListBook>, Seq), Fail> {
-    let file = written(rt, alloc, market, next)?;
-    same(rt, file.written(), want);
-    read(alloc, file.written())
+) -> Result<(), Fail> {
+    same(rt, written(rt, alloc, market, next)?.written(), want);
+    Ok(())
 }
 
 // The market of a file is written as these bytes, and so is what is read from them.
-fn check_file(rt: &impl Abort, alloc: Global, file: &[u8], want: &[u8]) -> Result<(), Fail> {
-    let (market, next) = read(alloc, file)?;
-    let (again, number) = read_again(rt, alloc, &market, next, want)?;
+fn check_file<B: OrderBook>(
+    rt: &impl Abort,
+    alloc: Global,
+    memory: B::Alloc,
+    file: &[u8],
+    want: &[u8],
+) -> Result<(), Fail> {
+    let (market, next): (Market<B>, Seq) = read(alloc, memory, file)?;
+    is_written(rt, alloc, &market, next, want)?;
+    let (again, number): (Market<B>, Seq) = read(alloc, memory, want)?;
     assert!(rt; are_same(rt, &market, &again));
     same(rt, number.value(), next.value());
-    let twice = written(rt, alloc, &again, number)?;
-    same(rt, twice.written(), want);
-    Ok(())
+    is_written(rt, alloc, &again, number, want)
+}
+
+// The same of the blocks of these payloads.
+fn check_payloads(
+    rt: &impl Abort,
+    alloc: Global,
+    file: &[&[u8]],
+    want: &[&[u8]],
+) -> Result<(), Fail> {
+    let file = blocks(alloc, file)?;
+    let want = blocks(alloc, want)?;
+    check_file::<ListBook>(rt, alloc, alloc, file.written(), want.written())
 }
 
 #[test]
@@ -81,19 +91,22 @@ fn written_again_all_bytes_are_equal(rt: HostRuntime) -> Result<(), Fail> {
         ),
     ];
     for (file, want) in files {
-        let file = blocks(rt.alloc(), file)?;
-        let want = blocks(rt.alloc(), want)?;
-        check_file(&rt, rt.alloc(), file.written(), want.written())?;
+        check_payloads(&rt, rt.alloc(), file, want)?;
     }
     Ok(())
 }
 
 // What the snapshot of a beginning of a day stands for.
-fn late_start(rt: &impl Abort, alloc: Global, early: &[&[u8]]) -> Result<Market<ListBook>, Fail> {
-    let next = Seq::new((early.len() as u64).saturating_add(1)).expect(rt, "a sequence number");
-    let early = market(alloc, early)?;
+fn late_start<B: OrderBook>(
+    rt: &impl Abort,
+    alloc: Global,
+    memory: B::Alloc,
+    early: &[&[u8]],
+) -> Result<Market<B>, Fail> {
+    let next = seq(rt, (early.len() as u64).saturating_add(1));
+    let early: Market<B> = market(alloc, memory, early)?;
     let snapshot = written(rt, alloc, &early, next)?;
-    let (late, _next) = read(alloc, snapshot.written())?;
+    let (late, _next) = read(alloc, memory, snapshot.written())?;
     Ok(late)
 }
 
@@ -105,24 +118,36 @@ fn check_replay<B: OrderBook>(
     payloads: &[&[u8]],
 ) -> Result<(), Fail> {
     let bytes = blocks(alloc, payloads)?;
-    let mut reader = BlockReader::new(alloc, PieceReader::new(bytes.written(), 7, None))?;
-    let end = replay(&mut reader, market);
+    let end = replay_from(alloc, PieceReader::new(bytes.written(), 7, None), market)?;
     same(rt, end.count, payloads.len() as u64);
     assert!(rt; matches!(end.stop, Stop::End));
     Ok(())
 }
 
 // A day leaves the same as the snapshot of its first messages and the others.
-fn check_cut(
+fn check_cut<B: OrderBook>(
     rt: &impl Abort,
     alloc: Global,
-    early: &[&[u8]],
-    rest: &[&[u8]],
-    whole: &Market<ListBook>,
+    memory: B::Alloc,
+    (early, rest): (&[&[u8]], &[&[u8]]),
+    whole: &Market<B>,
 ) -> Result<(), Fail> {
-    let mut late = late_start(rt, alloc, early)?;
+    let mut late: Market<B> = late_start(rt, alloc, memory, early)?;
     check_replay(rt, alloc, &mut late, rest)?;
     assert!(rt; are_same(rt, whole, &late));
+    Ok(())
+}
+
+fn check_cuts<B: OrderBook>(
+    rt: &impl Abort,
+    alloc: Global,
+    memory: B::Alloc,
+    day: &[&[u8]],
+) -> Result<(), Fail> {
+    let whole: Market<B> = market(alloc, memory, day)?;
+    for cut in 0..=day.len() {
+        check_cut(rt, alloc, memory, day.split_at(cut), &whole)?;
+    }
     Ok(())
 }
 
@@ -138,9 +163,5 @@ fn a_snapshot_stands_for_the_messages_before_it(rt: HostRuntime) -> Result<(), F
         TRADES,
         MSFT,
     ];
-    let whole = market(rt.alloc(), &day)?;
-    for cut in 0..=8 {
-        check_cut(&rt, rt.alloc(), &day[..cut], &day[cut..], &whole)?;
-    }
-    Ok(())
+    check_cuts::<ListBook>(&rt, rt.alloc(), rt.alloc(), &day)
 }

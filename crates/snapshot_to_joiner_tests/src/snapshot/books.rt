@@ -2,13 +2,13 @@
 use super::{
     AAPL, AAPL_LATER, ADD_1, ADD_2_HIGHER, ADD_3, ADD_4_HIGHER, ADD_7, ADD_7_OF_150, CANCEL_7,
     END_1, END_3, END_4, END_5, END_6, EVENT, EXECUTE_7, MSFT, MSFT_AT_1, REPLACED,
-    REPLACED_SNAPSHOT, RESTRICTS, TRADES, TRADES_0, TRADES_X, blocks, check_snapshot,
+    REPLACED_SNAPSHOT, RESTRICTS, TRADES, TRADES_0, TRADES_X, check_snapshot, file_of,
 };
-use crate::equal::same;
+use crate::equal::{same, same_words};
+use crate::files::replay_from;
 use itch_book::{IndexedBook, ListBook, OrderBook};
-use itch_frame::BlockReader;
 use itch_frame::testing::{FuseWriter, PieceReader};
-use itch_market::{Market, replay};
+use itch_market::Market;
 use std::alloc::Global;
 use std::process::Abort;
 use std::test::Fail;
@@ -75,15 +75,24 @@ fn check_replay<B: OrderBook>(
     market: &mut Market<B>,
     file: File<'_>,
 ) -> Result<(), Fail> {
-    let front = blocks(alloc, file.payloads)?;
-    let mut bytes = Vec::from_slice(alloc, front.written())?;
-    bytes.extend_from_slice(file.rest)?;
-    let mut reader = BlockReader::new(alloc, PieceReader::new(&bytes, 1, None))?;
-    let end = replay(&mut reader, market);
+    let bytes = file_of(alloc, file.payloads, file.rest)?;
+    let end = replay_from(alloc, PieceReader::new(&bytes, 1, None), market)?;
     same(rt, end.count, file.count);
-    let stop = format!(in alloc; "{}", end.stop)?;
-    same(rt, stop.as_str(), file.stop);
+    same_words(rt, alloc, &end.stop, file.stop)?;
     Ok(())
+}
+
+// A market with nothing in it is left by a file as it has to be.
+fn check_market<B: OrderBook>(
+    rt: &impl Abort,
+    alloc: Global,
+    market: &mut Market<B>,
+    file: File<'_>,
+) -> Result<(), Fail> {
+    check_replay(rt, alloc, market, file)?;
+    let next = file.count.saturating_add(1);
+    let writer = FuseWriter::new(alloc, 64, None);
+    check_snapshot(rt, alloc, market, next, writer, file.snapshot)
 }
 
 // Checks a file over a book whose memory comes from `memory`.
@@ -94,10 +103,7 @@ fn check<B: OrderBook>(
     file: File<'_>,
 ) -> Result<(), Fail> {
     let mut market: Market<B> = Market::new(memory);
-    check_replay(rt, alloc, &mut market, file)?;
-    let next = file.count.saturating_add(1);
-    let writer = FuseWriter::new(alloc, 64, None);
-    check_snapshot(rt, alloc, &market, next, writer, file.snapshot)
+    check_market(rt, alloc, &mut market, file)
 }
 
 // Files that end, what stands after them, and their snapshots.

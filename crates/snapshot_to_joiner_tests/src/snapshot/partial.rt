@@ -3,13 +3,13 @@ ghost use Rattle.std.specs.Prelude.{◌<◌, ◌^◌, length};
 ghost use Rattle.itch_snapshot.specs.Snapshot.{snap};
 
 use super::{AAPL, ADD_1, END_3, END_4, END_6, EVENT, MSFT, MSFT_AT_1, REPLACE_1, blocks, market};
-use crate::equal::same;
+use crate::equal::{same, same_words};
 use itch_book::{ListBook, OrderBook};
 use itch_codec::Seq;
 use itch_frame::testing::FuseWriter;
 use itch_market::{LocateSet, Market};
 use itch_snapshot::{SnapFault, SnapshotIter, SnapshotReader, laws, snapshot_len, write_partial};
-use std::alloc::{AllocError, Global};
+use std::alloc::{AllocError, Allocator, Global};
 use std::process::Abort;
 use std::test::Fail;
 
@@ -19,7 +19,7 @@ const ADD_2_OF_MSFT: &[u8] =
 
 const WHOLE: &[&[u8]] = &[EVENT, AAPL, ADD_1, MSFT, ADD_2_OF_MSFT];
 
-fn set_of(alloc: Global, locates: &[u16]) -> Result<LocateSet<Global>, AllocError> {
+fn set_of<A: Allocator + Copy>(alloc: A, locates: &[u16]) -> Result<LocateSet<A>, AllocError> {
     let mut set = LocateSet::new(alloc);
     for locate in locates {
         set.insert(*locate)?;
@@ -69,8 +69,7 @@ fn the_laws_of_parts() {
     laws::parts_of_a_market();
 }
 
-#[test]
-fn writes_the_locates_of_a_set(rt: HostRuntime) -> Result<(), Fail> {
+fn check_parts<B: OrderBook>(rt: &impl Abort, alloc: Global, memory: B::Alloc) -> Result<(), Fail> {
     let both: &[&[u8]] = &[EVENT, AAPL, ADD_1, MSFT, ADD_2_OF_MSFT, END_6];
     let rows: [(&[u16], &[&[u8]]); 5] = [
         (&[], &[EVENT, END_6]),
@@ -79,12 +78,17 @@ fn writes_the_locates_of_a_set(rt: HostRuntime) -> Result<(), Fail> {
         (&[2], &[EVENT, MSFT, ADD_2_OF_MSFT, END_6]),
         (&[2, 1], both),
     ];
-    let market = market(rt.alloc(), WHOLE)?;
+    let market: Market<B> = market(alloc, memory, WHOLE)?;
     for (locates, want) in rows {
-        let set = set_of(rt.alloc(), locates)?;
-        check_partial(&rt, rt.alloc(), &market, &set, want)?;
+        let set = set_of(memory, locates)?;
+        check_partial(rt, alloc, &market, &set, want)?;
     }
-    check_partial(&rt, rt.alloc(), &market, &LocateSet::all(rt.alloc()), both)
+    check_partial(rt, alloc, &market, &LocateSet::all(memory), both)
+}
+
+#[test]
+fn writes_the_locates_of_a_set(rt: HostRuntime) -> Result<(), Fail> {
+    check_parts::<ListBook>(&rt, rt.alloc(), rt.alloc())
 }
 
 // Reads payloads of a snapshot cut down to a set, of which none ends it.
@@ -113,15 +117,30 @@ fn check_end<B: OrderBook>(
 }
 
 // Messages of other locates are decoded and counted, and follow no rule.
+fn check_read<B: OrderBook>(rt: &impl Abort, memory: B::Alloc) -> Result<(), Fail> {
+    let set = set_of(memory, &[2])?;
+    let mut snapshot: SnapshotReader<B> = SnapshotReader::new(memory);
+    let payloads = [ADD_1, AAPL, MSFT_AT_1, MSFT, REPLACE_1, ADD_2_OF_MSFT];
+    check_more(rt, &mut snapshot, &set, &payloads);
+    same(rt, snapshot.taken(), 6);
+    same(rt, snapshot_len(snapshot.market()), 2);
+    check_end(rt, &mut snapshot, &set, END_4, 4)
+}
+
 #[test]
 fn reads_the_locates_of_a_set(rt: HostRuntime) -> Result<(), Fail> {
-    let set = set_of(rt.alloc(), &[2])?;
-    let mut snapshot: SnapshotReader<ListBook> = SnapshotReader::new(rt.alloc());
-    let payloads = [ADD_1, AAPL, MSFT_AT_1, MSFT, REPLACE_1, ADD_2_OF_MSFT];
-    check_more(&rt, &mut snapshot, &set, &payloads);
-    same(&rt, snapshot.taken(), 6);
-    same(&rt, snapshot_len(snapshot.market()), 2);
-    check_end(&rt, &mut snapshot, &set, END_4, 4)
+    check_read::<ListBook>(&rt, rt.alloc())
+}
+
+// The fault of a payload that is refused.
+fn fault_of<B: OrderBook>(
+    rt: &impl Abort,
+    snapshot: &mut SnapshotReader<B>,
+    set: &LocateSet<B::Alloc>,
+    payload: &[u8],
+) -> SnapFault {
+    let result = snapshot.message_only(set, payload);
+    result.err().expect(rt, "a fault")
 }
 
 // This payload is refused so for good.
@@ -134,23 +153,33 @@ fn check_fault<B: OrderBook>(
     want: &str,
 ) -> Result<(), Fail> {
     for payload in [payload, END_3] {
-        let fault = snapshot.message_only(set, payload).err().ok_or("a fault")?;
-        let said = format!(in alloc; "{fault}")?;
-        same(rt, said.as_str(), want);
+        let fault = fault_of(rt, snapshot, set, payload);
+        same_words(rt, alloc, &fault, want)?;
     }
     Ok(())
 }
 
 // After a message that is skipped, this payload is refused so for good.
-fn check_refused(rt: &impl Abort, alloc: Global, payload: &[u8], want: &str) -> Result<(), Fail> {
-    let set = set_of(alloc, &[2])?;
-    let mut snapshot: SnapshotReader<ListBook> = SnapshotReader::new(alloc);
+fn check_refused<B: OrderBook>(
+    rt: &impl Abort,
+    alloc: Global,
+    memory: B::Alloc,
+    payload: &[u8],
+    want: &str,
+) -> Result<(), Fail> {
+    let set = set_of(memory, &[2])?;
+    let mut snapshot: SnapshotReader<B> = SnapshotReader::new(memory);
     check_more(rt, &mut snapshot, &set, &[ADD_1]);
     check_fault(rt, alloc, &mut snapshot, &set, payload, want)
 }
 
 #[test]
 fn refuses_what_is_not_skipped(rt: HostRuntime) -> Result<(), Fail> {
-    check_refused(&rt, rt.alloc(), ADD_2_OF_MSFT, "message 2: unknown locate")?;
-    check_refused(&rt, rt.alloc(), b"", "message 2: empty message")
+    for (payload, want) in [
+        (ADD_2_OF_MSFT, "message 2: unknown locate"),
+        (b"", "message 2: empty message"),
+    ] {
+        check_refused::<ListBook>(&rt, rt.alloc(), rt.alloc(), payload, want)?;
+    }
+    Ok(())
 }

@@ -1,15 +1,15 @@
 //! One served and one fetched session over memory, row by row.
-ghost use Rattle.std.specs.Prelude.{◌≤◌};
-
-use crate::equal::same;
+use crate::equal::{same, same_in};
 use crate::files::seq;
-use crate::sessions::{FROM_1, FROM_3, LOGIN_1, LOGIN_3, fetch, fetched, serve, served_market};
+use crate::sessions::{
+    FROM_1, FROM_3, LOGIN_1, LOGIN_3, fetch, fetch_fault, fetched, is_served_market, serve,
+    serve_from, served_market,
+};
 use itch_book::{ListBook, OrderBook};
 use itch_frame::testing::{FuseWriter, PieceReader};
 use itch_frame::{BlockReader, CountedRead, FrameFault};
 use itch_market::Market;
-use itch_snapshot::{same_market, snapshot_len};
-use itch_soup::{Served, laws, write_data};
+use itch_soup::{Served, SoupFault, laws, write_data};
 use std::alloc::{Allocator, Global};
 use std::process::Abort;
 use std::test::Fail;
@@ -78,37 +78,57 @@ fn the_laws_of_sessions() {
     laws::waits_by_the_table();
 }
 
-// A login is served so, and answered by these bytes, in whatever pieces it comes.
+// A login that comes in pieces of this length is served so, and answered by these bytes.
+fn check_answer<B: OrderBook>(
+    rt: &impl Abort,
+    alloc: Global,
+    market: &Market<B>,
+    input: &[u8],
+    piece: usize,
+    want: &Served,
+    bytes: &[u8],
+) -> Result<(), Fail> {
+    let mut writer = FuseWriter::new(alloc, piece, None);
+    let reader = PieceReader::new(input, piece, None);
+    let served = serve_from(rt, alloc, reader, &mut writer, market)?;
+    same_in(rt, input, &served.expect(rt, "an answer"), want);
+    same(rt, writer.written(), bytes);
+    Ok(())
+}
+
 fn check_login<B: OrderBook>(
     rt: &impl Abort,
     alloc: Global,
     market: &Market<B>,
     input: &[u8],
-    want: Served,
+    want: &Served,
     bytes: &[u8],
 ) -> Result<(), Fail> {
     for piece in [1, 64] {
-        let mut reader = BlockReader::new(alloc, PieceReader::new(input, piece, None))?;
-        let mut writer = FuseWriter::new(alloc, piece, None);
-        let served = serve(rt, &mut reader, &mut writer, market)?;
-        assert_eq!(rt; served, want, "{input:?}");
-        assert_eq!(rt; writer.written(), bytes, "{input:?}");
+        check_answer(rt, alloc, market, input, piece, want, bytes)?;
+    }
+    Ok(())
+}
+
+fn check_logins<B: OrderBook>(
+    rt: &impl Abort,
+    alloc: Global,
+    market: &Market<B>,
+) -> Result<(), Fail> {
+    for (input, from, packets, bytes) in ACCEPTED {
+        let from = seq(rt, from);
+        let want = Served::Accepted { from, packets };
+        check_login(rt, alloc, market, input, &want, bytes)?;
+    }
+    for (input, want, bytes) in NOT_ACCEPTED {
+        check_login(rt, alloc, market, input, &want, bytes)?;
     }
     Ok(())
 }
 
 #[test]
 fn logins_are_served(rt: HostRuntime) -> Result<(), Fail> {
-    let market = served_market(rt.alloc())?;
-    for (input, from, packets, bytes) in ACCEPTED {
-        let from = seq(&rt, from);
-        let want = Served::Accepted { from, packets };
-        check_login(&rt, rt.alloc(), &market, input, want, bytes)?;
-    }
-    for (input, want, bytes) in NOT_ACCEPTED {
-        check_login(&rt, rt.alloc(), &market, input, want, bytes)?;
-    }
-    Ok(())
+    check_logins(&rt, rt.alloc(), &served_market(rt.alloc())?)
 }
 
 // This input has a fault, and is not answered.
@@ -119,17 +139,30 @@ fn check_fault<B: OrderBook>(
     input: &[u8],
     want: &str,
 ) -> Result<(), Fail> {
-    let mut reader = BlockReader::new(alloc, PieceReader::new(input, 5, None))?;
     let mut writer = FuseWriter::new(alloc, 64, None);
-    let served = serve(rt, &mut reader, &mut writer, market);
-    let fault = served.err().expect(rt, "a fault");
-    same(rt, fault.to_string(alloc)?.as_str(), want);
+    let reader = PieceReader::new(input, 5, None);
+    let fault = serve_from(rt, alloc, reader, &mut writer, market)?.err();
     same(rt, writer.written(), b"".as_slice());
+    same_text(rt, alloc, fault, want)
+}
+
+// There is a fault with these words.
+fn same_text(
+    rt: &impl Abort,
+    alloc: Global,
+    fault: Option<SoupFault>,
+    want: &str,
+) -> Result<(), Fail> {
+    let fault = fault.expect(rt, "a fault");
+    same(rt, fault.to_string(alloc)?.as_str(), want);
     Ok(())
 }
 
-#[test]
-fn faults_before_a_login_are_not_answered(rt: HostRuntime) -> Result<(), Fail> {
+fn check_faults<B: OrderBook>(
+    rt: &impl Abort,
+    alloc: Global,
+    market: &Market<B>,
+) -> Result<(), Fail> {
     let rows: [(&[u8], &str); 5] = [
         (b"\0\0", "empty packet"),
         (b"\0\x01R\0\x01*", "unknown packet type 0x2a"),
@@ -137,11 +170,15 @@ fn faults_before_a_login_are_not_answered(rt: HostRuntime) -> Result<(), Fail> {
         (b"\0\x01L", "wrong length for packet L: want 47, got 1"),
         (b"\0\x01R\0\x2fLuser", "truncated, 7 bytes held"),
     ];
-    let market = served_market(rt.alloc())?;
     for (input, want) in rows {
-        check_fault(&rt, rt.alloc(), &market, input, want)?;
+        check_fault(rt, alloc, market, input, want)?;
     }
     Ok(())
+}
+
+#[test]
+fn faults_before_a_login_are_not_answered(rt: HostRuntime) -> Result<(), Fail> {
+    check_faults(&rt, rt.alloc(), &served_market(rt.alloc())?)
 }
 
 // The next block is this one.
@@ -154,54 +191,76 @@ fn gives<R: CountedRead, A: Allocator>(
     Ok(())
 }
 
-#[test]
-fn nothing_is_read_after_the_login(rt: HostRuntime) -> Result<(), Fail> {
-    let input = b"\0\x2fLuser  secret                                 3\0\x01O";
-    let mut reader = BlockReader::new(rt.alloc(), PieceReader::new(input, 64, None))?;
-    let mut writer = FuseWriter::new(rt.alloc(), 64, None);
-    serve(&rt, &mut reader, &mut writer, &served_market(rt.alloc())?)?;
-    gives(&rt, &mut reader, b"O")?;
+// Serves the login of this input, after which the next block is this one.
+fn check_after_login<B: OrderBook>(
+    rt: &impl Abort,
+    alloc: Global,
+    market: &Market<B>,
+    input: &[u8],
+    want: &[u8],
+) -> Result<(), Fail> {
+    let mut reader = BlockReader::new(alloc, PieceReader::new(input, 64, None))?;
+    let mut writer = FuseWriter::new(alloc, 64, None);
+    serve(rt, &mut reader, &mut writer, market).expect(rt, "an answer");
+    gives(rt, &mut reader, want)?;
     Ok(())
 }
 
-// The market that was served is fetched in pieces.
+#[test]
+fn nothing_is_read_after_the_login(rt: HostRuntime) -> Result<(), Fail> {
+    let input = b"\0\x2fLuser  secret                                 3\0\x01O";
+    let market = served_market(rt.alloc())?;
+    check_after_login(&rt, rt.alloc(), &market, input, b"O")
+}
+
+// The market that was served is fetched over this reader.
 fn check_fetched<B: OrderBook>(
     rt: &impl Abort,
     alloc: Global,
-    want: &Market<B>,
-    piece: usize,
-) -> Result<(), Fail>
-    requires { 1 ≤ piece }
-{
-    let (found, next) = fetched(rt, alloc, PieceReader::new(FROM_1, piece, None))??;
-    assert!(rt; snapshot_len(want) < 9);
-    assert!(rt; same_market(want, &found));
-    same(rt, next.value(), 5);
-    Ok(())
+    memory: B::Alloc,
+    reader: PieceReader<'_>,
+) -> Result<(), Fail> {
+    match fetched::<_, B>(rt, alloc, memory, reader)? {
+        Ok((found, next)) => is_served_market(rt, alloc, &found, next),
+        Err(fault) => panic!(rt; "{fault}"),
+    }
 }
 
 #[test]
 fn answers_are_fetched(rt: HostRuntime) -> Result<(), Fail> {
-    let want = served_market(rt.alloc())?;
-    check_fetched(&rt, rt.alloc(), &want, 1)?;
-    check_fetched(&rt, rt.alloc(), &want, 64)
+    for piece in [1, 64] {
+        let reader = PieceReader::new(FROM_1, piece, None);
+        check_fetched::<ListBook>(&rt, rt.alloc(), rt.alloc(), reader)?;
+    }
+    Ok(())
+}
+
+// Fetches a market, after which the next block is this one.
+fn check_after_fetch<R: CountedRead, A: Allocator, B: OrderBook>(
+    rt: &impl Abort,
+    memory: B::Alloc,
+    reader: &mut BlockReader<R, A>,
+    writer: &mut FuseWriter,
+    want: &[u8],
+) -> Result<(), FrameFault> {
+    match fetch::<R, A, B>(rt, memory, reader, writer) {
+        Ok(_) => gives(rt, reader, want),
+        Err(fault) => panic!(rt; "{fault}"),
+    }
 }
 
 #[test]
 fn nothing_is_read_after_the_end_of_snapshot(rt: HostRuntime) -> Result<(), Fail> {
     let mut reader = BlockReader::new(rt.alloc(), PieceReader::new(FROM_1, 64, None))?;
     let mut writer = FuseWriter::new(rt.alloc(), 64, None);
-    fetch::<_, _, ListBook>(&rt, rt.alloc(), &mut reader, &mut writer)?;
-    gives(&rt, &mut reader, b"Z")?;
+    check_after_fetch::<_, _, ListBook>(&rt, rt.alloc(), &mut reader, &mut writer, b"Z")?;
     Ok(())
 }
 
 // The fetch of this input has this fault.
 fn check_fetch_fault(rt: &impl Abort, alloc: Global, input: &[u8], want: &str) -> Result<(), Fail> {
-    let result = fetched(rt, alloc, PieceReader::new(input, 5, None))?;
-    let fault = result.err().expect(rt, "a fault");
-    same(rt, fault.to_string(alloc)?.as_str(), want);
-    Ok(())
+    let fault = fetch_fault(rt, alloc, PieceReader::new(input, 5, None))?;
+    same_text(rt, alloc, fault, want)
 }
 
 #[test]
