@@ -88,6 +88,7 @@ fn check_answer<B: OrderBook>(
     want: &Served,
     bytes: &[u8],
 ) -> Result<(), Fail> {
+    assert!(rt; piece > 0);
     let mut writer = FuseWriter::new(alloc, piece, None);
     let reader = PieceReader::new(input, piece, None);
     let served = serve_from(rt, alloc, reader, &mut writer, market)?;
