@@ -2,7 +2,6 @@
 import configparser
 import functools
 import os
-import struct
 import subprocess
 import tempfile
 from pathlib import Path
@@ -30,10 +29,10 @@ def file(words):
 
 
 def split(data):
-    """The blocks of these bytes."""
+    """The blocks of these bytes, of which the last one may be cut."""
     found, at = [], 0
     while at < len(data):
-        end = at + 2 + struct.unpack_from(">H", data, at)[0]
+        end = at + 2 + int.from_bytes(data[at:at + 2], "big")
         found.append(data[at:end])
         at = end
     return found

@@ -19,6 +19,7 @@ SNAPSHOT = file("START AAPL BUY_1 BUY_2_OF_200 END_5")
 ENDED = b"\0\x01Z"
 LOGIN_3 = LOGIN[:-1] + b"3"
 WRONG = LOGIN_3.replace(b"secret", b"wrong ")
+FETCHED = False, (0, SNAPSHOT, b"")
 CAUSE = "Input/output error (os error 5)"
 OUT_OF_MEMORY = 4, b"", b"itchsnap: out of memory\n"
 
@@ -33,23 +34,35 @@ def answer(first):
     return acceptance(first) + b"".join(packets[first - 1:]) + ENDED
 
 
+def login_from(peer):
+    """As much of a login as a client sends."""
+    login = b""
+    while len(login) < len(LOGIN) and (more := peer.recv(len(LOGIN) - len(login))):
+        login += more
+    return login
+
+
 @contextlib.contextmanager
 def answering(data):
-    """A port where each client that logs in is sent these bytes, and a queue of what each client said."""
+    """A port where each client that logs in is sent these bytes, and a function that returns what the next client said."""
     said = queue.Queue()
 
     def serve():
         with contextlib.suppress(OSError):
             while True:
                 with listener.accept()[0] as peer, contextlib.suppress(ConnectionError):
-                    said.put(peer.recv(len(LOGIN), socket.MSG_WAITALL))
+                    said.put(login_from(peer))
                     peer.sendall(data)
+
+    def heard():
+        with contextlib.suppress(queue.Empty):
+            return said.get(timeout=60)
 
     with socket.create_server(("127.0.0.1", 0)) as listener:
         thread = threading.Thread(target=serve)
         thread.start()
         try:
-            yield listener.getsockname()[1], said
+            yield listener.getsockname()[1], heard
         finally:
             listener.shutdown(socket.SHUT_RDWR)
             thread.join()
@@ -70,28 +83,24 @@ def failing_fetch(program):
         yield perform
 
 
-def fetched():
-    return False, (0, SNAPSHOT, b"")
-
-
 def each_read_of_a_fetch_fails_in_turn(program):
     """The end of the session is not read."""
     reads = len(answer(1)) - len(ENDED)
-    with failing_fetch(program) as perform, answering(answer(1)) as (port, said):
+    with failing_fetch(program) as perform, answering(answer(1)) as (port, heard):
         error = f"itchsnap: read failed\n  127.0.0.1:{port}: {CAUSE}\n".encode()
         for nth in range(1, reads + 1):
             yield from differs(f"read {nth}", perform(port, f"recv:{nth}"), (True, (3, b"", error)))
-            yield from differs(f"login {nth}", said.get(timeout=60), LOGIN)
-        yield from differs("all reads", perform(port, f"recv:{reads + 1}"), fetched())
+            yield from differs(f"login {nth}", heard(), LOGIN)
+        yield from differs("all reads", perform(port, f"recv:{reads + 1}"), FETCHED)
 
 
 def each_write_of_a_login_fails_in_turn(program):
-    with failing_fetch(program) as perform, answering(answer(1)) as (port, said):
+    with failing_fetch(program) as perform, answering(answer(1)) as (port, heard):
         error = f"itchsnap: write failed\n  127.0.0.1:{port}: {CAUSE}\n".encode()
         for at in range(len(LOGIN)):
             yield from differs(f"write {at + 1}", perform(port, f"send:{at + 1}"), (True, (3, b"", error)))
-            yield from differs(f"login {at + 1}", said.get(timeout=60), LOGIN[:at])
-        yield from differs("all writes", perform(port, f"send:{len(LOGIN) + 1}"), fetched())
+            yield from differs(f"login {at + 1}", heard(), LOGIN[:at])
+        yield from differs("all writes", perform(port, f"send:{len(LOGIN) + 1}"), FETCHED)
 
 
 def each_write_of_a_fetched_snapshot_fails_in_turn(program):
@@ -99,20 +108,20 @@ def each_write_of_a_fetched_snapshot_fails_in_turn(program):
     with failing_fetch(program) as perform, answering(answer(1)) as (port, _):
         for at in range(len(SNAPSHOT)):
             yield from differs(f"write {at + 1}", perform(port, f"write:{at + 1}+"), (True, (3, SNAPSHOT[:at], error)))
-        yield from differs("all writes", perform(port, f"write:{len(SNAPSHOT) + 1}"), fetched())
+        yield from differs("all writes", perform(port, f"write:{len(SNAPSHOT) + 1}"), FETCHED)
 
 
 def each_allocation_of_a_fetch_is_refused(program):
     """The first three are those of the buffers, before the login. Those before the connection are the words' own: the rows of runs.ini
     refuse them."""
-    with failing_fetch(program) as perform, answering(answer(1)) as (port, said):
+    with failing_fetch(program) as perform, answering(answer(1)) as (port, heard):
         closed = free_port()
         first = first_unmet(lambda nth: perform(closed, f"memory:{nth}")[0])
         for nth in range(first, first + 64):
             failed, ending = perform(port, f"memory:{nth}")
-            login = said.get(timeout=60)
+            login = heard()
             if not failed:
-                yield from differs("all allocations", (failed, ending), fetched())
+                yield from differs("all allocations", (failed, ending), FETCHED)
                 if nth < first + 5:
                     yield f"{nth - first} allocations"
                 return

@@ -30,7 +30,10 @@ def free_port():
     """A port below those that the system hands out, and another one at each call, so that no other run has it meanwhile."""
     while True:
         port = 20_000 + next(PORTS) % 12_000
-        with contextlib.suppress(OSError), socket.create_server(("127.0.0.1", port)):
+        # It does not listen: a process that another thread starts meanwhile holds it for a moment more, which does not hinder a server so.
+        with contextlib.suppress(OSError), socket.socket() as probe:
+            probe.setsockopt(socket.SOL_SOCKET, socket.SO_REUSEADDR, 1)
+            probe.bind(("127.0.0.1", port))
             return port
 
 
