@@ -60,13 +60,40 @@ pub(super) fn replace<B: OrderBook>(
     book.replace(original, reference, shares, price)
 }
 
-// The reference of the next order of the same locate, or 0.
-fn next<B: OrderBook>(rt: &impl Abort, book: &B, reference: u64) -> u64 {
+// The order of a reference.
+pub(super) fn live<B: OrderBook>(book: &B, reference: u64) -> Option<Order> {
+    book.get(reference).copied()
+}
+
+// The first order of a locate.
+pub(super) fn first<B: OrderBook>(book: &B, locate: u16) -> Option<Order> {
+    book.first(locate).copied()
+}
+
+// The next order of the same locate.
+pub(super) fn after<B: OrderBook>(rt: &impl Abort, book: &B, reference: u64) -> Option<Order> {
     assert!(rt; book.get(reference).is_some());
-    match book.after(reference) {
-        Some(order) => order.reference,
-        None => 0,
-    }
+    book.after(reference).copied()
+}
+
+// The reference of the next order of the same locate, or 0.
+fn next<B: OrderBook>(rt: &impl Abort, book: &B, number: u64) -> u64 {
+    reference(after(rt, book, number).as_ref())
+}
+
+// The best price of a side of locate 1, or the best one worse than `last`.
+pub(super) fn next_price<B: OrderBook>(book: &B, side: Side, last: Option<u32>) -> Option<u32> {
+    book.next_price(1, side, last)
+}
+
+// The shares at a price, and the number of orders.
+pub(super) fn total<B: OrderBook>(book: &B, locate: u16, side: Side, price: u32) -> (u128, u64) {
+    book.level_total(locate, side, price)
+}
+
+// The book has so many orders.
+pub(super) fn has_len<B: OrderBook>(rt: &impl Abort, book: &B, want: usize) {
+    same(rt, book.len(), want);
 }
 
 // The reference of an order, or 0.
@@ -79,23 +106,20 @@ pub(super) fn reference(order: Option<&Order>) -> u64 {
 
 // Adds two levels to buy, two to sell, and the greatest order of another locate.
 fn fill<B: OrderBook>(rt: &impl Abort, book: &mut B) -> Result<(), AllocError> {
-    same(rt, book.len(), 0);
-    for (number, side, shares, price) in [
-        (1, Side::Buy, 100, 1500000),
-        (2, Side::Buy, 200, 1500100),
-        (3, Side::Buy, 300, 1500000),
-        (4, Side::Buy, 400, 1500100),
-        (5, Side::Sell, 500, 1500300),
-        (6, Side::Sell, 600, 1500200),
+    has_len(rt, book, 0);
+    for (locate, number, side, shares, price) in [
+        (1, 1, Side::Buy, 100, 1500000),
+        (1, 2, Side::Buy, 200, 1500100),
+        (1, 3, Side::Buy, 300, 1500000),
+        (1, 4, Side::Buy, 400, 1500100),
+        (1, 5, Side::Sell, 500, 1500300),
+        (1, 6, Side::Sell, 600, 1500200),
+        (u16::MAX, u64::MAX, Side::Sell, u32::MAX, u32::MAX),
     ] {
-        add(rt, book, order(number, side, shares, price))?;
+        let order = order(number, side, shares, price);
+        add(rt, book, Order { locate, ..order })?;
     }
-    let last = Order {
-        locate: u16::MAX,
-        ..order(u64::MAX, Side::Sell, u32::MAX, u32::MAX)
-    };
-    add(rt, book, last)?;
-    same(rt, book.len(), 7);
+    has_len(rt, book, 7);
     Ok(())
 }
 
@@ -119,8 +143,8 @@ fn check_order<B: OrderBook>(rt: &impl Abort, book: &B) {
     same(rt, reference(book.front(u16::MAX, Side::Buy)), 0);
 }
 
-// Checks the prices and the totals of the levels.
-fn check_levels<B: OrderBook>(rt: &impl Abort, book: &B) {
+// Checks the prices of the levels.
+fn check_prices<B: OrderBook>(rt: &impl Abort, book: &B) {
     for (side, last, want) in [
         (Side::Buy, None, Some(1500100)),
         (Side::Buy, Some(1500100), Some(1500000)),
@@ -129,56 +153,64 @@ fn check_levels<B: OrderBook>(rt: &impl Abort, book: &B) {
         (Side::Sell, Some(1500200), Some(1500300)),
         (Side::Sell, Some(1500300), None),
     ] {
-        same_in(rt, ("after", last), book.next_price(1, side, last), want);
+        same_in(rt, ("after", last), next_price(book, side, last), want);
     }
+}
+
+// Checks the totals of the levels.
+fn check_totals<B: OrderBook>(rt: &impl Abort, book: &B) {
     for (locate, side, price, want) in [
         (1, Side::Buy, 1500100, (600, 2)),
         (1, Side::Buy, 1500000, (400, 2)),
         (1, Side::Sell, 1500000, (0, 0)),
         (u16::MAX, Side::Sell, u32::MAX, (4294967295, 1)),
     ] {
-        same(rt, book.level_total(locate, side, price), want);
+        same(rt, total(book, locate, side, price), want);
     }
 }
 
 // Takes shares of the orders 1 and 3.
 fn check_takes<B: OrderBook>(rt: &impl Abort, book: &mut B) {
     same(rt, take(rt, book, 1, 40), Taken::Left(60));
-    same(rt, book.level_total(1, Side::Buy, 1500000), (360, 2));
+    same(rt, total(book, 1, Side::Buy, 1500000), (360, 2));
     same(rt, next(rt, book, 4), 1);
     same(rt, take(rt, book, 1, 60), Taken::Gone);
-    assert!(rt; book.get(1).is_none());
+    assert!(rt; live(book, 1).is_none());
     same(rt, take(rt, book, 3, 0), Taken::Left(300));
 }
 
 fn check_delete<B: OrderBook>(rt: &impl Abort, book: &mut B) {
     same(rt, delete(rt, book, 6), order(6, Side::Sell, 600, 1500200));
-    same(rt, book.next_price(1, Side::Sell, None), Some(1500300));
+    same(rt, next_price(book, Side::Sell, None), Some(1500300));
 }
 
 // Replaces order 2 by order 7, after order 3.
 fn check_replace<B: OrderBook>(rt: &impl Abort, book: &mut B) -> Result<(), AllocError> {
     replace(rt, book, 2, 7, 50, 1500000)?;
-    assert!(rt; book.get(2).is_none());
-    same(
-        rt,
-        book.get(7).copied(),
-        Some(order(7, Side::Buy, 50, 1500000)),
-    );
+    assert!(rt; live(book, 2).is_none());
+    let replacement = order(7, Side::Buy, 50, 1500000);
+    same(rt, live(book, 7), Some(replacement));
     same(rt, next(rt, book, 3), 7);
-    same(rt, book.level_total(1, Side::Buy, 1500100), (400, 1));
-    same(rt, book.len(), 5);
+    same(rt, total(book, 1, Side::Buy, 1500100), (400, 1));
+    has_len(rt, book, 5);
     Ok(())
 }
 
 // Checks each call of a book that is empty.
-fn check_calls<B: OrderBook>(rt: &impl Abort, book: &mut B) -> Result<(), AllocError> {
+fn check_each_call<B: OrderBook>(rt: &impl Abort, book: &mut B) -> Result<(), AllocError> {
     fill(rt, book)?;
     check_order(rt, book);
-    check_levels(rt, book);
+    check_prices(rt, book);
+    check_totals(rt, book);
     check_takes(rt, book);
     check_delete(rt, book);
     check_replace(rt, book)
+}
+
+// The same of a new book over this memory.
+fn check_calls<B: OrderBook>(rt: &impl Abort, memory: B::Alloc) -> Result<(), AllocError> {
+    let mut book = B::new(memory);
+    check_each_call(rt, &mut book)
 }
 
 // Adds a level of a thousand orders.
@@ -189,45 +221,52 @@ fn fill_level<B: OrderBook>(rt: &impl Abort, book: &mut B) -> Result<(), AllocEr
     Ok(())
 }
 
-// Checks a level of a thousand orders, of which three change.
-fn check_priority<B: OrderBook>(rt: &impl Abort, book: &mut B) -> Result<(), AllocError> {
-    fill_level(rt, book)?;
+// Deletes an order in the middle of the level, takes the first whole, and replaces the last.
+fn change_level<B: OrderBook>(rt: &impl Abort, book: &mut B) -> Result<(), AllocError> {
     delete(rt, book, 500);
     same(rt, take(rt, book, 1, 10), Taken::Gone);
-    replace(rt, book, 1000, 2000, 5, 1500000)?;
-    same(rt, book.level_total(1, Side::Buy, 1500000), (9975, 998));
+    replace(rt, book, 1000, 2000, 5, 1500000)
+}
+
+// Checks the level after these changes.
+fn check_level<B: OrderBook>(rt: &impl Abort, book: &B) {
+    same(rt, total(book, 1, Side::Buy, 1500000), (9975, 998));
     same(rt, reference(book.front(1, Side::Buy)), 2);
     for (number, want) in [(499, 501), (999, 2000), (2000, 0)] {
         same(rt, next(rt, book, number), want);
     }
+}
+
+// Checks a level of a thousand orders of a new book over this memory, of which three change.
+fn check_priority<B: OrderBook>(rt: &impl Abort, memory: B::Alloc) -> Result<(), AllocError> {
+    let mut book = B::new(memory);
+    fill_level(rt, &mut book)?;
+    change_level(rt, &mut book)?;
+    check_level(rt, &book);
     Ok(())
 }
 
 #[test]
 fn list_book_calls(rt: HostRuntime) -> Result<(), Fail> {
-    let mut book: ListBook = ListBook::new(rt.alloc());
-    check_calls(&rt, &mut book)?;
+    check_calls::<ListBook>(&rt, rt.alloc())?;
     Ok(())
 }
 
 #[test]
 fn indexed_book_calls(rt: HostRuntime) -> Result<(), Fail> {
-    let mut book: IndexedBook = IndexedBook::new(rt.alloc());
-    check_calls(&rt, &mut book)?;
+    check_calls::<IndexedBook>(&rt, rt.alloc())?;
     Ok(())
 }
 
 #[test]
 fn list_book_keeps_priority(rt: HostRuntime) -> Result<(), Fail> {
-    let mut book: ListBook = ListBook::new(rt.alloc());
-    check_priority(&rt, &mut book)?;
+    check_priority::<ListBook>(&rt, rt.alloc())?;
     Ok(())
 }
 
 #[test]
 fn indexed_book_keeps_priority(rt: HostRuntime) -> Result<(), Fail> {
-    let mut book: IndexedBook = IndexedBook::new(rt.alloc());
-    check_priority(&rt, &mut book)?;
+    check_priority::<IndexedBook>(&rt, rt.alloc())?;
     Ok(())
 }
 

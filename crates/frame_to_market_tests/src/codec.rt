@@ -1,5 +1,5 @@
 //! Vectors of the public standard's layouts, both ways, and what no contract says.
-use crate::equal::{holds_in, same};
+use crate::equal::{has_words, holds_in, same};
 use itch_codec::{
     AddOrder, Alpha, AlphaFault, AttributedAddOrder, BrokenTrade, CodecFault, CrossTrade,
     Directory, Header, Message, OperationalHalt, OrderCancel, OrderDelete, OrderExecuted,
@@ -51,11 +51,20 @@ fn execution(rt: &impl Abort) -> OrderExecuted {
     }
 }
 
+// The message is spelled by these bytes.
+fn is_spelled(rt: &impl Abort, bytes: &[u8], message: &Message<'_>) {
+    same(rt, encode(message).bytes(), bytes);
+}
+
+// This is read off these bytes.
+fn is_read(rt: &impl Abort, bytes: &[u8], want: &Result<Message<'_>, CodecFault>) {
+    same(rt, &decode(bytes), want);
+}
+
 // The message is spelled by these bytes, and read off them.
 fn agree(rt: &impl Abort, bytes: &[u8], message: Message<'_>) {
-    let encoded = encode(&message);
-    same(rt, encoded.bytes(), bytes);
-    same(rt, &decode(bytes), &Ok(message));
+    is_spelled(rt, bytes, &message);
+    is_read(rt, bytes, &Ok(message));
 }
 
 #[test]
@@ -248,11 +257,7 @@ fn trades(rt: HostRuntime) {
 fn ends(rt: HostRuntime) {
     let next = Seq::new(4).expect(&rt, "a sequence number");
     agree(&rt, END, Message::End { next });
-    same(
-        &rt,
-        &decode(b"G  0004              "),
-        &Ok(Message::End { next }),
-    );
+    is_read(&rt, b"G  0004              ", &Ok(Message::End { next }));
 }
 
 #[test]
@@ -324,7 +329,7 @@ const FAULTS: [(&[u8], CodecFault); 12] = [
 #[test]
 fn faults(rt: HostRuntime) {
     for (bytes, fault) in FAULTS {
-        same(&rt, &decode(bytes), &Err(fault));
+        is_read(&rt, bytes, &Err(fault));
     }
 }
 
@@ -423,7 +428,7 @@ fn faults_of_messages_have_words(rt: HostRuntime) -> Result<(), Fail> {
         (CodecFault::BadNumber, "bad number"),
     ];
     for (fault, text) in rows {
-        same(&rt, format!(in rt.alloc(); "{fault}")?.as_str(), text);
+        has_words(&rt, rt.alloc(), fault, text)?;
     }
     Ok(())
 }
@@ -438,7 +443,7 @@ fn faults_of_texts_have_words(rt: HostRuntime) -> Result<(), Fail> {
         ),
     ];
     for (fault, text) in texts {
-        same(&rt, format!(in rt.alloc(); "{fault}")?.as_str(), text);
+        has_words(&rt, rt.alloc(), fault, text)?;
     }
     Ok(())
 }

@@ -1,6 +1,7 @@
 //! Comparisons that end a test. They have no contract, so that a proof of a test does not carry how a value is shown. A library may
 //! not end the process, so each crate of tests has them.
-use std::fmt::Debug;
+use std::alloc::{AllocError, Global};
+use std::fmt::{Debug, Display};
 use std::process::Abort;
 
 /// Ends the test unless these are equal.
@@ -21,4 +22,16 @@ pub fn same_in<T: PartialEq + Debug + Copy>(
 /// Ends the test unless this holds, and names the case.
 pub fn holds_in(rt: &impl Abort, case: impl Debug + Copy, holds: bool) {
     assert!(rt; holds, "case {case:?}");
+}
+
+/// Ends the test unless `{}` writes these words.
+pub fn has_words(
+    rt: &impl Abort,
+    alloc: Global,
+    value: impl Display + Copy,
+    words: &str,
+) -> Result<(), AllocError> {
+    let line = format!(in alloc; "{value}")?;
+    same(rt, line.as_str(), words);
+    Ok(())
 }

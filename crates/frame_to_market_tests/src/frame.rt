@@ -1,14 +1,14 @@
 //! Worked cases, each failure in turn, and the calls that take no memory.
 ghost use Rattle.std.specs.Prelude.{None, IsErr};
 
-use crate::equal::{holds_in, same, same_in};
+use crate::equal::{has_words, holds_in, same, same_in};
 use itch_frame::testing::{FuseWriter, PieceReader};
 use itch_frame::{
     BlockReader, Buffered, Counted, CountedRead, CountedWrite, FrameFault, Splitter, laws,
     write_block,
 };
 use linked_list_allocator::LocalHeap;
-use std::alloc::Allocator;
+use std::alloc::{Allocator, Global};
 use std::fs::File;
 use std::io::{self, BufReader, ErrorKind, Read, Write};
 use std::process::Abort;
@@ -118,17 +118,32 @@ fn is_too_long(rt: &impl Abort, writer: &mut FuseWriter, payload: &[u8]) {
     same(rt, writer.written().len(), 65_537);
 }
 
+// Writes a block.
+fn write<W: CountedWrite>(writer: &mut W, payload: &[u8]) -> Result<(), FrameFault> {
+    write_block(writer, payload)
+}
+
+// What was written is this one block.
+fn holds_block(rt: &impl Abort, alloc: Global, written: &[u8], payload: &[u8]) -> Result<(), Fail> {
+    let mut reader = BlockReader::new(alloc, PieceReader::new(written, 1000, None))?;
+    for want in [Some(payload), None] {
+        gives(rt, &mut reader, want)?;
+    }
+    Ok(())
+}
+
+// Writes the longest block, and none of the longer payload.
+fn writes_longest(rt: &impl Abort, alloc: Global, longest: &[u8], long: &[u8]) -> Result<(), Fail> {
+    let mut writer = FuseWriter::new(alloc, 70_000, None);
+    write(&mut writer, longest)?;
+    is_too_long(rt, &mut writer, long);
+    holds_block(rt, alloc, writer.written(), longest)
+}
+
 #[test]
 fn writes_the_longest_block_and_none_longer(rt: HostRuntime) -> Result<(), Fail> {
     let long = vec![in rt.alloc(); 0x7a; 65_536]?;
-    let longest = &long[..65_535];
-    let mut writer = FuseWriter::new(rt.alloc(), 70_000, None);
-    write_block(&mut writer, longest)?;
-    is_too_long(&rt, &mut writer, &long);
-    let mut reader = BlockReader::new(rt.alloc(), PieceReader::new(writer.written(), 1000, None))?;
-    gives(&rt, &mut reader, Some(longest))?;
-    gives(&rt, &mut reader, None)?;
-    Ok(())
+    writes_longest(&rt, rt.alloc(), &long[..65_535], &long)
 }
 
 #[test]
@@ -170,9 +185,11 @@ fn gives_message<R: CountedRead, A: Allocator>(
     Ok(())
 }
 
-#[test]
-fn messages_end_at_an_empty_block_and_at_the_end(rt: HostRuntime) -> Result<(), Fail> {
-    let mut reader = BlockReader::new(rt.alloc(), PieceReader::new(STREAM, 3, None))?;
+// The messages of the stream, which end twice.
+fn gives_messages<R: CountedRead, A: Allocator>(
+    rt: &impl Abort,
+    reader: &mut BlockReader<R, A>,
+) -> Result<(), FrameFault> {
     for want in [
         Some(b"S".as_slice()),
         Some(b"RR"),
@@ -182,8 +199,43 @@ fn messages_end_at_an_empty_block_and_at_the_end(rt: HostRuntime) -> Result<(), 
         None,
         None,
     ] {
-        gives_message(&rt, &mut reader, want)?;
+        gives_message(rt, reader, want)?;
     }
+    Ok(())
+}
+
+#[test]
+fn messages_end_at_an_empty_block_and_at_the_end(rt: HostRuntime) -> Result<(), Fail> {
+    let mut reader = BlockReader::new(rt.alloc(), PieceReader::new(STREAM, 3, None))?;
+    gives_messages(&rt, &mut reader)?;
+    Ok(())
+}
+
+fn fails_message<R: CountedRead, A: Allocator>(rt: &impl Abort, reader: &mut BlockReader<R, A>) {
+    assert!(rt; matches!(reader.next_message(), Err(FrameFault::Read(_))));
+}
+
+fn is_truncated_message<R: CountedRead, A: Allocator>(
+    rt: &impl Abort,
+    reader: &mut BlockReader<R, A>,
+) {
+    assert!(rt;
+        matches!(
+            reader.next_message(),
+            Err(FrameFault::Truncated { held: 1 })
+        )
+    );
+}
+
+// A read fails, then there is a message, and then a truncated block.
+fn gives_one_message<R: CountedRead, A: Allocator>(
+    rt: &impl Abort,
+    reader: &mut BlockReader<R, A>,
+) -> Result<(), FrameFault> {
+    fails_message(rt, reader);
+    gives_message(rt, reader, Some(b"z"))?;
+    is_truncated_message(rt, reader);
+    is_truncated(rt, reader, 1);
     Ok(())
 }
 
@@ -193,15 +245,7 @@ fn a_message_comes_after_a_failed_read_and_none_of_a_truncated_block(
 ) -> Result<(), Fail> {
     let source = PieceReader::new(b"\x00\x01z\x00", 1, Some(2));
     let mut reader = BlockReader::new(rt.alloc(), source)?;
-    assert!(rt; matches!(reader.next_message(), Err(FrameFault::Read(_))));
-    gives_message(&rt, &mut reader, Some(b"z"))?;
-    assert!(rt;
-        matches!(
-            reader.next_message(),
-            Err(FrameFault::Truncated { held: 1 })
-        )
-    );
-    is_truncated(&rt, &mut reader, 1);
+    gives_one_message(&rt, &mut reader)?;
     Ok(())
 }
 
@@ -222,18 +266,42 @@ fn copy_blocks<R: CountedRead, W: CountedWrite, A: Allocator>(
     Ok(failures)
 }
 
+// Copies the stream through a reader that has it, whole whichever read fails, and returns how many reads failed.
+fn copies_stream<R: CountedRead, A: Allocator>(
+    rt: &impl Abort,
+    alloc: Global,
+    reader: &mut BlockReader<R, A>,
+    case: (u64, usize),
+) -> Result<u64, FrameFault> {
+    let mut writer = FuseWriter::new(alloc, 64, None);
+    let failures = copy_blocks(reader, &mut writer)?;
+    same_in(rt, case, writer.written(), STREAM);
+    Ok(failures)
+}
+
 #[test]
 fn loses_nothing_whichever_read_fails(rt: HostRuntime) -> Result<(), Fail> {
     for (piece, reads) in [(1, 20), (2, 12), (7, 10)] {
         for fail_at in 1..=24 {
             let source = PieceReader::new(STREAM, piece, Some(fail_at));
             let mut reader = BlockReader::new(rt.alloc(), source)?;
-            let mut writer = FuseWriter::new(rt.alloc(), 64, None);
-            let failures = copy_blocks(&mut reader, &mut writer)?;
-            same_in(&rt, (fail_at, piece), writer.written(), STREAM);
+            let failures = copies_stream(&rt, rt.alloc(), &mut reader, (fail_at, piece))?;
             same_in(&rt, (fail_at, piece), failures == 1, fail_at <= reads);
         }
     }
+    Ok(())
+}
+
+// Copies the stream through a source of its own.
+fn copies_through<R: CountedRead + Drop>(
+    rt: &impl Abort,
+    alloc: Global,
+    source: R,
+    case: (u64, usize),
+) -> Result<(), Fail> {
+    let mut reader = BlockReader::new(alloc, source)?;
+    let failures = copies_stream(rt, alloc, &mut reader, case)?;
+    holds_in(rt, case, failures <= 1);
     Ok(())
 }
 
@@ -243,13 +311,20 @@ fn blocks_are_the_same_through_any_buffer(rt: HostRuntime) -> Result<(), Fail> {
         for fail_at in 1..=24 {
             let source = PieceReader::new(STREAM, 5, Some(fail_at));
             let source = BufReader::with_capacity(rt.alloc(), capacity, source)?;
-            let mut reader = BlockReader::new(rt.alloc(), Buffered::new(source))?;
-            let mut writer = FuseWriter::new(rt.alloc(), 64, None);
-            let failures = copy_blocks(&mut reader, &mut writer)?;
-            same_in(&rt, (fail_at, capacity), writer.written(), STREAM);
-            holds_in(&rt, (fail_at, capacity), failures <= 1);
+            copies_through(&rt, rt.alloc(), Buffered::new(source), (fail_at, capacity))?;
         }
     }
+    Ok(())
+}
+
+// There is a block, then a read fails, and then there is a truncated block.
+fn gives_one_block<R: CountedRead, A: Allocator>(
+    rt: &impl Abort,
+    reader: &mut BlockReader<R, A>,
+) -> Result<(), FrameFault> {
+    gives(rt, reader, Some(b"z"))?;
+    fails(rt, reader);
+    is_truncated(rt, reader, 1);
     Ok(())
 }
 
@@ -258,9 +333,7 @@ fn a_failed_read_below_a_buffer_is_counted(rt: HostRuntime) -> Result<(), Fail> 
     let source = PieceReader::new(b"\x00\x01z\x00", 4, Some(2));
     let source = Buffered::new(BufReader::with_capacity(rt.alloc(), 8, source)?);
     let mut reader = BlockReader::new(rt.alloc(), source)?;
-    gives(&rt, &mut reader, Some(b"z"))?;
-    fails(&rt, &mut reader);
-    is_truncated(&rt, &mut reader, 1);
+    gives_one_block(&rt, &mut reader)?;
     Ok(())
 }
 
@@ -325,24 +398,43 @@ fn is_reset(error: Option<io::Error>) -> bool {
     error.is_some_and(|error| error.kind() == ErrorKind::ConnectionReset)
 }
 
-#[test]
-fn the_very_error_of_a_device_is_kept(rt: HostRuntime) -> Result<(), Fail> {
+// A reader that failed once with the error of its device.
+fn broken_reader(rt: &impl Abort) -> Counted<Broken> {
     let mut reader = Counted::new(Broken { calls: 0 });
     assert!(rt; is_reset(reader.read_some(&mut [0]).err()));
     assert!(rt; is_reset(reader.failures().last()));
-    same(&rt, reader.get().calls, 1);
+    same(rt, reader.get().calls, 1);
+    reader
+}
+
+// A writer that failed once with the error of its device.
+fn broken_writer(rt: &impl Abort) -> Counted<Broken> {
     let mut writer = Counted::new(Broken { calls: 0 });
     assert!(rt; is_reset(writer.write_some(b"z").err()));
     assert!(rt; is_reset(writer.failures().last()));
-    same(&rt, writer.get().calls, 1);
-    let mut blocks = BlockReader::new(rt.alloc(), reader)?;
+    same(rt, writer.get().calls, 1);
+    writer
+}
+
+fn cannot_read<R: CountedRead, A: Allocator>(rt: &impl Abort, blocks: &mut BlockReader<R, A>) {
     assert!(rt;
         matches!(blocks.next_block(), Err(FrameFault::Read(error)) if is_reset(Some(error)))
     );
-    let written = write_block(&mut writer, b"z");
+}
+
+fn cannot_write<W: CountedWrite>(rt: &impl Abort, writer: &mut W) {
+    let written = write_block(writer, b"z");
     assert!(rt;
         matches!(written, Err(FrameFault::Write { sent: 0, error }) if is_reset(Some(error)))
     );
+}
+
+#[test]
+fn the_very_error_of_a_device_is_kept(rt: HostRuntime) -> Result<(), Fail> {
+    let mut blocks = BlockReader::new(rt.alloc(), broken_reader(&rt))?;
+    cannot_read(&rt, &mut blocks);
+    let mut writer = broken_writer(&rt);
+    cannot_write(&rt, &mut writer);
     same(&rt, writer.failures().count(), 2);
     Ok(())
 }
@@ -377,27 +469,53 @@ fn counts_the_failures_of_standard_writers(rt: HostRuntime) {
     same(&rt, room, *b"\x00\x03ab");
 }
 
+// A reader of these bytes begins with a block.
+fn begins_with<R: CountedRead + Drop>(
+    rt: &impl Abort,
+    alloc: Global,
+    source: R,
+    block: &[u8],
+) -> Result<(), Fail> {
+    let mut reader = BlockReader::new(alloc, source)?;
+    gives(rt, &mut reader, Some(block))?;
+    Ok(())
+}
+
+// A reader of these bytes begins with a failure.
+fn begins_with_failure<R: CountedRead + Drop>(
+    rt: &impl Abort,
+    alloc: Global,
+    source: R,
+) -> Result<(), Fail> {
+    let mut reader = BlockReader::new(alloc, source)?;
+    fails(rt, &mut reader);
+    Ok(())
+}
+
 #[test]
 fn counts_the_failures_of_standard_readers(rt: HostRuntime) -> Result<(), Fail> {
-    let mut reader = BlockReader::new(rt.alloc(), Counted::new(STREAM))?;
-    gives(&rt, &mut reader, Some(b"S"))?;
+    begins_with(&rt, rt.alloc(), Counted::new(STREAM), b"S")?;
     let folder = File::open(&rt, "/")?;
-    let mut reader = BlockReader::new(rt.alloc(), Counted::new(folder))?;
-    fails(&rt, &mut reader);
-    Ok(())
+    begins_with_failure(&rt, rt.alloc(), Counted::new(folder))
+}
+
+// Whether a splitter can be made.
+fn has_splitter<A: Allocator>(alloc: A) -> bool {
+    Splitter::new(alloc).is_ok()
+}
+
+// Whether a reader can be made.
+fn has_reader<A: Allocator>(alloc: A) -> bool {
+    BlockReader::new(alloc, Counted::new(STREAM)).is_ok()
 }
 
 // A splitter and a reader each make one allocation.
 fn takes_one_allocation<A: Allocator + Copy>(rt: &impl Abort, alloc: &Refusing<A>, nth: u64) {
     alloc.arm(nth);
-    same(rt, Splitter::new(alloc).is_ok(), nth == 1);
+    same(rt, has_splitter(alloc), nth == 1);
     same(rt, alloc.has_refused(), nth == 0);
     alloc.arm(nth);
-    same(
-        rt,
-        BlockReader::new(alloc, Counted::new(STREAM)).is_ok(),
-        nth == 1,
-    );
+    same(rt, has_reader(alloc), nth == 1);
     same(rt, alloc.has_refused(), nth == 0);
 }
 
@@ -409,14 +527,28 @@ fn each_allocation_may_be_refused(rt: HostRuntime) {
     }
 }
 
+// A writer over memory that is refused once writes the next block whole.
+fn goes_on<A: Allocator + Copy>(rt: &impl Abort, alloc: &Refusing<A>) -> Result<(), FrameFault> {
+    let mut writer = FuseWriter::new(alloc, 64, None);
+    has_no_room(rt, &mut writer, 0);
+    assert!(rt; alloc.has_refused());
+    write(&mut writer, b"z")?;
+    same(rt, writer.written(), b"\x00\x01z".as_slice());
+    Ok(())
+}
+
 #[test]
 fn a_writer_goes_on_after_want_of_memory(rt: HostRuntime) -> Result<(), Fail> {
     let alloc = Refusing::new(rt.alloc(), 0);
-    let mut writer = FuseWriter::new(&alloc, 64, None);
-    has_no_room(&rt, &mut writer, 0);
-    assert!(rt; alloc.has_refused());
-    write_block(&mut writer, b"z")?;
-    same(&rt, writer.written(), b"\x00\x01z".as_slice());
+    goes_on(&rt, &alloc)?;
+    Ok(())
+}
+
+// There is room for one splitter and not for a second one.
+fn has_room_for_one<A: Allocator + Copy>(rt: &impl Abort, memory: A) -> Result<(), Fail> {
+    let splitter = Splitter::new(memory)?;
+    same(rt, splitter.held(), 0);
+    assert!(rt; !has_splitter(memory));
     Ok(())
 }
 
@@ -424,9 +556,26 @@ fn a_writer_goes_on_after_want_of_memory(rt: HostRuntime) -> Result<(), Fail> {
 #[test]
 fn a_splitter_takes_room_for_the_longest_block_alone(rt: HostRuntime) -> Result<(), Fail> {
     let heap = LocalHeap::new(rt.alloc(), 66_000)?;
-    let splitter = Splitter::new(&heap)?;
-    same(&rt, splitter.held(), 0);
-    assert!(rt; Splitter::new(&heap).is_err());
+    has_room_for_one(&rt, &heap)
+}
+
+// Takes a block, and lets it go.
+fn takes_block<A: Allocator>(rt: &impl Abort, splitter: &mut Splitter<A>) {
+    takes(rt, splitter, STREAM, (3, 3), Some(b"S"));
+    splitter.clear();
+    same(rt, splitter.held(), 0);
+}
+
+// A reader and a splitter go through the stream, with memory for the writer alone.
+fn goes_through<R: CountedRead, A: Allocator>(
+    rt: &impl Abort,
+    alloc: Global,
+    reader: &mut BlockReader<R, A>,
+    splitter: &mut Splitter<A>,
+) -> Result<(), FrameFault> {
+    let mut writer = FuseWriter::new(alloc, 2, None);
+    same(rt, copy_blocks(reader, &mut writer)?, 1);
+    takes_block(rt, splitter);
     Ok(())
 }
 
@@ -435,12 +584,8 @@ fn blocks_take_no_memory(rt: HostRuntime) -> Result<(), Fail> {
     let alloc = Refusing::new(rt.alloc(), 9);
     let mut splitter = Splitter::new(&alloc)?;
     let mut reader = BlockReader::new(&alloc, PieceReader::new(STREAM, 3, Some(2)))?;
-    let mut writer = FuseWriter::new(rt.alloc(), 2, None);
     alloc.arm(0);
-    same(&rt, copy_blocks(&mut reader, &mut writer)?, 1);
-    takes(&rt, &mut splitter, STREAM, (3, 3), Some(b"S"));
-    splitter.clear();
-    same(&rt, splitter.held(), 0);
+    goes_through(&rt, rt.alloc(), &mut reader, &mut splitter)?;
     assert!(rt; !alloc.has_refused());
     Ok(())
 }
@@ -457,8 +602,7 @@ fn says_what_failed(rt: HostRuntime) -> Result<(), Fail> {
         (FrameFault::Write { sent: 5, error }, "write failed"),
         (FrameFault::TooLong, "payload too long"),
     ] {
-        let said = format!(in rt.alloc(); "{fault}")?;
-        same(&rt, said.as_str(), want);
+        has_words(&rt, rt.alloc(), fault, want)?;
     }
     Ok(())
 }

@@ -1,7 +1,7 @@
 //! A book of more than a hundred thousand orders: with ample memory none is refused, and no replacement.
 //!
 //! The clauses of a list's book say where it is never refused any; it would take too long here.
-use super::{add, order, reference, replace};
+use super::{add, has_len, order, reference, replace, total};
 use crate::equal::same;
 use itch_book::{IndexedBook, OrderBook};
 use itch_codec::Side;
@@ -29,18 +29,22 @@ fn replace_first<B: OrderBook>(rt: &impl Abort, book: &mut B) -> Result<(), Allo
     Ok(())
 }
 
-fn check_many<B: OrderBook>(rt: &impl Abort, book: &mut B) -> Result<(), AllocError> {
-    fill(rt, book)?;
-    replace_first(rt, book)?;
-    same(rt, book.len(), MANY as usize);
+fn check_changed<B: OrderBook>(rt: &impl Abort, book: &B) {
+    has_len(rt, book, MANY as usize);
     same(rt, reference(book.front(1, Side::Sell)), 100);
-    same(rt, book.level_total(1, Side::Sell, 2000099), (5, 1));
+    same(rt, total(book, 1, Side::Sell, 2000099), (5, 1));
+}
+
+fn check_many<B: OrderBook>(rt: &impl Abort, memory: B::Alloc) -> Result<(), AllocError> {
+    let mut book = B::new(memory);
+    fill(rt, &mut book)?;
+    replace_first(rt, &mut book)?;
+    check_changed(rt, &book);
     Ok(())
 }
 
 #[test]
 fn indexed_book_of_many_orders(rt: HostRuntime) -> Result<(), Fail> {
-    let mut book: IndexedBook = IndexedBook::new(rt.alloc());
-    check_many(&rt, &mut book)?;
+    check_many::<IndexedBook>(&rt, rt.alloc())?;
     Ok(())
 }

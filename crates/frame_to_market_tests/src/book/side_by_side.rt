@@ -1,5 +1,5 @@
 //! Both books side by side: random calls return the same, and leave the same orders.
-use super::{add, delete, order, replace, take};
+use super::{add, after, delete, first, live, order, replace, take};
 use crate::equal::same;
 use itch_book::{IndexedBook, ListBook, Order, OrderBook};
 use itch_codec::Side;
@@ -66,14 +66,14 @@ fn call<B: OrderBook, C: OrderBook>(
     other: &mut C,
 ) -> Result<(), AllocError> {
     let reference = u64::from(random.below(40));
-    let Some(order) = one.get(reference).copied() else {
+    let Some(order) = live(one, reference) else {
         let order = random.order(reference);
         add_copy(rt, one, &order)?;
         return add_copy(rt, other, &order);
     };
     let new = u64::from(random.below(40));
     match random.below(4) {
-        0 if one.get(new).is_none() => {
+        0 if live(one, new).is_none() => {
             let (shares, price) = (random.below(20).saturating_add(1), random.price());
             replace(rt, one, reference, new, shares, price)?;
             replace(rt, other, reference, new, shares, price)?;
@@ -91,20 +91,35 @@ fn call<B: OrderBook, C: OrderBook>(
     Ok(())
 }
 
+// Checks that both books have this order of a reference.
+fn check_live<B: OrderBook, C: OrderBook>(
+    rt: &impl Abort,
+    one: &B,
+    other: &C,
+    reference: u64,
+    want: &Option<Order>,
+) {
+    same(rt, &live(one, reference), want);
+    same(rt, &live(other, reference), want);
+}
+
+// Checks that both books have the same order after that of a reference.
+fn check_after<B: OrderBook, C: OrderBook>(rt: &impl Abort, one: &B, other: &C, reference: u64) {
+    let next = after(rt, one, reference);
+    same(rt, after(rt, other, reference), next);
+}
+
 // Checks that both books have the same orders of a locate, in the same order.
 fn check_orders<B: OrderBook, C: OrderBook>(rt: &impl Abort, one: &B, other: &C, locate: u16) {
-    let mut next = one.first(locate).copied();
-    assert_eq!(rt; other.first(locate).copied(), next);
+    let mut next = first(one, locate);
+    same(rt, &first(other, locate), &next);
     for _ in 0..one.len() {
         let Some(Order { reference, .. }) = next else {
             break;
         };
-        assert_eq!(rt; one.get(reference).copied(), next);
-        assert_eq!(rt; other.get(reference).copied(), next);
-        assert!(rt; one.get(reference).is_some());
-        assert!(rt; other.get(reference).is_some());
-        next = one.after(reference).copied();
-        assert_eq!(rt; other.after(reference).copied(), next);
+        check_live(rt, one, other, reference, &next);
+        check_after(rt, one, other, reference);
+        next = after(rt, one, reference);
     }
 }
 
@@ -135,6 +150,16 @@ fn check_side<B: OrderBook, C: OrderBook>(
     }
 }
 
+// Checks that both books are the same.
+fn check_books<B: OrderBook, C: OrderBook>(rt: &impl Abort, one: &B, other: &C) {
+    same(rt, other.len(), one.len());
+    for locate in [1, 2, u16::MAX] {
+        check_orders(rt, one, other, locate);
+        check_side(rt, one, other, locate, Side::Buy);
+        check_side(rt, one, other, locate, Side::Sell);
+    }
+}
+
 // Makes random calls of both books, and checks both after each.
 fn check_calls<B: OrderBook, C: OrderBook>(
     rt: &impl Abort,
@@ -144,21 +169,25 @@ fn check_calls<B: OrderBook, C: OrderBook>(
     let mut random = Random { state: 1 };
     for _ in 0..100000 {
         call(rt, &mut random, one, other)?;
-        same(rt, other.len(), one.len());
-        for locate in [1, 2, u16::MAX] {
-            check_orders(rt, one, other, locate);
-            check_side(rt, one, other, locate, Side::Buy);
-            check_side(rt, one, other, locate, Side::Sell);
-        }
+        check_books(rt, one, other);
     }
     assert!(rt; one.len() > 10);
     Ok(())
 }
 
+// The same of two new books, each over its memory.
+fn check_new<B: OrderBook, C: OrderBook>(
+    rt: &impl Abort,
+    memory: B::Alloc,
+    other: C::Alloc,
+) -> Result<(), AllocError> {
+    let mut one = B::new(memory);
+    let mut other = C::new(other);
+    check_calls(rt, &mut one, &mut other)
+}
+
 #[test]
 fn both_books_stay_the_same(rt: HostRuntime) -> Result<(), Fail> {
-    let mut one: ListBook = ListBook::new(rt.alloc());
-    let mut other: IndexedBook = IndexedBook::new(rt.alloc());
-    check_calls(&rt, &mut one, &mut other)?;
+    check_new::<ListBook, IndexedBook>(&rt, rt.alloc(), rt.alloc())?;
     Ok(())
 }

@@ -1,6 +1,8 @@
 //! Conversions from and to plain values, and what `{}` writes.
-use crate::equal::same;
+use crate::equal::{has_words, same};
 use itch_codec::{Alpha, AlphaFault, OutOfRange, Seq, Side, Stamp, UnknownSide};
+use std::alloc::{AllocError, Global};
+use std::fmt::Display;
 use std::process::Abort;
 use std::test::Fail;
 
@@ -53,35 +55,52 @@ fn texts_are_converted(rt: HostRuntime) -> Result<(), Fail> {
     Ok(())
 }
 
+// A value is shown so, alone and at a width of six to the right.
+fn is_shown(
+    rt: &impl Abort,
+    alloc: Global,
+    value: impl Display + Copy,
+    words: &str,
+) -> Result<(), AllocError> {
+    let line = format!(in alloc; "{value}|{value:>6}|")?;
+    same(rt, line.as_str(), words);
+    Ok(())
+}
+
+// Two values are shown so, one after the other.
+fn are_shown(
+    rt: &impl Abort,
+    alloc: Global,
+    first: impl Display + Copy,
+    second: impl Display + Copy,
+    words: &str,
+) -> Result<(), AllocError> {
+    let line = format!(in alloc; "{first} {second}")?;
+    same(rt, line.as_str(), words);
+    Ok(())
+}
+
+// A value is shown so at a width of four.
+fn is_padded(
+    rt: &impl Abort,
+    alloc: Global,
+    value: impl Display + Copy,
+    words: &str,
+) -> Result<(), AllocError> {
+    let line = format!(in alloc; "{value:4}|")?;
+    same(rt, line.as_str(), words);
+    Ok(())
+}
+
 #[test]
 fn values_are_shown(rt: HostRuntime) -> Result<(), Fail> {
     let alloc = rt.alloc();
     let stock = Alpha::<8>::try_from("AAPL").expect(&rt, "a text that fits");
-    same(
-        &rt,
-        format!(in alloc; "{stock}|{stock:>6}|")?.as_str(),
-        "AAPL|  AAPL|",
-    );
+    is_shown(&rt, alloc, stock, "AAPL|  AAPL|")?;
     let stamp = Stamp::try_from(34_200_000_000_000).expect(&rt, "a timestamp");
-    same(
-        &rt,
-        format!(in alloc; "{} {stamp}", Side::Buy)?.as_str(),
-        "B 34200000000000",
-    );
-    same(
-        &rt,
-        format!(in alloc; "{:4}|", seq(&rt, 7))?.as_str(),
-        "   7|",
-    );
-    same(
-        &rt,
-        format!(in alloc; "{}", UnknownSide(0x62))?.as_str(),
-        "0x62 is no side",
-    );
-    same(
-        &rt,
-        format!(in alloc; "{OutOfRange}")?.as_str(),
-        "out of range",
-    );
+    are_shown(&rt, alloc, Side::Buy, stamp, "B 34200000000000")?;
+    is_padded(&rt, alloc, seq(&rt, 7), "   7|")?;
+    has_words(&rt, alloc, UnknownSide(0x62), "0x62 is no side")?;
+    has_words(&rt, alloc, OutOfRange, "out of range")?;
     Ok(())
 }

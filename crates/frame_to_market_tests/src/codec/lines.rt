@@ -7,6 +7,7 @@ use itch_codec::{
     ParticipantPosition, RegSho, Seq, Side, Stamp, StockDirectory, SystemEvent, Trade,
     TradingAction, Undecoded, line, show,
 };
+use std::alloc::Allocator;
 use std::process::Abort;
 use test_kit::Refusing;
 
@@ -219,11 +220,27 @@ impl Fields {
     }
 }
 
+// A message is shown so, as a line in place.
+fn is_shown(rt: &impl Abort, number: u64, message: &Message<'_>, expected: &str) {
+    same(rt, show(number, message).as_str(), expected);
+}
+
+// A message is shown so, as a string in this memory.
+fn has_line(
+    rt: &impl Abort,
+    alloc: impl Allocator,
+    number: u64,
+    message: &Message<'_>,
+    expected: &str,
+) {
+    let text = line(alloc, number, message).expect(rt, "memory");
+    same(rt, text.as_str(), expected);
+}
+
 // A message is shown so, as a line in place and as a string.
 fn shown(rt: &(impl Abort + AllocGlobal), number: u64, message: Message<'_>, expected: &str) {
-    same(rt, show(number, &message).as_str(), expected);
-    let text = line(rt.alloc(), number, &message).expect(rt, "memory");
-    same(rt, text.as_str(), expected);
+    is_shown(rt, number, &message, expected);
+    has_line(rt, rt.alloc(), number, &message, expected);
 }
 
 #[test]
@@ -449,11 +466,16 @@ fn prices_and_texts(rt: HostRuntime) {
     );
 }
 
+// Whether there is memory for the line of a message.
+fn can_be_shown(alloc: impl Allocator, number: u64, message: &Message<'_>) -> bool {
+    line(alloc, number, message).is_ok()
+}
+
 #[test]
 fn memory_refused(rt: HostRuntime) {
     let refusing = Refusing::new(rt.alloc(), 0);
     let message = Message::AddOrder(order(&rt, 1));
-    assert!(rt; line(&refusing, 3, &message).is_err());
-    let again = line(&refusing, 3, &message).expect(&rt, "memory");
-    same(&rt, again.as_str(), "3 A 1 0 0 1 B 100 [AAPL] 150.0000\n");
+    assert!(rt; !can_be_shown(&refusing, 3, &message));
+    let want = "3 A 1 0 0 1 B 100 [AAPL] 150.0000\n";
+    has_line(&rt, &refusing, 3, &message, want);
 }

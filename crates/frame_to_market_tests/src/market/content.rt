@@ -1,5 +1,5 @@
 //! What a market holds, by its calls.
-use crate::equal::same;
+use crate::book::{after, has_len};
 use itch_book::{Order, OrderBook};
 use itch_codec::{Alpha, Directory};
 use itch_market::{Action, Market, Security};
@@ -53,8 +53,19 @@ fn push_orders<B: OrderBook>(
         let Some(order) = next else { return Ok(()) };
         let reference = order.reference;
         orders.push(order)?;
-        assert!(rt; book.get(reference).is_some());
-        next = book.after(reference).copied();
+        next = after(rt, book, reference);
+    }
+    Ok(())
+}
+
+fn push_kept<B: OrderBook>(
+    alloc: Global,
+    market: &Market<B>,
+    locate: u16,
+    securities: &mut Vec<Kept>,
+) -> Result<(), AllocError> {
+    if let Some(security) = market.security(locate) {
+        securities.push(kept_at(alloc, locate, security)?)?;
     }
     Ok(())
 }
@@ -67,17 +78,23 @@ pub(crate) fn content_of<B: OrderBook>(
     let mut securities = Vec::new(alloc);
     let mut orders = Vec::new(alloc);
     for locate in market.locates() {
-        if let Some(security) = market.security(locate) {
-            securities.push(kept_at(alloc, locate, security)?)?;
-        }
+        push_kept(alloc, market, locate, &mut securities)?;
         push_orders(rt, market.book(), locate, &mut orders)?;
     }
-    same(rt, orders.len(), market.book().len());
+    has_len(rt, market.book(), orders.len());
     Ok(Content {
         phase: market.phase(),
         securities,
         orders,
     })
+}
+
+fn references_of(alloc: Global, orders: &[Order]) -> Result<Vec<u64>, AllocError> {
+    let mut references = Vec::new(alloc);
+    for order in orders {
+        references.push(order.reference)?;
+    }
+    Ok(references)
 }
 
 /// The references of the orders in snapshot order.
@@ -86,9 +103,6 @@ pub(crate) fn references<B: OrderBook>(
     alloc: Global,
     market: &Market<B>,
 ) -> Result<Vec<u64>, AllocError> {
-    let mut references = Vec::new(alloc);
-    for order in &content_of(rt, alloc, market)?.orders {
-        references.push(order.reference)?;
-    }
-    Ok(references)
+    let content = content_of(rt, alloc, market)?;
+    references_of(alloc, &content.orders)
 }

@@ -1,26 +1,37 @@
 //! Sets of locates, and the messages that they skip.
 use super::messages::{
     add, attributed, cancel, delete, directory, end, event, executed, executed_with_price, halt,
-    position, reg_sho, replace, trading_action,
+    made, position, reg_sho, replace, trading_action,
 };
 use itch_codec::{Message, Side, decode};
 use itch_market::LocateSet;
-use std::alloc::Global;
+use std::alloc::{AllocError, Allocator, Global};
 use std::process::Abort;
 use std::test::Fail;
+
+// A locate is not in a set until it is inserted, once or twice.
+fn insert_twice<A: Allocator + Copy>(
+    rt: &impl Abort,
+    set: &mut LocateSet<A>,
+    locate: u16,
+) -> Result<(), AllocError> {
+    assert!(rt; !set.contains(locate));
+    for _ in 0..2 {
+        set.insert(locate)?;
+        assert!(rt; set.contains(locate));
+    }
+    Ok(())
+}
 
 #[test]
 fn contains_what_was_inserted(rt: HostRuntime) -> Result<(), Fail> {
     let mut set = LocateSet::new(rt.alloc());
     for locate in [0u16, 2, 65535] {
-        assert!(rt; !set.contains(locate));
-        set.insert(locate)?;
-        assert!(rt; set.contains(locate));
-        set.insert(locate)?;
-        assert!(rt; set.contains(locate));
+        insert_twice(&rt, &mut set, locate)?;
     }
-    assert!(rt; !set.contains(1));
-    assert!(rt; !set.contains(65534));
+    for locate in [1u16, 65534] {
+        assert!(rt; !set.contains(locate));
+    }
     let mut all = LocateSet::all(rt.alloc());
     all.insert(7)?;
     for locate in [0u16, 1, 7, 65535] {
@@ -29,39 +40,47 @@ fn contains_what_was_inserted(rt: HostRuntime) -> Result<(), Fail> {
     Ok(())
 }
 
+// Whether a set of one locate skips a message.
+fn skipped_by(alloc: Global, locate: u16, message: &Message<'_>) -> Result<bool, AllocError> {
+    let mut set = LocateSet::new(alloc);
+    set.insert(locate)?;
+    Ok(set.skips(message))
+}
+
+// The empty set skips a message, and that of all locates does not.
+fn check_least_and_greatest(rt: &impl Abort, alloc: Global, message: &Message<'_>) {
+    assert!(rt; LocateSet::new(alloc).skips(message));
+    assert!(rt; !LocateSet::all(alloc).skips(message));
+}
+
 // A message about a security or an order at locate 1 is skipped by the sets without it.
-fn check_skipped(
-    rt: &impl Abort,
-    alloc: Global,
-    message: Result<Message<'static>, Fail>,
-) -> Result<(), Fail> {
-    let message = message?;
-    let mut one = LocateSet::new(alloc);
-    one.insert(1)?;
-    let mut two = LocateSet::new(alloc);
-    two.insert(2)?;
-    assert!(rt; !one.skips(&message));
-    assert!(rt; two.skips(&message));
-    assert!(rt; LocateSet::new(alloc).skips(&message));
-    assert!(rt; !LocateSet::all(alloc).skips(&message));
+fn check_skipped(rt: &impl Abort, alloc: Global, message: &Message<'_>) -> Result<(), AllocError> {
+    assert!(rt; !skipped_by(alloc, 1, message)?);
+    assert!(rt; skipped_by(alloc, 2, message)?);
+    check_least_and_greatest(rt, alloc, message);
     Ok(())
 }
 
 #[test]
 fn skips_the_messages_of_other_locates(rt: HostRuntime) -> Result<(), Fail> {
-    let alloc = rt.alloc();
-    check_skipped(&rt, alloc, directory(1, "AAPL", 100))?;
-    check_skipped(&rt, alloc, trading_action(1, "AAPL", b'T'))?;
-    check_skipped(&rt, alloc, reg_sho(1, "AAPL", b'0'))?;
-    check_skipped(&rt, alloc, halt(1, "AAPL", b'Q', b'H'))?;
-    check_skipped(&rt, alloc, position(1, "ABCD", "AAPL", b'A'))?;
-    check_skipped(&rt, alloc, add(1, 1, Side::Buy, 100, "AAPL", 1500000))?;
-    check_skipped(&rt, alloc, attributed(2, 100, 1500000))?;
-    check_skipped(&rt, alloc, executed(1, 1, 10))?;
-    check_skipped(&rt, alloc, executed_with_price(1, 1, 10, 1500000))?;
-    check_skipped(&rt, alloc, cancel(1, 1, 10))?;
-    check_skipped(&rt, alloc, delete(1, 1))?;
-    check_skipped(&rt, alloc, replace(1, 1, 3, 10, 1500000))
+    let messages = [
+        directory(1, "AAPL", 100),
+        trading_action(1, "AAPL", b'T'),
+        reg_sho(1, "AAPL", b'0'),
+        halt(1, "AAPL", b'Q', b'H'),
+        position(1, "ABCD", "AAPL", b'A'),
+        add(1, 1, Side::Buy, 100, "AAPL", 1500000),
+        attributed(2, 100, 1500000),
+        executed(1, 1, 10),
+        executed_with_price(1, 1, 10, 1500000),
+        cancel(1, 1, 10),
+        delete(1, 1),
+        replace(1, 1, 3, 10, 1500000),
+    ];
+    for message in &messages {
+        check_skipped(&rt, rt.alloc(), made(message)?)?;
+    }
+    Ok(())
 }
 
 // Trades and messages that change no market, each with locate 1.
@@ -72,14 +91,18 @@ const OTHERS: &[&[u8]] = &[
     b"N\0\x01\0\0\0\0\0\0\0\0AAPL    N",
 ];
 
+// The empty set does not skip this message.
+fn is_kept(rt: &impl Abort, alloc: Global, message: &Message<'_>) {
+    assert!(rt; !LocateSet::new(alloc).skips(message));
+}
+
 #[test]
 fn skips_nothing_else(rt: HostRuntime) -> Result<(), Fail> {
-    let none = LocateSet::new(rt.alloc());
-    assert!(rt; !none.skips(&event(b'O')?));
-    assert!(rt; !none.skips(&end(4)?));
+    for message in &[event(b'O'), end(4)] {
+        is_kept(&rt, rt.alloc(), made(message)?);
+    }
     for payload in OTHERS {
-        let message: Message<'_> = decode(payload)?;
-        assert!(rt; !none.skips(&message));
+        is_kept(&rt, rt.alloc(), &decode(payload)?);
     }
     Ok(())
 }

@@ -1,32 +1,38 @@
-//! Messages of one line each, with tracking number and timestamp 0.
+//! Messages of one line each, with tracking number and timestamp 0, or `None` where a field does not fit.
 use itch_codec::{
     AddOrder, Alpha, AttributedAddOrder, Directory, Header, Message, OperationalHalt, OrderCancel,
     OrderDelete, OrderExecuted, OrderExecutedWithPrice, OrderReplace, ParticipantPosition, RegSho,
     Seq, Side, Stamp, StockDirectory, SystemEvent, TradingAction,
 };
-use std::test::Fail;
 
-pub(super) fn stock(text: &str) -> Result<Alpha<8>, Fail> {
-    Ok(Alpha::from_text(text)?)
+/// A message that was made, or else an error.
+pub(super) fn made<'a>(
+    message: &'a Option<Message<'static>>,
+) -> Result<&'a Message<'static>, &'static str> {
+    message.as_ref().ok_or("a message that can be made")
 }
 
-fn header(locate: u16) -> Result<Header, Fail> {
-    Ok(Header {
+pub(super) fn stock(text: &str) -> Option<Alpha<8>> {
+    Alpha::from_text(text).ok()
+}
+
+fn header(locate: u16) -> Option<Header> {
+    Some(Header {
         locate,
         tracking: 0,
-        stamp: Stamp::new(0).ok_or("a timestamp")?,
+        stamp: Stamp::new(0)?,
     })
 }
 
-pub(super) fn event(code: u8) -> Result<Message<'static>, Fail> {
-    Ok(Message::SystemEvent(SystemEvent {
+pub(super) fn event(code: u8) -> Option<Message<'static>> {
+    Some(Message::SystemEvent(SystemEvent {
         header: header(0)?,
         code,
     }))
 }
 
-pub(super) fn directory(locate: u16, text: &str, lot: u32) -> Result<Message<'static>, Fail> {
-    Ok(Message::StockDirectory(StockDirectory {
+pub(super) fn directory(locate: u16, text: &str, lot: u32) -> Option<Message<'static>> {
+    Some(Message::StockDirectory(StockDirectory {
         header: header(locate)?,
         entry: Directory {
             stock: stock(text)?,
@@ -47,8 +53,8 @@ pub(super) fn directory(locate: u16, text: &str, lot: u32) -> Result<Message<'st
     }))
 }
 
-pub(super) fn trading_action(locate: u16, text: &str, state: u8) -> Result<Message<'static>, Fail> {
-    Ok(Message::TradingAction(TradingAction {
+pub(super) fn trading_action(locate: u16, text: &str, state: u8) -> Option<Message<'static>> {
+    Some(Message::TradingAction(TradingAction {
         header: header(locate)?,
         stock: stock(text)?,
         state,
@@ -57,8 +63,8 @@ pub(super) fn trading_action(locate: u16, text: &str, state: u8) -> Result<Messa
     }))
 }
 
-pub(super) fn reg_sho(locate: u16, text: &str, action: u8) -> Result<Message<'static>, Fail> {
-    Ok(Message::RegSho(RegSho {
+pub(super) fn reg_sho(locate: u16, text: &str, action: u8) -> Option<Message<'static>> {
+    Some(Message::RegSho(RegSho {
         header: header(locate)?,
         stock: stock(text)?,
         action,
@@ -70,8 +76,8 @@ pub(super) fn halt(
     text: &str,
     market_code: u8,
     action: u8,
-) -> Result<Message<'static>, Fail> {
-    Ok(Message::Halt(OperationalHalt {
+) -> Option<Message<'static>> {
+    Some(Message::Halt(OperationalHalt {
         header: header(locate)?,
         stock: stock(text)?,
         market_code,
@@ -79,15 +85,10 @@ pub(super) fn halt(
     }))
 }
 
-pub(super) fn position(
-    locate: u16,
-    mpid: &str,
-    text: &str,
-    state: u8,
-) -> Result<Message<'static>, Fail> {
-    Ok(Message::Position(ParticipantPosition {
+pub(super) fn position(locate: u16, mpid: &str, text: &str, state: u8) -> Option<Message<'static>> {
+    Some(Message::Position(ParticipantPosition {
         header: header(locate)?,
-        mpid: Alpha::from_text(mpid)?,
+        mpid: Alpha::from_text(mpid).ok()?,
         stock: stock(text)?,
         primary_market_maker: b'N',
         mode: b'N',
@@ -102,8 +103,8 @@ fn add_order(
     shares: u32,
     text: &str,
     price: u32,
-) -> Result<AddOrder, Fail> {
-    Ok(AddOrder {
+) -> Option<AddOrder> {
+    Some(AddOrder {
         header: header(locate)?,
         reference,
         side,
@@ -120,24 +121,20 @@ pub(super) fn add(
     shares: u32,
     text: &str,
     price: u32,
-) -> Result<Message<'static>, Fail> {
-    Ok(Message::AddOrder(add_order(locate, reference, side, shares, text, price)?))
+) -> Option<Message<'static>> {
+    Some(Message::AddOrder(add_order(locate, reference, side, shares, text, price)?))
 }
 
 /// An order of AAPL at locate 1 to buy, attributed to ABCD.
-pub(super) fn attributed(
-    reference: u64,
-    shares: u32,
-    price: u32,
-) -> Result<Message<'static>, Fail> {
-    Ok(Message::AttributedAddOrder(AttributedAddOrder {
+pub(super) fn attributed(reference: u64, shares: u32, price: u32) -> Option<Message<'static>> {
+    Some(Message::AttributedAddOrder(AttributedAddOrder {
         order: add_order(1, reference, Side::Buy, shares, "AAPL", price)?,
-        attribution: Alpha::from_text("ABCD")?,
+        attribution: Alpha::from_text("ABCD").ok()?,
     }))
 }
 
-fn execution(locate: u16, reference: u64, shares: u32) -> Result<OrderExecuted, Fail> {
-    Ok(OrderExecuted {
+fn execution(locate: u16, reference: u64, shares: u32) -> Option<OrderExecuted> {
+    Some(OrderExecuted {
         header: header(locate)?,
         reference,
         shares,
@@ -145,8 +142,8 @@ fn execution(locate: u16, reference: u64, shares: u32) -> Result<OrderExecuted, 
     })
 }
 
-pub(super) fn executed(locate: u16, reference: u64, shares: u32) -> Result<Message<'static>, Fail> {
-    Ok(Message::OrderExecuted(execution(locate, reference, shares)?))
+pub(super) fn executed(locate: u16, reference: u64, shares: u32) -> Option<Message<'static>> {
+    Some(Message::OrderExecuted(execution(locate, reference, shares)?))
 }
 
 pub(super) fn executed_with_price(
@@ -154,24 +151,24 @@ pub(super) fn executed_with_price(
     reference: u64,
     shares: u32,
     price: u32,
-) -> Result<Message<'static>, Fail> {
-    Ok(Message::OrderExecutedWithPrice(OrderExecutedWithPrice {
+) -> Option<Message<'static>> {
+    Some(Message::OrderExecutedWithPrice(OrderExecutedWithPrice {
         execution: execution(locate, reference, shares)?,
         printable: b'Y',
         price,
     }))
 }
 
-pub(super) fn cancel(locate: u16, reference: u64, shares: u32) -> Result<Message<'static>, Fail> {
-    Ok(Message::OrderCancel(OrderCancel {
+pub(super) fn cancel(locate: u16, reference: u64, shares: u32) -> Option<Message<'static>> {
+    Some(Message::OrderCancel(OrderCancel {
         header: header(locate)?,
         reference,
         shares,
     }))
 }
 
-pub(super) fn delete(locate: u16, reference: u64) -> Result<Message<'static>, Fail> {
-    Ok(Message::OrderDelete(OrderDelete {
+pub(super) fn delete(locate: u16, reference: u64) -> Option<Message<'static>> {
+    Some(Message::OrderDelete(OrderDelete {
         header: header(locate)?,
         reference,
     }))
@@ -183,8 +180,8 @@ pub(super) fn replace(
     reference: u64,
     shares: u32,
     price: u32,
-) -> Result<Message<'static>, Fail> {
-    Ok(Message::OrderReplace(OrderReplace {
+) -> Option<Message<'static>> {
+    Some(Message::OrderReplace(OrderReplace {
         header: header(locate)?,
         original,
         reference,
@@ -193,8 +190,8 @@ pub(super) fn replace(
     }))
 }
 
-pub(super) fn end(next: u64) -> Result<Message<'static>, Fail> {
-    Ok(Message::End {
-        next: Seq::new(next).ok_or("a sequence number")?,
+pub(super) fn end(next: u64) -> Option<Message<'static>> {
+    Some(Message::End {
+        next: Seq::new(next)?,
     })
 }

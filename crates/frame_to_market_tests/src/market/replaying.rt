@@ -35,6 +35,29 @@ fn replayed<R: CountedRead, A: Allocator, B: OrderBook>(
     end.stop
 }
 
+// Takes the first two messages.
+fn replay_two<R: CountedRead, A: Allocator, B: OrderBook>(
+    rt: &impl Abort,
+    reader: &mut BlockReader<R, A>,
+    market: &mut Market<B>,
+) {
+    let (count, stop) = replay_first(reader, market, 2);
+    same(rt, count, 2);
+    assert!(rt; stop.is_none());
+}
+
+// A refused message ends a replay, and the next replay begins after it.
+fn goes_on<R: CountedRead, A: Allocator, B: OrderBook>(
+    rt: &impl Abort,
+    reader: &mut BlockReader<R, A>,
+    market: &mut Market<B>,
+) {
+    let stop = replayed(rt, reader, market, 2);
+    assert!(rt; matches!(stop, Stop::Rule(Refusal::DuplicateRef)));
+    let stop = replayed(rt, reader, market, 1);
+    assert!(rt; matches!(stop, Stop::End));
+}
+
 // The third message is refused, and the fourth is taken.
 fn check_rest<B: OrderBook>(
     rt: &impl Abort,
@@ -44,10 +67,7 @@ fn check_rest<B: OrderBook>(
 ) -> Result<(), Fail> {
     let mut reader = BlockReader::new(alloc, PieceReader::new(bytes, 64, None))?;
     let mut market: Market<B> = Market::new(memory);
-    let stop = replayed(rt, &mut reader, &mut market, 2);
-    assert!(rt; matches!(stop, Stop::Rule(Refusal::DuplicateRef)));
-    let stop = replayed(rt, &mut reader, &mut market, 1);
-    assert!(rt; matches!(stop, Stop::End));
+    goes_on(rt, &mut reader, &mut market);
     Ok(())
 }
 
@@ -60,9 +80,7 @@ fn check_first<B: OrderBook>(
 ) -> Result<(), Fail> {
     let mut reader = BlockReader::new(alloc, PieceReader::new(bytes, 64, None))?;
     let mut market: Market<B> = Market::new(memory);
-    let (count, stop) = replay_first(&mut reader, &mut market, 2);
-    same(rt, count, 2);
-    assert!(rt; stop.is_none());
+    replay_two(rt, &mut reader, &mut market);
     Ok(())
 }
 

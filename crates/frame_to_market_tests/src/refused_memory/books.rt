@@ -1,4 +1,5 @@
 //! Orders added and replaced.
+use crate::book::{after, has_len, live, next_price, total};
 use crate::equal::same;
 use itch_book::{IndexedBook, ListBook, Order, OrderBook};
 use itch_codec::Side;
@@ -54,10 +55,49 @@ fn listed<B: OrderBook>(
         let Some(order) = next else { break };
         let reference = order.reference;
         orders.push(order)?;
-        assert!(rt; book.get(reference).is_some());
-        next = book.after(reference).copied();
+        next = after(rt, book, reference);
     }
     Ok(orders)
+}
+
+// The best price of the side of an order, and the total at its price.
+fn level<B: OrderBook>(book: &B, order: &Order) -> (Option<u32>, (u128, u64)) {
+    (
+        next_price(book, order.side, None),
+        total(book, 1, order.side, order.price),
+    )
+}
+
+// These are the orders of locate 1.
+fn has_orders<B: OrderBook>(
+    rt: &impl Abort,
+    alloc: Global,
+    book: &B,
+    want: &[Order],
+) -> Result<(), AllocError> {
+    same(rt, listed(rt, alloc, book)?.as_slice(), want);
+    Ok(())
+}
+
+// Makes a call with this allocation refused. Returns whether it was.
+fn refuse_one<B: OrderBook>(
+    rt: &impl Abort,
+    refusing: &Refusing<Global>,
+    book: &mut B,
+    growth: &Growth,
+    nth: u64,
+) -> bool {
+    let order = growth.order;
+    let reference = order.reference;
+    refusing.arm(nth);
+    if growth.call(rt, book).is_ok() {
+        assert!(rt; !refusing.has_refused());
+        same(rt, live(book, reference), Some(order));
+        return false;
+    }
+    assert!(rt; refusing.has_refused());
+    assert!(rt; live(book, reference).is_none());
+    true
 }
 
 // Makes a call with each of its allocations refused in turn, and then with memory. Returns how many were refused.
@@ -68,25 +108,48 @@ fn refuse_each<B: OrderBook>(
     book: &mut B,
     growth: Growth,
 ) -> Result<u64, AllocError> {
-    let order = growth.order;
     let orders = listed(rt, alloc, book)?;
-    let best = book.next_price(1, order.side, None);
-    let total = book.level_total(1, order.side, order.price);
+    let before = level(book, &growth.order);
     for nth in 0..16 {
-        refusing.arm(nth);
-        let answer = growth.call(rt, book);
-        if !refusing.has_refused() {
-            answer?;
-            same(rt, book.get(order.reference).copied(), Some(order));
+        if !refuse_one(rt, refusing, book, &growth, nth) {
             return Ok(nth);
         }
-        assert!(rt; answer.is_err());
-        same(rt, listed(rt, alloc, book)?.as_slice(), orders.as_slice());
-        assert!(rt; book.get(order.reference).is_none());
-        same(rt, book.next_price(1, order.side, None), best);
-        same(rt, book.level_total(1, order.side, order.price), total);
+        has_orders(rt, alloc, book, &orders)?;
+        same(rt, &level(book, &growth.order), &before);
     }
     panic!(rt; "more than 16 allocations")
+}
+
+// Adds an order at a price, and returns how many allocations were refused.
+fn add_one<B: OrderBook>(
+    rt: &impl Abort,
+    alloc: Global,
+    refusing: &Refusing<Global>,
+    book: &mut B,
+    (number, price): (u64, u32),
+) -> Result<u64, AllocError> {
+    let added = Growth {
+        original: None,
+        order: bid(number, 10, price),
+    };
+    refuse_each(rt, alloc, refusing, book, added)
+}
+
+// Replaces an order by one at a price, and returns how many allocations were refused.
+fn replace_one<B: OrderBook>(
+    rt: &impl Abort,
+    alloc: Global,
+    refusing: &Refusing<Global>,
+    book: &mut B,
+    (number, price): (u64, u32),
+) -> Result<u64, AllocError> {
+    let replaced = Growth {
+        original: Some(number),
+        order: bid(number.wrapping_add(100), 20, price),
+    };
+    let refused = refuse_each(rt, alloc, refusing, book, replaced)?;
+    assert!(rt; live(book, number).is_none());
+    Ok(refused)
 }
 
 // Adds forty orders, each so far above the price before, and replaces every `every`-th by one as far above it.
@@ -103,24 +166,15 @@ fn grow<B: OrderBook>(
     let mut replacements = 0u64;
     for number in 1..41u64 {
         let price = 1500000u32.wrapping_add(step.wrapping_mul(2 * number as u32));
-        let added = Growth {
-            original: None,
-            order: bid(number, 10, price),
-        };
-        additions = additions.saturating_add(refuse_each(rt, alloc, refusing, book, added)?);
-        if number.checked_rem(every) != Some(0) {
-            continue;
+        let refused = add_one(rt, alloc, refusing, book, (number, price))?;
+        additions = additions.saturating_add(refused);
+        if number.checked_rem(every) == Some(0) {
+            let price = price.wrapping_add(step);
+            let refused = replace_one(rt, alloc, refusing, book, (number, price))?;
+            replacements = replacements.saturating_add(refused);
         }
-        let replaced = Growth {
-            original: Some(number),
-            order: bid(100 + number, 20, price.wrapping_add(step)),
-        };
-        replacements = replacements.saturating_add(refuse_each(
-            rt, alloc, refusing, book, replaced,
-        )?);
-        assert!(rt; book.get(number).is_none());
     }
-    same(rt, book.len(), 40);
+    has_len(rt, book, 40);
     Ok((additions, replacements))
 }
 

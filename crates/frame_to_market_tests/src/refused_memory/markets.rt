@@ -1,13 +1,14 @@
 //! Messages applied to a market, and a day file replayed.
+use crate::book::has_len;
 use crate::days::{REPLACED, blocks};
 use crate::equal::same;
 use crate::market::content::{Content, content_of};
 use itch_book::{IndexedBook, ListBook, OrderBook};
 use itch_codec::{Message, decode};
-use itch_frame::BlockReader;
 use itch_frame::testing::PieceReader;
+use itch_frame::{BlockReader, CountedRead, FrameFault};
 use itch_market::{LocateSet, Market, Refusal, Stop, replay};
-use std::alloc::{AllocError, Global};
+use std::alloc::{AllocError, Allocator, Global};
 use std::process::Abort;
 use std::test::Fail;
 use test_kit::Refusing;
@@ -109,20 +110,21 @@ fn refuse_each_growth<B: OrderBook>(
     refusing: &Refusing<Global>,
     market: &mut Market<B>,
 ) -> Result<u64, Fail> {
-    assert!(rt; refuse_forty(rt, alloc, refusing, market, LISTS, &[2])? > 0);
-    for growing in [(HALTS, 19), (POSITIONS, 14)] {
-        assert!(rt; refuse_forty(rt, alloc, refusing, market, growing.0, &[growing.1])? > 0);
+    for (payload, places, grows) in [
+        (LISTS, [2].as_slice(), true),
+        (HALTS, &[19], true),
         // What is there already takes none.
-        same(
-            rt,
-            refuse_forty(rt, alloc, refusing, market, growing.0, &[growing.1])?,
-            0,
-        );
+        (HALTS, &[19], false),
+        (POSITIONS, &[14], true),
+        (POSITIONS, &[14], false),
+        (ADDS, &[18, 35], true),
+        (NAMES, &[18, 35], true),
+    ] {
+        let refused = refuse_forty(rt, alloc, refusing, market, payload, places)?;
+        same(rt, refused > 0, grows);
     }
-    assert!(rt; refuse_forty(rt, alloc, refusing, market, ADDS, &[18, 35])? > 0);
-    assert!(rt; refuse_forty(rt, alloc, refusing, market, NAMES, &[18, 35])? > 0);
     let refused = refuse_forty(rt, alloc, refusing, market, REPLACES, &[18, 26, 34])?;
-    same(rt, market.book().len(), 80);
+    has_len(rt, market.book(), 80);
     Ok(refused)
 }
 
@@ -154,6 +156,38 @@ fn a_market_of_an_index_stays_as_it_was(rt: HostRuntime) -> Result<(), Fail> {
     Ok(())
 }
 
+// Inserts a locate with memory refused, and again with memory, and once more. Returns whether it was refused.
+fn insert_refused<A: Allocator + Copy>(
+    rt: &impl Abort,
+    refusing: &Refusing<Global>,
+    set: &mut LocateSet<A>,
+    locate: u16,
+) -> Result<bool, AllocError> {
+    refusing.arm(0);
+    let was_refused = set.insert(locate).is_err();
+    if was_refused {
+        assert!(rt; !set.contains(locate));
+        assert!(rt; set.contains(locate.saturating_sub(1)) || locate == 1);
+        set.insert(locate)?;
+    }
+    assert!(rt; set.contains(locate));
+    refusing.arm(0);
+    set.insert(locate)?;
+    Ok(was_refused)
+}
+
+// The set of all locates takes no memory.
+fn insert_into_all<A: Allocator + Copy>(
+    rt: &impl Abort,
+    refusing: &Refusing<Global>,
+    set: &mut LocateSet<A>,
+) -> Result<(), AllocError> {
+    refusing.arm(0);
+    set.insert(7)?;
+    assert!(rt; set.contains(8));
+    Ok(())
+}
+
 // A set of locates stays as it was where memory is refused, and a locate that it contains takes none.
 #[test]
 fn a_set_of_locates_stays_as_it_was(rt: HostRuntime) -> Result<(), Fail> {
@@ -161,26 +195,54 @@ fn a_set_of_locates_stays_as_it_was(rt: HostRuntime) -> Result<(), Fail> {
     let mut set = LocateSet::new(&refusing);
     let mut was_refused = false;
     for locate in 1..41u16 {
-        refusing.arm(0);
-        if set.insert(locate).is_err() {
-            was_refused = true;
-            assert!(rt; !set.contains(locate));
-            assert!(rt; set.contains(locate - 1) || locate == 1);
-            set.insert(locate)?;
-        }
-        assert!(rt; set.contains(locate));
-        refusing.arm(0);
-        set.insert(locate)?;
+        was_refused |= insert_refused(&rt, &refusing, &mut set, locate)?;
     }
     assert!(rt; was_refused);
-    let mut all = LocateSet::all(&refusing);
-    refusing.arm(0);
-    all.insert(7)?;
-    assert!(rt; all.contains(8));
+    insert_into_all(&rt, &refusing, &mut LocateSet::all(&refusing))?;
     Ok(())
 }
 
-// A replay whose memory is refused once stops there, with the message read and not counted. Returns whether it was.
+// Replays what a reader has left, and returns how many messages were applied, and why no further one was.
+fn replayed<R: CountedRead, A: Allocator, B: OrderBook>(
+    reader: &mut BlockReader<R, A>,
+    market: &mut Market<B>,
+) -> (u64, Stop) {
+    let end = replay(reader, market);
+    (end.count, end.stop)
+}
+
+// The next block is this one, or there is none.
+fn gives<R: CountedRead, A: Allocator>(
+    rt: &impl Abort,
+    reader: &mut BlockReader<R, A>,
+    want: Option<&[u8]>,
+) -> Result<(), FrameFault> {
+    same(rt, reader.next_block()?, want);
+    Ok(())
+}
+
+// A replay of the day into an empty market, whose memory is refused once, stops there, with the message read and not counted.
+// Returns whether it was.
+fn stops_at_the_message<R: CountedRead, A: Allocator, B: OrderBook>(
+    rt: &impl Abort,
+    refusing: &Refusing<Global>,
+    reader: &mut BlockReader<R, A>,
+    market: &mut Market<B>,
+) -> Result<bool, FrameFault> {
+    let (count, stop) = replayed(reader, market);
+    if !refusing.has_refused() {
+        assert!(rt; matches!(stop, Stop::End));
+        same(rt, count, 4);
+        return Ok(false);
+    }
+    assert!(rt; matches!(stop, Stop::Rule(Refusal::OutOfMemory)));
+    has_len(rt, market.book(), count.saturating_sub(1) as usize);
+    let next = (count as usize).saturating_add(1);
+    gives(rt, reader, REPLACED.get(next).copied())?;
+    Ok(true)
+}
+
+// The same of a market over this memory.
 fn refuse_to_replay<B: OrderBook>(
     rt: &impl Abort,
     alloc: Global,
@@ -190,23 +252,7 @@ fn refuse_to_replay<B: OrderBook>(
     let day = blocks(alloc, REPLACED)?;
     let mut reader = BlockReader::new(alloc, PieceReader::new(day.written(), 64, None))?;
     let mut market: Market<B> = Market::new(memory);
-    let end = replay(&mut reader, &mut market);
-    if !refusing.has_refused() {
-        assert!(rt; matches!(end.stop, Stop::End));
-        same(rt, end.count, 4);
-        return Ok(false);
-    }
-    assert!(rt; matches!(end.stop, Stop::Rule(Refusal::OutOfMemory)));
-    same(rt, market.book().len() as u64, end.count.saturating_sub(1));
-    let block = reader.next_block()?;
-    same(
-        rt,
-        block,
-        REPLACED
-            .get((end.count as usize).saturating_add(1))
-            .copied(),
-    );
-    Ok(true)
+    Ok(stops_at_the_message(rt, refusing, &mut reader, &mut market)?)
 }
 
 #[test]
