@@ -1,4 +1,4 @@
-//! Worked cases, each failure in turn, and the calls that take no memory.
+//! Worked cases, and each failure in turn.
 ghost use Rattle.std.specs.Prelude.{None, IsErr};
 
 use crate::equal::{has_words, holds_in, same, same_in};
@@ -7,13 +7,13 @@ use itch_frame::{
     BlockReader, Buffered, Counted, CountedRead, CountedWrite, FrameFault, Splitter, laws,
     write_block,
 };
-use linked_list_allocator::LocalHeap;
 use std::alloc::{Allocator, Global};
 use std::fs::File;
 use std::io::{self, BufReader, ErrorKind, Read, Write};
 use std::process::Abort;
 use std::test::Fail;
-use test_kit::Refusing;
+
+mod memory;
 
 // Five blocks, one of them empty.
 const STREAM: &[u8] = b"\x00\x01S\x00\x02RR\x00\x00\x00\x05AAAAA\x00\x01D";
@@ -497,97 +497,6 @@ fn counts_the_failures_of_standard_readers(rt: HostRuntime) -> Result<(), Fail> 
     begins_with(&rt, rt.alloc(), Counted::new(STREAM), b"S")?;
     let folder = File::open(&rt, "/")?;
     begins_with_failure(&rt, rt.alloc(), Counted::new(folder))
-}
-
-// Whether a splitter can be made.
-fn has_splitter<A: Allocator>(alloc: A) -> bool {
-    Splitter::new(alloc).is_ok()
-}
-
-// Whether a reader can be made.
-fn has_reader<A: Allocator>(alloc: A) -> bool {
-    BlockReader::new(alloc, Counted::new(STREAM)).is_ok()
-}
-
-// A splitter and a reader each make one allocation.
-fn takes_one_allocation<A: Allocator + Copy>(rt: &impl Abort, alloc: &Refusing<A>, nth: u64) {
-    alloc.arm(nth);
-    same(rt, has_splitter(alloc), nth == 1);
-    same(rt, alloc.has_refused(), nth == 0);
-    alloc.arm(nth);
-    same(rt, has_reader(alloc), nth == 1);
-    same(rt, alloc.has_refused(), nth == 0);
-}
-
-#[test]
-fn each_allocation_may_be_refused(rt: HostRuntime) {
-    let alloc = Refusing::new(rt.alloc(), 0);
-    for nth in 0..2 {
-        takes_one_allocation(&rt, &alloc, nth);
-    }
-}
-
-// A writer over memory that is refused once writes the next block whole.
-fn goes_on<A: Allocator + Copy>(rt: &impl Abort, alloc: &Refusing<A>) -> Result<(), FrameFault> {
-    let mut writer = FuseWriter::new(alloc, 64, None);
-    has_no_room(rt, &mut writer, 0);
-    assert!(rt; alloc.has_refused());
-    write(&mut writer, b"z")?;
-    same(rt, writer.written(), b"\x00\x01z".as_slice());
-    Ok(())
-}
-
-#[test]
-fn a_writer_goes_on_after_want_of_memory(rt: HostRuntime) -> Result<(), Fail> {
-    let alloc = Refusing::new(rt.alloc(), 0);
-    goes_on(&rt, &alloc)?;
-    Ok(())
-}
-
-// There is room for one splitter and not for a second one.
-fn has_room_for_one<A: Allocator + Copy>(rt: &impl Abort, memory: A) -> Result<(), Fail> {
-    let splitter = Splitter::new(memory)?;
-    same(rt, splitter.held(), 0);
-    assert!(rt; !has_splitter(memory));
-    Ok(())
-}
-
-// A splitter takes its 65,537 bytes and no more, beyond what a heap of its own needs for itself.
-#[test]
-fn a_splitter_takes_room_for_the_longest_block_alone(rt: HostRuntime) -> Result<(), Fail> {
-    let heap = LocalHeap::new(rt.alloc(), 66_000)?;
-    has_room_for_one(&rt, &heap)
-}
-
-// Takes a block, and lets it go.
-fn takes_block<A: Allocator>(rt: &impl Abort, splitter: &mut Splitter<A>) {
-    takes(rt, splitter, STREAM, (3, 3), Some(b"S"));
-    splitter.clear();
-    same(rt, splitter.held(), 0);
-}
-
-// A reader and a splitter go through the stream, with memory for the writer alone.
-fn goes_through<R: CountedRead, A: Allocator>(
-    rt: &impl Abort,
-    alloc: Global,
-    reader: &mut BlockReader<R, A>,
-    splitter: &mut Splitter<A>,
-) -> Result<(), FrameFault> {
-    let mut writer = FuseWriter::new(alloc, 2, None);
-    same(rt, copy_blocks(reader, &mut writer)?, 1);
-    takes_block(rt, splitter);
-    Ok(())
-}
-
-#[test]
-fn blocks_take_no_memory(rt: HostRuntime) -> Result<(), Fail> {
-    let alloc = Refusing::new(rt.alloc(), 9);
-    let mut splitter = Splitter::new(&alloc)?;
-    let mut reader = BlockReader::new(&alloc, PieceReader::new(STREAM, 3, Some(2)))?;
-    alloc.arm(0);
-    goes_through(&rt, rt.alloc(), &mut reader, &mut splitter)?;
-    assert!(rt; !alloc.has_refused());
-    Ok(())
 }
 
 #[test]
