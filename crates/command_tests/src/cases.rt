@@ -14,7 +14,7 @@ use std::alloc::Global;
 use std::test::Fail;
 
 /// A command over one file.
-#[derive(Clone, Copy, Debug, PartialEq, Eq)]
+#[derive(Clone, Copy)]
 pub(super) enum Single {
     Check,
     Snap,
@@ -25,7 +25,7 @@ pub(super) enum Single {
 }
 
 /// A command over two files.
-#[derive(Clone, Copy, Debug, PartialEq, Eq)]
+#[derive(Clone, Copy)]
 pub(super) enum Double {
     Compare,
     Join,
