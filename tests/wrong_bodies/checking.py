@@ -19,10 +19,10 @@ NAMES_ONLY = re.compile(r"has no field|is not in scope|has no `|was not admitted
 class Checker:
     """Checks in place of rt's own `checked`, and adds up the processor seconds of each crate."""
 
-    def __init__(self, logs=None):
+    def __init__(self, logs):
         self.logs = logs
-        if logs:
-            os.makedirs(logs, exist_ok=True)
+        shutil.rmtree(logs, ignore_errors=True)
+        os.makedirs(logs)
         self.seconds = {}
         self.number = 0
         self.counting = threading.Lock()
@@ -35,8 +35,7 @@ class Checker:
                     shutil.copytree(f"{crate.folder}/{part}", f"{room}/{part}")
             for path, text in texts.items():
                 Path(room, path).write_text(text, encoding="utf-8")
-            words = [rtlib.RATTLE, "check", *crate.words(flags, keeps=False), *(["--incremental", kept] if kept else [])]
-            words += ["--progress"] if self.logs else []
+            words = [rtlib.RATTLE, "check", *crate.words(flags, keeps=False), *(["--incremental", kept] if kept else []), "--progress"]
             return self.run(crate, [*rtlib.guarded(), *words], room)
 
     def run(self, crate, words, room):
@@ -53,9 +52,8 @@ class Checker:
             self.number += 1
             spent = usage.ru_utime + usage.ru_stime
             self.seconds[crate.name] = self.seconds.get(crate.name, 0) + spent
-            if self.logs:
-                lines = "".join(f"{seconds:7.1f} {line}" for seconds, line in timed)
-                Path(self.logs, f"{crate.name}.{self.number}.log").write_text(f"{lines}\nprocessor seconds: {spent:.1f}\n")
+            lines = "".join(f"{seconds:7.1f} {line}" for seconds, line in timed)
+            Path(self.logs, f"{crate.name}.{self.number}.log").write_text(f"{lines}\nprocessor seconds: {spent:.1f}\n")
         return subprocess.CompletedProcess(words, started.returncode, said)
 
 
