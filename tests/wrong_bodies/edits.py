@@ -6,7 +6,7 @@ from pathlib import Path
 from kit import rt
 
 # A check costs some seconds before it comes to the first edit, and those of one round have one processor.
-MOST_IN_A_ROUND = 12
+MOST_IN_A_ROUND = 20
 
 
 @dataclass(frozen=True)
