@@ -24,7 +24,7 @@ def members(archive):
 
 def unpack_library(crate, room):
     """Writes what the crate's built library has of checked modules into the room, as a check keeps them, and returns whether there are any."""
-    archive = Path(crate.folder, f"out/rlib/{crate.name}.rlib/toolchain/checked.a")
+    archive = Path(crate.rlib, "toolchain/checked.a")
     if not archive.is_file():
         return False
     folder = None
