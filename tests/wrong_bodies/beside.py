@@ -1,41 +1,76 @@
-"""The libraries that a run of `rt ci` beside this one has proved so far."""
+"""What a run of `rt ci` beside this one has proved so far: its libraries, and what its own wrong bodies begin with."""
+import contextlib
+import glob
 import os
 import re
 import shutil
+import tempfile
+import threading
 from pathlib import Path
 
 from kit import rt
 
 # What rt ci says of a crate that it has proved, now or in an earlier run: its library is there then.
-PROVED = re.compile(r"^rt: (\w+) (?:proved|is kept: .*)$", re.MULTILINE)
+PROVED = re.compile(r"^rt: (\w+) (proved|is kept: .*)$", re.MULTILINE)
+# What it says once the check is done that the wrong bodies of a crate's folder must-fail begin with.
+TRYING = re.compile(r"^rt: (\w+): trying its must-fail edits", re.MULTILINE)
+# There is no such check for a single wrong body.
+FEWEST = 2
 
 
 class Proofs:
-    """The libraries of `rt ci`, which prints to this log. They get other names: as it ends, it may put older ones in their place."""
+    """Follows the log of `rt ci`, and gives what it made other names: it removes that, or puts something older in its place."""
 
     def __init__(self, log, crates, room):
         self.log = Path(log)
         self.crates = {it.name: it for it in crates}
         self.room = room
         self.proved = set()
+        self.starts = {}
+        self.unchanged = set()
+        self.have_ended = False
+        threading.Thread(target=self.follow, daemon=True).start()
 
-    def have_ended(self):
-        return Path(f"{self.log}.ended").exists()
+    def follow(self):
+        resting, end = threading.Event(), Path(f"{self.log}.ended")
+        try:
+            while not end.exists():
+                self.look()
+                resting.wait(1)
+            self.look()
+        finally:
+            self.have_ended = True
 
     def look(self):
-        """Takes the libraries that were proved since the last look."""
-        said = PROVED.findall(self.log.read_text(encoding="utf-8", errors="replace"))
-        for name in {*said} - self.proved:
-            self.take(self.crates[name])
-            self.proved.add(name)
+        """Takes what was made since the last look."""
+        said = self.log.read_text(encoding="utf-8", errors="replace")
+        for name, how in PROVED.findall(said):
+            if name not in self.proved:
+                self.take_library(self.crates[name])
+                self.unchanged |= {name} if how != "proved" else set()
+                self.proved.add(name)
+        for name in TRYING.findall(said):
+            if name not in self.starts:
+                self.starts[name] = self.start_of(name)
 
-    def take(self, crate):
+    def take_library(self, crate):
         if crate.makes_rlib():
-            to = f"{self.room}/{crate.name}"
+            to = f"{self.room}/libraries/{crate.name}"
             shutil.copytree(os.path.dirname(crate.rlib), to, copy_function=rt.link_or_copy)
             crate.rlib = f"{to}/{crate.name}.rlib"
 
+    def start_of(self, name):
+        """Returns a copy of what rt ci keeps of the crate while it tries wrong bodies, or None where there is none to be found."""
+        to = f"{self.room}/starts/{name}"
+        for seed in glob.glob(f"{tempfile.gettempdir()}/rt-edits-*/seed"):
+            if glob.glob(f"{seed}/*/Rattle-{name}-proofs.*"):
+                with contextlib.suppress(OSError, shutil.Error):
+                    rt.linked(seed, to)
+                    return to
+                shutil.rmtree(to, ignore_errors=True)
+        return None
+
     def are_enough_for(self, crate):
-        """Returns whether the libraries below a crate are proved, and its own, if it has one, which a check begins with."""
-        own = {crate.name} if crate.makes_rlib() else set()
-        return {it.name for it in crate.below()} | own <= self.proved
+        """Returns whether the libraries below a crate are proved, and what a check of it begins with is here, if rt ci makes any."""
+        makes_start = len(list(Path(crate.folder, "must-fail").glob("*.edit"))) >= FEWEST and crate.name not in self.unchanged
+        return {it.name for it in crate.below()} <= self.proved and (not makes_start or crate.name in self.starts)
