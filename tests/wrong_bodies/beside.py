@@ -19,13 +19,15 @@ FEWEST = 2
 
 
 class Proofs:
-    """Follows the log of `rt ci`, and gives what it made other names: it removes that, or puts something older in its place."""
+    """Follows the log of `rt ci`, and takes copies of what it makes: as it ends, it may put older libraries in place of its own."""
 
     def __init__(self, log, crates, room):
         self.log = Path(log)
         self.crates = {it.name: it for it in crates}
         self.room = room
+        self.seen = set()
         self.proved = set()
+        self.lost = set()
         self.starts = {}
         self.unchanged = set()
         self.have_ended = False
@@ -45,29 +47,43 @@ class Proofs:
         """Takes what was made since the last look."""
         said = self.log.read_text(encoding="utf-8", errors="replace")
         for name, how in PROVED.findall(said):
-            if name not in self.proved:
-                self.take_library(self.crates[name])
+            if name not in self.seen:
+                self.seen.add(name)
                 self.unchanged |= {name} if how != "proved" else set()
-                self.proved.add(name)
+                (self.proved if self.take_library(self.crates[name]) else self.lost).add(name)
         for name in TRYING.findall(said):
             if name not in self.starts:
                 self.starts[name] = self.start_of(name)
 
     def take_library(self, crate):
-        if crate.makes_rlib():
-            to = f"{self.room}/libraries/{crate.name}"
+        """Has checks use a copy of the library, and returns whether it is that of rt ci, which writes no stamp, as other checks do."""
+        if not crate.makes_rlib():
+            return True
+        to = f"{self.room}/libraries/{crate.name}"
+        try:
             shutil.copytree(os.path.dirname(crate.rlib), to, copy_function=rt.link_or_copy)
-            crate.rlib = f"{to}/{crate.name}.rlib"
+        except (OSError, shutil.Error):
+            return False
+        if Path(to, "stamp").exists():
+            return False
+        crate.rlib = f"{to}/{crate.name}.rlib"
+        return True
+
+    def leave(self):
+        """Has checks use the libraries in the crates' own folders again."""
+        for it in self.crates.values():
+            it.rlib = f"{it.folder}/out/rlib/{it.name}.rlib"
 
     def start_of(self, name):
         """Returns a copy of what rt ci keeps of the crate while it tries wrong bodies, or None where there is none to be found."""
         to = f"{self.room}/starts/{name}"
         for seed in glob.glob(f"{tempfile.gettempdir()}/rt-edits-*/seed"):
-            if glob.glob(f"{seed}/*/Rattle-{name}-proofs.*"):
-                with contextlib.suppress(OSError, shutil.Error):
+            with contextlib.suppress(OSError, shutil.Error):
+                # (what another user could have written is no start)
+                if os.stat(seed).st_uid == os.geteuid() and glob.glob(f"{seed}/*/Rattle-{name}-proofs.*"):
                     rt.linked(seed, to)
                     return to
-                shutil.rmtree(to, ignore_errors=True)
+            shutil.rmtree(to, ignore_errors=True)
         return None
 
     def are_enough_for(self, crate):
