@@ -28,10 +28,14 @@ def acceptance(first):
     return b"\0\x1fA  ITCHSNAP" + b"%20d" % first
 
 
+def packets(data, first=1):
+    """The blocks of these bytes, from one on, as packets of sequenced data."""
+    return b"".join(struct.pack(">H", len(it) - 1) + b"S" + it[2:] for it in split(data)[first - 1:])
+
+
 def answer(first):
     """What a login for the messages from this one on is answered."""
-    packets = [struct.pack(">H", len(it) - 1) + b"S" + it[2:] for it in split(SNAPSHOT)]
-    return acceptance(first) + b"".join(packets[first - 1:]) + ENDED
+    return acceptance(first) + packets(SNAPSHOT, first) + ENDED
 
 
 def login_from(peer):
@@ -166,19 +170,25 @@ def each_allocation_of_a_connection_ends_the_serving(program):
 
 
 def what_is_no_snapshot_is_not_written(program):
+    refused = file("START AAPL MSFT_AT_1")
     answers = {
-        answer(3): "session fault",
-        b"\0\x02JA": "rejected A",
-        b"\0\x02JS": "rejected S",
-        acceptance(1) + ENDED: "ended early",
-        b"": "ended early",
-        ENDED: "ended early",
-        b"\0\x1fA": "session fault",
-        b"\0\x02SS": "session fault",
+        b"\0\x02JA": ("rejected A", None),
+        b"\0\x02JS": ("rejected S", None),
+        acceptance(1) + ENDED: ("ended early", None),
+        b"": ("ended early", None),
+        ENDED: ("ended early", None),
+        answer(3): ("session fault", "accepted from 3, not from 1"),
+        acceptance(1) + packets(refused): ("session fault", "message 3: stock mismatch"),
+        b"\0\x02SS": ("session fault", "packet S before the login was accepted"),
+        b"\0\x1fA": ("session fault", "no SoupBinTCP packet of a server: truncated, 3 bytes held"),
+        b"\0\0": ("session fault", "no SoupBinTCP packet of a server: empty packet"),
+        b"\0\x01?": ("session fault", "no SoupBinTCP packet of a server: unknown packet type 0x3f"),
+        b"\0\x01R": ("session fault", "no SoupBinTCP packet of a server: packet R from the wrong side"),
     }
-    for data, reason in answers.items():
+    for data, (reason, fault) in answers.items():
         with failing_fetch(program) as perform, answering(data) as (port, _):
-            yield from differs(f"answered {data!r}", perform(port, ""), (False, (1, b"", f"itchsnap: {reason}\n".encode())))
+            lines = f"itchsnap: {reason}\n" + (f"  127.0.0.1:{port}: {fault}\n" if fault else "")
+            yield from differs(f"answered {data!r}", perform(port, ""), (False, (1, b"", lines.encode())))
 
 
 def served(program, clients):

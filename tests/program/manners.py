@@ -116,22 +116,26 @@ def both_files_may_not_be_standard_input(program):
 
 
 TRADE = large.block(b"P", 1, struct.pack(">QcI8sIQ", 0, b"B", 1, large.stock(1), 1, 0))
+# The share and the time left are shown where the size of each file is known.
 SHOWN = rb"\r(\d+) bytes, (\d+) messages, +\d+ MB/s"
+LEFT = rb", +(\d+) %, \d+ s left"
 
 
 def progress_is_shown_every_64_mib(program):
     count = 3_000_000
     day = large.entry(1) + TRADE * count
     checked = b"ok %d messages\n" % (1 + count)
-    once, twice = rb"%s\n" % SHOWN, rb"(%s){2}\n" % SHOWN
+    once, twice, unsized = rb"%s%s\n" % (SHOWN, LEFT), rb"(%s%s){2}\n" % (SHOWN, LEFT), rb"(%s){2}\n" % SHOWN
     with tempfile.NamedTemporaryFile(suffix=".itch") as file:
         file.write(day)
         file.flush()
         for words, data, output, shown in (
                 (["check", file.name], b"", checked, twice),
-                (["check", "-"], day, checked, twice),
+                (["check", "-"], day, checked, unsized),
                 (["snap", "--after", "1600000", file.name], b"", large.entry(1) + large.closing(1_600_001), once),
-                (["compare", file.name, "-"], day, b"same\n", twice * 2)):
+                (["book", "1", file.name], b"", b"1 %s\n" % large.stock(1).strip(), twice),
+                (["compare", file.name, file.name], b"", b"same\n", twice * 2),
+                (["compare", file.name, "-"], day, b"same\n", unsized * 2)):
             plain, done = (subprocess.run([program, *words, *flag], input=data, capture_output=True, timeout=120)
                            for flag in ([], ["--progress"]))
             for name, ran, error in (("without", plain, b""), ("with", done, shown)):
@@ -147,12 +151,16 @@ def progress_is_shown_every_64_mib(program):
 def what_is_wrongly_shown(error, length):
     """The lines that do not fit a file of an entry and then trades, of this length, and that file again."""
     entry = len(large.entry(1))
-    for place, (so_far, messages) in enumerate(re.findall(SHOWN, error), 1):
+    lines = re.findall(rb"%s(?:%s)?" % (SHOWN, LEFT), error)
+    for place, (so_far, messages, share) in enumerate(lines, 1):
         if not place * 2**26 <= int(so_far) < place * 2**26 + 2**16:
             yield f"line {place} is of byte {so_far}"
         wanted = sum(1 + (size - entry) // len(TRADE) for size in (min(int(so_far), length), int(so_far) - length) if size > 0)
         if int(messages) != wanted:
             yield f"{messages} messages at byte {so_far}, not {wanted}"
+        total = length * (2 if len(lines) > 2 else 1)
+        if share and int(share) != int(so_far) * 100 // total:
+            yield f"{share} per cent at byte {so_far} of {total}"
 
 
 def shown_next(stream):
@@ -235,11 +243,11 @@ def parts_are_the_whole_or_end_as_the_program_does(program):
 def the_page_has_each_command_and_option(program):
     page = (TOP / "docs/itchsnap.1").read_text().replace("\\-", "-")
     helps = [subprocess.run([program, *words, "--help"], capture_output=True, text=True, check=True).stdout
-             for words in ([], *([it] for it in "snap check compare canon join show book serve fetch".split()))]
+             for words in ([], *([it] for it in "snap check compare canon join show book serve fetch completions".split()))]
     for name in re.findall(r"^  ([a-z]+)  ", helps[0], re.M):
         if f"\n.TP\n.B {name}\n" not in page:
             yield f"the page lacks the command {name}"
-    for option in {it for text in helps for it in re.findall(r"--[a-z]+", text)}:
+    for option in {it for text in helps for it in re.findall(r"--[a-z][a-z-]*[a-z]", text)}:
         if not re.search(rf"\n\.TP\n\.[BRI]+ .*{option}\b", page):
             yield f"the page lacks the option {option}"
     if f'"itchsnap {version(program).split()[1]}"' not in page:

@@ -263,19 +263,22 @@ def a_server_that_ends_early_gives_nothing(program):
     """Each beginning of an answer, at the border of a packet and within one."""
     acceptance = b"\0\x1fA  ITCHSNAP" + b"1".rjust(20)
     message = b"\0\x0dSS" + bytes(10) + b"O"
+    cut = "no SoupBinTCP packet of a server: truncated, {} bytes held"
     endings = {
-        b"": b"ended early", acceptance: b"ended early", acceptance + b"\0\x01Z": b"ended early", acceptance + message: b"ended early",
-        acceptance[:9]: b"session fault", acceptance + message[:-1]: b"session fault", acceptance * 2: b"session fault",
+        b"": None, acceptance: None, acceptance + b"\0\x01Z": None, acceptance + message: None,
+        acceptance[:9]: cut.format(9), acceptance + message[:-1]: cut.format(len(message) - 1), acceptance * 2: "second login",
     }
-    for answer, reason in endings.items():
+    for answer, fault in endings.items():
         with socket.create_server(("127.0.0.1", 0)) as listener:
-            words = ["fetch", "--port", str(listener.getsockname()[1]), "--user", "user", "--pass", "secret"]
+            port = listener.getsockname()[1]
+            words = ["fetch", "--port", str(port), "--user", "user", "--pass", "secret"]
             with subprocess.Popen([program, *words], stdout=subprocess.PIPE, stderr=subprocess.PIPE) as client:
                 with listener.accept()[0] as peer:
                     login = peer.recv(len(LOGIN), socket.MSG_WAITALL)
                     peer.sendall(answer)
                 output, error = client.communicate(timeout=60)
-        if (login, client.returncode, output, error) != (LOGIN, 1, b"", b"itchsnap: " + reason + b"\n"):
+        reason = f"session fault\n  127.0.0.1:{port}: {fault}" if fault else "ended early"
+        if (login, client.returncode, output, error) != (LOGIN, 1, b"", f"itchsnap: {reason}\n".encode()):
             yield f"after {answer!r}: {login!r}, {client.returncode}, {output!r}, {error!r}"
 
 

@@ -1,11 +1,25 @@
-"""Runs with words that ask for no work: help, usage faults, lists of locates that are none.
+"""Runs with words that ask for no work over files: help with its examples, completions, usage faults, lists of locates that are none.
 
 RUNS has a function for each run, named for what it shows; it is given the program, and yields what differs.
 """
-from common import differs, ended
+import re
+import shutil
+import subprocess
+import tempfile
+from pathlib import Path
+
+from common import differs, ended, file
 
 LOGIN = "--user user --pass secret"
 HELP = "snap --help", "fetch --help", "--version"
+# The files of the examples in the help.
+FILES = {
+    "day.itch": "START AAPL BUY_1",
+    "other.itch": "AAPL START BUY_1",
+    "day.snap": "START AAPL BUY_1 END_4",
+    "other.snap": "AAPL START BUY_1 END_4",
+    "early.snap": "START AAPL END_3",
+}
 FAULTS = [
     "snap --only",
     "snap --only 1 --only 2",
@@ -25,13 +39,20 @@ FAULTS = [
     "join - -",
     "join a.snap",
     "join a.snap b.itch c.itch",
-    "show --progress",
+    "show --progress=1",
+    "book 1 --progress --progress",
+    "fetch --progress",
     "check --only 1",
     "book 65536",
     "book +1",
     "book -1",
     "book one",
     "book",
+    "book 1 --depth",
+    "book 1 --depth +1",
+    "book 1 --depth -1",
+    "book 1 --depth 1000000000000",
+    "snap --depth 1",
     "unknown 1",
     f"fetch --port 0 {LOGIN}",
     f"fetch --port 65536 {LOGIN}",
@@ -46,8 +67,29 @@ FAULTS = [
     f"serve - --port 1 {LOGIN} --count 0",
     f"serve - --port 1 {LOGIN} --count 1000001",
     f"serve - --port 1 {LOGIN} --count +1",
+    f"serve - --port 65536 {LOGIN} --count 1",
+    f"serve - --port 1 {LOGIN} --count 1 --bind localhost",
+    f"serve - --port 1 {LOGIN} --count 1 --bind 127.0.0.256",
+    f"serve - --port 1 {LOGIN} --count 1 --bind 127.0.0.1:5",
+    f"serve - --port 1 {LOGIN} --count 1 --bind [::1]",
+    f"serve - --port 1 {LOGIN} --count 1 --host 127.0.0.1",
+    f"fetch --port 1 {LOGIN} --bind 127.0.0.1",
+    f"fetch --port 1 {LOGIN} --pass-file word",
+    "fetch --port 1 --user user --pass-file",
+    f"fetch --port 1 {LOGIN} --timeout 0",
+    f"fetch --port 1 {LOGIN} --timeout 86401",
+    f"fetch --port 1 {LOGIN} --timeout +1",
+    f"fetch --port 1 {LOGIN} --session 12345678901",
+    f"fetch --port 1 {LOGIN} --session=",
+    f"fetch --port 1 {LOGIN} --session \t",
+    "completions",
+    "completions csh",
+    "completions bash zsh",
 ]
-NO_LISTS = ["", ",", "1,", ",1", "1,,2", "+1", "-1", " 1", "1 ", "1, 2", "1;2", "x", "0x1", "65536", "1,65536", "9" * 23, "1.0"]
+NO_LISTS = [
+    "", ",", "1,", ",1", "1,,2", "+1", "-1", " 1", "1 ", "1, 2", "1;2", "x", "0x1", "65536", "1,65536", "9" * 23, "1.0",
+    "-", "1-", "2-1", "1-2-3", "1--2", "1-,2", "1 -2", "1-+2", "0-65536", "1-2,", "65536-65536", "1-x",
+]
 
 
 def help_ends_with_status_0(program):
@@ -55,6 +97,72 @@ def help_ends_with_status_0(program):
         status, output, error = ended(program, *line.split())
         if (status, error) != (0, b"") or not output:
             yield f"{line}: status {status}, {output!r}, {error!r}"
+
+
+def commands(program):
+    """The names of the commands, of which help has a line each."""
+    listed = ended(program, "--help")[1].decode().split("Commands:\n")[1].split("\n\n")[0]
+    return [name for name in re.findall(r"^  (\S+) ", listed, re.M) if name != "help"]
+
+
+def example_of(program, command):
+    found = re.findall(r"^Example: (.*)$", ended(program, command, "--help")[1].decode(), re.M)
+    return found[0] if len(found) == 1 and found[0].startswith(f"itchsnap {command} ") else None
+
+
+def each_command_has_an_example(program):
+    """It does what it says in a folder of such files; an example of a session has no peer there."""
+    for command in commands(program):
+        example = example_of(program, command)
+        if not example:
+            yield f"{command} has none"
+            continue
+        if command in ("serve", "fetch"):
+            continue
+        with tempfile.TemporaryDirectory() as folder:
+            for name, blocks in FILES.items():
+                (Path(folder) / name).write_bytes(file(blocks))
+            done = subprocess.run(["bash", "-c", f'set -o pipefail; itchsnap() {{ "$0" "$@"; }}; {example}', program], cwd=folder,
+                                  capture_output=True, timeout=60)
+        if done.returncode or done.stderr:
+            yield f"{example}: {done}"
+
+
+def completed(program, *typed):
+    """What bash offers for the last of these words."""
+    script = 'source <("$0" completions bash); COMP_WORDS=("$@"); COMP_CWORD=$(($# - 1)); _itchsnap; printf "%s " "${COMPREPLY[@]}"'
+    done = subprocess.run(["bash", "-c", script, program, *typed], capture_output=True, text=True, timeout=60)
+    return done.returncode, done.stdout.split(), done.stderr
+
+
+def bash_completes_what_is_typed(program):
+    rows = {
+        ("itchsnap", "c"): ["check", "compare", "canon", "completions"],
+        ("itchsnap", ""): [*commands(program), "help", "--help", "--version"],
+        ("itchsnap", "snap", "--"): ["--after", "--only", "--progress", "--help"],
+        ("itchsnap", "fetch", "--host", "h", "--p"): ["--port", "--pass", "--pass-file"],
+        ("itchsnap", "completions", ""): ["bash", "zsh", "fish", "--help"],
+        # A file's name is completed by the shell itself.
+        ("itchsnap", "snap", "d"): [],
+    }
+    for typed, wanted in rows.items():
+        yield from differs(" ".join(typed), completed(program, *typed), (0, wanted, ""))
+
+
+def completions_have_every_option(program):
+    """As a shell reads them, where there is such a shell."""
+    for shell in ("bash", "zsh", "fish"):
+        status, script, error = ended(program, "completions", shell)
+        if (status, error) != (0, b""):
+            yield f"{shell}: {status}, {error!r}"
+        for command in commands(program):
+            for option in re.findall(r"^ +--([a-z-]+)", ended(program, command, "--help")[1].decode(), re.M):
+                if option.encode() not in script:
+                    yield f"{shell} has no --{option} of {command}"
+        if found := shutil.which(shell):
+            done = subprocess.run([found, "-n"], input=script, capture_output=True, timeout=60)
+            if done.returncode or done.stderr:
+                yield f"{shell}: {done}"
 
 
 def other_words_are_a_usage_fault(program):
@@ -78,6 +186,9 @@ def other_texts_are_no_lists_of_locates(program):
 
 RUNS = [
     help_ends_with_status_0,
+    each_command_has_an_example,
+    bash_completes_what_is_typed,
+    completions_have_every_option,
     other_words_are_a_usage_fault,
     no_words_are_a_usage_fault,
     other_texts_are_no_lists_of_locates,

@@ -13,7 +13,7 @@ use itch_soup::SoupFault;
 use itchsnap_cli::sessions::{Listening, Login, Patient, time_left};
 use std::cell::Cell;
 use std::io::{self, Read, Write};
-use std::net::{TcpListener, TcpStream};
+use std::net::{Ipv4Addr, Ipv6Addr, SocketAddr, TcpListener, TcpStream};
 use std::rt::Clock;
 use std::test::Fail;
 use std::time::Duration;
@@ -105,8 +105,20 @@ fn a_peer_has_15_seconds_and_one_for_64_kib(rt: HostRuntime) {
 
 #[test]
 fn a_port_that_is_listened_on_has_its_line(rt: HostRuntime) -> Result<(), Fail> {
-    let line = format!(in rt.alloc(); "{}", Listening(5100))?;
-    same(&rt, line.as_str(), "listening on 127.0.0.1:5100");
+    let rows = [
+        (
+            SocketAddr::from((Ipv4Addr::LOCALHOST, 5100)),
+            "listening on 127.0.0.1:5100",
+        ),
+        (
+            SocketAddr::from((Ipv6Addr::LOCALHOST, 65_535)),
+            "listening on [::1]:65535",
+        ),
+    ];
+    for (address, wanted) in rows {
+        let line = format!(in rt.alloc(); "{}", Listening(address))?;
+        same(&rt, line.as_str(), wanted);
+    }
     Ok(())
 }
 

@@ -1,8 +1,8 @@
 //! What the words of the command line ask for.
 
-use crate::equal::holds_in;
-use itch_commands::Request;
-use itchsnap_cli::words::{Job, Peer, read_job};
+use crate::equal::{holds_in, same_in};
+use itch_codec::Alpha;
+use itchsnap_cli::words::{Job, Password, read_job};
 use std::alloc::{AllocError, Global};
 use std::test::Fail;
 
@@ -15,124 +15,210 @@ fn words(alloc: Global, line: &str) -> Result<Vec<String>, AllocError> {
     Ok(words)
 }
 
-fn snap(
-    file: Option<&'static str>,
-    after: Option<u64>,
-    only: Option<&'static str>,
-) -> Request<'static> {
-    Request::Snap { file, after, only }
-}
-
-fn canon(file: Option<&'static str>, check: bool) -> Request<'static> {
-    Request::Canon { file, check }
-}
-
-fn compare(first: Option<&'static str>, second: Option<&'static str>) -> Request<'static> {
-    Request::Compare { first, second }
-}
-
-fn join(feed: Option<&'static str>, only: Option<&'static str>) -> Request<'static> {
-    let snapshot = Some("a.snap");
-    Request::Join {
-        snapshot,
-        feed,
-        only,
+// What these words ask for, as `{:?}` shows it, or why not: a job with all its types is no value of a test.
+fn asked(alloc: Global, words: &[String]) -> Result<String, Fail> {
+    let job = read_job(alloc, words, false, None);
+    match &job {
+        Ok(job) => shown(alloc, job),
+        Err(_) => Err(Fail::from("a usage fault")),
     }
 }
 
-fn book(locate: u16, file: Option<&'static str>) -> Request<'static> {
-    Request::Book { locate, file }
-}
-
-// Whether these words ask for this job.
-fn asks_for(alloc: Global, words: &[String], wanted: Job<'_>) -> bool {
-    match read_job(alloc, words, false) {
-        Ok(job) => job == wanted,
-        Err(_) => false,
-    }
+fn shown(alloc: Global, job: &Job<'_>) -> Result<String, Fail> {
+    Ok(format!(in alloc; "{job:?}")?)
 }
 
 #[test]
 fn requests_are_read(rt: HostRuntime) -> Result<(), Fail> {
-    let day = Some("day.itch");
-    let cases: [(&str, Request<'static>); 20] = [
-        ("snap", snap(None, None, None)),
-        ("snap day.itch", snap(day, None, None)),
-        ("snap day.itch --after 0", snap(day, Some(0), None)),
-        ("snap --after 007 day.itch", snap(day, Some(7), None)),
+    let cases = [
+        ("snap", "Snap { file: None, after: None, only: None }"),
+        (
+            "snap day.itch",
+            "Snap { file: Some(\"day.itch\"), after: None, only: None }",
+        ),
+        (
+            "snap day.itch --after 0",
+            "Snap { file: Some(\"day.itch\"), after: Some(0), only: None }",
+        ),
+        (
+            "snap --after 007 day.itch",
+            "Snap { file: Some(\"day.itch\"), after: Some(7), only: None }",
+        ),
         (
             "snap --after 999999999999",
-            snap(None, Some(999_999_999_999), None),
+            "Snap { file: None, after: Some(999999999999), only: None }",
         ),
         (
             "snap day.itch --only 1,2 --after 3",
-            snap(day, Some(3), Some("1,2")),
+            "Snap { file: Some(\"day.itch\"), after: Some(3), only: Some(\"1,2\") }",
         ),
-        ("check -", Request::Check { file: None }),
-        ("check day.itch", Request::Check { file: day }),
-        ("canon", canon(None, false)),
-        ("canon day.itch", canon(day, false)),
-        ("canon --check", canon(None, true)),
-        ("canon day.itch --check", canon(day, true)),
-        ("canon --check day.itch", canon(day, true)),
-        ("compare a.itch day.itch", compare(Some("a.itch"), day)),
-        ("compare - day.itch", compare(None, day)),
-        ("join a.snap day.itch", join(day, None)),
-        ("join --only=40 a.snap -", join(None, Some("40"))),
-        ("book 0", book(0, None)),
-        ("book 1", book(1, None)),
-        ("book 0065535 day.itch", book(65_535, day)),
+        ("check -", "Check { file: None }"),
+        ("check day.itch", "Check { file: Some(\"day.itch\") }"),
+        ("show day.itch", "Show { file: Some(\"day.itch\") }"),
+        ("canon", "Canon { file: None, check: false }"),
+        (
+            "canon day.itch",
+            "Canon { file: Some(\"day.itch\"), check: false }",
+        ),
+        ("canon --check", "Canon { file: None, check: true }"),
+        (
+            "canon day.itch --check",
+            "Canon { file: Some(\"day.itch\"), check: true }",
+        ),
+        (
+            "canon --check day.itch",
+            "Canon { file: Some(\"day.itch\"), check: true }",
+        ),
+        (
+            "compare a.itch day.itch",
+            "Compare { first: Some(\"a.itch\"), second: Some(\"day.itch\") }",
+        ),
+        (
+            "compare - day.itch",
+            "Compare { first: None, second: Some(\"day.itch\") }",
+        ),
+        (
+            "join a.snap day.itch",
+            "Join { snapshot: Some(\"a.snap\"), feed: Some(\"day.itch\"), only: None }",
+        ),
+        (
+            "join --only=40 a.snap -",
+            "Join { snapshot: Some(\"a.snap\"), feed: None, only: Some(\"40\") }",
+        ),
+        ("book 0", "Book { locate: 0, depth: None, file: None }"),
+        (
+            "book 1 --depth 0",
+            "Book { locate: 1, depth: Some(0), file: None }",
+        ),
+        (
+            "book --depth=05 0065535 day.itch",
+            "Book { locate: 65535, depth: Some(5), file: Some(\"day.itch\") }",
+        ),
     ];
     for (line, request) in cases {
         let words = words(rt.alloc(), line)?;
-        let progress = false;
-        let job = Job::Files { request, progress };
-        holds_in(&rt, line, asks_for(rt.alloc(), words.as_slice(), job));
+        let wanted = format!(in rt.alloc(); "Files {{ request: {request}, progress: false }}")?;
+        let found = asked(rt.alloc(), words.as_slice())?;
+        same_in(&rt, line, found.as_str(), wanted.as_str());
     }
     Ok(())
 }
 
-const PEER: Peer<'static> = Peer {
-    port: 65_535,
-    user: "user",
-    password: "secret",
-};
+#[test]
+fn words_of_a_server_are_read(rt: HostRuntime) -> Result<(), Fail> {
+    let day = "Some(\"day.itch\")";
+    let cases = [
+        ("day.itch --port 65535", day, "127.0.0.1:65535", false),
+        ("day.itch --port 00", day, "127.0.0.1:0", false),
+        ("- --progress --port 1", "None", "127.0.0.1:1", true),
+        ("day.itch --bind 0.0.0.0 --port 1", day, "0.0.0.0:1", false),
+        ("day.itch --bind=::1 --port 1", day, "[::1]:1", false),
+    ];
+    for (line, file, address, progress) in cases {
+        let line = format!(in rt.alloc();
+            "serve --count 01000000 {line} --user user --pass=secret"
+        )?;
+        let words = words(rt.alloc(), line.as_str())?;
+        let wanted = format!(in rt.alloc();
+            "Serve {{ file: {file}, address: {address}, login: LoginWords {{ user: \"user\", .. }}, \
+             count: 1000000, progress: {progress} }}"
+        )?;
+        let found = asked(rt.alloc(), words.as_slice())?;
+        same_in(&rt, address, found.as_str(), wanted.as_str());
+    }
+    Ok(())
+}
 
-fn serve(file: Option<&'static str>, progress: bool) -> Job<'static> {
-    Job::Serve {
-        file,
-        peer: PEER,
-        count: 1_000_000,
-        progress,
+// The server of a fetch with these words: its host, its port, its session and its time limit.
+fn server(
+    alloc: Global,
+    line: &str,
+    session: Option<&str>,
+) -> Result<(String, u16, Alpha<10>, Option<u64>), Fail> {
+    let mut words = words(alloc, "fetch --user user --pass secret")?;
+    for word in line.split_whitespace() {
+        words.push(String::from_str(alloc, word)?)?;
+    }
+    if let Some(name) = session {
+        words.push(format!(in alloc; "--session={name}")?)?;
+    }
+    match read_job(alloc, words.as_slice(), false, None) {
+        Ok(Job::Fetch { server, .. }) => Ok((
+            String::from_str(alloc, server.host)?,
+            server.port,
+            server.session,
+            server.timeout,
+        )),
+        _ => Err(Fail::from("no fetch")),
     }
 }
 
-// `PEER` is put after the words of a session.
 #[test]
-fn words_of_sessions_are_read(rt: HostRuntime) -> Result<(), Fail> {
-    let day = Some("day.itch");
-    let cases: [(&str, Job<'static>); 5] = [
+fn words_of_a_client_are_read(rt: HostRuntime) -> Result<(), Fail> {
+    let cases = [
+        ("--port 65535", None, "127.0.0.1", 65_535, None),
+        ("--port=01", Some("S"), "127.0.0.1", 1, None),
         (
-            "serve day.itch --count 1000000 --port 65535",
-            serve(day, false),
+            "--host glimpse.example --port 1 --timeout 86400",
+            Some("GLIMPSE 12"),
+            "glimpse.example",
+            1,
+            Some(86_400),
         ),
-        (
-            "serve --count 01000000 day.itch --port 065535",
-            serve(day, false),
-        ),
-        (
-            "serve - --progress --count=1000000 --port 65535",
-            serve(None, true),
-        ),
-        ("fetch --port 65535", Job::Fetch(PEER)),
-        ("fetch --port=65535", Job::Fetch(PEER)),
     ];
-    for (line, wanted) in cases {
-        let mut words = words(rt.alloc(), line)?;
-        for word in ["--user", "user", "--pass=secret"] {
+    for (line, name, host, port, timeout) in cases {
+        let found = server(rt.alloc(), line, name)?;
+        same_in(&rt, line, found.0.as_str(), host);
+        same_in(&rt, line, found.1, port);
+        holds_in(&rt, line, found.2.text() == name.unwrap_or(""));
+        same_in(&rt, line, found.3, timeout);
+    }
+    Ok(())
+}
+
+#[test]
+fn a_password_has_three_places(rt: HostRuntime) -> Result<(), Fail> {
+    let rows = [
+        ("--pass secret", None, Some(Password::Word("secret"))),
+        (
+            "--pass secret",
+            Some("other"),
+            Some(Password::Word("secret")),
+        ),
+        ("--pass-file p.txt", None, Some(Password::File("p.txt"))),
+        (
+            "--pass-file p.txt",
+            Some("other"),
+            Some(Password::File("p.txt")),
+        ),
+        ("", Some("other"), Some(Password::Word("other"))),
+        ("", None, None),
+        ("--pass secret --pass-file p.txt", None, None),
+    ];
+    for (line, environment, wanted) in rows {
+        let mut words = words(rt.alloc(), "fetch --port 1 --user user")?;
+        for word in line.split_whitespace() {
             words.push(String::from_str(rt.alloc(), word)?)?;
         }
-        holds_in(&rt, line, asks_for(rt.alloc(), words.as_slice(), wanted));
+        let found = match read_job(rt.alloc(), words.as_slice(), false, environment) {
+            Ok(Job::Fetch { login, .. }) => Some(login.password),
+            _ => None,
+        };
+        holds_in(&rt, (line, environment), found == wanted);
+    }
+    Ok(())
+}
+
+#[test]
+fn completions_are_asked_for(rt: HostRuntime) -> Result<(), Fail> {
+    for (line, wanted) in [
+        ("completions bash", "Completions(Bash)"),
+        ("completions zsh", "Completions(Zsh)"),
+        ("completions fish", "Completions(Fish)"),
+    ] {
+        let words = words(rt.alloc(), line)?;
+        let found = asked(rt.alloc(), words.as_slice())?;
+        same_in(&rt, line, found.as_str(), wanted);
     }
     Ok(())
 }
@@ -140,22 +226,24 @@ fn words_of_sessions_are_read(rt: HostRuntime) -> Result<(), Fail> {
 // The example of the crate's page, without and with `--progress`.
 #[test]
 fn a_check_is_asked_for(rt: HostRuntime) -> Result<(), Fail> {
-    let file = Some("day.itch");
     for (line, progress) in [
         ("check day.itch", false),
         ("check --progress day.itch", true),
     ] {
         let words = words(rt.alloc(), line)?;
-        let request = Request::Check { file };
-        let job = Job::Files { request, progress };
-        holds_in(&rt, line, asks_for(rt.alloc(), words.as_slice(), job));
+        let wanted = format!(in rt.alloc();
+            "Files {{ request: Check {{ file: Some(\"day.itch\") }}, progress: {progress} }}"
+        )?;
+        let found = asked(rt.alloc(), words.as_slice())?;
+        same_in(&rt, line, found.as_str(), wanted.as_str());
     }
     Ok(())
 }
 
 #[test]
 fn a_password_is_not_shown(rt: HostRuntime) -> Result<(), Fail> {
-    let shown = format!(in rt.alloc(); "{PEER:?}")?;
+    let words = words(rt.alloc(), "fetch --port 1 --user user --pass secret")?;
+    let shown = asked(rt.alloc(), words.as_slice())?;
     assert!(rt; shown.contains("user"));
     assert!(rt; !shown.contains("secret"));
     Ok(())

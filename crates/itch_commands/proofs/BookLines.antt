@@ -21,9 +21,10 @@ use Rattle.itch_commands.specs.Readings.{AreTaken}
 use Rattle.itch_commands.proofs.Comparisons.{taken_good}
 
 -- a book has the same lines in whichever order its orders stand
-lines-laid : (locate : ℕ) (stock : List ℕ) (orders : List Order) → AllFit orders → book_lines locate stock (lay orders) ≡ book_lines locate stock orders
-lines-laid locate stock orders fit =
-    ap₂ (λ bids asks. title_line locate stock ++ (side_lines Buy bids ++ side_lines Sell asks)) (queue-lay orders locate Buy fit) (queue-lay orders locate Sell fit)
+lines-laid : (locate : ℕ) (depth : Option ℕ) (stock : List ℕ) (orders : List Order) → AllFit orders
+    → book_lines locate depth stock (lay orders) ≡ book_lines locate depth stock orders
+lines-laid locate depth stock orders fit =
+    ap₂ (λ bids asks. title_line locate stock ++ (side_lines depth Buy bids ++ side_lines depth Sell asks)) (queue-lay orders locate Buy fit) (queue-lay orders locate Sell fit)
 
 module _ (locate : ℕ) (ps : List (List ℕ)) (market : Content) (left : market ≡ laid (run (map message_of ps))) where
   -- the directory has the locate
@@ -35,11 +36,11 @@ module _ (locate : ℕ) (ps : List (List ℕ)) (market : Content) (left : market
   pub unlisted : None ≡ finite.get (Content.securities market) locate → finite.get (Content.securities (run (map message_of ps))) locate ≡ None
   unlisted none = sym (none ∙ ap (λ (m : Content). finite.get (Content.securities m) locate) left)
 
-  pub lines_left : {W : Type 0} (contents : W → Option (List ℕ)) (failures : W → Failures) (stock : List ℕ) (orders : List Order) (old new : W) (result : Result (Unit {0}) ToolFault)
+  pub lines_left : {W : Type 0} (contents : W → Option (List ℕ)) (failures : W → Failures) (depth : Option ℕ) (stock : List ℕ) (orders : List Order) (old new : W) (result : Result (Unit {0}) ToolFault)
       → AllByRecursion Fits ps → AreTaken None ps → orders ≡ Content.orders market
-      → WritesText contents failures (book_lines locate stock orders) old result new → WritesText contents failures (book_of locate (ps, stock)) old result new
-  lines_left contents failures stock orders old new result fits taken same wrote =
+      → WritesText contents failures (book_lines locate depth stock orders) old result new → WritesText contents failures (book_of locate depth (ps, stock)) old result new
+  lines_left contents failures depth stock orders old new result fits taken same wrote =
       let m = run (map message_of ps) in
       let good : IsGood m = taken_good None ps fits taken in
       subst (λ text. WritesText contents failures text old result new)
-      (ap (book_lines locate stock) (same ∙ ap Content.orders left) ∙ lines-laid locate stock (Content.orders m) (live_fit (Content.orders m) good.live)) wrote
+      (ap (book_lines locate depth stock) (same ∙ ap Content.orders left) ∙ lines-laid locate depth stock (Content.orders m) (live_fit (Content.orders m) good.live)) wrote

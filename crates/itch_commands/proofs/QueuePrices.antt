@@ -153,10 +153,10 @@ module _ (orders : List Order) (l : ℕ) (s : Side) (last : Option ℕ) (done : 
       → length (filter (is_worse s (Some price)) (prices (queue orders l s))) < length (filter (is_worse s last) (prices (queue orders l s)))
   one_fewer is = let next = next_parts is in omega (arith, ap length next.here, ap length next.following)
 
-pub all_done : (orders : List Order) (l : ℕ) (s : Side) (last : Option ℕ) (done : List ℕ) → IsBook orders → DonePrices orders l s last done → next_price orders l s last ≡ None
-    → prices (queue orders l s) ≡ done
-all_done orders l s last done book so_far is =
-    so_far.whole ∙ ap (λ qs. done ++ qs) (nothing (filter (is_worse s last) (prices (queue orders l s))) (sym (next_is orders l s last book) ∙ is)) ∙ append-nil done where
-      nothing : (ps : List ℕ) → first_price ps ≡ None → ps ≡ []
-      nothing [] none = refl
-      nothing (p ∷ ps) some = absurd (cc some)
+-- and none is, if there is no next price
+pub none_left : (orders : List Order) (l : ℕ) (s : Side) (last : Option ℕ) → IsBook orders → next_price orders l s last ≡ None
+    → filter (is_worse s last) (prices (queue orders l s)) ≡ []
+none_left orders l s last book is = nothing (filter (is_worse s last) (prices (queue orders l s))) (sym (next_is orders l s last book) ∙ is) where
+  nothing : (ps : List ℕ) → first_price ps ≡ None → ps ≡ []
+  nothing [] none = refl
+  nothing (p ∷ ps) some = absurd (cc some)

@@ -1,5 +1,5 @@
 -- The lines of the book at a locate.
-use Rattle.std.specs.Prelude.{◌≡◌, ℕ, ◌==◌, ◌⊎◌, not, List, [], ◌∷◌, ◌++◌, map, length, decimal, None, Some, Result, Ok, Err}
+use Rattle.std.specs.Prelude.{◌≡◌, ℕ, zero, suc, ◌==◌, ◌⊎◌, not, List, [], ◌∷◌, ◌++◌, map, length, take, decimal, Option, None, Some, Result, Ok, Err}
 use Rattle.std.specs.List.{filter, sum_by, flat_map}
 use Rattle.std.specs.FinMap as finite
 use Rattle.itch_codec.specs.Fields.{side_byte}
@@ -30,22 +30,33 @@ abbrev pub price_line : Side → List Order → ℕ → List ℕ
 price_line side orders price =
     level_line side price (sum_by (λ x. x.shares) (filter (is_at_price price) orders)) (length (filter (is_at_price price) orders))
 
--- the lines of a side, whose orders are in priority order: the best price first
-abbrev pub side_lines : Side → List Order → List ℕ
-side_lines side orders = flat_map (price_line side orders) (prices orders)
+-- the first of these prices, as many as are wanted; or all of them
+abbrev pub first_of : Option ℕ → List ℕ → List ℕ
+first_of None ps = ps
+first_of (Some depth) ps = take depth ps
+
+-- the next price of a side, unless no more are wanted
+abbrev pub next_wanted : Option ℕ → Option ℕ → Option ℕ
+next_wanted None price = price
+next_wanted (Some zero) price = None
+next_wanted (Some (suc more)) price = price
+
+-- the lines of a side, whose orders are in priority order: the best price first, and as many prices as are wanted
+abbrev pub side_lines : Option ℕ → Side → List Order → List ℕ
+side_lines depth side orders = flat_map (price_line side orders) (first_of depth (prices orders))
 
 -- the line `LOCATE STOCK`
 abbrev pub title_line : ℕ → List ℕ → List ℕ
 title_line locate stock = decimal locate ++ 32 ∷ (stock ++ 10 ∷ [])
 
 -- the lines of a book: its title, the bids, and the asks
-abbrev pub book_lines : ℕ → List ℕ → List Order → List ℕ
-book_lines locate stock orders =
-    title_line locate stock ++ (side_lines Buy (queue orders locate Buy) ++ side_lines Sell (queue orders locate Sell))
+abbrev pub book_lines : ℕ → Option ℕ → List ℕ → List Order → List ℕ
+book_lines locate depth stock orders =
+    title_line locate stock ++ (side_lines depth Buy (queue orders locate Buy) ++ side_lines depth Sell (queue orders locate Sell))
 
 -- the same for the market that the messages of a file leave
-abbrev pub book_of : ℕ → List (List ℕ) × List ℕ → List ℕ
-book_of locate read = let m : Content = run (map message_of read.0) in book_lines locate read.1 m.orders
+abbrev pub book_of : ℕ → Option ℕ → List (List ℕ) × List ℕ → List ℕ
+book_of locate depth read = let m : Content = run (map message_of read.0) in book_lines locate depth read.1 m.orders
 
 -- a file is read, and a locate has a directory entry there, with this stock; or the file is refused, or has no such entry
 abbrev pub ReadsListed : ℕ → (Result (List (List ℕ)) ToolFault → Type 0) → Result (List (List ℕ) × List ℕ) ToolFault → Type 0

@@ -1,7 +1,8 @@
--- The system's error if a command failed at a device.
+-- What the line of a fault does not say.
 use Rattle.std.specs.Prelude.{Option, Some, None}
 use Rattle.itch_frame.specs.declared.fault.FrameFault.{FrameFault}
 use Rattle.itch_frame.specs.declared.fault.FrameFault.TheVariants.{Read, Write}
+use Rattle.itch_market.specs.declared.refusal.Refusal.TheVariants as refusal
 use Rattle.itch_market.specs.declared.stop.Stop.{Stop}
 use Rattle.itch_market.specs.declared.stop.Stop.TheVariants as stop
 use Rattle.itch_snapshot.specs.declared.fault.SnapFault.{SnapFault}
@@ -44,3 +45,13 @@ cause_of (tool.Open file error) = Some (record { device = File file; error = err
 cause_of (tool.Soup fault) = soup_cause fault
 cause_of (tool.Socket error) = Some (record { device = Socket; error = error })
 cause_of fault = None
+
+-- how the peer of a session broke its rules, if the line says no more than that it did
+abbrev pub peer_fault : ToolFault → Option SoupFault
+peer_fault (tool.Soup (soup.Rejected code)) = None
+peer_fault (tool.Soup soup.EndedEarly) = None
+peer_fault (tool.Soup (soup.Frame (Read error))) = None
+peer_fault (tool.Soup (soup.Frame (Write sent error))) = None
+peer_fault (tool.Soup (soup.Snapshot (snapshot.Rule place refusal.OutOfMemory))) = None
+peer_fault (tool.Soup fault) = Some fault
+peer_fault fault = None

@@ -21,10 +21,10 @@ module _ {R W : Type 0} (remaining : R → Option (List ℕ)) (failed_reads : R 
   abbrev pub Snaps : Option ℕ → Option Wanted → From R (List (List ℕ)) → W → Result Bool ToolFault → W → Type 0
   Snaps after set from = Outputs contents failed_writes (from (ReadsDay remaining failed_reads Only after)) (snapshot_in set) (λ _. true)
 
-  -- `book`: the prices of a locate after a day file's messages
-  abbrev pub ListsBook : ℕ → From R (List (List ℕ) × List ℕ) → W → Result Bool ToolFault → W → Type 0
-  ListsBook locate from =
-      Outputs contents failed_writes (from (λ old new. ReadsListed locate (ReadsDay remaining failed_reads Only None old new))) (book_of locate) (λ _. true)
+  -- `book`: the prices of a locate after a day file's messages, as many of each side as are wanted
+  abbrev pub ListsBook : ℕ → Option ℕ → From R (List (List ℕ) × List ℕ) → W → Result Bool ToolFault → W → Type 0
+  ListsBook locate depth from =
+      Outputs contents failed_writes (from (λ old new. ReadsListed locate (ReadsDay remaining failed_reads Only None old new))) (book_of locate depth) (λ _. true)
 
   -- `canon`: a snapshot in canonical form
   abbrev pub WritesCanon : From R (Content × ℕ) → W → Result Bool ToolFault → W → Type 0

@@ -1,5 +1,5 @@
--- Lists of locates, as text.
-use Rattle.std.specs.Prelude.{◌≡◌, ℕ, ◌<◌, ◌==◌, List, [], ◌∷◌, ◌++◌, ⊤, Result, Ok, Err}
+-- Lists of locates and of ranges of them, as text.
+use Rattle.std.specs.Prelude.{◌≡◌, ℕ, ◌<◌, ◌≤◌, ◌⊎◌, Bool, nat_lt, not, ◌&&◌, List, [], ◌∷◌, ◌++◌, ⊤, Result, Ok, Err}
 use Rattle.std.specs.List.{list_any}
 use Rattle.std.specs.Str.Parse.{IsNumeral, digits_value}
 use Rattle.itch_market.specs.Wanted.{Wanted, has}
@@ -10,15 +10,26 @@ use Rattle.itch_commands.specs.declared.fault.ToolFault.TheVariants as tool
 abbrev pub IsLocate : List ℕ → ℕ → Type 0
 IsLocate text locate = IsNumeral 10 text × (digits_value 10 text ≡ locate) × (locate < 65536)
 
--- the text is these locates, at least one, separated by commas
-abbrev pub IsListOf : List ℕ → List ℕ → Type 0
-IsListOf [] text = ⊥
-IsListOf (l ∷ []) text = IsLocate text l
-IsListOf (l ∷ (k ∷ ks)) text = (first : List ℕ) × (rest : List ℕ) × (text ≡ first ++ 44 ∷ rest) × IsLocate first l × IsListOf (k ∷ ks) rest
+-- The first and the last locate of a range, which the text is: a locate alone, or two with a hyphen between them, of which the
+-- second is no lower.
+abbrev pub IsRange : List ℕ → ℕ × ℕ → Type 0
+IsRange text range =
+    (IsLocate text range.0 × (range.1 ≡ range.0))
+    ⊎ ((low : List ℕ) × (high : List ℕ) × (text ≡ low ++ 45 ∷ high) × IsLocate low range.0 × IsLocate high range.1 × (range.0 ≤ range.1))
 
--- what reading a list returns: the set of its locates, or that the text is no list
+-- the locate is in the range
+abbrev pub is_in : ℕ → ℕ × ℕ → Bool
+is_in locate range = not (nat_lt locate range.0) && not (nat_lt range.1 locate)
+
+-- the text is these ranges, at least one, separated by commas
+abbrev pub IsListOf : List (ℕ × ℕ) → List ℕ → Type 0
+IsListOf [] text = ⊥
+IsListOf (r ∷ []) text = IsRange text r
+IsListOf (r ∷ (q ∷ qs)) text = (first : List ℕ) × (rest : List ℕ) × (text ≡ first ++ 44 ∷ rest) × IsRange first r × IsListOf (q ∷ qs) rest
+
+-- what reading a list returns: the set of the locates in its ranges, or that the text is no list
 abbrev pub ReadsLocates : List ℕ → Result Wanted ToolFault → Type 0
-ReadsLocates text (Ok set) = (locates : List ℕ) × IsListOf locates text × ((l : ℕ) → has set l ≡ list_any (λ k. k == l) locates)
-ReadsLocates text (Err tool.BadLocates) = (locates : List ℕ) → IsListOf locates text → ⊥
+ReadsLocates text (Ok set) = (ranges : List (ℕ × ℕ)) × IsListOf ranges text × ((l : ℕ) → has set l ≡ list_any (is_in l) ranges)
+ReadsLocates text (Err tool.BadLocates) = (ranges : List (ℕ × ℕ)) → IsListOf ranges text → ⊥
 ReadsLocates text (Err tool.OutOfMemory) = ⊤
 ReadsLocates text (Err fault) = ⊥

@@ -18,7 +18,7 @@ file_of (Snap file after only) source = option_map (λ path. path.now) file
 file_of (Check file) source = option_map (λ path. path.now) file
 file_of (Show file) source = option_map (λ path. path.now) file
 file_of (Canon file check) source = option_map (λ path. path.now) file
-file_of (Book locate file) source = option_map (λ path. path.now) file
+file_of (Book locate depth file) source = option_map (λ path. path.now) file
 file_of (Compare first second) Second = option_map (λ path. path.now) second
 file_of (Compare first second) source = option_map (λ path. path.now) first
 file_of (Join snapshot feed only) Snapshot = option_map (λ path. path.now) snapshot
@@ -51,6 +51,6 @@ module _ {R W : Type 0} (remaining : R → Option (List ℕ)) (failed_reads : R 
   Performs (Show file) set old new = Shows contents failed_writes remaining failed_reads old new
   Performs (Canon file false) set old new = WritesCanon remaining failed_reads contents failed_writes (FromBlocks old new)
   Performs (Canon file true) set old new = ChecksCanon remaining failed_reads contents failed_writes (FromBlocks old new)
-  Performs (Book locate file) set old new = ListsBook remaining failed_reads contents failed_writes locate (FromBlocks old new)
+  Performs (Book locate depth file) set old new = ListsBook remaining failed_reads contents failed_writes locate depth (FromBlocks old new)
   Performs (Compare first second) set old new = λ out result written. ⊥
   Performs (Join snapshot feed only) set old new = λ out result written. ⊥

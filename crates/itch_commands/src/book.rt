@@ -1,8 +1,8 @@
 //! `book`: the prices of a locate.
-ghost use Rattle.std.specs.Prelude.{◌≡◌, ◌≤◌, [], ◌∷◌, length};
+ghost use Rattle.std.specs.Prelude.{◌≡◌, ◌≤◌, ◌-◌, None, [], ◌∷◌, length, option_map};
 ghost use Rattle.itch_codec.specs.Fields.{side_byte};
-ghost use Rattle.itch_book.specs.Orders.{queue};
-ghost use Rattle.itch_commands.specs.Books.{level_line, side_lines, title_line, book_lines};
+ghost use Rattle.itch_book.specs.Orders.{queue, next_price};
+ghost use Rattle.itch_commands.specs.Books.{next_wanted, level_line, side_lines, title_line, book_lines};
 ghost use Rattle.itch_commands.specs.Commands.{ListsBook};
 ghost use Rattle.itch_commands.specs.Outputs.{WritesText};
 ghost use Rattle.itch_commands.specs.Readings.{FromBlocks, FromReader};
@@ -28,32 +28,34 @@ pub fn book<R: CountedRead + Drop, A: Allocator + Copy, W: CountedWrite>(
     reader: R,
     out: &mut W,
 ) -> Result<bool, ToolFault>
-    ensures { ListsBook R.remaining R.failures W.contents W.failures locate (FromReader reader) out.old result out.new }
+    ensures { ListsBook R.remaining R.failures W.contents W.failures locate None (FromReader reader) out.old result out.new }
 {
     let mut reader = BlockReader::new(alloc, reader)?;
-    book_blocks(alloc, locate, &mut reader, out)
+    book_blocks(alloc, locate, None, &mut reader, out)
 }
 
-/// The same over a reader of blocks, which is left where the reading ended.
+/// The same over a reader of blocks, which is left where the reading ended, with `depth` prices of each side at most, if that is given.
 pub fn book_blocks<R: CountedRead, B: Allocator, A: Allocator + Copy, W: CountedWrite>(
     alloc: A,
     locate: u16,
+    depth: Option<u64>,
     reader: &mut BlockReader<R, B>,
     out: &mut W,
 ) -> Result<bool, ToolFault>
-    ensures { ListsBook R.remaining R.failures W.contents W.failures locate (FromBlocks reader.old reader.new) out.old result out.new }
+    ensures { ListsBook R.remaining R.failures W.contents W.failures locate depth (FromBlocks reader.old reader.new) out.old result out.new }
 {
-    book_over::<R, B, Book<A>, W>(alloc, locate, reader, out)
+    book_over::<R, B, Book<A>, W>(alloc, locate, depth, reader, out)
 }
 
 // The same with any book of orders.
 fn book_over<R: CountedRead, A: Allocator, B: OrderBook, W: CountedWrite>(
     alloc: B::Alloc,
     locate: u16,
+    depth: Option<u64>,
     reader: &mut BlockReader<R, A>,
     out: &mut W,
 ) -> Result<bool, ToolFault>
-    ensures { ListsBook R.remaining R.failures W.contents W.failures locate (FromBlocks reader.old reader.new) out.old result out.new }
+    ensures { ListsBook R.remaining R.failures W.contents W.failures locate depth (FromBlocks reader.old reader.new) out.old result out.new }
 {
     let market: Market<B> = day_market(alloc, reader, Source::Only)?;
     let Some(security) = market.security(locate) else {
@@ -61,7 +63,7 @@ fn book_over<R: CountedRead, A: Allocator, B: OrderBook, W: CountedWrite>(
     };
     let stock = security.entry.stock;
     stock.recall_invariant();
-    write_book(market.book(), locate, stock.text(), out)?;
+    write_book(market.book(), locate, depth, stock.text(), out)?;
     Ok(true)
 }
 
@@ -69,33 +71,61 @@ fn book_over<R: CountedRead, A: Allocator, B: OrderBook, W: CountedWrite>(
 fn write_book<B: OrderBook, W: CountedWrite>(
     book: &B,
     locate: u16,
+    depth: Option<u64>,
     stock: &str,
     out: &mut W,
 ) -> Result<(), ToolFault>
     requires { length stock.now ≤ 8 }
-    ensures { WritesText W.contents W.failures (book_lines locate stock.now (B.orders book.now)) out.old result out.new }
+    ensures { WritesText W.contents W.failures (book_lines locate depth stock.now (B.orders book.now)) out.old result out.new }
 {
     write_text(title_line(locate, stock).as_bytes(), out)?;
-    write_side(book, locate, Side::Buy, out)?;
-    write_side(book, locate, Side::Sell, out)
+    write_side(book, locate, depth, Side::Buy, out)?;
+    write_side(book, locate, depth, Side::Sell, out)
 }
 
-// Writes the line of each price of a side, the best price first.
+// Writes the line of each price of a side that is wanted, the best price first.
 fn write_side<B: OrderBook, W: CountedWrite>(
     book: &B,
     locate: u16,
+    depth: Option<u64>,
     side: Side,
     out: &mut W,
 ) -> Result<(), ToolFault>
-    ensures { WritesText W.contents W.failures (side_lines side (queue (B.orders book.now) locate side)) out.old result out.new }
+    ensures { WritesText W.contents W.failures (side_lines depth side (queue (B.orders book.now) locate side)) out.old result out.new }
 {
-    let mut last = None;
-    while let Some(price) = book.next_price(locate, side, last) {
+    let (mut last, mut left) = (None, depth);
+    while let Some(price) = next_wanted(book, locate, left, side, last) {
         let (shares, orders) = book.level_total(locate, side, price);
         write_text(level_line(side, price, shares, orders).as_bytes(), out)?;
         last = Some(price);
+        left = one_fewer(left);
     }
     Ok(())
+}
+
+// The price after this one, unless no more are wanted.
+fn next_wanted<B: OrderBook>(
+    book: &B,
+    locate: u16,
+    left: Option<u64>,
+    side: Side,
+    last: Option<u32>,
+) -> Option<u32>
+    ensures { result ≡ next_wanted left (next_price (B.orders book.now) locate side last) }
+{
+    match left {
+        Some(0) => None,
+        _ => book.next_price(locate, side, last),
+    }
+}
+
+fn one_fewer(left: Option<u64>) -> Option<u64>
+    ensures { result ≡ option_map (λ more. more - 1) left }
+{
+    match left {
+        Some(more) => Some(more.saturating_sub(1)),
+        None => None,
+    }
 }
 
 fn title_line(locate: u16, stock: &str) -> Line

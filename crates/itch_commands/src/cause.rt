@@ -1,10 +1,11 @@
-//! The system's error if a command failed at a file, at its output or at a socket.
+//! What the line of a fault does not say: the system's error if a command failed at a device, and how a peer broke the rules of a
+//! session.
 ghost use Rattle.std.specs.Prelude.{◌≡◌};
-ghost use Rattle.itch_commands.specs.Causes.{device_cause, stop_cause, snapshot_cause, cause_of};
+ghost use Rattle.itch_commands.specs.Causes.{device_cause, stop_cause, snapshot_cause, cause_of, peer_fault};
 
 use crate::fault::{Source, ToolFault};
 use itch_frame::FrameFault;
-use itch_market::Stop;
+use itch_market::{Refusal, Stop};
 use itch_snapshot::SnapFault;
 use itch_soup::SoupFault;
 use std::io;
@@ -49,6 +50,27 @@ impl ToolFault {
             }),
             ToolFault::Soup(SoupFault::Frame(fault)) => device_cause(Device::Socket, fault),
             _ => None,
+        }
+    }
+
+    /// How the peer of a session broke its rules: none if the fault's line says what happened, or if nothing of the kind did.
+    pub fn peer_fault(&self) -> Option<SoupFault>
+        ensures { result ≡ peer_fault self.now }
+    {
+        let ToolFault::Soup(fault) = self else {
+            return None;
+        };
+        match fault {
+            SoupFault::Rejected(_)
+            | SoupFault::EndedEarly
+            | SoupFault::Frame(FrameFault::Read(_) | FrameFault::Write { .. })
+            | SoupFault::Snapshot(
+                SnapFault::Rule {
+                    reason: Refusal::OutOfMemory,
+                    ..
+                },
+            ) => None,
+            _ => Some(*fault),
         }
     }
 }

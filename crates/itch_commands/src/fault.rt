@@ -21,13 +21,15 @@ pub enum Source {
     Second,
     /// The snapshot that a feed is joined to.
     Snapshot,
+    /// The file with the password of a login.
+    PasswordFile,
 }
 
 impl fmt::Display for Source {
     // The words before the reason of a fault.
     fn fmt<W: fmt::Write>(&self, f: &mut fmt::Formatter<W>) -> fmt::Result {
         f.write_str(match self {
-            Source::Only => "",
+            Source::Only | Source::PasswordFile => "",
             Source::First => "first: ",
             Source::Second => "second: ",
             Source::Snapshot => "snapshot: ",

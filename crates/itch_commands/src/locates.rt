@@ -1,13 +1,14 @@
 //! Lists of locates, as text.
-ghost use Rattle.std.specs.Prelude.{◌≡◌, ◌==◌, ◌||◌, ◌⊎◌, ℕ, IfOk, IfErr, MatchResult};
+ghost use Rattle.std.specs.Prelude.{◌≡◌, ◌≤◌, ◌||◌, ◌⊎◌, ℕ, IfOk, IfErr, MatchResult};
 ghost use Rattle.itch_market.specs.Wanted.{has};
-ghost use Rattle.itch_commands.specs.Locates.{IsLocate, ReadsLocates};
+ghost use Rattle.itch_commands.specs.Locates.{IsLocate, IsRange, is_in, ReadsLocates};
 
 use crate::fault::ToolFault;
 use itch_market::LocateSet;
 use std::alloc::Allocator;
 
-/// Reads a list of locates: one or more decimal numbers from 0 to 65535, separated by commas.
+/// Reads a list of locates: one or more of them, or of ranges of them such as `1-40`, separated by commas. A locate is a decimal
+/// number from 0 to 65535, and the second one of a range is no lower than the first.
 ///
 /// # Faults
 ///
@@ -25,15 +26,48 @@ pub fn read_locates<A: Allocator + Copy>(alloc: A, text: &str) -> Result<LocateS
     Ok(set)
 }
 
-// Reads one locate and inserts it.
+// Reads a locate or a range, and inserts what it is.
 fn insert<A: Allocator + Copy>(set: &mut LocateSet<A>, text: &str) -> Result<(), ToolFault>
-    ensures inserted { IfOk result (λ _. (locate : ℕ) × IsLocate text.now locate
-        × ((other : ℕ) → has set.new other ≡ (other == locate || has set.old other))) }
+    ensures inserted { IfOk result (λ _. (range : ℕ × ℕ) × IsRange text.now range
+        × ((locate : ℕ) → has set.new locate ≡ (is_in locate range || has set.old locate))) }
     ensures refused { IfErr result (λ fault. (fault ≡ ToolFault.OutOfMemory)
-        ⊎ ((fault ≡ ToolFault.BadLocates) × ((locate : ℕ) → ¬ (IsLocate text.now locate)))) }
+        ⊎ ((fault ≡ ToolFault.BadLocates) × ((range : ℕ × ℕ) → ¬ (IsRange text.now range)))) }
 {
-    set.insert(read_locate(text)?)?;
+    let (first, last) = read_range(text)?;
+    insert_range(set, first, last)
+}
+
+// Inserts the locates from the first to the last.
+fn insert_range<A: Allocator + Copy>(
+    set: &mut LocateSet<A>,
+    first: u16,
+    last: u16,
+) -> Result<(), ToolFault>
+    requires { first ≤ last }
+    ensures inserted { IfOk result (λ _. (locate : ℕ) → has set.new locate ≡ (is_in locate (first, last) || has set.old locate)) }
+    ensures refused { IfErr result (λ fault. fault ≡ ToolFault.OutOfMemory) }
+{
+    for locate in first..=last {
+        set.insert(locate)?;
+    }
     Ok(())
+}
+
+// Reads a locate, or a range of them. Returns the first and the last.
+fn read_range(text: &str) -> Result<(u16, u16), ToolFault>
+    ensures { MatchResult result (λ range. IsRange text.now range)
+        (λ fault. (fault ≡ ToolFault.BadLocates) × ((range : ℕ × ℕ) → ¬ (IsRange text.now range))) }
+{
+    let Some((low, high)) = text.split_once('-') else {
+        let locate = read_locate(text)?;
+        return Ok((locate, locate));
+    };
+    let first = read_locate(low)?;
+    let last = read_locate(high)?;
+    if first > last {
+        return Err(ToolFault::BadLocates);
+    }
+    Ok((first, last))
 }
 
 // Reads a locate. The bytes are tested first, since `parse` also accepts a leading plus sign.

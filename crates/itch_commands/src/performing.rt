@@ -29,7 +29,7 @@ pub fn perform<R: CountedRead, B: Allocator, A: Allocator + Copy, W: CountedWrit
         Request::Check { .. } => check_blocks(alloc, reader, out),
         Request::Show { .. } => show_blocks(reader, out),
         Request::Canon { check, .. } => canon_blocks(alloc, reader, check, out),
-        Request::Book { locate, .. } => book_blocks(alloc, locate, reader, out),
+        Request::Book { locate, depth, .. } => book_blocks(alloc, locate, depth, reader, out),
         Request::Compare { .. } | Request::Join { .. } => unreachable!(),
     }
 }

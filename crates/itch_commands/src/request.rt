@@ -31,9 +31,10 @@ pub enum Request<'a> {
         first: Option<&'a str>,
         second: Option<&'a str>,
     },
-    /// Write the price levels of a locate.
+    /// Write the price levels of a locate, or the first ones of each side.
     Book {
         locate: u16,
+        depth: Option<u64>,
         file: Option<&'a str>,
     },
     /// Join a feed to a snapshot, and write the snapshot after both; with a list, for its locates only.

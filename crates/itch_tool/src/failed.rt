@@ -3,6 +3,7 @@
 use itch_commands::Device;
 use itchsnap_cli::words::Job;
 use std::fmt;
+use std::net::SocketAddr;
 
 /// A device, with its name in the second line of a fault.
 #[derive(Drop)]
@@ -10,8 +11,10 @@ pub enum DeviceName<'a> {
     Path(&'a str),
     Input,
     Output,
-    /// A port of 127.0.0.1.
-    Port(u16),
+    /// Where a server listens.
+    Address(SocketAddr),
+    /// The host and the port of a server that a client connects to.
+    Server(&'a str, u16),
 }
 
 impl<'a> DeviceName<'a> {
@@ -22,10 +25,10 @@ impl<'a> DeviceName<'a> {
                 Some(path) => DeviceName::Path(path),
                 None => DeviceName::Input,
             },
-            (Some(job), Device::Socket) => match job.port() {
-                Some(port) => DeviceName::Port(port),
-                None => DeviceName::Output,
-            },
+            (Some(Job::Serve { address, .. }), Device::Socket) => DeviceName::Address(*address),
+            (Some(Job::Fetch { server, .. }), Device::Socket) => {
+                DeviceName::Server(server.host, server.port)
+            }
             _ => DeviceName::Output,
         }
     }
@@ -37,7 +40,10 @@ impl fmt::Display for DeviceName<'_> {
             DeviceName::Path(path) => f.write_str(path),
             DeviceName::Input => f.write_str("standard input"),
             DeviceName::Output => f.write_str("standard output"),
-            DeviceName::Port(port) => write!(f, "127.0.0.1:{port}"),
+            DeviceName::Address(address) => write!(f, "{address}"),
+            // The colons of an IPv6 address stand in brackets.
+            DeviceName::Server(host, port) if host.contains(':') => write!(f, "[{host}]:{port}"),
+            DeviceName::Server(host, port) => write!(f, "{host}:{port}"),
         }
     }
 }

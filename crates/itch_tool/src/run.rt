@@ -5,32 +5,43 @@ use crate::opened::open;
 use crate::sockets::{run_fetch, run_serve};
 use itch_commands::compare::compare_blocks;
 use itch_commands::join::join_blocks;
-use itch_commands::{Request, Source, ToolFault, perform, read_locates};
+use itch_commands::{Request, Source, ToolFault, perform, read_locates, system_fault};
 use itch_frame::{BlockReader, Buffered, Counted, CountedWrite};
 use itch_market::LocateSet;
 use itchsnap_cli::input::Progress;
 use itchsnap_cli::sessions::PIECE;
-use itchsnap_cli::words::Job;
+use itchsnap_cli::words::{Completions, Job, Shell};
 use std::alloc::{Allocator, Global};
 use std::io::{self, BufReader, BufWriter, Read, Write};
 use std::net::{Net, TcpListener, TcpStream};
 use std::rt::{Clock, Files};
 
 /// Performs the job, with its output on standard output. True is status 0, and false is status 1 with the output written.
-pub fn run<R>(rt: &R, job: Job<'_>) -> Result<bool, ToolFault>
+pub fn run<R>(rt: &R, job: &Job<'_>) -> Result<bool, ToolFault>
 where
     R: Files + Input + Print + Eprint + AllocGlobal + Clock,
     R: Net<Listener = TcpListener, Stream = TcpStream>,
 {
     match job {
-        Job::Files { request, progress } => run_request(rt, request, progress),
+        Job::Files { request, progress } => run_request(rt, *request, *progress),
         Job::Serve {
             file,
-            peer,
+            address,
+            login,
             count,
             progress,
-        } => run_serve(rt, file, peer, count, progress),
-        Job::Fetch(peer) => run_fetch(rt, peer),
+        } => run_serve(rt, *file, *address, login, *count, *progress),
+        Job::Fetch { server, login } => run_fetch(rt, server, login),
+        Job::Completions(shell) => print_completions(rt, *shell),
+    }
+}
+
+fn print_completions<R: Print + AllocGlobal>(rt: &R, shell: Shell) -> Result<bool, ToolFault> {
+    let completions = Completions::new(rt.alloc(), shell)?;
+    let script = format!(in rt.alloc(); "{completions}")?;
+    match rt.print(script.as_str()) {
+        Ok(()) => Ok(true),
+        Err(error) => Err(system_fault(error, ToolFault::Write(error))),
     }
 }
 

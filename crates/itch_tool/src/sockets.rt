@@ -1,20 +1,24 @@
-//! The two ends of a session on this machine.
+//! The two ends of a session over sockets.
 
 use crate::opened::open;
+use crate::password::read_password;
 use itch_commands::{Source, ToolFault, system_fault};
 use itch_frame::{BlockReader, Buffered, Counted};
 use itchsnap_cli::input::Progress;
 use itchsnap_cli::sessions::{Login, PIECE, fetch, serve_blocks};
-use itchsnap_cli::words::Peer;
+use itchsnap_cli::words::{LoginWords, Server};
 use std::io::{self, BufReader, BufWriter, Write};
-use std::net::{Ipv4Addr, Net, TcpListener, TcpStream};
+use std::net::{Net, SocketAddr, TcpListener, TcpStream, ToSocketAddrs};
 use std::rt::{Clock, Files};
+use std::time::Duration;
 
-/// Serves the market of a file, or of standard input, on a port of 127.0.0.1. The line of each connection is written once it has ended.
+/// Serves the market of a file, or of standard input, on a port of this machine. The line of each connection is written once it has
+/// ended.
 pub fn run_serve<R>(
     rt: &R,
     file: Option<&str>,
-    peer: Peer<'_>,
+    address: SocketAddr,
+    login: &LoginWords<'_>,
     count: u64,
     progress: bool,
 ) -> Result<bool, ToolFault>
@@ -22,7 +26,7 @@ where
     R: Files + Input + Print + Eprint + AllocGlobal + Clock,
     R: Net<Listener = TcpListener, Stream = TcpStream>,
 {
-    let login = Login::new(peer.user, peer.password)?;
+    let login = read_login(rt, login)?;
     let progress = if progress { Progress::begin(rt) } else { None };
     let file = open(rt, file, Source::Only, progress.as_ref())?;
     let Ok(buffered) = BufReader::with_capacity(rt.alloc(), PIECE, file) else {
@@ -30,16 +34,16 @@ where
     };
     let mut reader = BlockReader::new(rt.alloc(), Buffered::new(buffered))?;
     let mut out = Counted::new(io::writer(rt));
-    serve_blocks(rt, &mut reader, peer.port, &login.config(), count, &mut out)
+    serve_blocks(rt, &mut reader, address, &login.config(), count, &mut out)
 }
 
-/// Fetches the snapshot that a server on a port of 127.0.0.1 has. It waits until the server answers.
-pub fn run_fetch<R>(rt: &R, peer: Peer<'_>) -> Result<bool, ToolFault>
+/// Fetches the snapshot that a server has. It waits until the server answers, unless there is a time limit.
+pub fn run_fetch<R>(rt: &R, server: &Server<'_>, login: &LoginWords<'_>) -> Result<bool, ToolFault>
 where
-    R: Print + AllocGlobal + Net<Stream = TcpStream>,
+    R: Files + Print + AllocGlobal + Net<Stream = TcpStream>,
 {
-    let login = Login::new(peer.user, peer.password)?;
-    let stream = connect(rt, peer.port)?;
+    let login = read_login(rt, login)?;
+    let stream = connect(rt, server)?;
     let Ok(buffered) = BufReader::with_capacity(rt.alloc(), PIECE, &stream) else {
         return Err(ToolFault::OutOfMemory);
     };
@@ -53,7 +57,7 @@ where
         rt.alloc(),
         &mut reader,
         &mut writer,
-        &login.credentials(),
+        &login.credentials(server.session),
         &mut out,
     )?;
     match out.into_inner().flush() {
@@ -62,13 +66,52 @@ where
     }
 }
 
-// Connects to a server, for a login that is sent at once: nothing follows it that it could wait for.
-fn connect<N: Net<Stream = TcpStream>>(net: &N, port: u16) -> Result<TcpStream, ToolFault> {
-    match TcpStream::connect(net, (Ipv4Addr::LOCALHOST, port)) {
-        Ok(stream) => match stream.set_nodelay(true) {
-            Ok(()) => Ok(stream),
-            Err(error) => Err(ToolFault::Socket(error)),
-        },
+fn read_login<R: Files + AllocGlobal>(rt: &R, login: &LoginWords<'_>) -> Result<Login, ToolFault> {
+    let password = read_password(rt, login.password)?;
+    Login::new(login.user, password.as_str())
+}
+
+fn connect<N: Net<Stream = TcpStream>>(
+    net: &N,
+    server: &Server<'_>,
+) -> Result<TcpStream, ToolFault> {
+    match connect_as_told(net, server) {
+        Ok(stream) => Ok(stream),
         Err(error) => Err(system_fault(error, ToolFault::Socket(error))),
     }
+}
+
+// Connects to a server, for a login that is sent at once: nothing follows it that it could wait for.
+fn connect_as_told<N: Net<Stream = TcpStream>>(
+    net: &N,
+    server: &Server<'_>,
+) -> io::Result<TcpStream> {
+    let address = (server.host, server.port);
+    let Some(seconds) = server.timeout else {
+        let stream = TcpStream::connect(net, address)?;
+        stream.set_nodelay(true)?;
+        return Ok(stream);
+    };
+    let limit = Duration::from_secs(seconds);
+    let stream = connect_within(net, address, limit)?;
+    stream.set_nodelay(true)?;
+    stream.set_read_timeout(Some(limit))?;
+    stream.set_write_timeout(Some(limit))?;
+    Ok(stream)
+}
+
+// Tries each address of a host in turn, for so long each. Returns the last error where none answers.
+fn connect_within<N: Net<Stream = TcpStream>>(
+    net: &N,
+    address: (&str, u16),
+    limit: Duration,
+) -> io::Result<TcpStream> {
+    let mut last = io::Error::from(io::ErrorKind::NotFound);
+    for address in address.to_socket_addrs(net)? {
+        match TcpStream::connect_timeout(net, &address, limit) {
+            Ok(stream) => return Ok(stream),
+            Err(error) => last = error,
+        }
+    }
+    Err(last)
 }

@@ -6,3 +6,4 @@ pub mod Sessions
 pub mod Sides
 pub mod Tallies
 pub mod Watches
+pub mod Packings

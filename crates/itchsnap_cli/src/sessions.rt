@@ -1,5 +1,5 @@
-//! The two ends of a SoupBinTCP 3.00 session over this machine's sockets: a market served, and a snapshot fetched. What the two ends
-//! say to each other is `itch_soup`'s.
+//! The two ends of a SoupBinTCP 3.00 session over sockets: a market served, and a snapshot fetched. What the two ends say to each
+//! other is `itch_soup`'s.
 //!
 //! [`serve_blocks`] reads a day file and serves the snapshot of its market to one connection after another, with a line for each:
 //! the clauses say what is served and how each connection ended, in terms of what its socket gave and took. No peer keeps the
@@ -9,7 +9,7 @@
 //! ```
 //! let login = Login::new("desk", "secret")?;
 //! assert_eq!(login.config().session.text(), "ITCHSNAP");
-//! assert_eq!(login.credentials().username.text(), "desk");
+//! assert_eq!(login.credentials(Alpha::from_text("")?).username.text(), "desk");
 //! ```
 
 mod connection;
@@ -23,7 +23,7 @@ mod serve;
 pub use connection::{PIECE, serve_peer, serve_stream};
 pub use ending::{Ending, write_ending};
 pub use fetching::fetch;
-pub use login::Login;
+pub use login::{Login, first_line};
 pub use patient::{Patient, time_left};
 pub use sending::Sending;
 pub use serve::{Listening, serve_blocks, serve_on};

@@ -1,5 +1,6 @@
 //! The examples of the crates' pages, run.
 
+use itch_codec::Alpha;
 use itchsnap_cli::input::Tally;
 use itchsnap_cli::sessions::Login;
 use std::test::Fail;
@@ -15,9 +16,9 @@ fn whole_messages_are_counted(rt: HostRuntime) -> Result<(), Fail> {
 
 #[test]
 fn a_login_is_for_both_ends(rt: HostRuntime) {
-    let Ok(login) = Login::new("desk", "secret") else {
+    let (Ok(login), Ok(any)) = (Login::new("desk", "secret"), Alpha::from_text("")) else {
         panic!(rt; "a login");
     };
     assert_eq!(rt; login.config().session.text(), "ITCHSNAP");
-    assert_eq!(rt; login.credentials().username.text(), "desk");
+    assert_eq!(rt; login.credentials(any).username.text(), "desk");
 }

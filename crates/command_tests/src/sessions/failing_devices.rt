@@ -1,7 +1,7 @@
 //! The write of each byte of a fetched snapshot failing, with no buffer before it, and the flush of an answer.
 use crate::equal::{same, same_in};
 use itch_book::OrderBook;
-use itch_codec::Seq;
+use itch_codec::{Alpha, Seq};
 use itch_commands::{Book, status};
 use itch_frame::testing::{FuseWriter, PieceReader};
 use itch_frame::{BlockReader, CountedRead};
@@ -38,7 +38,10 @@ fn login(rt: &impl Abort) -> Login {
 }
 
 fn credentials(rt: &impl Abort) -> Credentials {
-    login(rt).credentials()
+    let Ok(any) = Alpha::from_text("") else {
+        panic!(rt; "a session");
+    };
+    login(rt).credentials(any)
 }
 
 // A fetch over these devices fails with status 3.

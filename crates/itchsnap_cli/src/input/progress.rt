@@ -21,6 +21,8 @@ pub struct Amount {
     pub bytes: u64,
     pub messages: u64,
     pub elapsed: Duration,
+    /// How many bytes the files have, if that is known of each.
+    pub total: Option<u64>,
 }
 
 impl fmt::Display for Amount {
@@ -32,7 +34,22 @@ impl fmt::Display for Amount {
         } = self;
         // Bytes in a microsecond are megabytes in a second.
         let rate = u128::from(*bytes) / self.elapsed.as_micros().max(1);
-        write!(f, "{bytes} bytes, {messages} messages, {rate:>5} MB/s")
+        write!(f, "{bytes} bytes, {messages} messages, {rate:>5} MB/s")?;
+        match self.left() {
+            Some((share, seconds)) => write!(f, ", {share:>3} %, {seconds} s left"),
+            None => Ok(()),
+        }
+    }
+}
+
+impl Amount {
+    // The per cent that were read, and the seconds that the rest will take at the same rate, if there is a rest.
+    fn left(&self) -> Option<(u128, u128)> {
+        let total = self.total?;
+        let (bytes, rest) = (u128::from(self.bytes), total.checked_sub(self.bytes)?);
+        let share = bytes * 100 / u128::from(total).max(1);
+        let micros = self.elapsed.as_micros().saturating_mul(u128::from(rest)) / bytes.max(1);
+        Some((share, micros / 1_000_000))
     }
 }
 
@@ -45,6 +62,7 @@ pub struct Progress<'a, R: Eprint> {
     begun: Instant,
     bytes: Cell<u64>,
     messages: Cell<u64>,
+    total: Cell<Option<u64>>,
     is_open: Cell<bool>,
 }
 
@@ -57,6 +75,7 @@ impl<'a, R: Eprint + Clock> Progress<'a, R> {
             begun,
             bytes: Cell::new(0),
             messages: Cell::new(0),
+            total: Cell::new(Some(0)),
             is_open: Cell::new(false),
         })
     }
@@ -82,9 +101,21 @@ impl<'a, R: Eprint + Clock> Progress<'a, R> {
             bytes: self.bytes.get(),
             messages: self.messages.get(),
             elapsed,
+            total: self.total.get(),
         };
         let _ = eprint!(self.rt; "\r{amount}");
         self.is_open.set(true);
+    }
+}
+
+impl<R: Eprint> Progress<'_, R> {
+    /// Another file will be read, of this size, if it is known.
+    pub fn add_file(&self, size: Option<u64>) {
+        let total = match (self.total.get(), size) {
+            (Some(total), Some(size)) => total.checked_add(size),
+            _ => None,
+        };
+        self.total.set(total);
     }
 }
 
@@ -95,6 +126,7 @@ impl<R: Eprint> Drop for Progress<'_, R> {
             begun: _,
             bytes: _,
             messages: _,
+            total: _,
             is_open,
         } = self;
         end_line(rt, &is_open);

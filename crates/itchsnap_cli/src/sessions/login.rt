@@ -1,5 +1,6 @@
 //! The user name and the password of the command line.
-ghost use Rattle.std.specs.Prelude.{◌≡◌, ◌↔◌, IsSome, IfSome, [], codes};
+ghost use Rattle.std.specs.Prelude.{◌≡◌, ◌==◌, ◌↔◌, IsSome, IfSome, codes};
+ghost use Rattle.std.specs.List.{before_first};
 ghost use Rattle.itch_codec.specs.Text.{padded_to};
 ghost use Rattle.itchsnap_cli.specs.Logins.{IsWord, ReadsLogin};
 
@@ -52,17 +53,27 @@ impl Login {
         }
     }
 
-    /// What a client logs in with, for whichever session is served.
-    pub fn credentials(&self) -> Credentials
+    /// What a client logs in with, for this session, or for whichever is served if it is blank.
+    pub fn credentials(&self, session: Alpha<10>) -> Credentials
         ensures username { result.username ≡ self.now.username }
         ensures password { result.password ≡ self.now.password }
-        ensures session { result.session ≡ padded_to 10 [] }
+        ensures session { result.session ≡ session }
     {
         Credentials {
             username: self.username,
             password: self.password,
-            session: Alpha::from_text("").unwrap(),
+            session,
         }
+    }
+}
+
+/// The first line of a text, without its line feed.
+pub fn first_line(text: &str) -> &str
+    ensures { result.now ≡ before_first (λ byte. byte == 10) text.now }
+{
+    match text.split_once('\n') {
+        Some((line, _)) => line,
+        None => text,
     }
 }
 

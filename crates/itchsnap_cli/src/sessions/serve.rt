@@ -17,18 +17,18 @@ use itch_soup::ServerConfig;
 use std::alloc::{Alloc, Allocator};
 use std::fmt::{self, Display, Formatter};
 use std::io;
-use std::net::{Ipv4Addr, Net, OpenListener, OpenStream, TcpListener};
+use std::net::{Net, OpenListener, OpenStream, SocketAddr, TcpListener};
 use std::rt::Clock;
 
-/// Serves the market of a day file on a port of 127.0.0.1, as [`serve_on`] does: the snapshot after all of its messages. A line
-/// on standard error says when the port is listened on.
+/// Serves the market of a day file on a port of this machine, as [`serve_on`] does: the snapshot after all of its messages. The
+/// port 0 is a free one. A line on standard error says when the port is listened on, and which it is.
 ///
 /// If the file is refused, or its snapshot has too many messages (`TooMany`), nothing is served. `Socket` if the port cannot be
 /// listened on.
 pub fn serve_blocks<R, F: CountedRead, D: Allocator, A: Allocator + Copy, W: CountedWrite>(
     rt: &R,
     reader: &mut BlockReader<F, D>,
-    port: u16,
+    address: SocketAddr,
     config: &ServerConfig,
     count: u64,
     out: &mut W,
@@ -37,7 +37,7 @@ where
     R: Clock + Eprint + Alloc<A = A> + Net,
     ensures { ServesDay R.Stream.remaining R.Stream.contents W.contents W.failures (ReadsDay F.remaining F.failures Only None reader.old reader.new) config.now count out.old result out.new }
 {
-    serve_over::<R, F, D, Book<A>, W>(rt, rt.alloc(), reader, port, config, count, out)
+    serve_over::<R, F, D, Book<A>, W>(rt, rt.alloc(), reader, address, config, count, out)
 }
 
 // The same with any book of orders.
@@ -45,7 +45,7 @@ fn serve_over<R, F: CountedRead, D: Allocator, B: OrderBook, W: CountedWrite>(
     rt: &R,
     alloc: B::Alloc,
     reader: &mut BlockReader<F, D>,
-    port: u16,
+    address: SocketAddr,
     config: &ServerConfig,
     count: u64,
     out: &mut W,
@@ -59,7 +59,7 @@ where
     let Some(next) = Seq::new(read + 1) else {
         unreachable!()
     };
-    serve_market(rt, &market, next, port, config, count, out)
+    serve_market(rt, &market, next, address, config, count, out)
 }
 
 // Serves a market on a port, if its snapshot has room for the End of Snapshot.
@@ -67,7 +67,7 @@ fn serve_market<R, B: OrderBook, W: CountedWrite>(
     rt: &R,
     market: &Market<B>,
     next: Seq,
-    port: u16,
+    address: SocketAddr,
     config: &ServerConfig,
     count: u64,
     out: &mut W,
@@ -79,31 +79,38 @@ where
     if snapshot_len(market) >= u128::from(MOST_MESSAGES) {
         return Err(ToolFault::TooMany);
     }
-    let listener = listen(rt, port)?;
+    let listener = listen(rt, address)?;
     serve_on(rt, &listener, market, next, config, count, out)
 }
 
 // Listens on a port, and says so.
-fn listen<N: Net + Eprint>(net: &N, port: u16) -> Result<N::Listener, ToolFault>
+fn listen<N: Net + Eprint>(net: &N, address: SocketAddr) -> Result<N::Listener, ToolFault>
     ensures { IfErr result IsUnserved }
 {
-    match TcpListener::bind(net, (Ipv4Addr::LOCALHOST, port)) {
-        Ok(listener) => {
-            let _ = net.eprintln(&Listening(port));
+    match bind(net, address) {
+        Ok((listener, address)) => {
+            let _ = net.eprintln(&Listening(address));
             Ok(listener)
         }
         Err(error) => Err(system_fault(error, ToolFault::Socket(error))),
     }
 }
 
+// Binds a port. Returns its address too, since the port 0 becomes another one.
+fn bind<N: Net>(net: &N, address: SocketAddr) -> io::Result<(N::Listener, SocketAddr)> {
+    let listener = TcpListener::bind(net, address)?;
+    let address = listener.local_addr()?;
+    Ok((listener, address))
+}
+
 /// The line that reports that the server listens on a port, without its line feed.
 #[derive(Clone, Copy, Debug)]
-pub struct Listening(pub u16);
+pub struct Listening(pub SocketAddr);
 
 impl Display for Listening {
     fn fmt<W: fmt::Write>(&self, f: &mut Formatter<W>) -> fmt::Result {
-        let port = self.0;
-        write!(f, "listening on 127.0.0.1:{port}")
+        let address = self.0;
+        write!(f, "listening on {address}")
     }
 }
 

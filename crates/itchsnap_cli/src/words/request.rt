@@ -29,7 +29,7 @@ pub fn read_request<'a>(alloc: Global, matches: &ArgMatches<'a>) -> Result<Reque
 }
 
 fn read_snap<'a>(alloc: Global, options: &ArgMatches<'a>) -> Result<Request<'a>, Error> {
-    let after = read_after(alloc, options)?;
+    let after = read_count(alloc, options, "after", "--after takes decimal digits")?;
     Ok(Request::Snap {
         file: read_path(options, "FILE"),
         after,
@@ -71,21 +71,28 @@ pub fn read_path<'a>(options: &ArgMatches<'a>, name: &str) -> Option<&'a str> {
 
 fn read_book<'a>(alloc: Global, options: &ArgMatches<'a>) -> Result<Request<'a>, Error> {
     let locate = read_locate(alloc, options)?;
+    let depth = read_count(alloc, options, "depth", "--depth takes decimal digits")?;
     Ok(Request::Book {
         locate,
+        depth,
         file: read_path(options, "FILE"),
     })
 }
 
-// The number after `--after`, in decimal digits alone.
-fn read_after<'a>(alloc: Global, options: &ArgMatches<'a>) -> Result<Option<u64>, Error> {
-    let Some(text) = options.get_str("after") else {
+/// The number after an option, if it is given, in decimal digits alone; otherwise the usage fault is this one.
+pub fn read_count<'a>(
+    alloc: Global,
+    options: &ArgMatches<'a>,
+    name: &str,
+    fault: &str,
+) -> Result<Option<u64>, Error> {
+    let Some(text) = options.get_str(name) else {
         return Ok(None);
     };
     if !text.bytes().all(|byte| byte.is_ascii_digit()) {
-        return Err(usage_fault(alloc, "--after takes decimal digits")?);
+        return Err(usage_fault(alloc, fault)?);
     }
-    Ok(options.get_one::<u64>("after"))
+    Ok(options.get_one::<u64>(name))
 }
 
 // The locate of a book, in decimal digits alone.

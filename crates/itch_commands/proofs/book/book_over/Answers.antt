@@ -17,7 +17,7 @@ returns-in_err-write_book g c =
       (read.0, stock),
       listed c.args.locate read.0 c.in_ok-market.market read.3 (ReadsDay g.R.CountedRead.remaining g.R.CountedRead.failures Only None c.args.reader.now c.day_market.new.reader)
           c.in-Some.security.now stock read.1 c.in-Some.ensures text,
-      lines_left c.args.locate read.0 c.in_ok-market.market read.3 g.W.CountedWrite.contents g.W.CountedWrite.failures stock _ c.args.out.now c.write_book.new.out (Err c.in_err-write_book.field-0.0)
+      lines_left c.args.locate read.0 c.in_ok-market.market read.3 g.W.CountedWrite.contents g.W.CountedWrite.failures c.args.depth stock _ c.args.out.now c.write_book.new.out (Err c.in_err-write_book.field-0.0)
           read.2 read.1.0 c.book.ensures.orders c.in_err-write_book.ensures,
     ))
 
@@ -32,7 +32,7 @@ returns g c =
           c.in-Some.security.now stock read.1 c.in-Some.ensures text,
       (
         refl,
-        lines_left c.args.locate read.0 c.in_ok-market.market read.3 g.W.CountedWrite.contents g.W.CountedWrite.failures stock _ c.args.out.now c.write_book.new.out (Ok tt)
+        lines_left c.args.locate read.0 c.in_ok-market.market read.3 g.W.CountedWrite.contents g.W.CountedWrite.failures c.args.depth stock _ c.args.out.now c.write_book.new.out (Ok tt)
             read.2 read.1.0 c.book.ensures.orders c.in_ok-write_book.ensures,
       ),
     )

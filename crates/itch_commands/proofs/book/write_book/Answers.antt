@@ -13,8 +13,8 @@ returns-in_err-write_side g c =
     let contents = g.W.CountedWrite.contents in
     let failures = g.W.CountedWrite.failures in
     let title : List ℕ = title_line c.args.locate c.args.stock.now in
-    let bids : List ℕ = side_lines Buy (queue (g.B.OrderBook.orders c.args.book.now) c.args.locate Buy) in
-    let asks : List ℕ = side_lines Sell (queue (g.B.OrderBook.orders c.args.book.now) c.args.locate Sell) in
+    let bids : List ℕ = side_lines c.args.depth Buy (queue (g.B.OrderBook.orders c.args.book.now) c.args.locate Buy) in
+    let asks : List ℕ = side_lines c.args.depth Sell (queue (g.B.OrderBook.orders c.args.book.now) c.args.locate Sell) in
     rw (p.1, p.2) (text_then contents failures title (bids ++ asks) c.args.out.now c.write_text.new.out c.write_side.new.out (Err c.in_err-write_side.field-0.0)
     (subst (λ text. WritesText contents failures text c.args.out.now (Ok tt) c.write_text.new.out) (c.as_bytes.ensures.bytes ∙ c.title_line.ensures) c.in_ok-write_text.ensures)
     (text_fails contents failures bids asks c.write_text.new.out c.write_side.new.out c.in_err-write_side.field-0.0 c.in_err-write_side.ensures))
@@ -24,8 +24,8 @@ returns g c =
     let contents = g.W.CountedWrite.contents in
     let failures = g.W.CountedWrite.failures in
     let title : List ℕ = title_line c.args.locate c.args.stock.now in
-    let bids : List ℕ = side_lines Buy (queue (g.B.OrderBook.orders c.args.book.now) c.args.locate Buy) in
-    let asks : List ℕ = side_lines Sell (queue (g.B.OrderBook.orders c.args.book.now) c.args.locate Sell) in
+    let bids : List ℕ = side_lines c.args.depth Buy (queue (g.B.OrderBook.orders c.args.book.now) c.args.locate Buy) in
+    let asks : List ℕ = side_lines c.args.depth Sell (queue (g.B.OrderBook.orders c.args.book.now) c.args.locate Sell) in
     text_then contents failures title (bids ++ asks) c.args.out.now c.write_text.new.out c.write_side-2.new.out c.write_side-2.result
     (subst (λ text. WritesText contents failures text c.args.out.now (Ok tt) c.write_text.new.out) (c.as_bytes.ensures.bytes ∙ c.title_line.ensures) c.in_ok-write_text.ensures)
     (text_then contents failures bids asks c.write_text.new.out c.write_side.new.out c.write_side-2.new.out c.write_side-2.result

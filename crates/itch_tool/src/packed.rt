@@ -1,0 +1,94 @@
+//! What to do with a file that is compressed, or of captured packets.
+
+use itch_commands::{Request, Source, ToolFault};
+use itchsnap_cli::input::{MOST_MAGIC, Packing};
+use itchsnap_cli::words::Job;
+use std::io::Read;
+use std::rt::Files;
+use std::{fmt, fs};
+
+/// A file that is no day file, but may have one inside. `Display` says what it is, and how to read it.
+#[derive(Drop)]
+pub struct PackedFile<'a> {
+    path: &'a str,
+    packing: Packing,
+    words: &'static str,
+}
+
+/// The file that a fault is of, if its first bytes are those of a packed one.
+pub fn packed_file<'a, R: Files>(
+    rt: &R,
+    job: &Job<'a>,
+    fault: &ToolFault,
+) -> Option<PackedFile<'a>> {
+    let source = source_of(fault)?;
+    let path = job.file(source)?;
+    Some(PackedFile {
+        path,
+        packing: packing(rt, path)?,
+        words: words(job, source),
+    })
+}
+
+// The file that is refused. It need not be for its first message: that may be one that is not decoded.
+fn source_of(fault: &ToolFault) -> Option<Source> {
+    match fault {
+        ToolFault::Stopped { file, .. } | ToolFault::Snap { file, .. } => Some(*file),
+        _ => None,
+    }
+}
+
+// The form that the first bytes of a file tell. A pipe is not opened again.
+fn packing<R: Files>(rt: &R, path: &str) -> Option<Packing> {
+    if !fs::metadata(rt, path).ok()?.is_file() {
+        return None;
+    }
+    let mut bytes = [0; MOST_MAGIC];
+    let mut file = fs::open(rt, path).ok()?;
+    file.read_exact(&mut bytes).ok()?;
+    Packing::of(&bytes)
+}
+
+// The words of a command that reads this file from standard input.
+fn words(job: &Job<'_>, source: Source) -> &'static str {
+    let Job::Files { request, .. } = job else {
+        return "serve - ..";
+    };
+    match (request, source) {
+        (Request::Snap { .. }, _) => "snap",
+        (Request::Check { .. }, _) => "check",
+        (Request::Show { .. }, _) => "show",
+        (Request::Canon { check: true, .. }, _) => "canon --check",
+        (Request::Canon { check: false, .. }, _) => "canon",
+        (Request::Book { .. }, _) => "book ..",
+        (Request::Compare { .. }, Source::Second) => "compare .. -",
+        (Request::Compare { .. }, _) => "compare - ..",
+        (Request::Join { .. }, Source::Snapshot) => "join - ..",
+        (Request::Join { .. }, _) => "join .. -",
+    }
+}
+
+impl fmt::Display for PackedFile<'_> {
+    fn fmt<W: fmt::Write>(&self, f: &mut fmt::Formatter<W>) -> fmt::Result {
+        let PackedFile {
+            path,
+            packing,
+            words,
+        } = self;
+        let (form, reader) = match packing {
+            Packing::Gzip => ("a gzip", "zcat"),
+            Packing::Zstd => ("a zstd", "zstdcat"),
+            Packing::Xz => ("an xz", "xzcat"),
+            Packing::Capture => {
+                return write!(
+                    f,
+                    "{path}: this is a file of captured packets: extract its messages first"
+                );
+            }
+        };
+        write!(
+            f,
+            "{path}: this is {form} file: {reader} {path} | itchsnap {words}"
+        )
+    }
+}

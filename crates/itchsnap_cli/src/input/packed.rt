@@ -1,0 +1,46 @@
+//! Files that hold a day file in another form, which their first bytes tell.
+ghost use Rattle.std.specs.Prelude.{◌≡◌};
+ghost use Rattle.itchsnap_cli.specs.Packings.{is_capture, packing_of};
+
+/// How many of a file's first bytes [`Packing::of`] looks at.
+pub const MOST_MAGIC: usize = 6;
+
+/// The form of a file that is no day file, but may have one inside.
+#[derive(Clone, Copy, Debug, PartialEq, Eq)]
+pub enum Packing {
+    Gzip,
+    Zstd,
+    Xz,
+    /// Packets that were captured, in the form of pcap or of pcapng.
+    Capture,
+}
+
+impl Packing {
+    /// The form of a file that begins with these bytes, if it is one of those.
+    pub fn of(beginning: &[u8]) -> Option<Packing>
+        ensures { result ≡ packing_of beginning.now }
+    {
+        if beginning.starts_with(&[0x1f, 0x8b]) {
+            Some(Packing::Gzip)
+        } else if beginning.starts_with(&[0x28, 0xb5, 0x2f, 0xfd]) {
+            Some(Packing::Zstd)
+        } else if beginning.starts_with(&[0xfd, 0x37, 0x7a, 0x58, 0x5a, 0x00]) {
+            Some(Packing::Xz)
+        } else if is_capture(beginning) {
+            Some(Packing::Capture)
+        } else {
+            None
+        }
+    }
+}
+
+// The magic numbers of pcap, in microseconds and in nanoseconds, of either byte order, and that of pcapng.
+fn is_capture(beginning: &[u8]) -> bool
+    ensures { result ≡ is_capture beginning.now }
+{
+    beginning.starts_with(&[0xa1, 0xb2, 0xc3, 0xd4])
+        || beginning.starts_with(&[0xd4, 0xc3, 0xb2, 0xa1])
+        || beginning.starts_with(&[0xa1, 0xb2, 0x3c, 0x4d])
+        || beginning.starts_with(&[0x4d, 0x3c, 0xb2, 0xa1])
+        || beginning.starts_with(&[0x0a, 0x0d, 0x0d, 0x0a])
+}

@@ -1,0 +1,211 @@
+//! The arguments of the commands: files, numbers, lists, flags, and the parts of a session.
+
+use clap::{Arg, ArgAction};
+use std::alloc::Global;
+
+/// The greatest number that `--after` and `--depth` take.
+const MOST_COUNTED: i64 = 999_999_999_999;
+
+/// The longest time that `--timeout` takes: a day.
+const MOST_SECONDS: i64 = 86_400;
+
+/// What a command takes: a file, a number, a list, a flag, or a part of a session.
+#[derive(Clone, Copy)]
+pub enum Argument {
+    File,
+    After,
+    Only,
+    Progress,
+    // The files of `compare`.
+    First,
+    Second,
+    // The file of `canon`, and its flag.
+    Snapshot,
+    Check,
+    // The files of `join`.
+    Joined,
+    Feed,
+    // What `book` prints.
+    Locate,
+    Depth,
+    // The file of `serve`, which has to be named, and where it listens.
+    Served,
+    Count,
+    Bind,
+    ListenedPort,
+    // The server of `fetch`.
+    Host,
+    Port,
+    Session,
+    Timeout,
+    // The login of both.
+    User,
+    Password,
+    PasswordFile,
+    Shell,
+}
+
+impl Argument {
+    /// The argument, as the command line has it.
+    pub fn arg<'a>(self, alloc: Global) -> Arg<'a> {
+        match self {
+            Argument::File => file(alloc),
+            Argument::After => after(alloc),
+            Argument::Only => only(alloc),
+            Argument::Progress => progress(alloc),
+            Argument::First => named(alloc, "A", "The first file; `-` for standard input"),
+            Argument::Second => named(alloc, "B", "The second file, or `-`"),
+            Argument::Snapshot => snapshot(alloc),
+            Argument::Check => only_check(alloc),
+            Argument::Joined => named(
+                alloc,
+                "SNAP",
+                "The snapshot, read up to its End of Snapshot; `-` for standard input",
+            ),
+            Argument::Feed => named(alloc, "FEED", "The feed, from its first message on, or `-`"),
+            Argument::Locate => locate(alloc),
+            Argument::Depth => depth(alloc),
+            Argument::Served => named(
+                alloc,
+                "FILE",
+                "The day file whose market is served; `-` for standard input",
+            ),
+            Argument::Count => count(alloc),
+            Argument::Bind => bind(alloc),
+            Argument::ListenedPort => port(alloc, "The port to listen on; 0 takes a free one", 0),
+            Argument::Host => host(alloc),
+            Argument::Port => port(alloc, "The port of the server", 1),
+            Argument::Session => session(alloc),
+            Argument::Timeout => timeout(alloc),
+            Argument::User => user(alloc),
+            Argument::Password => password(alloc),
+            Argument::PasswordFile => password_file(alloc),
+            Argument::Shell => named(alloc, "SHELL", "The shell: bash, zsh or fish"),
+        }
+    }
+}
+
+fn after<'a>(alloc: Global) -> Arg<'a> {
+    Arg::new(alloc, "after")
+        .long("after")
+        .value_name("N")
+        .help("Stop after the first N messages")
+        .value_parser(clap::value_parser!(u64).range(0..=MOST_COUNTED))
+}
+
+fn snapshot<'a>(alloc: Global) -> Arg<'a> {
+    Arg::new(alloc, "SNAP").help("The snapshot to read; standard input if it is `-` or left out")
+}
+
+fn only_check<'a>(alloc: Global) -> Arg<'a> {
+    Arg::new(alloc, "check")
+        .long("check")
+        .help("Only report whether the snapshot is in canonical form")
+        .action(ArgAction::SetTrue)
+}
+
+fn locate<'a>(alloc: Global) -> Arg<'a> {
+    Arg::new(alloc, "LOCATE")
+        .help("The locate, 0 to 65535")
+        .required(true)
+        .value_parser(clap::value_parser!(u16))
+}
+
+fn depth<'a>(alloc: Global) -> Arg<'a> {
+    Arg::new(alloc, "depth")
+        .long("depth")
+        .value_name("N")
+        .help("Print the best N prices of each side")
+        .value_parser(clap::value_parser!(u64).range(0..=MOST_COUNTED))
+}
+
+fn only<'a>(alloc: Global) -> Arg<'a> {
+    Arg::new(alloc, "only")
+        .long("only")
+        .value_name("LIST")
+        .help("Keep only these locates, such as 1-40,77")
+}
+
+fn progress<'a>(alloc: Global) -> Arg<'a> {
+    Arg::new(alloc, "progress")
+        .long("progress")
+        .help("Show every 64 MiB, on standard error, how much was read so far")
+        .action(ArgAction::SetTrue)
+}
+
+fn named<'a>(alloc: Global, name: &'a str, help: &'a str) -> Arg<'a> {
+    Arg::new(alloc, name).help(help).required(true)
+}
+
+fn file<'a>(alloc: Global) -> Arg<'a> {
+    Arg::new(alloc, "FILE").help("The file to read; standard input if it is `-` or left out")
+}
+
+fn count<'a>(alloc: Global) -> Arg<'a> {
+    Arg::new(alloc, "count")
+        .long("count")
+        .value_name("N")
+        .required(true)
+        .help("Serve N connections, one after another")
+        .value_parser(clap::value_parser!(u64).range(1..=1_000_000))
+}
+
+fn bind<'a>(alloc: Global) -> Arg<'a> {
+    Arg::new(alloc, "bind")
+        .long("bind")
+        .value_name("ADDRESS")
+        .help("The IPv4 or IPv6 address to listen on, if not 127.0.0.1")
+}
+
+fn host<'a>(alloc: Global) -> Arg<'a> {
+    Arg::new(alloc, "host")
+        .long("host")
+        .value_name("HOST")
+        .help("The name or the address of the server, if not 127.0.0.1")
+}
+
+fn port<'a>(alloc: Global, help: &'a str, least: i64) -> Arg<'a> {
+    Arg::new(alloc, "port")
+        .long("port")
+        .value_name("P")
+        .required(true)
+        .help(help)
+        .value_parser(clap::value_parser!(u64).range(least..=65_535))
+}
+
+fn session<'a>(alloc: Global) -> Arg<'a> {
+    Arg::new(alloc, "session")
+        .long("session")
+        .value_name("S")
+        .help("The session, 1 to 10 printable characters, if not the current one")
+}
+
+fn timeout<'a>(alloc: Global) -> Arg<'a> {
+    Arg::new(alloc, "timeout")
+        .long("timeout")
+        .value_name("SECONDS")
+        .help("Give up if the server is silent for so long, 1 to 86400")
+        .value_parser(clap::value_parser!(u64).range(1..=MOST_SECONDS))
+}
+
+fn user<'a>(alloc: Global) -> Arg<'a> {
+    Arg::new(alloc, "user")
+        .long("user")
+        .value_name("U")
+        .required(true)
+        .help("The user name: 1 to 6 printable characters")
+}
+
+fn password<'a>(alloc: Global) -> Arg<'a> {
+    Arg::new(alloc, "pass")
+        .long("pass")
+        .value_name("W")
+        .help("The password: 1 to 10 printable characters")
+}
+
+fn password_file<'a>(alloc: Global) -> Arg<'a> {
+    Arg::new(alloc, "pass-file")
+        .long("pass-file")
+        .value_name("FILE")
+        .help("A file whose first line is the password; without it and --pass, ITCHSNAP_PASS is")
+}

@@ -1,0 +1,121 @@
+//! The two ends of a session, as the command line has them: where a server listens, or is, and the login to it.
+
+use crate::words::commands::usage_fault;
+use crate::words::request::read_count;
+use clap::{ArgMatches, Error};
+use itch_codec::Alpha;
+use std::alloc::Global;
+use std::fmt::{self, Debug, Formatter};
+use std::net::{IpAddr, Ipv4Addr, SocketAddr};
+
+/// Where a password is.
+#[derive(Clone, Copy, PartialEq, Eq)]
+pub enum Password<'a> {
+    /// It is this word.
+    Word(&'a str),
+    /// It is the first line of the file of this path.
+    File(&'a str),
+}
+
+/// The user name of a login, and where its password is.
+///
+/// `{:?}` leaves the password out.
+#[derive(Clone, Copy, PartialEq, Eq)]
+pub struct LoginWords<'a> {
+    pub user: &'a str,
+    pub password: Password<'a>,
+}
+
+impl Debug for LoginWords<'_> {
+    fn fmt<W: fmt::Write>(&self, f: &mut Formatter<W>) -> fmt::Result {
+        f.debug_struct("LoginWords")
+            .field("user", &self.user)
+            .finish_non_exhaustive()
+    }
+}
+
+/// The server of a fetch.
+#[derive(Clone, Copy, Debug, PartialEq, Eq)]
+pub struct Server<'a> {
+    /// Its name or its address.
+    pub host: &'a str,
+    pub port: u16,
+    /// The session that is asked for; blank for the current one.
+    pub session: Alpha<10>,
+    /// For how many seconds it may be silent, if not for ever.
+    pub timeout: Option<u64>,
+}
+
+/// The address and the port after `--bind` and `--port`.
+pub fn read_address<'a>(alloc: Global, options: &ArgMatches<'a>) -> Result<SocketAddr, Error> {
+    let port = read_port(alloc, options)?;
+    let Some(text) = options.get_str("bind") else {
+        return Ok(SocketAddr::new(IpAddr::V4(Ipv4Addr::LOCALHOST), port));
+    };
+    match text.parse::<IpAddr>() {
+        Ok(address) => Ok(SocketAddr::new(address, port)),
+        Err(_) => Err(usage_fault(alloc, "--bind takes an IPv4 or IPv6 address")?),
+    }
+}
+
+/// The server after `--host`, `--port`, `--session` and `--timeout`.
+pub fn read_server<'a>(alloc: Global, options: &ArgMatches<'a>) -> Result<Server<'a>, Error> {
+    Ok(Server {
+        host: options.get_str("host").unwrap_or("127.0.0.1"),
+        port: read_port(alloc, options)?,
+        session: read_session(alloc, options)?,
+        timeout: read_count(alloc, options, "timeout", "--timeout takes decimal digits")?,
+    })
+}
+
+/// The login after `--user` and `--pass` or `--pass-file`; `environment` is the password without either.
+pub fn read_login<'a>(
+    alloc: Global,
+    options: &ArgMatches<'a>,
+    environment: Option<&'a str>,
+) -> Result<LoginWords<'a>, Error> {
+    let Some(user) = options.get_str("user") else {
+        return Err(usage_fault(alloc, "a user name is missing")?);
+    };
+    let password = match (
+        options.get_str("pass"),
+        options.get_str("pass-file"),
+        environment,
+    ) {
+        (Some(_), Some(_), _) => {
+            return Err(usage_fault(alloc, "--pass and --pass-file exclude each other")?);
+        }
+        (Some(word), None, _) | (None, None, Some(word)) => Password::Word(word),
+        (None, Some(path), _) => Password::File(path),
+        (None, None, None) => {
+            return Err(usage_fault(
+                alloc,
+                "a password is missing: give --pass or --pass-file, or set ITCHSNAP_PASS",
+            )?);
+        }
+    };
+    Ok(LoginWords { user, password })
+}
+
+/// The number after an option, in decimal digits alone.
+pub fn read_number<'a>(alloc: Global, options: &ArgMatches<'a>, name: &str) -> Result<u64, Error> {
+    match (options.get_str(name), options.get_one::<u64>(name)) {
+        (Some(text), Some(number)) if text.bytes().all(|byte| byte.is_ascii_digit()) => Ok(number),
+        _ => Err(usage_fault(alloc, "a number must have decimal digits only")?),
+    }
+}
+
+fn read_port<'a>(alloc: Global, options: &ArgMatches<'a>) -> Result<u16, Error> {
+    match u16::try_from(read_number(alloc, options, "port")?) {
+        Ok(port) => Ok(port),
+        Err(_) => Err(usage_fault(alloc, "a port is at most 65535")?),
+    }
+}
+
+fn read_session<'a>(alloc: Global, options: &ArgMatches<'a>) -> Result<Alpha<10>, Error> {
+    let name = options.get_str("session");
+    match Alpha::from_text(name.unwrap_or("")) {
+        Ok(session) if name.is_none_or(|name| !name.is_empty()) => Ok(session),
+        _ => Err(usage_fault(alloc, "a session has 1 to 10 printable characters")?),
+    }
+}
