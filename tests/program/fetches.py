@@ -184,6 +184,9 @@ def what_is_no_snapshot_is_not_written(program):
         b"\0\0": ("session fault", "no SoupBinTCP packet of a server: empty packet"),
         b"\0\x01?": ("session fault", "no SoupBinTCP packet of a server: unknown packet type 0x3f"),
         b"\0\x01R": ("session fault", "no SoupBinTCP packet of a server: packet R from the wrong side"),
+        b"\0\x02AX": ("session fault", "no SoupBinTCP packet of a server: wrong length for packet A: want 31, got 2"),
+        b"\0\x1fA" + b"ITCH\tSNAP " + b"1".rjust(20): ("session fault", "no SoupBinTCP packet of a server: bad text at 5"),
+        b"\0\x1fA" + b"  ITCHSNAP" + b"x".rjust(20): ("session fault", "no SoupBinTCP packet of a server: bad number at 11"),
     }
     for data, (reason, fault) in answers.items():
         with failing_fetch(program) as perform, answering(data) as (port, _):

@@ -52,7 +52,7 @@ def ended(words, ignored):
 
 
 def a_closed_pipe_ends_quietly(program):
-    for words in (["snap", OPENING], ["show", OPENING], ["check", OPENING], ["canon", SNAPSHOT], ["--help"], ["--version"]):
+    for words in (["snap", OPENING], ["show", OPENING], ["check", OPENING], ["canon", SNAPSHOT], ["completions", "zsh"], ["--help"], ["--version"]):
         for ignored in (False, True):
             got = ended([program, *words], ignored)
             if got != (CLOSED_PIPE, b""):

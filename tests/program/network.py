@@ -80,10 +80,12 @@ def another_machine_s_address_is_a_failed_socket(program):
 
 
 def an_unknown_host_is_a_failed_socket(program):
-    status, output, error = fetch(program, 1, "--host", "no-such-host.invalid", *PASS)
-    lines = b"itchsnap: socket failed\n  no-such-host.invalid:1: failed to lookup address information"
-    if (status, output) != (3, b"") or not error.startswith(lines):
-        yield f"{status}, {output!r}, {error!r}"
+    """The system's resolver is told not to wait for servers of names that do not answer."""
+    for host in ("no-such-host.invalid", "", "127.0.0.1 ", "h" * 300):
+        status, output, error = fetch(program, 1, "--host", host, *PASS, RES_OPTIONS="timeout:1 attempts:1", LOCALDOMAIN="")
+        lines = f"itchsnap: socket failed\n  {host}:1: failed to lookup address information".encode()
+        if (status, output) != (3, b"") or not error.startswith(lines):
+            yield f"{host!r}: {status}, {output!r}, {error!r}"
 
 
 def a_refused_connection_names_its_host(program):
