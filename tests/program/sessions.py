@@ -114,6 +114,22 @@ def a_small_file_is_served_with_progress_as_without(program):
         yield from server.differences(f"accepted from 1, {messages(wanted)} packets")
 
 
+def a_recorded_snapshot_is_served_with_its_number(program):
+    for file in sorted(EXAMPLES.glob("*.snap")):
+        wanted = file.read_bytes()
+        with Server(program, file, 1, "--snapshot") as server:
+            yield from fetched_differs(fetch(program, server.port), wanted)
+            yield from server.differences(f"accepted from 1, {messages(wanted)} packets")
+
+
+def a_part_of_a_day_is_served(program):
+    wanted = subprocess.run([program, "snap", EXAMPLES / "book.itch", "--after", "5"], capture_output=True, check=True).stdout
+    for part in (["--after", "5"], ["--until", "6"]):
+        with Server(program, EXAMPLES / "book.itch", 1, *part) as server:
+            yield from fetched_differs(fetch(program, server.port), wanted)
+            yield from server.differences(f"accepted from 1, {messages(wanted)} packets")
+
+
 @contextlib.contextmanager
 def large_server(program, count):
     """A server of a large snapshot, and the snapshot."""
@@ -392,6 +408,8 @@ def only_127_0_0_1_is_listened_on(program):
 RUNS = [
     what_is_served_is_fetched,
     a_small_file_is_served_with_progress_as_without,
+    a_recorded_snapshot_is_served_with_its_number,
+    a_part_of_a_day_is_served,
     a_large_snapshot_is_fetched,
     a_login_in_pieces_of_one_byte_is_answered,
     ten_thousand_debug_packets_are_passed_over,

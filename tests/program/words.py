@@ -28,6 +28,10 @@ FAULTS = [
     "snap --after -5",
     "snap --after",
     "snap --after 1 --after 2",
+    "snap --until 9:30",
+    "check --until 24:00",
+    "show --until 10:30:00.",
+    "compare a b --until",
     "snap one two",
     "canon --check --check",
     "canon --check=1",
@@ -139,7 +143,7 @@ def bash_completes_what_is_typed(program):
     rows = {
         ("itchsnap", "c"): ["check", "compare", "canon", "completions"],
         ("itchsnap", ""): [*commands(program), "help", "--help", "--version"],
-        ("itchsnap", "snap", "--"): ["--after", "--only", "--progress", "--help"],
+        ("itchsnap", "snap", "--"): ["--after", "--until", "--only", "--progress", "--help"],
         ("itchsnap", "fetch", "--host", "h", "--p"): ["--port", "--pass", "--pass-file"],
         ("itchsnap", "completions", ""): ["bash", "zsh", "fish", "--help"],
         # A file's name is completed by the shell itself.

@@ -38,7 +38,22 @@ fn every_fault_has_its_line_and_status(rt: HostRuntime) -> Result<(), Fail> {
             "first: message 10000000000000000000: too many messages",
             1,
         ),
-        (ToolFault::Short { count: 3 }, "only 3 messages", 1),
+        (
+            ToolFault::Short {
+                file: Source::Only,
+                count: 3,
+            },
+            "only 3 messages",
+            1,
+        ),
+        (
+            ToolFault::Short {
+                file: Source::Second,
+                count: 0,
+            },
+            "second: only 0 messages",
+            1,
+        ),
         (ToolFault::Write(error), "write failed", 3),
         (ToolFault::OutOfMemory, "out of memory", 4),
         (

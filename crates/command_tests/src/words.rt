@@ -31,30 +31,42 @@ fn shown(alloc: Global, job: &Job<'_>) -> Result<String, Fail> {
 #[test]
 fn requests_are_read(rt: HostRuntime) -> Result<(), Fail> {
     let cases = [
-        ("snap", "Snap { file: None, after: None, only: None }"),
+        (
+            "snap",
+            "Snap { file: None, limit: Limit { after: None, until: None }, only: None }",
+        ),
         (
             "snap day.itch",
-            "Snap { file: Some(\"day.itch\"), after: None, only: None }",
+            "Snap { file: Some(\"day.itch\"), limit: Limit { after: None, until: None }, only: None }",
         ),
         (
             "snap day.itch --after 0",
-            "Snap { file: Some(\"day.itch\"), after: Some(0), only: None }",
+            "Snap { file: Some(\"day.itch\"), limit: Limit { after: Some(0), until: None }, only: None }",
         ),
         (
             "snap --after 007 day.itch",
-            "Snap { file: Some(\"day.itch\"), after: Some(7), only: None }",
+            "Snap { file: Some(\"day.itch\"), limit: Limit { after: Some(7), until: None }, only: None }",
         ),
         (
             "snap --after 999999999999",
-            "Snap { file: None, after: Some(999999999999), only: None }",
+            "Snap { file: None, limit: Limit { after: Some(999999999999), until: None }, only: None }",
         ),
         (
             "snap day.itch --only 1,2 --after 3",
-            "Snap { file: Some(\"day.itch\"), after: Some(3), only: Some(\"1,2\") }",
+            "Snap { file: Some(\"day.itch\"), limit: Limit { after: Some(3), until: None }, only: Some(\"1,2\") }",
         ),
-        ("check -", "Check { file: None }"),
-        ("check day.itch", "Check { file: Some(\"day.itch\") }"),
-        ("show day.itch", "Show { file: Some(\"day.itch\") }"),
+        (
+            "check -",
+            "Check { file: None, limit: Limit { after: None, until: None }, form: Text }",
+        ),
+        (
+            "check day.itch",
+            "Check { file: Some(\"day.itch\"), limit: Limit { after: None, until: None }, form: Text }",
+        ),
+        (
+            "show day.itch",
+            "Show { file: Some(\"day.itch\"), kind: Day(Limit { after: None, until: None }) }",
+        ),
         ("canon", "Canon { file: None, check: false }"),
         (
             "canon day.itch",
@@ -71,11 +83,11 @@ fn requests_are_read(rt: HostRuntime) -> Result<(), Fail> {
         ),
         (
             "compare a.itch day.itch",
-            "Compare { first: Some(\"a.itch\"), second: Some(\"day.itch\") }",
+            "Compare { first: Some(\"a.itch\"), second: Some(\"day.itch\"), kind: Day(Limit { after: None, until: None }), form: Text }",
         ),
         (
             "compare - day.itch",
-            "Compare { first: None, second: Some(\"day.itch\") }",
+            "Compare { first: None, second: Some(\"day.itch\"), kind: Day(Limit { after: None, until: None }), form: Text }",
         ),
         (
             "join a.snap day.itch",
@@ -85,14 +97,37 @@ fn requests_are_read(rt: HostRuntime) -> Result<(), Fail> {
             "join --only=40 a.snap -",
             "Join { snapshot: Some(\"a.snap\"), feed: None, only: Some(\"40\") }",
         ),
-        ("book 0", "Book { locate: 0, depth: None, file: None }"),
+        (
+            "book 0",
+            "Book { locate: 0, depth: None, file: None, kind: Day(Limit { after: None, until: None }), form: Text }",
+        ),
         (
             "book 1 --depth 0",
-            "Book { locate: 1, depth: Some(0), file: None }",
+            "Book { locate: 1, depth: Some(0), file: None, kind: Day(Limit { after: None, until: None }), form: Text }",
+        ),
+        (
+            "show --snapshot day.snap",
+            "Show { file: Some(\"day.snap\"), kind: Snapshot }",
+        ),
+        (
+            "compare a.snap - --snapshot --json",
+            "Compare { first: Some(\"a.snap\"), second: None, kind: Snapshot, form: Json }",
+        ),
+        (
+            "check --json",
+            "Check { file: None, limit: Limit { after: None, until: None }, form: Json }",
+        ),
+        (
+            "book 1 --json",
+            "Book { locate: 1, depth: None, file: None, kind: Day(Limit { after: None, until: None }), form: Json }",
+        ),
+        (
+            "book 1 --csv",
+            "Book { locate: 1, depth: None, file: None, kind: Day(Limit { after: None, until: None }), form: Csv }",
         ),
         (
             "book --depth=05 0065535 day.itch",
-            "Book { locate: 65535, depth: Some(5), file: Some(\"day.itch\") }",
+            "Book { locate: 65535, depth: Some(5), file: Some(\"day.itch\"), kind: Day(Limit { after: None, until: None }), form: Text }",
         ),
     ];
     for (line, request) in cases {
@@ -105,22 +140,74 @@ fn requests_are_read(rt: HostRuntime) -> Result<(), Fail> {
 }
 
 #[test]
+fn times_are_read(rt: HostRuntime) -> Result<(), Fail> {
+    let cases = [
+        ("00:00", 0),
+        ("10:30", 37_800_000_000_000),
+        ("23:59:59", 86_399_000_000_000),
+        ("10:30:00.000000001", 37_800_000_000_001),
+        ("10:30:00.5", 37_800_500_000_000),
+        ("10:30:00.05", 37_800_050_000_000),
+        ("10:30:00.005", 37_800_005_000_000),
+        ("10:30:00.0005", 37_800_000_500_000),
+        ("10:30:00.00005", 37_800_000_050_000),
+        ("10:30:00.000005", 37_800_000_005_000),
+        ("10:30:00.0000005", 37_800_000_000_500),
+        ("10:30:00.00000005", 37_800_000_000_050),
+        ("23:59:59.999999999", 86_399_999_999_999),
+        ("0", 0),
+        ("0037800000000000", 37_800_000_000_000),
+        ("18446744073709551615", u64::MAX),
+    ];
+    for (time, nanoseconds) in cases {
+        let line = format!(in rt.alloc(); "show --until {time} --after 5 day.itch")?;
+        let words = words(rt.alloc(), line.as_str())?;
+        let wanted = format!(in rt.alloc();
+            "Files {{ request: Show {{ file: Some(\"day.itch\"), kind: Day(Limit {{ after: Some(5), \
+             until: Some({nanoseconds}) }}) }}, progress: false }}"
+        )?;
+        let found = asked(rt.alloc(), words.as_slice())?;
+        same_in(&rt, time, found.as_str(), wanted.as_str());
+    }
+    Ok(())
+}
+
+#[test]
 fn words_of_a_server_are_read(rt: HostRuntime) -> Result<(), Fail> {
     let day = "Some(\"day.itch\")";
+    let whole = "Day(Limit { after: None, until: None })";
     let cases = [
-        ("day.itch --port 65535", day, "127.0.0.1:65535", false),
-        ("day.itch --port 00", day, "127.0.0.1:0", false),
-        ("- --progress --port 1", "None", "127.0.0.1:1", true),
-        ("day.itch --bind 0.0.0.0 --port 1", day, "0.0.0.0:1", false),
-        ("day.itch --bind=::1 --port 1", day, "[::1]:1", false),
+        (
+            "day.itch --port 65535",
+            day,
+            whole,
+            "127.0.0.1:65535",
+            false,
+        ),
+        ("day.itch --port 00", day, whole, "127.0.0.1:0", false),
+        ("- --progress --port 1", "None", whole, "127.0.0.1:1", true),
+        (
+            "day.itch --bind 0.0.0.0 --port 1 --until 10",
+            day,
+            "Day(Limit { after: None, until: Some(10) })",
+            "0.0.0.0:1",
+            false,
+        ),
+        (
+            "day.itch --bind=::1 --snapshot --port 1",
+            day,
+            "Snapshot",
+            "[::1]:1",
+            false,
+        ),
     ];
-    for (line, file, address, progress) in cases {
+    for (line, file, kind, address, progress) in cases {
         let line = format!(in rt.alloc();
             "serve --count 01000000 {line} --user user --pass=secret"
         )?;
         let words = words(rt.alloc(), line.as_str())?;
         let wanted = format!(in rt.alloc();
-            "Serve {{ file: {file}, address: {address}, login: LoginWords {{ user: \"user\", .. }}, \
+            "Serve {{ file: {file}, kind: {kind}, address: {address}, login: LoginWords {{ user: \"user\", .. }}, \
              count: 1000000, progress: {progress} }}"
         )?;
         let found = asked(rt.alloc(), words.as_slice())?;
@@ -232,7 +319,8 @@ fn a_check_is_asked_for(rt: HostRuntime) -> Result<(), Fail> {
     ] {
         let words = words(rt.alloc(), line)?;
         let wanted = format!(in rt.alloc();
-            "Files {{ request: Check {{ file: Some(\"day.itch\") }}, progress: {progress} }}"
+            "Files {{ request: Check {{ file: Some(\"day.itch\"), limit: Limit {{ after: None, until: None }}, \
+             form: Text }}, progress: {progress} }}"
         )?;
         let found = asked(rt.alloc(), words.as_slice())?;
         same_in(&rt, line, found.as_str(), wanted.as_str());

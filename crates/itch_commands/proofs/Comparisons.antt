@@ -16,15 +16,16 @@ use Rattle.itch_snapshot.specs.Snapshot.{snap}
 use Rattle.itch_snapshot.proofs.OneSnapshot.{snap_same, same_snap, snap-laid}
 use Rattle.itch_commands.specs.Comparing.{IsPartPlace}
 use Rattle.itch_commands.specs.Readings.{AreTaken}
+use Rattle.itch_commands.specs.declared.limit.Limit.{Limit}
 use Rattle.itch_commands.proofs.Snapshots.{taken_short}
 
 -- what was taken leaves a good market
-pub taken_good : (after : Option ℕ) (ps : List (List ℕ)) → AllByRecursion Fits ps → AreTaken after ps → IsGood (run (map message_of ps))
-taken_good after ps fits taken = run_good (map message_of ps) (All-map_rec IsMessage message_of ps fits) (none_follows empty ps taken.taken)
+pub taken_good : (limit : Limit) (ps : List (List ℕ)) → AllByRecursion Fits ps → AreTaken limit ps → IsGood (run (map message_of ps))
+taken_good limit ps fits taken = run_good (map message_of ps) (All-map_rec IsMessage message_of ps fits) (none_follows empty ps taken.taken)
 
 -- which can be written
-pub taken_few : (after : Option ℕ) (ps : List (List ℕ)) (n : Content) → AllByRecursion Fits ps → AreTaken after ps → n ≡ laid (run (map message_of ps)) → length (snap n) < 10 ^ 19
-taken_few after ps n fits taken left = omega (arith, taken_short ps n fits taken.taken left, taken.few)
+pub taken_few : (limit : Limit) (ps : List (List ℕ)) (n : Content) → AllByRecursion Fits ps → AreTaken limit ps → n ≡ laid (run (map message_of ps)) → length (snap n) < 10 ^ 19
+taken_few limit ps n fits taken left = omega (arith, taken_short ps n fits taken.taken left, taken.few)
 
 -- markets part where they do in any order of their orders
 pub parts-laid : (m n one other : Content) (place : Option ℕ) → IsGood m → IsGood n → one ≡ laid m → other ≡ laid n

@@ -74,7 +74,7 @@ module _ (old mid new : Option (List ℕ)) (load : Load) (count : ℕ) (copy : L
   pub copied_refused : (fault : ToolFault) (n : Content) (more : List ℕ) → CopiesNext load.taken load.market mid new copy (Err fault) n more → CopiesAll old new (Err fault) n more
   copied_refused (tool.Stopped at end) n more h = absurd h
   copied_refused (tool.Snap at fault) n more (only, step) = (only, fault_read empty old mid new load.taken load.market n fault so_far.going step)
-  copied_refused (tool.Short c) n more h = absurd h
+  copied_refused (tool.Short at c) n more h = absurd h
   copied_refused tool.UnknownLocate n more h = absurd h
   copied_refused (tool.Write error) n more h = absurd h
   copied_refused tool.OutOfMemory n more (None, step) =
@@ -128,7 +128,7 @@ module _ {R : Type 0} (remaining : R → Option (List ℕ)) (failures : R → Fa
   refused_before new (tool.Snap at fault) n copy (only, reads) counts =
       let steps = first_fault empty (bytes_left remaining old) (bytes_left remaining new) n fault refl reads in
       (only, steps, reads_fault (bytes_left remaining old) (bytes_left remaining new) (Err fault) steps, counts)
-  refused_before new (tool.Short c) n copy h counts = absurd h
+  refused_before new (tool.Short at c) n copy h counts = absurd h
   refused_before new tool.UnknownLocate n copy h counts = absurd h
   refused_before new (tool.Write error) n copy h counts = absurd h
   refused_before new tool.OutOfMemory n copy room counts = (room, counts)
@@ -149,7 +149,7 @@ module _ {R : Type 0} (remaining : R → Option (List ℕ)) (failures : R → Fa
     refused_after (tool.Snap at fault) (only, follows) counts =
         let steps = later_fault empty (bytes_left remaining old) (bytes_left remaining mid) (bytes_left remaining new) n next fault refl reads.0 follows in
         (only, steps, reads_fault (bytes_left remaining old) (bytes_left remaining new) (Err fault) steps, subst (λ f. CountsFault fault f (failures new.reader)) uncounted counts)
-    refused_after (tool.Short c) h counts = absurd h
+    refused_after (tool.Short at c) h counts = absurd h
     refused_after tool.UnknownLocate h counts = absurd h
     refused_after (tool.Write error) h counts = absurd h
     refused_after tool.OutOfMemory h counts = absurd h

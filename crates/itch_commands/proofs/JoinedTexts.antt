@@ -19,7 +19,7 @@ module _ {W : Type 0} (contents : W → Option (List ℕ)) (failures : W → Fai
       (sent, longer, subst (Appends (contents old) (contents new)) (sym (take-append-le sent xs ys short)) part, count)
   text_fails xs ys old new (tool.Stopped at end) h = absurd h
   text_fails xs ys old new (tool.Snap at f) h = absurd h
-  text_fails xs ys old new (tool.Short count) h = absurd h
+  text_fails xs ys old new (tool.Short at count) h = absurd h
   text_fails xs ys old new tool.UnknownLocate h = absurd h
   text_fails xs ys old new tool.OutOfMemory h = absurd h
   text_fails xs ys old new (tool.Open file error) h = absurd h
@@ -44,7 +44,7 @@ module _ {W : Type 0} (contents : W → Option (List ℕ)) (failures : W → Fai
       )
   text_then xs ys old mid new (Err (tool.Stopped at end)) first h = absurd h
   text_then xs ys old mid new (Err (tool.Snap at f)) first h = absurd h
-  text_then xs ys old mid new (Err (tool.Short n)) first h = absurd h
+  text_then xs ys old mid new (Err (tool.Short at n)) first h = absurd h
   text_then xs ys old mid new (Err tool.UnknownLocate) first h = absurd h
   text_then xs ys old mid new (Err tool.OutOfMemory) first h = absurd h
   text_then xs ys old mid new (Err (tool.Open file error)) first h = absurd h

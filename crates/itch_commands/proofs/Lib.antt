@@ -1,3 +1,4 @@
+pub mod PartReadings
 pub mod DayReadings
 pub mod Outputs
 pub mod ShownLines
@@ -18,4 +19,5 @@ pub mod JoinedTexts
 pub mod QueuePrices
 pub mod SideLines
 pub mod BookLines
+pub mod RecordedLines
 pub mod LocateLists

@@ -1,11 +1,12 @@
 -- What `show` has written so far, and one block more.
-use Rattle.std.proofs.Common.{◌≡◌, ◌≢◌, ℕ, ◌+◌, ◌-◌, ◌^◌, ◌≤◌, ◌<◌, ◌==◌, false, List, [], ◌∷◌, ◌++◌, length, take, Option, Ok, Err, None, refl, sym, ap, subst, ◌∙◌, arith, length-append, append-nil}
+use Rattle.std.proofs.Common.{Bool, ◌≡◌, ◌≢◌, ℕ, ◌+◌, ◌-◌, ◌^◌, ◌≤◌, ◌<◌, ◌==◌, true, false, List, [], ◌∷◌, ◌++◌, length, map, take, Option, Ok, Err, None, Some, inl, inr, refl, sym, ap, subst, ◌∙◌, arith, length-append, append-nil}
 use Rattle.std.proofs.lemmas.Bool.Decides.{nat_tests}
-use Rattle.std.proofs.lemmas.List.{append_assoc}
+use Rattle.std.proofs.lemmas.List.{append_assoc, map-append, length-map}
 use Rattle.std.specs.Io.KnownBytes.{Consumes, Appends}
 use Rattle.std.proofs.KnownBytes.{Consumes-nil, Consumes-trans, Appends-nil}
 use Rattle.itch_codec.specs.Lines.{line_of}
 use Rattle.itch_codec.specs.Messages.{message_of}
+use Rattle.itch_codec.specs.declared.message.Message.{Message}
 use Rattle.itch_frame.specs.Blocks.{block, blocks, IsFull}
 use Rattle.itch_frame.specs.Reading.{Reading, bytes_left}
 use Rattle.itch_frame.specs.Counting.{failed}
@@ -21,41 +22,59 @@ use Rattle.itch_commands.specs.declared.fault.Source.{Source}
 use Rattle.itch_commands.specs.declared.fault.Source.TheVariants.{Only}
 use Rattle.itch_commands.specs.declared.fault.ToolFault.{ToolFault}
 use Rattle.itch_commands.specs.declared.fault.ToolFault.TheVariants as tool
+use Rattle.itch_commands.specs.declared.limit.Limit.{Limit}
+use Rattle.itch_commands.specs.Limits.{IsEarly, IsBefore}
 use Rattle.itch_commands.specs.Readings.{CountsRead}
 use Rattle.itch_commands.specs.Outputs.{Wrote}
-use Rattle.itch_commands.specs.Showing.{lines_from, IsClean, ReadsOff, ReadsNext, ShowsNext, ShowsUntil, Shows, LeavesNext, finish_at, finish}
+use Rattle.itch_commands.specs.Showing.{lines_of, lines_from, IsClean, ReadsOff, ReadsNext, ShowsNext, ShowsPart, ShowsUntil, Shows, LeavesNext, finish_end, finish_at, finish}
+use Rattle.itch_commands.proofs.PartReadings.{is_given, late_given}
+
+-- lines one after the other
+pub lines-append : (number : ℕ) (xs ys : List Message) → lines_of number (xs ++ ys) ≡ lines_of number xs ++ lines_of (number + length xs) ys
+unfolding lines_of
+lines-append number [] ys = let same : number ≡ number + length {A = Message} [] = omega arith in ap (λ n. lines_of n ys) same
+lines-append number (x ∷ xs) ys =
+    let same : number + 1 + length xs ≡ number + length (x ∷ xs) = omega arith in
+    ap (λ t. line_of number x ++ t) (lines-append (number + 1) xs ys)
+    ∙ sym (append_assoc (line_of number x) (lines_of (number + 1) xs) (lines_of (number + 1 + length xs) ys))
+    ∙ ap (λ n. line_of number x ++ lines_of (number + 1) xs ++ lines_of n ys) same
+
+pub one_line : (number : ℕ) (x : Message) (xs : List Message) → lines_of number (x ∷ xs) ≡ line_of number x ++ lines_of (number + 1) xs
+unfolding lines_of
+one_line number x xs = refl
+
+pub no_lines : (number : ℕ) → lines_of number [] ≡ []
+unfolding lines_of
+no_lines number = refl
+
+pub last_line : (number : ℕ) (xs : List Message) (x : Message) → lines_of number (xs ++ x ∷ []) ≡ lines_of number xs ++ line_of (number + length xs) x
+last_line number xs x =
+    lines-append number xs (x ∷ [])
+    ∙ ap (λ t. lines_of number xs ++ t) (one_line (number + length xs) x [] ∙ ap (λ t. line_of (number + length xs) x ++ t) (no_lines (number + length xs + 1)) ∙ append-nil (line_of (number + length xs) x))
 
 -- one line more
 lines-push : (number : ℕ) (ps : List (List ℕ)) (p : List ℕ) → lines_from number (ps ++ p ∷ []) ≡ lines_from number ps ++ line_of (number + length ps) (message_of p)
-unfolding lines_from
-lines-push number [] p =
-    let same : number ≡ number + 0 = omega arith in append-nil (line_of number (message_of p)) ∙ ap (λ n. line_of n (message_of p)) same
-lines-push number (x ∷ ps) p =
-    let same : number + 1 + length ps ≡ number + length (x ∷ ps) = omega arith in
-    ap (λ t. line_of number (message_of x) ++ t) (lines-push (number + 1) ps p)
-    ∙ sym (append_assoc (line_of number (message_of x)) (lines_from (number + 1) ps) (line_of (number + 1 + length ps) (message_of p)))
-    ∙ ap (λ n. line_of number (message_of x) ++ lines_from (number + 1) ps ++ line_of n (message_of p)) same
-
-no_lines : lines_from 1 [] ≡ []
-unfolding lines_from
-no_lines = refl
+lines-push number ps p =
+    ap (lines_of number) (map-append message_of ps (p ∷ [])) ∙ last_line number (map message_of ps) (message_of p)
+    ∙ ap (λ n. lines_from number ps ++ line_of (number + n) (message_of p)) (length-map ps message_of)
 
 -- one payload more
-reads_more : (old mid new : Option (List ℕ)) (ps : List (List ℕ)) (p : List ℕ) → ReadsOff old mid ps → ReadsNext (length ps) mid new p → ReadsOff old new (ps ++ p ∷ [])
-reads_more old mid new ps p reads (off, clean, room) = record {
+reads_more : (limit : Limit) (old mid new : Option (List ℕ)) (ps : List (List ℕ)) (p : List ℕ) → ReadsOff limit old mid ps → ReadsNext limit (length ps) mid new p → ReadsOff limit old new (ps ++ p ∷ [])
+reads_more limit old mid new ps p reads (off, clean, room, early) = record {
   bytes = subst (Consumes old new) (ap (λ last. blocks ps ++ last) (sym (append-nil (block p))) ∙ sym (blocks-append ps (p ∷ []))) (Consumes-trans old mid new (blocks ps) (block p) reads.bytes off.1);
   full = each-push IsFull ps p reads.full off.0;
   clean = each-push IsClean ps p reads.clean clean;
   few = let one = length-append ps (p ∷ []) in few_more (length ps) (length (ps ++ p ∷ [])) one reads.few room;
+  early = each-push (IsEarly limit) ps p reads.early early;
 } where
   few_more : (c d : ℕ) → d ≡ c + 1 → c ≤ 10 ^ 19 - 1 → (c == 10 ^ 19 - 1) ≡ false → d ≤ 10 ^ 19 - 1
   few_more c d one few room = grind (arith, nat_tests)
 
-module _ {R W : Type 0} (contents : W → Option (List ℕ)) (failures : W → Failures) (remaining : R → Option (List ℕ)) (failed_reads : R → Failures) where
+module _ {R W : Type 0} (contents : W → Option (List ℕ)) (failures : W → Failures) (remaining : R → Option (List ℕ)) (failed_reads : R → Failures) (limit : Limit) where
   -- the lines of these payloads were written
   pub record Shown (old : Reading R) (count : ℕ) (new : Reading R) (out out' : W) : Type 0 where
     pub payloads : List (List ℕ)
-    pub reads : ReadsOff (bytes_left remaining old) (bytes_left remaining new) payloads
+    pub reads : ReadsOff limit (bytes_left remaining old) (bytes_left remaining new) payloads
     pub counted : length payloads ≡ count
     pub wrote : Wrote contents failures (lines_from 1 payloads) out out'
     pub uncounted : failed_reads new.reader ≡ failed_reads old.reader
@@ -64,22 +83,22 @@ module _ {R W : Type 0} (contents : W → Option (List ℕ)) (failures : W → F
   pub shown_first : (r : Reading R) (w : W) → Shown r 0 r w w
   shown_first r w = record {
     payloads = [];
-    reads = record { bytes = Consumes-nil (bytes_left remaining r); full = tt; clean = tt; few = omega arith };
+    reads = record { bytes = Consumes-nil (bytes_left remaining r); full = tt; clean = tt; few = omega arith; early = tt };
     counted = refl;
-    wrote = (subst (Appends (contents w) (contents w)) (sym no_lines) (Appends-nil (contents w)), refl);
+    wrote = (subst (Appends (contents w) (contents w)) (sym (no_lines 1)) (Appends-nil (contents w)), refl);
     uncounted = refl;
     standing = standing_first r;
   }
 
   pub shown_on : (old mid new : Reading R) (count : ℕ) (out on out' : W) → Shown old count mid out on
-      → ShowsNext contents failures count (bytes_left remaining mid) (bytes_left remaining new) on (Ok tt) out'
+      → ShowsNext contents failures limit count (bytes_left remaining mid) (bytes_left remaining new) on (Ok true) out'
       → failed_reads new.reader ≡ failed_reads mid.reader → LeavesReaderFirst mid 1 None new → Shown old (count + 1) new out out'
   shown_on old mid new count out on out' shown (p, next, (line, unfailed)) same leaves =
       let ps = shown.payloads in
       let number : count + 1 ≡ 1 + length ps = omega (arith, shown.counted) in
       record {
         payloads = ps ++ p ∷ [];
-        reads = reads_more _ _ _ ps p shown.reads (subst (λ c. ReadsNext c (bytes_left remaining mid) (bytes_left remaining new) p) (sym shown.counted) next);
+        reads = reads_more limit _ _ _ ps p shown.reads (subst (λ c. ReadsNext limit c (bytes_left remaining mid) (bytes_left remaining new) p) (sym shown.counted) next);
         counted = length-append ps (p ∷ []) ∙ ap (λ c. c + 1) shown.counted;
         wrote = (
           subst (Appends (contents out) (contents out')) (ap (λ n. lines_from 1 ps ++ line_of n (message_of p)) number ∙ sym (lines-push 1 ps p))
@@ -90,30 +109,84 @@ module _ {R W : Type 0} (contents : W → Option (List ℕ)) (failures : W → F
         standing = standing_on old mid new count shown.standing leaves;
       }
 
+  -- as many lines as are wanted were written
+  pub shown_all : (old new : Reading R) (count : ℕ) (out out' : W) → Shown old count new out out' → limit.after ≡ Some count
+      → ShowsPart contents failures remaining failed_reads limit old new out out'
+  shown_all old new count out out' shown all =
+      let ps = shown.payloads in
+      let each : limit.after ≡ Some (length ps) = all ∙ ap Some (sym shown.counted) in (
+        ps,
+        bytes_left remaining new,
+        shown.reads,
+        inl (each, refl),
+        shown.wrote,
+        shown.uncounted,
+        inl (is_given limit.after (length ps) each, standing_short old (length ps) new (subst (λ c. Standing old c new) (sym shown.counted) shown.standing)),
+      )
+
+  -- or the next message is late
+  pub shown_early : (old mid new : Reading R) (count : ℕ) (out on out' : W) → Shown old count mid out on → IsBefore limit count
+      → ShowsNext contents failures limit count (bytes_left remaining mid) (bytes_left remaining new) on (Ok false) out'
+      → failed_reads new.reader ≡ failed_reads mid.reader → LeavesReaderFirst mid 1 None new → ShowsPart contents failures remaining failed_reads limit old new out out'
+  shown_early old mid new count out on out' shown before (unwritten, (p, off, late)) same leaves =
+      let ps = shown.payloads in (
+        ps,
+        bytes_left remaining mid,
+        shown.reads,
+        inr (inl (subst (IsBefore limit) (sym shown.counted) before, (p, off, late))),
+        subst (Wrote contents failures (lines_from 1 ps) out) (sym unwritten) shown.wrote,
+        same ∙ shown.uncounted,
+        inr (inl (
+          late_given limit.until (message_of p) late.1,
+          standing_short old (length ps + 1) new (standing_on old mid new (length ps) (subst (λ c. Standing old c mid) (sym shown.counted) shown.standing) leaves),
+        )),
+      )
+
+  -- the file ended, or has fewer messages than are wanted
+  at_end : (wanted : Option ℕ) → limit.after ≡ wanted → (old new : Reading R) (count : ℕ) (out out' : W) → ShowsUntil contents failures remaining failed_reads limit count stop.End old new out out'
+      → Shows contents failures remaining failed_reads limit old new out (finish_end wanted Only count) out'
+  at_end None is old new count out out' (before, ps, mid, reads, counted, withholds, wrote, counts, leaves) = (
+    refl,
+    (
+      ps,
+      mid,
+      reads,
+      inr (inr (is, withholds.1)),
+      wrote,
+      counts,
+      inr (inr (is, subst (λ c. LeavesReaderFirst old c (Some stop.End) new) (sym counted) leaves)),
+    ),
+  )
+  at_end (Some most) is old new count out out' until = (refl, (is_given limit.after most is, until.0), until)
+
   -- a stop that is a fault
   refused : (old new : Reading R) (count : ℕ) (out out' : W) (file : Source) (end : ReplayEnd) → file ≡ Only → end.count ≡ count → end.stop ≢ stop.End
-      → ShowsUntil contents failures remaining failed_reads count end.stop old new out out'
-      → Shows contents failures remaining failed_reads old new out (Err (tool.Stopped file end)) out'
+      → ShowsUntil contents failures remaining failed_reads limit count end.stop old new out out'
+      → Shows contents failures remaining failed_reads limit old new out (Err (tool.Stopped file end)) out'
   refused old new count out out' file end only counted fault until =
-      (only, fault, subst (λ c. ShowsUntil contents failures remaining failed_reads c end.stop old new out out') (sym counted) until)
+      (only, fault, subst (λ c. ShowsUntil contents failures remaining failed_reads limit c end.stop old new out out') (sym counted) until)
 
   stops : (old new : Reading R) (count : ℕ) (out out' : W) (file : Source) (end : ReplayEnd) (why : Stop) → end.stop ≡ why → file ≡ Only → end.count ≡ count
-      → ShowsUntil contents failures remaining failed_reads count end.stop old new out out'
-      → Shows contents failures remaining failed_reads old new out (finish_at why (tool.Stopped file end)) out'
+      → ShowsUntil contents failures remaining failed_reads limit count end.stop old new out out'
+      → Shows contents failures remaining failed_reads limit old new out (finish_at why limit.after file end.count (tool.Stopped file end)) out'
   stops old new count out out' file end stop.End is only counted until =
-      (refl, count, subst (λ w. ShowsUntil contents failures remaining failed_reads count w old new out out') is until)
+      subst (λ f. Shows contents failures remaining failed_reads limit old new out (finish_end limit.after f end.count) out') (sym only)
+      (at_end limit.after refl old new end.count out out'
+      (subst (λ c. ShowsUntil contents failures remaining failed_reads limit c stop.End old new out out') (sym counted)
+      (subst (λ w. ShowsUntil contents failures remaining failed_reads limit count w old new out out') is until)))
   stops old new count out out' file end (stop.Frame f) is only counted until = refused old new count out out' file end only counted (λ e. absurd (cc)) until
   stops old new count out out' file end (stop.Codec f) is only counted until = refused old new count out out' file end only counted (λ e. absurd (cc)) until
   stops old new count out out' file end (stop.Rule f) is only counted until = refused old new count out out' file end only counted (λ e. absurd (cc)) until
   stops old new count out out' file end stop.TooManyMessages is only counted until = refused old new count out out' file end only counted (λ e. absurd (cc)) until
 
   -- and there it ends
-  pub shown_ends : (old mid new : Reading R) (count : ℕ) (out on out' : W) (fault : ToolFault) → Shown old count mid out on
-      → ShowsNext contents failures count (bytes_left remaining mid) (bytes_left remaining new) on (Err fault) out'
-      → CountsRead {X = Unit {0}} (Err fault) (failed_reads mid.reader) (failed_reads new.reader) → LeavesNext (Err fault) mid new
-      → Shows contents failures remaining failed_reads old new out (finish fault) out'
-  shown_ends old mid new count out on out' (tool.Stopped file end) shown (only, counted, withholds, same) counts leaves =
+  pub shown_ends : (old mid new : Reading R) (count : ℕ) (out on out' : W) (fault : ToolFault) → Shown old count mid out on → IsBefore limit count
+      → ShowsNext contents failures limit count (bytes_left remaining mid) (bytes_left remaining new) on (Err fault) out'
+      → CountsRead {X = Bool} (Err fault) (failed_reads mid.reader) (failed_reads new.reader) → LeavesNext (Err fault) mid new
+      → Shows contents failures remaining failed_reads limit old new out (finish limit.after fault) out'
+  shown_ends old mid new count out on out' (tool.Stopped file end) shown before (only, counted, withholds, same) counts leaves =
       stops old new count out out' file end end.stop refl only counted (
+        before,
         shown.payloads,
         bytes_left remaining mid,
         shown.reads,
@@ -123,12 +196,13 @@ module _ {R W : Type 0} (contents : W → Option (List ℕ)) (failures : W → F
         subst (λ f. Counts end.stop f (failed_reads new.reader)) shown.uncounted counts,
         standing_stops old mid new count end.stop shown.standing leaves,
       )
-  shown_ends old mid new count out on out' (tool.Write error) shown (p, next, (sent, within, part, unfailed)) same leaves =
+  shown_ends old mid new count out on out' (tool.Write error) shown before (p, next, (sent, within, part, unfailed)) same leaves =
       let ps = shown.payloads in
       let number : count + 1 ≡ length ps + 1 = ap (λ c. c + 1) (sym shown.counted) in (
         ps,
         p,
-        reads_more _ _ _ ps p shown.reads (subst (λ c. ReadsNext c (bytes_left remaining mid) (bytes_left remaining new) p) (sym shown.counted) next),
+        reads_more limit _ _ _ ps p shown.reads (subst (λ c. ReadsNext limit c (bytes_left remaining mid) (bytes_left remaining new) p) (sym shown.counted) next),
+        subst (IsBefore limit) (sym shown.counted) before,
         (
           sent,
           subst (λ n. sent < length (line_of n (message_of p))) number within,
@@ -139,14 +213,14 @@ module _ {R W : Type 0} (contents : W → Option (List ℕ)) (failures : W → F
         same ∙ shown.uncounted,
         subst (λ n. LeavesReaderFirst old n None new) number (standing_short old (count + 1) new (standing_on old mid new count shown.standing leaves)),
       )
-  shown_ends old mid new count out on out' (tool.Short k) shown (p, next, none) counts leaves = absurd none
-  shown_ends old mid new count out on out' tool.OutOfMemory shown (p, next, none) counts leaves = absurd none
-  shown_ends old mid new count out on out' (tool.Open file error) shown (p, next, none) counts leaves = absurd none
-  shown_ends old mid new count out on out' tool.BadUser shown (p, next, none) counts leaves = absurd none
-  shown_ends old mid new count out on out' tool.BadPassword shown (p, next, none) counts leaves = absurd none
-  shown_ends old mid new count out on out' tool.BadLocates shown (p, next, none) counts leaves = absurd none
-  shown_ends old mid new count out on out' tool.TooMany shown (p, next, none) counts leaves = absurd none
-  shown_ends old mid new count out on out' (tool.Soup f) shown (p, next, none) counts leaves = absurd none
-  shown_ends old mid new count out on out' (tool.Socket error) shown (p, next, none) counts leaves = absurd none
-  shown_ends old mid new count out on out' (tool.Snap file f) shown (p, next, none) counts leaves = absurd none
-  shown_ends old mid new count out on out' tool.UnknownLocate shown (p, next, none) counts leaves = absurd none
+  shown_ends old mid new count out on out' (tool.Short at k) shown before (p, next, none) counts leaves = absurd none
+  shown_ends old mid new count out on out' tool.OutOfMemory shown before (p, next, none) counts leaves = absurd none
+  shown_ends old mid new count out on out' (tool.Open file error) shown before (p, next, none) counts leaves = absurd none
+  shown_ends old mid new count out on out' tool.BadUser shown before (p, next, none) counts leaves = absurd none
+  shown_ends old mid new count out on out' tool.BadPassword shown before (p, next, none) counts leaves = absurd none
+  shown_ends old mid new count out on out' tool.BadLocates shown before (p, next, none) counts leaves = absurd none
+  shown_ends old mid new count out on out' tool.TooMany shown before (p, next, none) counts leaves = absurd none
+  shown_ends old mid new count out on out' (tool.Soup f) shown before (p, next, none) counts leaves = absurd none
+  shown_ends old mid new count out on out' (tool.Socket error) shown before (p, next, none) counts leaves = absurd none
+  shown_ends old mid new count out on out' (tool.Snap file f) shown before (p, next, none) counts leaves = absurd none
+  shown_ends old mid new count out on out' tool.UnknownLocate shown before (p, next, none) counts leaves = absurd none

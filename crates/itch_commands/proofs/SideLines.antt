@@ -10,15 +10,16 @@ use Rattle.itch_book.specs.declared.order.Order.{Order}
 use Rattle.itch_book.specs.Orders.{next_price, level_total, queue, is_worse, IsBook}
 use Rattle.itch_frame.specs.declared.tally.Failures.{Failures}
 use Rattle.itch_commands.specs.declared.fault.ToolFault.{ToolFault}
-use Rattle.itch_commands.specs.Books.{first_of, next_wanted, prices, level_line, price_line, side_lines}
+use Rattle.itch_commands.specs.Books.{first_of, next_wanted, prices, price_line, side_lines}
 use Rattle.itch_commands.specs.Outputs.{WritesText}
 use Rattle.itch_commands.proofs.JoinedTexts.{text_then, text_fails}
 use Rattle.itch_commands.proofs.QueuePrices.{DonePrices, none_done, next_parts, one_done, none_left, level_is}
 
 -- the line of the totals that a book gives is that of the price
-total_line : (orders : List Order) (l : ℕ) (s : Side) (price : ℕ) (total : ℕ × ℕ) → total ≡ level_total orders l s price → level_line s price total.0 total.1 ≡ price_line s (queue orders l s) price
-total_line orders l s price total is =
-    ap (λ (t : ℕ × ℕ). level_line s price t.0 t.1) is ∙ ap (λ xs. level_line s price (sum_by (λ x. x.shares) xs) (length xs)) (level_is orders l s price)
+total_line : (line : Side → ℕ → ℕ → ℕ → List ℕ) (orders : List Order) (l : ℕ) (s : Side) (price : ℕ) (total : ℕ × ℕ) → total ≡ level_total orders l s price
+    → line s price total.0 total.1 ≡ price_line line s (queue orders l s) price
+total_line line orders l s price total is =
+    ap (λ (t : ℕ × ℕ). line s price t.0 t.1) is ∙ ap (λ xs. line s price (sum_by (λ x. x.shares) xs) (length xs)) (level_is orders l s price)
 
 -- so many prices are still wanted after these
 abbrev pub LeavesRoom : Option ℕ → List ℕ → Option ℕ → Type 0
@@ -74,13 +75,13 @@ first_ends : (depth left next : Option ℕ) (done rest : List ℕ) → next_want
 first_ends depth left next done rest none room last =
     first_past depth left done rest room ∙ ap (λ ps. done ++ ps) (nothing_left left next rest none last) ∙ append-nil done
 
-module _ {W : Type 0} (contents : W → Option (List ℕ)) (failures : W → Failures) (orders : List Order) (l : ℕ) (depth : Option ℕ) (s : Side) where
+module _ {W : Type 0} (contents : W → Option (List ℕ)) (failures : W → Failures) (line : Side → ℕ → ℕ → ℕ → List ℕ) (orders : List Order) (l : ℕ) (depth : Option ℕ) (s : Side) where
   -- the lines of the prices up to the last one were written, and so many more are wanted
   pub record SideSoFar (last left : Option ℕ) (old new : W) : Type 0 where
     pub done : List ℕ
     pub so_far : DonePrices orders l s last done
     pub room : LeavesRoom depth done left
-    pub wrote : WritesText contents failures (flat_map (price_line s (queue orders l s)) done) old (Ok tt) new
+    pub wrote : WritesText contents failures (flat_map (price_line line s (queue orders l s)) done) old (Ok tt) new
 
   pub side_begun : (old : W) → SideSoFar None depth old old
   side_begun old = record { done = []; so_far = none_done orders l s; room = room_first depth; wrote = (Appends-nil (contents old), refl) }
@@ -90,38 +91,38 @@ module _ {W : Type 0} (contents : W → Option (List ℕ)) (failures : W → Fai
     next : next_price orders l s last ≡ Some price
     next = is_next left (next_price orders l s last) price wanted
 
-    pub side_more : (fewer : Option ℕ) → fewer ≡ option_map (λ more. more - 1) left → WritesText contents failures (level_line s price total.0 total.1) mid (Ok tt) new
+    pub side_more : (fewer : Option ℕ) → fewer ≡ option_map (λ more. more - 1) left → WritesText contents failures (line s price total.0 total.1) mid (Ok tt) new
         → SideSoFar (Some price) fewer old new
-    side_more fewer is line = record {
+    side_more fewer is written = record {
       done = begun.done ++ price ∷ [];
       so_far = one_done orders l s last begun.done price book begun.so_far next;
       room = subst (LeavesRoom depth (begun.done ++ price ∷ [])) (sym is) (room_on depth left (next_price orders l s last) begun.done price wanted begun.room);
       wrote = subst (λ text. WritesText contents failures text old (Ok tt) new)
-          (ap (λ text. flat_map (price_line s (queue orders l s)) begun.done ++ text) (total_line orders l s price total totals)
-          ∙ flat_map_more (price_line s (queue orders l s)) [] begun.done price)
-          (text_then contents failures (flat_map (price_line s (queue orders l s)) begun.done) (level_line s price total.0 total.1) old mid new (Ok tt) begun.wrote line);
+          (ap (λ text. flat_map (price_line line s (queue orders l s)) begun.done ++ text) (total_line line orders l s price total totals)
+          ∙ flat_map_more (price_line line s (queue orders l s)) [] begun.done price)
+          (text_then contents failures (flat_map (price_line line s (queue orders l s)) begun.done) (line s price total.0 total.1) old mid new (Ok tt) begun.wrote written);
     }
 
-    pub side_fails : (fault : ToolFault) → WritesText contents failures (level_line s price total.0 total.1) mid (Err fault) new
-        → WritesText contents failures (side_lines depth s (queue orders l s)) old (Err fault) new
-    side_fails fault line =
-        let f = price_line s (queue orders l s) in
+    pub side_fails : (fault : ToolFault) → WritesText contents failures (line s price total.0 total.1) mid (Err fault) new
+        → WritesText contents failures (side_lines line depth s (queue orders l s)) old (Err fault) new
+    side_fails fault written =
+        let f = price_line line s (queue orders l s) in
         let parts = next_parts orders l s last begun.done price book begun.so_far next in
         let rest : List ℕ = first_of (option_map (λ more. more - 1) left) parts.rest in
         let shown : first_of depth (prices (queue orders l s)) ≡ begun.done ++ price ∷ rest =
         ap (first_of depth) (begun.so_far.whole ∙ ap (λ ps. begun.done ++ ps) parts.here) ∙ first_past depth left begun.done (price ∷ parts.rest) begun.room
         ∙ ap (λ ps. begun.done ++ ps) (first_on left (next_price orders l s last) price parts.rest wanted) in
-        let whole : side_lines depth s (queue orders l s) ≡ flat_map f begun.done ++ (level_line s price total.0 total.1 ++ flat_map f rest) =
+        let whole : side_lines line depth s (queue orders l s) ≡ flat_map f begun.done ++ (line s price total.0 total.1 ++ flat_map f rest) =
         ap (flat_map f) shown ∙ flat_map-append f begun.done (price ∷ rest)
-        ∙ ap (λ text. flat_map f begun.done ++ (text ++ flat_map f rest)) (sym (total_line orders l s price total totals)) in
+        ∙ ap (λ text. flat_map f begun.done ++ (text ++ flat_map f rest)) (sym (total_line line orders l s price total totals)) in
         subst (λ text. WritesText contents failures text old (Err fault) new) (sym whole)
-        (text_then contents failures (flat_map f begun.done) (level_line s price total.0 total.1 ++ flat_map f rest) old mid new (Err fault) begun.wrote
-        (text_fails contents failures (level_line s price total.0 total.1) (flat_map f rest) mid new fault line))
+        (text_then contents failures (flat_map f begun.done) (line s price total.0 total.1 ++ flat_map f rest) old mid new (Err fault) begun.wrote
+        (text_fails contents failures (line s price total.0 total.1) (flat_map f rest) mid new fault written))
 
   pub side_ends : (last left : Option ℕ) (old new : W) → IsBook orders → SideSoFar last left old new → next_wanted left (next_price orders l s last) ≡ None
-      → WritesText contents failures (side_lines depth s (queue orders l s)) old (Ok tt) new
+      → WritesText contents failures (side_lines line depth s (queue orders l s)) old (Ok tt) new
   side_ends last left old new book begun none =
       let shown : first_of depth (prices (queue orders l s)) ≡ begun.done =
       ap (first_of depth) begun.so_far.whole
       ∙ first_ends depth left (next_price orders l s last) begun.done (filter (is_worse s last) (prices (queue orders l s))) none begun.room (none_left orders l s last book) in
-      subst (λ ps. WritesText contents failures (flat_map (price_line s (queue orders l s)) ps) old (Ok tt) new) (sym shown) begun.wrote
+      subst (λ ps. WritesText contents failures (flat_map (price_line line s (queue orders l s)) ps) old (Ok tt) new) (sym shown) begun.wrote

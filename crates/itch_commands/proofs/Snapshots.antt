@@ -28,6 +28,7 @@ use Rattle.itch_snapshot.proofs.OneSnapshot.{snap_same, snap-laid}
 use Rattle.itch_snapshot.proofs.Sizes.{short_snap}
 use Rattle.itch_snapshot.proofs.CanonicalBytes.{canon-laid}
 use Rattle.itch_commands.specs.Outputs.{snapshot_of, snapshot_in}
+use Rattle.itch_commands.specs.declared.limit.Limit.{Limit}
 use Rattle.itch_commands.proofs.DayReadings.{Applied}
 
 -- what was taken from the empty market has no more messages than were taken
@@ -43,7 +44,7 @@ taken_short ps n fits none left =
 pub read_short : (old new : Option (List ℕ)) (done : Content × ℕ) → ReadsSnapshot old new (Ok done) → length (snap done.0) < 10 ^ 19
 read_short old new done (mid, (ps, at, takes, few, closes), ends) = omega (arith, few, taken_short ps done.0 takes.fits takes.none takes.left)
 
-module _ (after : Option ℕ) (bytes new : Option (List ℕ)) (count : ℕ) (n : Content) (applied : Applied after bytes new count n) where
+module _ (limit : Limit) (bytes new : Option (List ℕ)) (count : ℕ) (n : Content) (applied : Applied limit bytes new count n) where
   fit : AreMessages (map message_of applied.payloads)
   fit = All-map_rec IsMessage message_of applied.payloads applied.fits
 

@@ -1,5 +1,5 @@
 -- What each command reads, writes and returns, for a reader of bytes and for a reader of blocks alike.
-use Rattle.std.specs.Prelude.{◌≡◌, ℕ, Bool, true, List, Option, None, is_none, Result}
+use Rattle.std.specs.Prelude.{◌≡◌, ℕ, Bool, true, List, Option, is_none, Result}
 use Rattle.itch_frame.specs.declared.tally.Failures.{Failures}
 use Rattle.itch_market.specs.Content.{Content}
 use Rattle.itch_market.specs.Wanted.{Wanted}
@@ -7,24 +7,35 @@ use Rattle.itch_commands.specs.declared.fault.Source.TheVariants.{Only, First, S
 use Rattle.itch_commands.specs.declared.fault.ToolFault.{ToolFault}
 use Rattle.itch_commands.specs.Books.{ReadsListed, book_of}
 use Rattle.itch_commands.specs.Canons.{ChecksSnap, canonical_line}
-use Rattle.itch_commands.specs.Comparing.{ReadsBoth, PartsAt, place_line}
+use Rattle.itch_commands.specs.Comparing.{ReadsBoth, PartsAt}
+use Rattle.itch_commands.specs.Forms.{count_line_of, verdict_line}
 use Rattle.itch_commands.specs.Joining.{Start, ReadsStart, ReadsFeed, HasRoom, joined}
-use Rattle.itch_commands.specs.Outputs.{Outputs, ok_line_of, snapshot_in, closed_bytes}
+use Rattle.itch_commands.specs.Outputs.{Outputs, snapshot_in, closed_bytes}
+use Rattle.itch_commands.specs.Files.{ReadsFile}
+use Rattle.itch_commands.specs.Showing.{closed_lines}
 use Rattle.itch_commands.specs.Readings.{From, ReadsDay, ReadsSnap, Then}
+use Rattle.itch_commands.specs.declared.form.BookForm.{BookForm}
+use Rattle.itch_commands.specs.declared.form.Form.{Form}
+use Rattle.itch_commands.specs.declared.kind.FileKind.{FileKind}
+use Rattle.itch_commands.specs.declared.limit.Limit.{Limit}
 
 module _ {R W : Type 0} (remaining : R → Option (List ℕ)) (failed_reads : R → Failures) (contents : W → Option (List ℕ)) (failed_writes : W → Failures) where
-  -- `check`: the number of the messages of a day file
-  abbrev pub Checks : From R (List (List ℕ)) → W → Result Bool ToolFault → W → Type 0
-  Checks from = Outputs contents failed_writes (from (ReadsDay remaining failed_reads Only None)) ok_line_of (λ _. true)
+  -- `check`: the number of the messages of a day file, or of its part
+  abbrev pub Checks : Form → Limit → From R (List (List ℕ)) → W → Result Bool ToolFault → W → Type 0
+  Checks form limit from = Outputs contents failed_writes (from (ReadsDay remaining failed_reads Only limit)) (count_line_of form) (λ _. true)
 
-  -- `snap`: the snapshot after a day file's messages, or after the first ones; cut down to a set, if there is one
-  abbrev pub Snaps : Option ℕ → Option Wanted → From R (List (List ℕ)) → W → Result Bool ToolFault → W → Type 0
-  Snaps after set from = Outputs contents failed_writes (from (ReadsDay remaining failed_reads Only after)) (snapshot_in set) (λ _. true)
+  -- `snap`: the snapshot after the messages of a day file, or of its part; cut down to a set, if there is one
+  abbrev pub Snaps : Limit → Option Wanted → From R (List (List ℕ)) → W → Result Bool ToolFault → W → Type 0
+  Snaps limit set from = Outputs contents failed_writes (from (ReadsDay remaining failed_reads Only limit)) (snapshot_in set) (λ _. true)
 
-  -- `book`: the prices of a locate after a day file's messages, as many of each side as are wanted
-  abbrev pub ListsBook : ℕ → Option ℕ → From R (List (List ℕ) × List ℕ) → W → Result Bool ToolFault → W → Type 0
-  ListsBook locate depth from =
-      Outputs contents failed_writes (from (λ old new. ReadsListed locate (ReadsDay remaining failed_reads Only None old new))) (book_of locate depth) (λ _. true)
+  -- `book`: the prices of a locate in the market that a file leaves; as many of each side as are wanted
+  abbrev pub ListsBook : BookForm → ℕ → Option ℕ → FileKind → From R ((Content × ℕ) × List ℕ) → W → Result Bool ToolFault → W → Type 0
+  ListsBook form locate depth kind from =
+      Outputs contents failed_writes (from (λ old new. ReadsListed locate (ReadsFile remaining failed_reads Only kind old new))) (book_of form locate depth) (λ _. true)
+
+  -- `show` of a snapshot file: the lines of its snapshot in canonical form
+  abbrev pub ShowsSnapshot : From R (Content × ℕ) → W → Result Bool ToolFault → W → Type 0
+  ShowsSnapshot from = Outputs contents failed_writes (from (ReadsSnap remaining failed_reads Only)) closed_lines (λ _. true)
 
   -- `canon`: a snapshot in canonical form
   abbrev pub WritesCanon : From R (Content × ℕ) → W → Result Bool ToolFault → W → Type 0
@@ -36,11 +47,11 @@ module _ {R W : Type 0} (remaining : R → Option (List ℕ)) (failed_reads : R 
 
 module _ {R S W : Type 0} (remaining : R → Option (List ℕ)) (failed_reads : R → Failures) (remaining_then : S → Option (List ℕ)) (failed_then : S → Failures)
     (contents : W → Option (List ℕ)) (failed_writes : W → Failures) where
-  -- `compare`: where the markets that two day files leave differ
-  abbrev pub Compares : From R (Option ℕ) → From S (Option ℕ) → W → Result Bool ToolFault → W → Type 0
-  Compares first second =
+  -- `compare`: where the markets that two files of a kind leave differ
+  abbrev pub Compares : Form → FileKind → From R (Option ℕ) → From S (Option ℕ) → W → Result Bool ToolFault → W → Type 0
+  Compares form kind first second =
       Outputs contents failed_writes (first (λ a b. second (λ c d.
-      PartsAt (ReadsBoth (ReadsDay remaining failed_reads First None a b) (d ≡ c) (ReadsDay remaining_then failed_then Second None c d))))) place_line is_none
+      PartsAt (ReadsBoth (ReadsFile remaining failed_reads First kind a b) (d ≡ c) (ReadsFile remaining_then failed_then Second kind c d))))) (verdict_line form) is_none
 
   -- `join`: the snapshot after a snapshot and the feed that continues after it, with payloads read in this way
   abbrev pub Joins : (List ℕ → List ℕ) → From R (Start × List (List ℕ)) → From S (Start × List (List ℕ)) → W → Result Bool ToolFault → W → Type 0

@@ -1,8 +1,6 @@
 -- How two files are compared.
-use Rattle.std.specs.Prelude.{ℕ, ◌-◌, ◌<◌, ◌↔◌, List, ◌++◌, map, codes, decimal, Option, None, Some, IsNone, IfSome, Result, Ok, Err}
-use Rattle.itch_codec.specs.Messages.{message_of}
+use Rattle.std.specs.Prelude.{ℕ, ◌-◌, ◌<◌, ◌↔◌, List, ◌++◌, codes, decimal, Option, None, Some, IsNone, IfSome, Result, Ok, Err}
 use Rattle.itch_market.specs.Content.{Content}
-use Rattle.itch_market.specs.Runs.{run}
 use Rattle.itch_market.specs.SameMarkets.{Same}
 use Rattle.itch_snapshot.specs.Parting.{IsParting}
 use Rattle.itch_snapshot.specs.Snapshot.{snap}
@@ -20,9 +18,8 @@ pub record IsPartPlace (m n : Content) (place : Option ℕ) : Type 0 where
   pub parts : IfSome place (λ k. (0 < k) × IsParting (snap m) (snap n) (k - 1))
 
 -- where the markets that two files leave differ
-abbrev pub PartsAt : (Result (List (List ℕ) × List (List ℕ)) ToolFault → Type 0) → Result (Option ℕ) ToolFault → Type 0
-PartsAt reads (Ok place) =
-    (both : List (List ℕ) × List (List ℕ)) × reads (Ok both) × IsPartPlace (run (map message_of both.0)) (run (map message_of both.1)) place
+abbrev pub PartsAt : (Result ((Content × ℕ) × (Content × ℕ)) ToolFault → Type 0) → Result (Option ℕ) ToolFault → Type 0
+PartsAt reads (Ok place) = (both : (Content × ℕ) × (Content × ℕ)) × reads (Ok both) × IsPartPlace both.0.0 both.1.0 place
 PartsAt reads (Err fault) = reads (Err fault)
 
 -- the line with this place, or the line that says that the markets are the same

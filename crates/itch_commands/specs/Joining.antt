@@ -10,7 +10,7 @@ use Rattle.itch_market.specs.Content.{Content}
 use Rattle.itch_market.specs.FirstPlaces.{IsFirst}
 use Rattle.itch_market.specs.Runs.{after}
 use Rattle.itch_market.specs.Stops.{cause_at, last_stop}
-use Rattle.itch_market.specs.Replays.{NoCause, Counts, IsDecided}
+use Rattle.itch_market.specs.Replays.{NoCause, Counts, LeavesReaderFirst, IsDecided}
 use Rattle.itch_market.specs.declared.stop.Stop.{Stop}
 use Rattle.itch_market.specs.declared.stop.Stop.TheVariants as stop
 use Rattle.itch_snapshot.specs.Reads.{CountsFault, IsDecidedFault}
@@ -19,7 +19,7 @@ use Rattle.itch_commands.specs.declared.fault.ToolFault.{ToolFault}
 use Rattle.itch_commands.specs.declared.fault.ToolFault.TheVariants as tool
 use Rattle.itch_commands.specs.declared.fault.Source.TheVariants.{Only, Snapshot}
 use Rattle.itch_commands.specs.AsRead.{ReadsAs, IsFaultAs, HaltsAs}
-use Rattle.itch_commands.specs.Readings.{IsWhole, LeavesDay}
+use Rattle.itch_commands.specs.Readings.{IsWhole}
 
 -- the market that a snapshot leaves, and the number of the first message of the feed that is not in it
 abbrev pub Start : Type 0
@@ -93,13 +93,13 @@ module _ (read : List ℕ → List ℕ) {R : Type 0} (remaining : R → Option (
   ReadsFeed old new start (Ok seen) =
       (payloads : List (List ℕ)) × (seen ≡ map read payloads)
       × IfSome (bytes_left remaining old) (λ b. IsWhole b payloads) × EndsFeed read start (bytes_left remaining old) (bytes_left remaining new) payloads stop.End
-      × (failures new.reader ≡ failures old.reader) × LeavesDay (Ok (length payloads)) None old new
+      × (failures new.reader ≡ failures old.reader) × LeavesReaderFirst old (length payloads) (Some stop.End) new
   -- or this many were taken, and then this stopped it; if the file alone decides, it is the first bad place of the feed
   ReadsFeed old new start (Err (tool.Stopped at end)) =
       (at ≡ Only) × (end.stop ≢ stop.End)
       × ((payloads : List (List ℕ)) × (length payloads ≡ end.count) × EndsFeed read start (bytes_left remaining old) (bytes_left remaining new) payloads end.stop)
       × IfSome (bytes_left remaining old) (λ b. IsDecided end.stop → StopsFeed read start b end.count end.stop)
-      × Counts end.stop (failures old.reader) (failures new.reader) × LeavesDay (Err (tool.Stopped at end)) None old new
+      × Counts end.stop (failures old.reader) (failures new.reader) × LeavesReaderFirst old end.count (Some end.stop) new
   ReadsFeed old new start (Err fault) = ⊥
 
 -- what was read leaves a market whose snapshot has room for its End of Snapshot, or has too many messages

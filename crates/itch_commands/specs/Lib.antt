@@ -1,10 +1,13 @@
 pub mod Statuses
+pub mod Limits
 pub mod Readings
+pub mod Files
 pub mod Outputs
 pub mod Canons
 pub mod Causes
 pub mod Showing
 pub mod Comparing
+pub mod Forms
 pub mod Books
 pub mod AsRead
 pub mod Joining

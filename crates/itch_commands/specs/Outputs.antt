@@ -16,10 +16,6 @@ use Rattle.itch_commands.specs.declared.fault.ToolFault.TheVariants as tool
 abbrev pub ok_line : ℕ → List ℕ
 ok_line count = codes "ok " ++ decimal count ++ codes " messages\n"
 
--- the same for the number of these payloads
-abbrev pub ok_line_of : List (List ℕ) → List ℕ
-ok_line_of payloads = ok_line (length payloads)
-
 -- the bytes of the snapshot after these messages: canonical bytes, and the block of End of Snapshot with the next number
 abbrev pub snapshot_of : List (List ℕ) → List ℕ
 snapshot_of payloads = canon (run (map message_of payloads)) ++ closing (length payloads + 1)

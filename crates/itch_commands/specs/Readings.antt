@@ -1,104 +1,153 @@
 -- How a command reads the messages of a day file into a new market.
-use Rattle.std.specs.Prelude.{◌≡◌, ◌≢◌, ℕ, ◌-◌, ◌^◌, ◌≤◌, List, [], ◌++◌, map, length, ◌⊎◌, ◌<◌, Option, Some, None, IsSome, IfSome, Result, Ok, Err}
+use Rattle.std.specs.Prelude.{◌≡◌, ◌≢◌, ℕ, ◌+◌, ◌-◌, ◌^◌, ◌≤◌, ◌==◌, Bool, true, false, List, [], ◌++◌, map, length, ◌⊎◌, Option, Some, None, IsSome, IfSome, Result, Ok, Err}
 use Rattle.std.specs.List.{AllByRecursion}
-use Rattle.std.specs.Io.KnownBytes.{Consumes, IsAtEnd}
+use Rattle.std.specs.Io.KnownBytes.{Consumes}
 use Rattle.itch_codec.specs.Messages.{message_of}
 use Rattle.itch_frame.specs.Blocks.{block, blocks, Ends, IsFull, Day}
-use Rattle.itch_frame.specs.Reading.{Reading, bytes_left}
+use Rattle.itch_frame.specs.Reading.{Reading, bytes_left, EndsHere}
 use Rattle.itch_frame.specs.declared.reader.Stage.TheVariants.{Going}
 use Rattle.itch_frame.specs.declared.tally.Failures.{Failures}
-use Rattle.itch_market.specs.Content.{Content, empty, laid}
-use Rattle.itch_market.specs.Runs.{run}
+use Rattle.itch_market.specs.Content.{Content, empty}
+use Rattle.itch_market.specs.Runs.{after}
 use Rattle.itch_market.specs.declared.stop.Stop.{Stop}
-use Rattle.itch_market.specs.declared.stop.Stop.TheVariants.{End}
-use Rattle.itch_market.specs.Replays.{Fits, NoCause, Replays, ReplaysFirst, Counts, LeavesReaderFirst, IsDecided}
+use Rattle.itch_market.specs.declared.stop.Stop.TheVariants.{End, Rule}
+use Rattle.itch_market.specs.Replays.{NoCause, TakesOff, TakesOne, Takes, Halts, Refuses, Counts, LeavesReaderFirst, IsDecided}
 use Rattle.itch_market.specs.Stops.{Stops}
 use Rattle.itch_snapshot.specs.Files.{IsFaultOf, IsMarketOf}
 use Rattle.itch_snapshot.specs.Reads.{ReadsSnapshot, CountsFault, IsDecidedFault}
+use Rattle.itch_commands.specs.Limits.{IsEarly, IsLate, IsBefore}
 use Rattle.itch_commands.specs.declared.fault.ToolFault.{ToolFault}
 use Rattle.itch_commands.specs.declared.fault.ToolFault.TheVariants as tool
 use Rattle.itch_commands.specs.declared.fault.Source.{Source}
+use Rattle.itch_commands.specs.declared.limit.Limit.{Limit}
 
--- these payloads were taken in order, from the empty market: none is empty, faulty or refused, and there are as many as are
--- wanted
-pub record AreTaken (after : Option ℕ) (payloads : List (List ℕ)) : Type 0 where
+-- these payloads were taken in order, from the empty market: none is empty, faulty, refused or late
+pub record AreTaken (limit : Limit) (payloads : List (List ℕ)) : Type 0 where
   pub full : AllByRecursion IsFull payloads
   pub taken : NoCause empty payloads
   pub few : length payloads ≤ 10 ^ 19 - 1
-  pub wanted : IfSome after (λ most. length payloads ≡ most)
+  pub early : AllByRecursion (IsEarly limit) payloads
 
 -- a file whose payloads are these, and which then ends
 abbrev pub IsWhole : List ℕ → List (List ℕ) → Type 0
 IsWhole bytes payloads = (rest : List ℕ) × Day bytes payloads rest × Ends rest
 
--- a file that begins with the blocks of these payloads
-abbrev pub IsFront : List ℕ → List (List ℕ) → Type 0
-IsFront bytes payloads = (rest : List ℕ) × (bytes ≡ blocks payloads ++ rest)
+-- the bytes begin with the block of a message that is late
+abbrev pub StartsLate : Limit → List ℕ → Type 0
+StartsLate limit bytes = (payload : List ℕ) × (rest : List ℕ) × (bytes ≡ block payload ++ rest) × IsFull payload × IsLate limit payload
 
--- the payloads of the part of a file that is wanted: the whole of it, or its first messages
-abbrev pub IsPart : Option ℕ → List ℕ → List (List ℕ) → Type 0
-IsPart None bytes payloads = IsWhole bytes payloads
-IsPart (Some most) bytes payloads = IsFront bytes payloads
+-- no message is wanted after this many: no more are, or the next one is late, or the file ends
+abbrev pub IsCut : Limit → ℕ → List ℕ → Type 0
+IsCut limit count rest = (limit.after ≡ Some count) ⊎ (IsBefore limit count × StartsLate limit rest) ⊎ ((limit.after ≡ None) × Ends rest)
+
+-- the payloads of the part of a file that is wanted, with their blocks one after the other
+abbrev pub IsPart : Limit → List ℕ → List (List ℕ) → Type 0
+IsPart limit bytes payloads = (rest : List ℕ) × (bytes ≡ blocks payloads ++ rest) × IsCut limit (length payloads) rest
+
+-- the next block, which came off the front, has a message that is late
+abbrev pub LateNext : Limit → Option (List ℕ) → Option (List ℕ) → Type 0
+LateNext limit old new = (payload : List ℕ) × TakesOff old new payload × IsLate limit payload
+
+-- No message is wanted after this many: no more are, and none was read; or the next one is late, and was read; or the file ended.
+abbrev pub IsEnough : Limit → ℕ → Option (List ℕ) → Option (List ℕ) → Type 0
+IsEnough limit count old new =
+    ((limit.after ≡ Some count) × (new ≡ old)) ⊎ (IsBefore limit count × LateNext limit old new) ⊎ ((limit.after ≡ None) × EndsHere old new)
+
+-- these payloads were taken off the front, and their messages applied: none is late
+abbrev pub TakesEarly : Limit → Content → Option (List ℕ) → Option (List ℕ) → ℕ → List (List ℕ) → Content → Type 0
+TakesEarly limit m old new count payloads n =
+    Takes m old new payloads n × (length payloads ≡ count) × (count ≤ 10 ^ 19 - 1) × AllByRecursion (IsEarly limit) payloads
 
 -- the part that is wanted was applied
-abbrev pub TakesPart : Option ℕ → Content → Option (List ℕ) → Option (List ℕ) → ℕ → Content → Type 0
-TakesPart None m old new count n = Replays m old new count End n
-TakesPart (Some most) m old new count n = ReplaysFirst most m old new count None n
+abbrev pub TakesPart : Limit → Content → Option (List ℕ) → Option (List ℕ) → ℕ → Content → Type 0
+TakesPart limit m old new count n =
+    (payloads : List (List ℕ)) × (mid : Option (List ℕ)) × TakesEarly limit m old mid count payloads n × IsEnough limit count mid new
+
+-- why no further message is applied to this market: as `Halts` says, and a message that is late is not refused
+abbrev pub HaltsEarly : Limit → Bool → Content → Option (List ℕ) → Option (List ℕ) → Stop → Type 0
+HaltsEarly limit full m old new (Rule why) =
+    (payload : List ℕ) × TakesOff old new payload × (full ≡ false) × Refuses m payload why × IsEarly limit payload
+HaltsEarly limit full m old new stop = Halts full m old new stop
 
 -- or it stopped before
-abbrev pub HaltsPart : Option ℕ → Content → Option (List ℕ) → Option (List ℕ) → ℕ → Stop → Content → Type 0
-HaltsPart None m old new count stop n = Replays m old new count stop n
-HaltsPart (Some most) m old new count stop n = ReplaysFirst most m old new count (Some stop) n
+abbrev pub HaltsPart : Limit → Content → Option (List ℕ) → Option (List ℕ) → ℕ → Stop → Content → Type 0
+HaltsPart limit m old new count stop n =
+    IsBefore limit count × (payloads : List (List ℕ)) × (mid : Option (List ℕ)) × TakesEarly limit m old mid count payloads n
+    × HaltsEarly limit (count == 10 ^ 19 - 1) (after m (map message_of payloads)) mid new stop
 
 -- fewer messages than are wanted
-abbrev pub IsShort : Option ℕ → ℕ → Type 0
-IsShort None count = ⊥
-IsShort (Some most) count = count < most
+abbrev pub IsShort : Limit → ℕ → Type 0
+IsShort limit count = IsSome limit.after × IsBefore limit count
 
--- what reading a file into a market returns, and leaves
-abbrev pub ReadsMarket : Source → Option ℕ → Content → Option (List ℕ) → Option (List ℕ) → Result ℕ ToolFault → Content → Type 0
-ReadsMarket file after m old new (Ok count) n = TakesPart after m old new count n
-ReadsMarket file after m old new (Err (tool.Stopped at end)) n = (at ≡ file) × (end.stop ≢ End) × HaltsPart after m old new end.count end.stop n
-ReadsMarket file after m old new (Err (tool.Short count)) n = IsSome after × HaltsPart after m old new count End n
-ReadsMarket file after m old new (Err fault) n = ⊥
+-- what a message of a payload does: it is applied, or it is late, or the reading stops
+abbrev pub TakesPayload : Limit → Content → List ℕ → Result Bool Stop → Content → Type 0
+TakesPayload limit m payload (Ok true) n = IsEarly limit payload × TakesOne m payload (Ok tt) n
+TakesPayload limit m payload (Ok false) n = (n ≡ m) × IsLate limit payload
+TakesPayload limit m payload (Err (Rule why)) n = TakesOne m payload (Err (Rule why)) n × IsEarly limit payload
+TakesPayload limit m payload (Err stop) n = TakesOne m payload (Err stop) n
+
+-- what one block does
+abbrev pub TakesNext : Limit → Bool → Content → Option (List ℕ) → Option (List ℕ) → Result Bool Stop → Content → Type 0
+TakesNext limit full m old new (Ok true) n =
+    (payload : List ℕ) × TakesOff old new payload × (full ≡ false) × IsEarly limit payload × TakesOne m payload (Ok tt) n
+TakesNext limit full m old new (Ok false) n = (n ≡ m) × LateNext limit old new
+TakesNext limit full m old new (Err stop) n = (n ≡ m) × HaltsEarly limit full m old new stop
+
+-- what an end of the file returns after this many messages: none is missing where no number is wanted
+abbrev pub ended : Option ℕ → Source → ℕ → Result ℕ ToolFault
+ended None file count = Ok count
+ended (Some most) file count = Err (tool.Short file count)
+
+-- what a stop returns after this many messages
+abbrev pub stopped : Stop → Option ℕ → Source → ℕ → Result ℕ ToolFault
+stopped End wanted file count = ended wanted file count
+stopped stop wanted file count = Err (tool.Stopped file (record { count = count; stop = stop }))
+
+-- what reading the part of a file that is wanted into a market returns, and leaves
+abbrev pub ReadsMarket : Source → Limit → Content → Option (List ℕ) → Option (List ℕ) → Result ℕ ToolFault → Content → Type 0
+ReadsMarket file limit m old new (Ok count) n = TakesPart limit m old new count n
+ReadsMarket file limit m old new (Err (tool.Stopped at end)) n = (at ≡ file) × (end.stop ≢ End) × HaltsPart limit m old new end.count end.stop n
+ReadsMarket file limit m old new (Err (tool.Short at count)) n = (at ≡ file) × IsSome limit.after × HaltsPart limit m old new count End n
+ReadsMarket file limit m old new (Err fault) n = ⊥
 
 -- a failed read is counted with its error, and no other fault is
 abbrev pub CountsRead : {X : Type 0} → Result X ToolFault → Failures → Failures → Type 0
 CountsRead (Err (tool.Stopped at end)) old new = Counts end.stop old new
 CountsRead result old new = new ≡ old
 
--- the payloads came off the front: nothing more, if only the first n are wanted; else the end of the file was reached
-abbrev pub LeavesPart : Option ℕ → Option (List ℕ) → Option (List ℕ) → List (List ℕ) → Type 0
-LeavesPart None old new payloads = (mid : Option (List ℕ)) × Consumes old mid (blocks payloads) × (IsAtEnd mid ⊎ Consumes mid new (block []))
-LeavesPart (Some most) old new payloads = Consumes old new (blocks payloads)
+-- the payloads came off the front, and no more is wanted
+abbrev pub LeavesPart : Limit → Option (List ℕ) → Option (List ℕ) → List (List ℕ) → Type 0
+LeavesPart limit old new payloads = (mid : Option (List ℕ)) × Consumes old mid (blocks payloads) × IsEnough limit (length payloads) mid new
 
--- where the reader of blocks is left
-abbrev pub LeavesDay : {R : Type 0} → Result ℕ ToolFault → Option ℕ → Reading R → Reading R → Type 0
-LeavesDay (Ok count) None old new = LeavesReaderFirst old count (Some End) new
-LeavesDay (Ok count) (Some most) old new = LeavesReaderFirst old count None new
-LeavesDay (Err (tool.Stopped at end)) after old new = LeavesReaderFirst old end.count (Some end.stop) new
-LeavesDay (Err (tool.Short count)) after old new = LeavesReaderFirst old count (Some End) new
-LeavesDay (Err fault) after old new = ⊥
+-- where the reader of blocks is left: after the messages that were wanted, or after the one that is late, or at the end of the file
+abbrev pub LeavesDay : {R : Type 0} → Result ℕ ToolFault → Limit → Reading R → Reading R → Type 0
+LeavesDay (Ok count) limit old new =
+    (IsSome limit.after × LeavesReaderFirst old count None new)
+    ⊎ (IsSome limit.until × LeavesReaderFirst old (count + 1) None new)
+    ⊎ ((limit.after ≡ None) × LeavesReaderFirst old count (Some End) new)
+LeavesDay (Err (tool.Stopped at end)) limit old new = LeavesReaderFirst old end.count (Some end.stop) new
+LeavesDay (Err (tool.Short at count)) limit old new = LeavesReaderFirst old count (Some End) new
+LeavesDay (Err fault) limit old new = ⊥
 
 module _ {R : Type 0} (remaining : R → Option (List ℕ)) (failures : R → Failures) where
-  -- What reading a day file, or its first messages, from the empty market returns, and leaves of its reader. The contract of
+  -- What reading the part of a day file that is wanted, from the empty market, returns, and leaves of its reader. The contract of
   -- every command that reads a day file cites this table.
-  abbrev pub ReadsDay : Source → Option ℕ → Reading R → Reading R → Result (List (List ℕ)) ToolFault → Type 0
-  ReadsDay file after old new (Ok payloads) =
-      AreTaken after payloads × IfSome (bytes_left remaining old) (λ b. IsPart after b payloads)
-      × LeavesPart after (bytes_left remaining old) (bytes_left remaining new) payloads
-      × (failures new.reader ≡ failures old.reader) × LeavesDay (Ok (length payloads)) after old new
+  abbrev pub ReadsDay : Source → Limit → Reading R → Reading R → Result (List (List ℕ)) ToolFault → Type 0
+  ReadsDay file limit old new (Ok payloads) =
+      AreTaken limit payloads × IfSome (bytes_left remaining old) (λ b. IsPart limit b payloads)
+      × LeavesPart limit (bytes_left remaining old) (bytes_left remaining new) payloads
+      × (failures new.reader ≡ failures old.reader) × LeavesDay (Ok (length payloads)) limit old new
   -- this many messages were taken, and then this stopped it; if the file alone decides, it is the first bad place of the file
-  ReadsDay file after old new (Err (tool.Stopped at end)) =
-      (at ≡ file) × (end.stop ≢ End) × ((n : Content) × HaltsPart after empty (bytes_left remaining old) (bytes_left remaining new) end.count end.stop n)
+  ReadsDay file limit old new (Err (tool.Stopped at end)) =
+      (at ≡ file) × (end.stop ≢ End) × ((n : Content) × HaltsPart limit empty (bytes_left remaining old) (bytes_left remaining new) end.count end.stop n)
       × IfSome (bytes_left remaining old) (λ b. IsDecided end.stop → Stops empty b end.count end.stop)
-      × Counts end.stop (failures old.reader) (failures new.reader) × LeavesDay (Err (tool.Stopped at end)) after old new
+      × Counts end.stop (failures old.reader) (failures new.reader) × LeavesDay (Err (tool.Stopped at end)) limit old new
   -- fewer messages than are wanted were taken, and then the file ended
-  ReadsDay file after old new (Err (tool.Short count)) =
-      IsShort after count × ((n : Content) × HaltsPart after empty (bytes_left remaining old) (bytes_left remaining new) count End n)
+  ReadsDay file limit old new (Err (tool.Short at count)) =
+      (at ≡ file) × IsShort limit count × ((n : Content) × HaltsPart limit empty (bytes_left remaining old) (bytes_left remaining new) count End n)
       × IfSome (bytes_left remaining old) (λ b. Stops empty b count End)
-      × (failures new.reader ≡ failures old.reader) × LeavesDay (Err (tool.Short count)) after old new
-  ReadsDay file after old new (Err fault) = ⊥
+      × (failures new.reader ≡ failures old.reader) × LeavesDay (Err (tool.Short at count)) limit old new
+  ReadsDay file limit old new (Err fault) = ⊥
 
 module _ {R : Type 0} (remaining : R → Option (List ℕ)) (failures : R → Failures) where
   -- What reading a snapshot file returns, and leaves of its reader: the market and the number, or why the file is refused.
@@ -111,12 +160,6 @@ module _ {R : Type 0} (remaining : R → Option (List ℕ)) (failures : R → Fa
       (at ≡ file) × ReadsSnapshot (bytes_left remaining old) (bytes_left remaining new) (Err fault)
       × IfSome (bytes_left remaining old) (λ b. IsDecidedFault fault → IsFaultOf b fault) × CountsFault fault (failures old.reader) (failures new.reader)
   ReadsSnap file old new (Err fault) = ⊥
-
--- the market that the messages of a file leave
-abbrev pub LeavesMarket : (Result (List (List ℕ)) ToolFault → Type 0) → Result Content ToolFault → Type 0
-LeavesMarket reads (Ok market) =
-    (payloads : List (List ℕ)) × reads (Ok payloads) × AllByRecursion Fits payloads × (market ≡ laid (run (map message_of payloads)))
-LeavesMarket reads (Err fault) = reads (Err fault)
 
 -- what is read, and from which reader
 abbrev pub From : Type 0 → Type 0 → Type 1

@@ -46,7 +46,7 @@ soup_status fault = 1
 abbrev pub status_of : ToolFault → ℕ
 status_of (tool.Stopped file end) = stop_status end.stop
 status_of (tool.Snap file fault) = snapshot_status fault
-status_of (tool.Short count) = 1
+status_of (tool.Short file count) = 1
 status_of tool.UnknownLocate = 1
 status_of (tool.Write error) = 3
 status_of tool.OutOfMemory = 4

@@ -1,19 +1,26 @@
 //! `book`: the prices of a locate.
-ghost use Rattle.std.specs.Prelude.{◌≡◌, ◌≤◌, ◌-◌, None, [], ◌∷◌, length, option_map};
-ghost use Rattle.itch_codec.specs.Fields.{side_byte};
+ghost use Rattle.std.specs.Prelude.{◌≡◌, ◌≤◌, ◌-◌, None, length, option_map};
 ghost use Rattle.itch_book.specs.Orders.{queue, next_price};
-ghost use Rattle.itch_commands.specs.Books.{next_wanted, level_line, side_lines, title_line, book_lines};
+ghost use Rattle.itch_commands.specs.Books.{next_wanted, side_lines, book_lines};
 ghost use Rattle.itch_commands.specs.Commands.{ListsBook};
+ghost use Rattle.itch_commands.specs.Forms.{row};
+ghost use Rattle.itch_commands.specs.Limits.{counted};
 ghost use Rattle.itch_commands.specs.Outputs.{WritesText};
 ghost use Rattle.itch_commands.specs.Readings.{FromBlocks, FromReader};
+ghost use Rattle.itch_commands.specs.declared.form.BookForm.TheVariants.{Text};
+ghost use Rattle.itch_commands.specs.declared.kind.FileKind.TheVariants.{Day};
 
+mod rows;
+
+use crate::book::rows::Rows;
 use crate::fault::{Source, ToolFault};
-use crate::line::Line;
+use crate::form::BookForm;
+use crate::kind::{FileKind, file_market};
+use crate::limit::Limit;
 use crate::order_book::Book;
-use crate::reading::day_market;
 use crate::writing::write_text;
 use itch_book::OrderBook;
-use itch_codec::Side;
+use itch_codec::{Seq, Side};
 use itch_frame::{BlockReader, CountedRead, CountedWrite};
 use itch_market::Market;
 use std::alloc::Allocator;
@@ -28,23 +35,34 @@ pub fn book<R: CountedRead + Drop, A: Allocator + Copy, W: CountedWrite>(
     reader: R,
     out: &mut W,
 ) -> Result<bool, ToolFault>
-    ensures { ListsBook R.remaining R.failures W.contents W.failures locate None (FromReader reader) out.old result out.new }
+    ensures { ListsBook R.remaining R.failures W.contents W.failures Text locate None (Day (counted None)) (FromReader reader) out.old result out.new }
 {
     let mut reader = BlockReader::new(alloc, reader)?;
-    book_blocks(alloc, locate, None, &mut reader, out)
+    book_blocks(
+        alloc,
+        locate,
+        None,
+        &mut reader,
+        FileKind::Day(Limit::whole()),
+        BookForm::Text,
+        out,
+    )
 }
 
-/// The same over a reader of blocks, which is left where the reading ended, with `depth` prices of each side at most, if that is given.
+/// The same over a reader of blocks, for a file of either kind, in any form, and with `depth` prices of each side at most if that is
+/// given. The reader is left where the reading ended.
 pub fn book_blocks<R: CountedRead, B: Allocator, A: Allocator + Copy, W: CountedWrite>(
     alloc: A,
     locate: u16,
     depth: Option<u64>,
     reader: &mut BlockReader<R, B>,
+    kind: FileKind,
+    form: BookForm,
     out: &mut W,
 ) -> Result<bool, ToolFault>
-    ensures { ListsBook R.remaining R.failures W.contents W.failures locate depth (FromBlocks reader.old reader.new) out.old result out.new }
+    ensures { ListsBook R.remaining R.failures W.contents W.failures form locate depth kind (FromBlocks reader.old reader.new) out.old result out.new }
 {
-    book_over::<R, B, Book<A>, W>(alloc, locate, depth, reader, out)
+    book_over::<R, B, Book<A>, W>(alloc, locate, depth, reader, kind, form, out)
 }
 
 // The same with any book of orders.
@@ -53,50 +71,58 @@ fn book_over<R: CountedRead, A: Allocator, B: OrderBook, W: CountedWrite>(
     locate: u16,
     depth: Option<u64>,
     reader: &mut BlockReader<R, A>,
+    kind: FileKind,
+    form: BookForm,
     out: &mut W,
 ) -> Result<bool, ToolFault>
-    ensures { ListsBook R.remaining R.failures W.contents W.failures locate depth (FromBlocks reader.old reader.new) out.old result out.new }
+    ensures { ListsBook R.remaining R.failures W.contents W.failures form locate depth kind (FromBlocks reader.old reader.new) out.old result out.new }
 {
-    let market: Market<B> = day_market(alloc, reader, Source::Only)?;
+    let (market, _): (Market<B>, Seq) = file_market(alloc, reader, kind, Source::Only)?;
     let Some(security) = market.security(locate) else {
         return Err(ToolFault::UnknownLocate);
     };
     let stock = security.entry.stock;
     stock.recall_invariant();
-    write_book(market.book(), locate, depth, stock.text(), out)?;
+    let rows = Rows {
+        form,
+        locate,
+        stock: stock.text(),
+    };
+    write_book(market.book(), depth, &rows, out)?;
     Ok(true)
 }
 
-// Writes the title of a book and its prices.
+// Writes the heading of a book and its prices.
 fn write_book<B: OrderBook, W: CountedWrite>(
     book: &B,
-    locate: u16,
     depth: Option<u64>,
-    stock: &str,
+    rows: &Rows<'_>,
     out: &mut W,
 ) -> Result<(), ToolFault>
-    requires { length stock.now ≤ 8 }
-    ensures { WritesText W.contents W.failures (book_lines locate depth stock.now (B.orders book.now)) out.old result out.new }
+    requires { length rows.now.stock.now ≤ 8 }
+    ensures { WritesText W.contents W.failures (book_lines rows.now.form rows.now.locate depth rows.now.stock.now (B.orders book.now)) out.old result out.new }
 {
-    write_text(title_line(locate, stock).as_bytes(), out)?;
-    write_side(book, locate, depth, Side::Buy, out)?;
-    write_side(book, locate, depth, Side::Sell, out)
+    write_text(rows.heading().as_bytes(), out)?;
+    write_side(book, depth, rows, Side::Buy, out)?;
+    write_side(book, depth, rows, Side::Sell, out)
 }
 
 // Writes the line of each price of a side that is wanted, the best price first.
 fn write_side<B: OrderBook, W: CountedWrite>(
     book: &B,
-    locate: u16,
     depth: Option<u64>,
+    rows: &Rows<'_>,
     side: Side,
     out: &mut W,
 ) -> Result<(), ToolFault>
-    ensures { WritesText W.contents W.failures (side_lines depth side (queue (B.orders book.now) locate side)) out.old result out.new }
+    requires { length rows.now.stock.now ≤ 8 }
+    ensures { WritesText W.contents W.failures (side_lines (row rows.now.form rows.now.locate rows.now.stock.now) depth side (queue (B.orders book.now) rows.now.locate side)) out.old result out.new }
 {
+    let locate = rows.locate;
     let (mut last, mut left) = (None, depth);
     while let Some(price) = next_wanted(book, locate, left, side, last) {
         let (shares, orders) = book.level_total(locate, side, price);
-        write_text(level_line(side, price, shares, orders).as_bytes(), out)?;
+        write_text(rows.row(side, price, shares, orders).as_bytes(), out)?;
         last = Some(price);
         left = one_fewer(left);
     }
@@ -125,40 +151,5 @@ fn one_fewer(left: Option<u64>) -> Option<u64>
     match left {
         Some(more) => Some(more.saturating_sub(1)),
         None => None,
-    }
-}
-
-fn title_line(locate: u16, stock: &str) -> Line
-    requires { length stock.now ≤ 8 }
-    ensures { result ≡ title_line locate stock.now }
-{
-    let mut line = Line::new();
-    line.number(locate);
-    line.text(b" ");
-    line.text(stock.as_bytes());
-    line.text(b"\n");
-    line
-}
-
-fn level_line(side: Side, price: u32, shares: u128, orders: u64) -> Line
-    ensures { result ≡ level_line side price shares orders }
-{
-    let mut line = Line::new();
-    line.text(side_text(side));
-    line.price(price);
-    line.text(b" ");
-    line.number(shares);
-    line.text(b" ");
-    line.number(orders);
-    line.text(b"\n");
-    line
-}
-
-fn side_text(side: Side) -> &'static [u8]
-    ensures { result.now ≡ side_byte side ∷ 32 ∷ [] }
-{
-    match side {
-        Side::Buy => b"B ",
-        Side::Sell => b"S ",
     }
 }

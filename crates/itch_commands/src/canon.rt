@@ -9,6 +9,7 @@ mod canonical;
 mod copying;
 
 use crate::fault::{Source, ToolFault};
+use crate::kind::snapshot_market;
 use crate::order_book::Book;
 use crate::writing::{write_closed, write_text};
 use canonical::is_closed;
@@ -17,7 +18,7 @@ use itch_book::OrderBook;
 use itch_codec::Seq;
 use itch_frame::{BlockReader, CountedRead, CountedWrite};
 use itch_market::Market;
-use itch_snapshot::{SnapshotReader, read_snapshot};
+use itch_snapshot::SnapshotReader;
 use std::alloc::Allocator;
 
 /// Writes a snapshot file in canonical form: the canonical bytes of the market that its messages leave, and an End of
@@ -62,16 +63,7 @@ fn write_canon<R: CountedRead, A: Allocator, B: OrderBook, W: CountedWrite>(
 ) -> Result<bool, ToolFault>
     ensures { WritesCanon R.remaining R.failures W.contents W.failures (FromBlocks reader.old reader.new) out.old result out.new }
 {
-    let read: Result<(Market<B>, Seq), _> = read_snapshot(alloc, reader);
-    let (market, next) = match read {
-        Ok(done) => done,
-        Err(fault) => {
-            return Err(ToolFault::Snap {
-                file: Source::Only,
-                fault,
-            });
-        }
-    };
+    let (market, next): (Market<B>, Seq) = snapshot_market(alloc, reader, Source::Only)?;
     write_closed(&market, next, out)
 }
 

@@ -1,10 +1,15 @@
 //! `check`: whether a file follows the order rules.
-ghost use Rattle.std.specs.Prelude.{◌≡◌, true};
+ghost use Rattle.std.specs.Prelude.{◌≡◌, None, true};
 ghost use Rattle.itch_commands.specs.Commands.{Checks};
-ghost use Rattle.itch_commands.specs.Outputs.{WritesOutput, ok_line};
+ghost use Rattle.itch_commands.specs.Forms.{count_line};
+ghost use Rattle.itch_commands.specs.Limits.{counted};
+ghost use Rattle.itch_commands.specs.Outputs.{WritesOutput};
 ghost use Rattle.itch_commands.specs.Readings.{FromBlocks, FromReader};
+ghost use Rattle.itch_commands.specs.declared.form.Form.TheVariants.{Text};
 
 use crate::fault::{Source, ToolFault};
+use crate::form::Form;
+use crate::limit::Limit;
 use crate::line::Line;
 use crate::order_book::Book;
 use crate::reading::read_market;
@@ -20,49 +25,62 @@ pub fn check<R: CountedRead + Drop, A: Allocator + Copy, W: CountedWrite>(
     reader: R,
     out: &mut W,
 ) -> Result<bool, ToolFault>
-    ensures { Checks R.remaining R.failures W.contents W.failures (FromReader reader) out.old result out.new }
+    ensures { Checks R.remaining R.failures W.contents W.failures Text (counted None) (FromReader reader) out.old result out.new }
 {
     let mut reader = BlockReader::new(alloc, reader)?;
-    check_blocks(alloc, &mut reader, out)
+    check_blocks(alloc, &mut reader, Limit::whole(), Form::Text, out)
 }
 
-/// The same over a reader of blocks, which is left where the reading ended.
+/// The same over a reader of blocks, for any part of the file, and in any form. The reader is left where the reading ended.
 pub fn check_blocks<R: CountedRead, B: Allocator, A: Allocator + Copy, W: CountedWrite>(
     alloc: A,
     reader: &mut BlockReader<R, B>,
+    limit: Limit,
+    form: Form,
     out: &mut W,
 ) -> Result<bool, ToolFault>
-    ensures { Checks R.remaining R.failures W.contents W.failures (FromBlocks reader.old reader.new) out.old result out.new }
+    ensures { Checks R.remaining R.failures W.contents W.failures form limit (FromBlocks reader.old reader.new) out.old result out.new }
 {
-    check_over::<R, B, Book<A>, W>(alloc, reader, out)
+    check_over::<R, B, Book<A>, W>(alloc, reader, limit, form, out)
 }
 
 // The same with any book of orders.
 fn check_over<R: CountedRead, A: Allocator, B: OrderBook, W: CountedWrite>(
     alloc: B::Alloc,
     reader: &mut BlockReader<R, A>,
+    limit: Limit,
+    form: Form,
     out: &mut W,
 ) -> Result<bool, ToolFault>
-    ensures { Checks R.remaining R.failures W.contents W.failures (FromBlocks reader.old reader.new) out.old result out.new }
+    ensures { Checks R.remaining R.failures W.contents W.failures form limit (FromBlocks reader.old reader.new) out.old result out.new }
 {
     let mut market: Market<B> = Market::new(alloc);
-    let count = read_market(reader, &mut market, None, Source::Only)?;
-    write_count(count, out)
+    let count = read_market(reader, &mut market, limit, Source::Only)?;
+    write_count(count, form, out)
 }
 
-fn write_count<W: CountedWrite>(count: u64, out: &mut W) -> Result<bool, ToolFault>
-    ensures { WritesOutput W.contents W.failures (ok_line count) true out.old result out.new }
+fn write_count<W: CountedWrite>(count: u64, form: Form, out: &mut W) -> Result<bool, ToolFault>
+    ensures { WritesOutput W.contents W.failures (count_line form count) true out.old result out.new }
 {
-    write_text(ok_line(count).as_bytes(), out)?;
+    write_text(count_line(count, form).as_bytes(), out)?;
     Ok(true)
 }
 
-fn ok_line(count: u64) -> Line
-    ensures { result ≡ ok_line count }
+fn count_line(count: u64, form: Form) -> Line
+    ensures { result ≡ count_line form count }
 {
     let mut line = Line::new();
-    line.text(b"ok ");
-    line.number(count);
-    line.text(b" messages\n");
+    match form {
+        Form::Text => {
+            line.text(b"ok ");
+            line.number(count);
+            line.text(b" messages\n");
+        }
+        Form::Json => {
+            line.text(b"{\"messages\":");
+            line.number(count);
+            line.text(b"}\n");
+        }
+    }
     line
 }

@@ -1,16 +1,23 @@
 //! `compare`: whether two files leave the same market.
-ghost use Rattle.std.specs.Prelude.{◌≡◌, is_none};
+ghost use Rattle.std.specs.Prelude.{◌≡◌, None, is_none};
 ghost use Rattle.itch_commands.specs.Commands.{Compares};
 ghost use Rattle.itch_commands.specs.Comparing.{place_line};
+ghost use Rattle.itch_commands.specs.Forms.{verdict_line};
+ghost use Rattle.itch_commands.specs.Limits.{counted};
 ghost use Rattle.itch_commands.specs.Outputs.{WritesOutput};
 ghost use Rattle.itch_commands.specs.Readings.{FromBlocks, FromReader};
+ghost use Rattle.itch_commands.specs.declared.form.Form.TheVariants.{Text, Json};
+ghost use Rattle.itch_commands.specs.declared.kind.FileKind.TheVariants.{Day};
 
 use crate::fault::{Source, ToolFault};
+use crate::form::Form;
+use crate::kind::{FileKind, file_market};
+use crate::limit::Limit;
 use crate::line::Line;
 use crate::order_book::Book;
-use crate::reading::day_market;
 use crate::writing::write_text;
 use itch_book::OrderBook;
+use itch_codec::Seq;
 use itch_frame::{BlockReader, CountedRead, CountedWrite};
 use itch_market::Market;
 use itch_snapshot::part_place;
@@ -27,15 +34,22 @@ pub fn compare<R: CountedRead + Drop, S: CountedRead + Drop, A: Allocator + Copy
     second: S,
     out: &mut W,
 ) -> Result<bool, ToolFault>
-    ensures { Compares R.remaining R.failures S.remaining S.failures W.contents W.failures (FromReader first) (FromReader second) out.old result out.new }
+    ensures { Compares R.remaining R.failures S.remaining S.failures W.contents W.failures Text (Day (counted None)) (FromReader first) (FromReader second) out.old result out.new }
 {
     let mut first = BlockReader::new(alloc, first)?;
     let mut second = BlockReader::new(alloc, second)?;
-    compare_blocks(alloc, &mut first, &mut second, out)
+    compare_blocks(
+        alloc,
+        &mut first,
+        &mut second,
+        FileKind::Day(Limit::whole()),
+        Form::Text,
+        out,
+    )
 }
 
-/// The same over readers of blocks, which are left where the reading ended. If the first file is refused, nothing is read of the
-/// second.
+/// The same over readers of blocks, for two snapshot files or the same part of two day files, and in any form. The readers are left
+/// where the reading ended. If the first file is refused, nothing is read of the second.
 pub fn compare_blocks<
     R: CountedRead,
     S: CountedRead,
@@ -47,12 +61,14 @@ pub fn compare_blocks<
     alloc: A,
     first: &mut BlockReader<R, B>,
     second: &mut BlockReader<S, C>,
+    kind: FileKind,
+    form: Form,
     out: &mut W,
 ) -> Result<bool, ToolFault>
-    ensures { Compares R.remaining R.failures S.remaining S.failures W.contents W.failures (FromBlocks first.old first.new) (FromBlocks second.old second.new)
+    ensures { Compares R.remaining R.failures S.remaining S.failures W.contents W.failures form kind (FromBlocks first.old first.new) (FromBlocks second.old second.new)
         out.old result out.new }
 {
-    compare_over::<R, S, B, C, Book<A>, W>(alloc, first, second, out)
+    compare_over::<R, S, B, C, Book<A>, W>(alloc, first, second, kind, form, out)
 }
 
 // The same with any book of orders.
@@ -67,21 +83,46 @@ fn compare_over<
     alloc: B::Alloc,
     first: &mut BlockReader<R, A>,
     second: &mut BlockReader<S, C>,
+    kind: FileKind,
+    form: Form,
     out: &mut W,
 ) -> Result<bool, ToolFault>
-    ensures { Compares R.remaining R.failures S.remaining S.failures W.contents W.failures (FromBlocks first.old first.new) (FromBlocks second.old second.new)
+    ensures { Compares R.remaining R.failures S.remaining S.failures W.contents W.failures form kind (FromBlocks first.old first.new) (FromBlocks second.old second.new)
         out.old result out.new }
 {
-    let one: Market<B> = day_market(alloc, first, Source::First)?;
-    let other: Market<B> = day_market(alloc, second, Source::Second)?;
-    write_place(part_place(&one, &other), out)
+    let (one, _): (Market<B>, Seq) = file_market(alloc, first, kind, Source::First)?;
+    let (other, _): (Market<B>, Seq) = file_market(alloc, second, kind, Source::Second)?;
+    write_verdict(part_place(&one, &other), form, out)
 }
 
-fn write_place<W: CountedWrite>(place: Option<u64>, out: &mut W) -> Result<bool, ToolFault>
-    ensures { WritesOutput W.contents W.failures (place_line place) (is_none place) out.old result out.new }
+fn write_verdict<W: CountedWrite>(
+    place: Option<u64>,
+    form: Form,
+    out: &mut W,
+) -> Result<bool, ToolFault>
+    ensures { WritesOutput W.contents W.failures (verdict_line form place) (is_none place) out.old result out.new }
 {
-    write_text(place_line(place).as_bytes(), out)?;
+    let line = match form {
+        Form::Text => place_line(place),
+        Form::Json => json_line(place),
+    };
+    write_text(line.as_bytes(), out)?;
     Ok(place.is_none())
+}
+
+fn json_line(place: Option<u64>) -> Line
+    ensures { result ≡ verdict_line Json place }
+{
+    let mut line = Line::new();
+    match place {
+        None => line.text(b"{\"same\":true}\n"),
+        Some(place) => {
+            line.text(b"{\"same\":false,\"place\":");
+            line.number(place);
+            line.text(b"}\n");
+        }
+    }
+    line
 }
 
 fn place_line(place: Option<u64>) -> Line

@@ -48,7 +48,7 @@ pub enum ToolFault {
     /// A snapshot file was refused.
     Snap { file: Source, fault: SnapFault },
     /// A file has only this many messages, fewer than are wanted.
-    Short { count: u64 },
+    Short { file: Source, count: u64 },
     /// The directory has no such locate.
     UnknownLocate,
     /// A write failed.
@@ -170,7 +170,7 @@ impl fmt::Display for ToolFault {
                 write!(f, "{file}message {place}: {stop}")
             }
             ToolFault::Snap { file, fault } => write!(f, "{file}{fault}"),
-            ToolFault::Short { count } => write!(f, "only {count} messages"),
+            ToolFault::Short { file, count } => write!(f, "{file}only {count} messages"),
             ToolFault::UnknownLocate => f.write_str("unknown locate"),
             ToolFault::Write(_) => f.write_str("write failed"),
             ToolFault::OutOfMemory => f.write_str("out of memory"),

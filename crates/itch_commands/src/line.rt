@@ -1,15 +1,17 @@
 //! A line of output, made part by part.
-ghost use Rattle.std.specs.Prelude.{◌≡◌, ◌+◌, ◌≤◌, ◌++◌, [], length};
+ghost use Rattle.std.specs.Prelude.{◌≡◌, ◌+◌, ◌*◌, ◌≤◌, ◌++◌, [], length};
 ghost use Rattle.itch_codec.specs.Lines.{price_text};
+ghost use Rattle.itch_commands.specs.Forms.{csv_text, json_text, quoted_char};
+ghost use Rattle.std.specs.List.{flat_map};
 
 use arrayvec::ArrayVec;
 use itoa::{Buffer, Integer};
 use std::marker::Model;
 
-/// A line of at most 192 bytes. It is held in the value itself and allocates nothing.
+/// A line of at most 256 bytes. It is held in the value itself and allocates nothing.
 #[derive(Drop)]
 pub struct Line {
-    bytes: ArrayVec<u8, 192>,
+    bytes: ArrayVec<u8, 256>,
 }
 
 impl Model for Line {
@@ -32,14 +34,14 @@ impl Line {
     /// The line so far.
     pub fn as_bytes(&self) -> &[u8]
         ensures bytes { result.now ≡ self.now }
-        ensures short { length result.now ≤ 192 }
+        ensures short { length result.now ≤ 256 }
     {
         self.bytes.as_slice()
     }
 
     /// Appends a text as it is.
     pub fn text(&mut self, text: &[u8])
-        requires { length self.old + length text.now ≤ 192 }
+        requires { length self.old + length text.now ≤ 256 }
         ensures { self.new ≡ self.old ++ text.now }
     {
         self.bytes.try_extend_from_slice(text).unwrap();
@@ -47,7 +49,7 @@ impl Line {
 
     /// Appends a number in decimal digits.
     pub fn number<I: Integer>(&mut self, number: I)
-        requires { length self.old ≤ 152 }
+        requires { length self.old ≤ 216 }
         ensures digits { self.new ≡ self.old ++ I.text number }
         ensures short { length self.new ≤ length self.old + 40 }
     {
@@ -56,7 +58,7 @@ impl Line {
 
     /// Appends a price with its four decimals.
     pub fn price(&mut self, price: u32)
-        requires { length self.old ≤ 147 }
+        requires { length self.old ≤ 211 }
         ensures digits { self.new ≡ self.old ++ price_text price }
         ensures short { length self.new ≤ length self.old + 45 }
     {
@@ -69,5 +71,48 @@ impl Line {
         ];
         self.number(price / 10_000);
         self.text(&decimals);
+    }
+
+    /// Appends a printable text within a string of JSON.
+    pub fn json_text(&mut self, text: &[u8])
+        requires { length self.old + 2 * length text.now ≤ 256 }
+        ensures text { self.new ≡ self.old ++ json_text text.now }
+        ensures short { length self.new ≤ length self.old + 2 * length text.now }
+    {
+        for &byte in text {
+            if byte == b'"' || byte == b'\\' {
+                self.text(b"\\");
+            }
+            self.text(&[byte]);
+        }
+    }
+
+    /// Appends a printable text as a field of comma-separated values.
+    pub fn csv_text(&mut self, text: &[u8])
+        requires { length self.old + 2 * length text.now + 2 ≤ 256 }
+        ensures text { self.new ≡ self.old ++ csv_text text.now }
+        ensures short { length self.new ≤ length self.old + 2 * length text.now + 2 }
+    {
+        if text.contains(&b',') || text.contains(&b'"') {
+            self.text(b"\"");
+            self.quoted_text(text);
+            self.text(b"\"");
+        } else {
+            self.text(text);
+        }
+    }
+
+    // Appends a text, with each quotation mark twice.
+    fn quoted_text(&mut self, text: &[u8])
+        requires { length self.old + 2 * length text.now ≤ 256 }
+        ensures text { self.new ≡ self.old ++ flat_map quoted_char text.now }
+        ensures short { length self.new ≤ length self.old + 2 * length text.now }
+    {
+        for &byte in text {
+            if byte == b'"' {
+                self.text(b"\"");
+            }
+            self.text(&[byte]);
+        }
     }
 }

@@ -6,8 +6,9 @@ use crate::book::book_blocks;
 use crate::canon::canon_blocks;
 use crate::check::check_blocks;
 use crate::fault::ToolFault;
+use crate::kind::FileKind;
 use crate::request::Request;
-use crate::show::show_blocks;
+use crate::show::{show_blocks, show_snapshot};
 use crate::snap::snap_blocks;
 use itch_frame::{BlockReader, CountedRead, CountedWrite};
 use itch_market::LocateSet;
@@ -25,11 +26,24 @@ pub fn perform<R: CountedRead, B: Allocator, A: Allocator + Copy, W: CountedWrit
     ensures { Performs R.remaining R.failures W.contents W.failures request.entry (option_copied only.entry) reader.old reader.new out.old result out.new }
 {
     match request {
-        Request::Snap { after, .. } => snap_blocks(alloc, reader, after, only, out),
-        Request::Check { .. } => check_blocks(alloc, reader, out),
-        Request::Show { .. } => show_blocks(reader, out),
+        Request::Snap { limit, .. } => snap_blocks(alloc, reader, limit, only, out),
+        Request::Check { limit, form, .. } => check_blocks(alloc, reader, limit, form, out),
+        Request::Show {
+            kind: FileKind::Day(limit),
+            ..
+        } => show_blocks(reader, limit, out),
+        Request::Show {
+            kind: FileKind::Snapshot,
+            ..
+        } => show_snapshot(alloc, reader, out),
         Request::Canon { check, .. } => canon_blocks(alloc, reader, check, out),
-        Request::Book { locate, depth, .. } => book_blocks(alloc, locate, depth, reader, out),
+        Request::Book {
+            locate,
+            depth,
+            kind,
+            form,
+            ..
+        } => book_blocks(alloc, locate, depth, reader, kind, form, out),
         Request::Compare { .. } | Request::Join { .. } => unreachable!(),
     }
 }

@@ -1,63 +1,81 @@
-//! A day file read into a market.
-ghost use Rattle.std.specs.Prelude.{None};
+//! A day file, or the part of it that is wanted, read into a market.
+ghost use Rattle.std.specs.Prelude.{◌≡◌, MatchResult, None, Some};
 ghost use Rattle.itch_frame.specs.Reading.{bytes_left};
-ghost use Rattle.itch_commands.specs.Readings.{ReadsMarket, CountsRead, LeavesDay, ReadsDay, LeavesMarket};
+ghost use Rattle.itch_market.specs.Replays.{Counts, LeavesReaderFirst};
+ghost use Rattle.itch_commands.specs.Readings.{ReadsMarket, CountsRead, LeavesDay, TakesNext, TakesPayload, stopped};
 
 use crate::fault::{Source, ToolFault};
+use crate::limit::Limit;
 use itch_book::OrderBook;
+use itch_codec::{MOST_MESSAGES, decode};
 use itch_frame::{BlockReader, CountedRead};
-use itch_market::{Market, ReplayEnd, Stop, replay, replay_first};
+use itch_market::{Market, ReplayEnd, Stop, next_message};
 use std::alloc::Allocator;
 
-/// Applies the messages of a day file to a market, all of them or the first ones, and returns how many.
+/// Applies the messages of a day file to a market, or of the part of it that is wanted, and returns how many there are.
+///
+/// Nothing is read after them, except for the message at the time where the part ends. A fault before that is returned as it is,
+/// and an end of the file before as many messages as are wanted as `Short`.
 pub fn read_market<R: CountedRead, A: Allocator, B: OrderBook>(
     reader: &mut BlockReader<R, A>,
     market: &mut Market<B>,
-    after: Option<u64>,
+    limit: Limit,
     file: Source,
 ) -> Result<u64, ToolFault>
-    ensures reads { ReadsMarket file after market.old (bytes_left R.remaining reader.old) (bytes_left R.remaining reader.new) result market.new }
+    ensures reads { ReadsMarket file limit market.old (bytes_left R.remaining reader.old) (bytes_left R.remaining reader.new) result market.new }
     ensures failures { CountsRead result (R.failures reader.old.reader) (R.failures reader.new.reader) }
-    ensures reader { LeavesDay result after reader.old reader.new }
+    ensures reader { LeavesDay result limit reader.old reader.new }
 {
-    let Some(most) = after else {
-        return read_whole(reader, market, file);
-    };
-    match replay_first(reader, market, most) {
-        (count, None) => Ok(count),
-        (count, Some(Stop::End)) => Err(ToolFault::Short { count }),
-        (count, Some(stop)) => Err(ToolFault::Stopped {
+    market.recall_invariant();
+    let most = limit.most();
+    for count in 0..most {
+        match read_next(reader, market, count == MOST_MESSAGES, limit) {
+            Ok(true) => {}
+            Ok(false) => return Ok(count),
+            Err(stop) => return stopped(stop, limit.after, file, count),
+        }
+    }
+    Ok(most)
+}
+
+// Applies the next message, unless there were as many as may be (`is_full`), and returns true; or returns false if it is late.
+fn read_next<R: CountedRead, A: Allocator, B: OrderBook>(
+    reader: &mut BlockReader<R, A>,
+    market: &mut Market<B>,
+    is_full: bool,
+    limit: Limit,
+) -> Result<bool, Stop>
+    ensures step { TakesNext limit is_full market.old (bytes_left R.remaining reader.old) (bytes_left R.remaining reader.new) result market.new }
+    ensures failures { MatchResult result (λ _. R.failures reader.new.reader ≡ R.failures reader.old.reader)
+        (λ stop. Counts stop (R.failures reader.old.reader) (R.failures reader.new.reader)) }
+    ensures reader { MatchResult result (λ _. LeavesReaderFirst reader.old 1 None reader.new) (λ stop. LeavesReaderFirst reader.old 0 (Some stop) reader.new) }
+{
+    let payload = next_message(reader, is_full)?;
+    take(market, payload, limit)
+}
+
+// Applies the message of a payload, and returns true; or returns false if it is late.
+fn take<B: OrderBook>(market: &mut Market<B>, payload: &[u8], limit: Limit) -> Result<bool, Stop>
+    ensures { TakesPayload limit market.old payload.now result market.new }
+{
+    let message = decode(payload)?;
+    if limit.is_late(&message) {
+        return Ok(false);
+    }
+    market.apply(&message)?;
+    Ok(true)
+}
+
+// What a stop after this many messages returns: the end of the file is none, unless more messages are wanted.
+fn stopped(stop: Stop, wanted: Option<u64>, file: Source, count: u64) -> Result<u64, ToolFault>
+    ensures { result ≡ stopped stop wanted file count }
+{
+    match (stop, wanted) {
+        (Stop::End, None) => Ok(count),
+        (Stop::End, Some(_)) => Err(ToolFault::Short { file, count }),
+        _ => Err(ToolFault::Stopped {
             file,
             end: ReplayEnd { count, stop },
         }),
     }
-}
-
-fn read_whole<R: CountedRead, A: Allocator, B: OrderBook>(
-    reader: &mut BlockReader<R, A>,
-    market: &mut Market<B>,
-    file: Source,
-) -> Result<u64, ToolFault>
-    ensures reads { ReadsMarket file None market.old (bytes_left R.remaining reader.old) (bytes_left R.remaining reader.new) result market.new }
-    ensures failures { CountsRead result (R.failures reader.old.reader) (R.failures reader.new.reader) }
-    ensures reader { LeavesDay result None reader.old reader.new }
-{
-    let end = replay(reader, market);
-    match end.stop {
-        Stop::End => Ok(end.count),
-        _ => Err(ToolFault::Stopped { file, end }),
-    }
-}
-
-/// The market that the messages of a day file leave.
-pub fn day_market<R: CountedRead, A: Allocator, B: OrderBook>(
-    alloc: B::Alloc,
-    reader: &mut BlockReader<R, A>,
-    file: Source,
-) -> Result<Market<B>, ToolFault>
-    ensures { LeavesMarket (ReadsDay R.remaining R.failures file None reader.old reader.new) result }
-{
-    let mut market = Market::new(alloc);
-    read_market(reader, &mut market, None, file)?;
-    Ok(market)
 }

@@ -3,23 +3,29 @@ ghost use Rattle.std.specs.Prelude.{◌≡◌, ◌↔◌, Some, IsNone, IfSome, 
 ghost use Rattle.itch_commands.specs.Requests.{file_of, is_binary, only_of};
 
 use crate::fault::Source;
+use crate::form::{BookForm, Form};
+use crate::kind::FileKind;
+use crate::limit::Limit;
 
-/// What the program is asked to do. A file is its path, or none for standard input.
+/// What the program is asked to do. A file is its path, or none for standard input; a limit says which part of it is wanted.
 #[derive(Clone, Copy, Debug, PartialEq, Eq)]
 pub enum Request<'a> {
-    /// Write the snapshot after the whole file, or after its first messages; with a list, cut down to its locates.
+    /// Write the snapshot after the file's messages; with a list, cut down to its locates.
     Snap {
         file: Option<&'a str>,
-        after: Option<u64>,
+        limit: Limit,
         only: Option<&'a str>,
     },
     /// Check that a file follows the order rules, and count its messages.
     Check {
         file: Option<&'a str>,
+        limit: Limit,
+        form: Form,
     },
     /// Show each message of a file as a line.
     Show {
         file: Option<&'a str>,
+        kind: FileKind,
     },
     /// Write a snapshot in canonical form, or only check whether it is in that form.
     Canon {
@@ -30,12 +36,16 @@ pub enum Request<'a> {
     Compare {
         first: Option<&'a str>,
         second: Option<&'a str>,
+        kind: FileKind,
+        form: Form,
     },
     /// Write the price levels of a locate, or the first ones of each side.
     Book {
         locate: u16,
         depth: Option<u64>,
         file: Option<&'a str>,
+        kind: FileKind,
+        form: BookForm,
     },
     /// Join a feed to a snapshot, and write the snapshot after both; with a list, for its locates only.
     Join {
@@ -52,11 +62,11 @@ impl<'a> Request<'a> {
     {
         match *self {
             Request::Snap { file, .. }
-            | Request::Check { file }
-            | Request::Show { file }
+            | Request::Check { file, .. }
+            | Request::Show { file, .. }
             | Request::Canon { file, .. }
             | Request::Book { file, .. } => file,
-            Request::Compare { first, second } => match source {
+            Request::Compare { first, second, .. } => match source {
                 Source::Second => second,
                 _ => first,
             },

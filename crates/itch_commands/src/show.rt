@@ -1,16 +1,21 @@
 //! `show`: the messages of a file as lines of text.
-ghost use Rattle.std.specs.Prelude.{◌≡◌, ◌^◌, ◌<◌, Err};
+ghost use Rattle.std.specs.Prelude.{◌≡◌, ◌^◌, ◌<◌, None, Err};
 ghost use Rattle.itch_frame.specs.Reading.{bytes_left};
+ghost use Rattle.itch_commands.specs.Limits.{counted};
 ghost use Rattle.itch_commands.specs.Readings.{CountsRead, FromReader};
 ghost use Rattle.itch_commands.specs.Showing.{Shows, ShowsNext, ShowsPayload, LeavesNext, finish};
 ghost use Rattle.itch_commands.specs.declared.fault.Source.TheVariants.{Only};
 ghost use Rattle.itch_commands.specs.declared.fault.ToolFault.TheVariants.{Stopped, OutOfMemory};
 
+mod recorded;
+
 use crate::fault::{Source, ToolFault};
+use crate::limit::Limit;
 use crate::writing::write_text;
 use itch_codec::{MOST_MESSAGES, decode, show as show_message};
 use itch_frame::{BlockReader, CountedRead, CountedWrite};
 use itch_market::{ReplayEnd, Stop, next_message};
+pub use recorded::show_snapshot;
 use std::alloc::Allocator;
 
 /// Writes a line for each message of a day file or a snapshot file, in the form of [`itch_codec::show`].
@@ -21,74 +26,92 @@ pub fn show<R: CountedRead + Drop, A: Allocator, W: CountedWrite>(
     reader: R,
     out: &mut W,
 ) -> Result<bool, ToolFault>
-    ensures shows { FromReader reader (λ old new r. Shows W.contents W.failures R.remaining R.failures old new out.old r out.new) result }
+    ensures shows { FromReader reader (λ old new r. Shows W.contents W.failures R.remaining R.failures (counted None) old new out.old r out.new) result }
     ensures memory { result ≡ Err OutOfMemory → out.new ≡ out.old }
 {
     let mut reader = BlockReader::new(alloc, reader)?;
-    show_blocks(&mut reader, out)
+    show_blocks(&mut reader, Limit::whole(), out)
 }
 
-/// The same over a reader of blocks, which is left after the block that ended it.
+/// The same over a reader of blocks, and for any part of the file. The reader is left after the block that ended the reading.
 ///
 /// No order rule is applied, and an End of Snapshot is shown as any other message. The file is never held: each line is written
-/// as its message is read. If a block spells no message, the lines before it have been written.
+/// as its message is read. If a block spells no message, or the file has fewer messages than are wanted (`Short`), the lines before
+/// that have been written.
 pub fn show_blocks<R: CountedRead, A: Allocator, W: CountedWrite>(
     reader: &mut BlockReader<R, A>,
+    limit: Limit,
     out: &mut W,
 ) -> Result<bool, ToolFault>
-    ensures { Shows W.contents W.failures R.remaining R.failures reader.old reader.new out.old result out.new }
+    ensures { Shows W.contents W.failures R.remaining R.failures limit reader.old reader.new out.old result out.new }
 {
-    for count in 0..u64::MAX {
-        if let Err(fault) = show_next(reader, count, out) {
-            return finished(fault);
+    let most = limit.most();
+    for count in 0..most {
+        match show_next(reader, count, limit, out) {
+            Ok(true) => {}
+            Ok(false) => return Ok(true),
+            Err(fault) => return finished(fault, limit.after),
         }
     }
-    unreachable!()
+    Ok(true)
 }
 
-// The end of the file is no fault.
-fn finished(fault: ToolFault) -> Result<bool, ToolFault>
-    ensures { result ≡ finish fault }
+// The end of the file is no fault, unless more messages are wanted.
+fn finished(fault: ToolFault, wanted: Option<u64>) -> Result<bool, ToolFault>
+    ensures { result ≡ finish wanted fault }
 {
     match fault {
         ToolFault::Stopped {
+            file,
             end: ReplayEnd {
+                count,
                 stop: Stop::End,
-                ..
             },
-            ..
-        } => Ok(true),
+        } => match wanted {
+            None => Ok(true),
+            Some(_) => Err(ToolFault::Short { file, count }),
+        },
         _ => Err(fault),
     }
 }
 
-// Writes the line of the next message, which has the number after `count`.
+// Writes the line of the next message, which has the number after `count`, and returns true; or returns false if that is late.
 fn show_next<R: CountedRead, A: Allocator, W: CountedWrite>(
     reader: &mut BlockReader<R, A>,
     count: u64,
+    limit: Limit,
     out: &mut W,
-) -> Result<(), ToolFault>
+) -> Result<bool, ToolFault>
     requires { count < 10 ^ 19 }
-    ensures shows { ShowsNext W.contents W.failures count (bytes_left R.remaining reader.old) (bytes_left R.remaining reader.new) out.old result out.new }
+    ensures shows { ShowsNext W.contents W.failures limit count (bytes_left R.remaining reader.old) (bytes_left R.remaining reader.new) out.old result out.new }
     ensures failures { CountsRead result (R.failures reader.old.reader) (R.failures reader.new.reader) }
     ensures reader { LeavesNext result reader.old reader.new }
 {
     match next_message(reader, count == MOST_MESSAGES) {
-        Ok(payload) => show_payload(payload, count, out),
+        Ok(payload) => show_payload(payload, count, limit, out),
         Err(stop) => Err(stopped(count, stop)),
     }
 }
 
-// Writes the line of the message that a payload spells.
-fn show_payload<W: CountedWrite>(payload: &[u8], count: u64, out: &mut W) -> Result<(), ToolFault>
+// Writes the line of the message that a payload spells, and returns true; or returns false if that is late.
+fn show_payload<W: CountedWrite>(
+    payload: &[u8],
+    count: u64,
+    limit: Limit,
+    out: &mut W,
+) -> Result<bool, ToolFault>
     requires { count < 10 ^ 19 }
-    ensures { ShowsPayload W.contents W.failures count payload.now out.old result out.new }
+    ensures { ShowsPayload W.contents W.failures limit count payload.now out.old result out.new }
 {
     let message = match decode(payload) {
         Ok(message) => message,
         Err(fault) => return Err(stopped(count, Stop::Codec(fault))),
     };
-    write_text(show_message(count + 1, &message).as_str().as_bytes(), out)
+    if limit.is_late(&message) {
+        return Ok(false);
+    }
+    write_text(show_message(count + 1, &message).as_str().as_bytes(), out)?;
+    Ok(true)
 }
 
 fn stopped(count: u64, stop: Stop) -> ToolFault

@@ -1,9 +1,11 @@
 //! `snap`: the canonical snapshot of a file.
 ghost use Rattle.std.specs.Option.{option_copied};
 ghost use Rattle.itch_commands.specs.Commands.{Snaps};
+ghost use Rattle.itch_commands.specs.Limits.{counted};
 ghost use Rattle.itch_commands.specs.Readings.{FromBlocks, FromReader};
 
 use crate::fault::{Source, ToolFault};
+use crate::limit::Limit;
 use crate::order_book::Book;
 use crate::reading::read_market;
 use crate::writing::write_closed_of;
@@ -26,37 +28,37 @@ pub fn snap<R: CountedRead + Drop, A: Allocator + Copy, W: CountedWrite>(
     only: Option<&LocateSet<A>>,
     out: &mut W,
 ) -> Result<bool, ToolFault>
-    ensures { Snaps R.remaining R.failures W.contents W.failures after (option_copied only.entry) (FromReader reader) out.old result out.new }
+    ensures { Snaps R.remaining R.failures W.contents W.failures (counted after) (option_copied only.entry) (FromReader reader) out.old result out.new }
 {
     let mut reader = BlockReader::new(alloc, reader)?;
-    snap_blocks(alloc, &mut reader, after, only, out)
+    snap_blocks(alloc, &mut reader, Limit::counted(after), only, out)
 }
 
-/// The same over a reader of blocks, which is left where the reading ended: after the first messages, if only those are wanted.
+/// The same over a reader of blocks, and for any part of the file. The reader is left where the reading ended.
 pub fn snap_blocks<R: CountedRead, B: Allocator, A: Allocator + Copy, W: CountedWrite>(
     alloc: A,
     reader: &mut BlockReader<R, B>,
-    after: Option<u64>,
+    limit: Limit,
     only: Option<&LocateSet<A>>,
     out: &mut W,
 ) -> Result<bool, ToolFault>
-    ensures { Snaps R.remaining R.failures W.contents W.failures after (option_copied only.entry) (FromBlocks reader.old reader.new) out.old result out.new }
+    ensures { Snaps R.remaining R.failures W.contents W.failures limit (option_copied only.entry) (FromBlocks reader.old reader.new) out.old result out.new }
 {
-    snap_over::<R, B, Book<A>, W>(alloc, reader, after, only, out)
+    snap_over::<R, B, Book<A>, W>(alloc, reader, limit, only, out)
 }
 
 // The same with any book of orders.
 fn snap_over<R: CountedRead, A: Allocator, B: OrderBook, W: CountedWrite>(
     alloc: B::Alloc,
     reader: &mut BlockReader<R, A>,
-    after: Option<u64>,
+    limit: Limit,
     only: Option<&LocateSet<B::Alloc>>,
     out: &mut W,
 ) -> Result<bool, ToolFault>
-    ensures { Snaps R.remaining R.failures W.contents W.failures after (option_copied only.entry) (FromBlocks reader.old reader.new) out.old result out.new }
+    ensures { Snaps R.remaining R.failures W.contents W.failures limit (option_copied only.entry) (FromBlocks reader.old reader.new) out.old result out.new }
 {
     let mut market: Market<B> = Market::new(alloc);
-    let count = read_market(reader, &mut market, after, Source::Only)?;
+    let count = read_market(reader, &mut market, limit, Source::Only)?;
     let next = Seq::new(count + 1).unwrap();
     write_closed_of(&market, only, next, out)
 }

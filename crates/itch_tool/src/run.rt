@@ -5,7 +5,9 @@ use crate::opened::open;
 use crate::sockets::{run_fetch, run_serve};
 use itch_commands::compare::compare_blocks;
 use itch_commands::join::join_blocks;
-use itch_commands::{Request, Source, ToolFault, perform, read_locates, system_fault};
+use itch_commands::{
+    FileKind, Form, Request, Source, ToolFault, perform, read_locates, system_fault,
+};
 use itch_frame::{BlockReader, Buffered, Counted, CountedWrite};
 use itch_market::LocateSet;
 use itchsnap_cli::input::Progress;
@@ -26,11 +28,12 @@ where
         Job::Files { request, progress } => run_request(rt, *request, *progress),
         Job::Serve {
             file,
+            kind,
             address,
             login,
             count,
             progress,
-        } => run_serve(rt, *file, *address, login, *count, *progress),
+        } => run_serve(rt, *file, *kind, *address, login, *count, *progress),
         Job::Fetch { server, login } => run_fetch(rt, server, login),
         Job::Completions(shell) => print_completions(rt, *shell),
     }
@@ -77,10 +80,15 @@ fn answer<R: Files + Input + Eprint + AllocGlobal + Clock, W: CountedWrite>(
 ) -> Result<bool, ToolFault> {
     let alloc = rt.alloc();
     match request {
-        Request::Compare { first, second } => {
+        Request::Compare {
+            first,
+            second,
+            kind,
+            form,
+        } => {
             let first = open(rt, first, Source::First, progress)?;
             let second = open(rt, second, Source::Second, progress)?;
-            compare_over(alloc, first, second, out)
+            compare_over(alloc, first, second, kind, form, out)
         }
         Request::Join { snapshot, feed, .. } => {
             let snapshot = open(rt, snapshot, Source::Snapshot, progress)?;
@@ -99,11 +107,13 @@ fn compare_over<A: Allocator + Copy, R: Read + Drop, W: CountedWrite>(
     alloc: A,
     first: R,
     second: R,
+    kind: FileKind,
+    form: Form,
     out: &mut W,
 ) -> Result<bool, ToolFault> {
     let mut first = blocks(alloc, first)?;
     let mut second = blocks(alloc, second)?;
-    compare_blocks(alloc, &mut first, &mut second, out)
+    compare_blocks(alloc, &mut first, &mut second, kind, form, out)
 }
 
 // Joins a feed to a snapshot.

@@ -2,7 +2,7 @@
 
 use crate::opened::open;
 use crate::password::read_password;
-use itch_commands::{Source, ToolFault, system_fault};
+use itch_commands::{FileKind, Source, ToolFault, system_fault};
 use itch_frame::{BlockReader, Buffered, Counted};
 use itchsnap_cli::input::Progress;
 use itchsnap_cli::sessions::{Login, PIECE, fetch, serve_blocks};
@@ -17,6 +17,7 @@ use std::time::Duration;
 pub fn run_serve<R>(
     rt: &R,
     file: Option<&str>,
+    kind: FileKind,
     address: SocketAddr,
     login: &LoginWords<'_>,
     count: u64,
@@ -34,7 +35,15 @@ where
     };
     let mut reader = BlockReader::new(rt.alloc(), Buffered::new(buffered))?;
     let mut out = Counted::new(io::writer(rt));
-    serve_blocks(rt, &mut reader, address, &login.config(), count, &mut out)
+    serve_blocks(
+        rt,
+        &mut reader,
+        kind,
+        address,
+        &login.config(),
+        count,
+        &mut out,
+    )
 }
 
 /// Fetches the snapshot that a server has. It waits until the server answers, unless there is a time limit.

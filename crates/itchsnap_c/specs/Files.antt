@@ -5,6 +5,7 @@ use Rattle.itch_codec.specs.Messages.{message_of}
 use Rattle.itch_commands.specs.declared.fault.ToolFault.{ToolFault}
 use Rattle.itch_commands.specs.declared.fault.ToolFault.TheVariants as tool
 use Rattle.itch_commands.specs.Comparing.{IsPartPlace}
+use Rattle.itch_commands.specs.Limits.{counted}
 use Rattle.itch_commands.specs.Readings.{AreTaken, HaltsPart, IsPart, IsShort}
 use Rattle.itch_market.specs.Content.{Content, empty, laid}
 use Rattle.itch_market.specs.Replays.{Fits}
@@ -30,12 +31,12 @@ outcome count len detail code = record { count = count; len = len; detail = deta
 -- how a call over a day file ends that is refused for this fault; no other comes of reading one
 abbrev pub refused_day : ToolFault → Outcome
 refused_day (tool.Stopped at end) = outcome end.count 0 (stop_answer end.stop).detail (stop_answer end.stop).code
-refused_day (tool.Short count) = outcome count 0 0 37
+refused_day (tool.Short at count) = outcome count 0 0 37
 refused_day fault = outcome 0 0 0 34
 
 -- a day file, or the part of it that is wanted, has been read: these are its messages, which leave this market
 abbrev pub Reads : List ℕ → Option ℕ → List (List ℕ) → Type 0
-Reads day after payloads = AreTaken after payloads × IsPart after day payloads × AllByRecursion Fits payloads
+Reads day after payloads = AreTaken (counted after) payloads × IsPart (counted after) day payloads × AllByRecursion Fits payloads
 
 -- the market that a day file, or its part, leaves, and its number of messages
 abbrev pub ReadsDay : List ℕ → Option ℕ → Content → ℕ → Type 0
@@ -45,14 +46,14 @@ ReadsDay day after m count =
 -- Memory is refused: before the first message, or for the one after this many, which were taken. That one takes memory, and no
 -- order rule refuses it.
 abbrev pub RunsOut : Option ℕ → List ℕ → ℕ → Type 0
-RunsOut after day count = (count ≡ 0) ⊎ ((new : Option (List ℕ)) × (m : Content) × HaltsPart after empty (Some day) new count (Rule OutOfMemory) m)
+RunsOut after day count = (count ≡ 0) ⊎ ((new : Option (List ℕ)) × (m : Content) × HaltsPart (counted after) empty (Some day) new count (Rule OutOfMemory) m)
 
 -- Why a day file is refused: at its first bad place, with the number of messages before it; or it has fewer messages than are
 -- wanted; or memory is refused, with the number of messages that were taken.
 abbrev pub RefusesDay : List ℕ → Option ℕ → Outcome → Type 0
 RefusesDay day after o =
     ((count : ℕ) × (stop : Stop) × (o ≡ outcome count 0 (stop_answer stop).detail (stop_answer stop).code) × (stop ≢ End) × Stops empty day count stop)
-    ⊎ ((count : ℕ) × (o ≡ outcome count 0 0 37) × IsShort after count × Stops empty day count End)
+    ⊎ ((count : ℕ) × (o ≡ outcome count 0 0 37) × IsShort (counted after) count × Stops empty day count End)
     ⊎ ((count : ℕ) × (o ≡ outcome count 0 0 48) × RunsOut after day count)
 
 -- a day file follows the order rules, and this is its number of messages; or it is refused

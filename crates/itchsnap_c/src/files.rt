@@ -9,7 +9,7 @@ use crate::codes::{OUT_OF_MEMORY, UNREAD, stop_answer};
 use crate::object::Book;
 use crate::slice::SliceReader;
 use crate::snapshots::{put_partial, put_whole};
-use itch_commands::{Source, ToolFault, read_market};
+use itch_commands::{Limit, Source, ToolFault, read_market};
 use itch_frame::BlockReader;
 use itch_market::Market;
 use itch_snapshot::part_place;
@@ -87,7 +87,12 @@ fn read_day(alloc: Global, day: &[u8], after: Option<u64>) -> Result<(Market<Boo
         return Err(outcome(0, 0, 0, OUT_OF_MEMORY));
     };
     let mut market = Market::new(alloc);
-    match read_market(&mut reader, &mut market, after, Source::Only) {
+    match read_market(
+        &mut reader,
+        &mut market,
+        Limit::counted(after),
+        Source::Only,
+    ) {
         Ok(count) => Ok((market, count)),
         Err(fault) => Err(refused_day(&fault)),
     }
@@ -102,7 +107,7 @@ fn refused_day(fault: &ToolFault) -> Outcome
             let answer = stop_answer(&end.stop);
             outcome(end.count, 0, answer.detail, answer.code)
         }
-        ToolFault::Short { count } => outcome(*count, 0, 0, SHORT),
+        ToolFault::Short { count, .. } => outcome(*count, 0, 0, SHORT),
         ToolFault::Snap { .. }
         | ToolFault::UnknownLocate
         | ToolFault::Write(_)

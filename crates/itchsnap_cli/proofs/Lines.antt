@@ -1,15 +1,13 @@
 -- The connections served so far and their lines, and one more.
-use Rattle.std.proofs.Common.{◌≡◌, ℕ, ◌+◌, ◌<◌, Bool, List, map, [], ◌∷◌, ◌++◌, length, Option, Result, Ok, Err, refl, sym, ap, subst, ◌∙◌, append_assoc, append-nil, arith, length-append, inl, inr}
+use Rattle.std.proofs.Common.{◌≡◌, ℕ, ◌+◌, ◌<◌, List, [], ◌∷◌, ◌++◌, length, Option, Ok, Err, refl, sym, ap, subst, ◌∙◌, append_assoc, append-nil, arith, length-append, inl, inr}
 use Rattle.std.proofs.KnownBytes.{Appends-nil, Appends-trans}
 use Rattle.std.specs.Io.KnownBytes.{Appends}
 use Rattle.itch_book.proofs.Lists.{All-append_rec}
 use Rattle.itch_frame.specs.declared.tally.Failures.{Failures}
-use Rattle.itch_codec.specs.Messages.{message_of}
-use Rattle.itch_market.specs.Content.{Content, laid}
-use Rattle.itch_market.specs.Runs.{run}
+use Rattle.itch_market.specs.Content.{Content}
 use Rattle.itch_soup.specs.declared.login.ServerConfig.{ServerConfig}
 use Rattle.itch_commands.specs.declared.fault.ToolFault.{ToolFault}
-use Rattle.itchsnap_cli.specs.Sessions.{Ending, connection_line, connection_lines, IsEnding, ServesNext, ServesAll, ServesOn, ServesMarket, ServesDay}
+use Rattle.itchsnap_cli.specs.Sessions.{Ending, connection_line, connection_lines, IsEnding, ServesNext, ServesAll, ServesOn}
 
 lines_push : (n : ℕ) (endings : List Ending) (ending : Ending)
     → connection_lines n (endings ++ ending ∷ []) ≡ connection_lines n endings ++ connection_line (n + length endings) ending
@@ -59,17 +57,3 @@ module _ {S W : Type 0} (remaining : S → Option (List ℕ)) (taken : S → Opt
     so_far.all,
     subst (λ k. ServesNext remaining taken contents failures m next config (k + 1) mid (Err fault) new) (sym so_far.counted) served,
   )
-
-module _ {S W : Type 0} (remaining : S → Option (List ℕ)) (taken : S → Option (List ℕ)) (contents : W → Option (List ℕ)) (failures : W → Failures) where
-  -- the market of a file is that of its messages, and the next number follows them
-  pub day_served : (reads : Result (List (List ℕ)) ToolFault → Type 0) (payloads : List (List ℕ)) (m : Content) (read next : ℕ) (config : ServerConfig) (count : ℕ) (old : W) (result : Result Bool ToolFault) (new : W)
-      → reads (Ok payloads) → m ≡ laid (run (map message_of payloads)) → length payloads ≡ read → next ≡ read + 1
-      → ServesMarket remaining taken contents failures m next config count old result new → ServesDay remaining taken contents failures reads config count old result new
-  day_served reads payloads m read next config count old result new is_read left counted follows served =
-      let number : next ≡ length payloads + 1 = omega (arith, counted, follows) in
-      inr (
-        payloads,
-        is_read,
-        subst (λ n. ServesMarket remaining taken contents failures n (length payloads + 1) config count old result new) left
-            (subst (λ k. ServesMarket remaining taken contents failures m k config count old result new) number served),
-      )

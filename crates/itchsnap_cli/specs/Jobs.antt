@@ -17,8 +17,8 @@ password_file (File path) = Some path.now
 -- the path of the file that a fault of a job names so; none where it is standard input
 abbrev pub file_of : Job → Source → Option (List ℕ)
 file_of (Files request progress) source = requests.file_of request source
-file_of (Serve file address login count progress) PasswordFile = password_file login.password
-file_of (Serve file address login count progress) source = option_map (λ path. path.now) file
+file_of (Serve file kind address login count progress) PasswordFile = password_file login.password
+file_of (Serve file kind address login count progress) source = option_map (λ path. path.now) file
 file_of (Fetch server login) PasswordFile = password_file login.password
 file_of (Fetch server login) source = None
 file_of (Completions shell) source = None
@@ -26,6 +26,6 @@ file_of (Completions shell) source = None
 -- the jobs whose output is a snapshot, which is no text
 abbrev pub writes_snapshot : Job → Bool
 writes_snapshot (Files request progress) = is_binary request
-writes_snapshot (Serve file address login count progress) = false
+writes_snapshot (Serve file kind address login count progress) = false
 writes_snapshot (Fetch server login) = true
 writes_snapshot (Completions shell) = false

@@ -1,14 +1,12 @@
 -- What the program fetches, and the lines that it writes of the connections that it serves.
-use Rattle.std.specs.Prelude.{◌≡◌, ℕ, ◌+◌, ◌-◌, ◌^◌, ◌<◌, ◌≤◌, ◌⊎◌, Bool, true, List, [], ◌∷◌, ◌++◌, length, map, codes, decimal, Option, Some, None, Result, Ok, Err}
+use Rattle.std.specs.Prelude.{◌≡◌, ℕ, ◌+◌, ◌-◌, ◌^◌, ◌<◌, ◌≤◌, ◌⊎◌, Bool, true, List, [], ◌∷◌, ◌++◌, length, codes, decimal, Option, Some, None, Result, Ok, Err}
 use Rattle.std.specs.List.{AllByRecursion}
 use Rattle.std.specs.declared.io.Error.{Error}
 use Rattle.std.specs.Io.KnownBytes.{Keeps}
-use Rattle.itch_codec.specs.Messages.{message_of}
 use Rattle.itch_frame.specs.Counting.{failed}
 use Rattle.itch_frame.specs.Reading.{Reading}
 use Rattle.itch_frame.specs.declared.tally.Failures.{Failures}
 use Rattle.itch_market.specs.Content.{Content, laid}
-use Rattle.itch_market.specs.Runs.{run}
 use Rattle.itch_snapshot.specs.Snapshot.{snap}
 use Rattle.itch_soup.specs.declared.login.Credentials.{Credentials}
 use Rattle.itch_soup.specs.declared.login.ServerConfig.{ServerConfig}
@@ -124,9 +122,8 @@ module _ {S W : Type 0} (remaining : S → Option (List ℕ)) (taken : S → Opt
       ⊎ ((fault : ToolFault) × (result ≡ Err fault) × IsUnserved fault × (new ≡ old))
       ⊎ ((length (snap m) < 10 ^ 19 - 1) × ServesOn m next config count old result new)
 
-  -- a file that is refused is not served; the market of any other is, with the number of the message after its last
-  abbrev pub ServesDay : (Result (List (List ℕ)) ToolFault → Type 0) → ServerConfig → ℕ → W → Result Bool ToolFault → W → Type 0
-  ServesDay reads config count old result new =
+  -- a file that is refused is not served; the market of any other is, with its number
+  abbrev pub ServesFile : (Result (Content × ℕ) ToolFault → Type 0) → ServerConfig → ℕ → W → Result Bool ToolFault → W → Type 0
+  ServesFile reads config count old result new =
       ((fault : ToolFault) × (result ≡ Err fault) × reads (Err fault) × (new ≡ old))
-      ⊎ ((payloads : List (List ℕ)) × reads (Ok payloads)
-      × ServesMarket (laid (run (map message_of payloads))) (length payloads + 1) config count old result new)
+      ⊎ ((done : Content × ℕ) × reads (Ok done) × ServesMarket (laid done.0) done.1 config count old result new)

@@ -6,7 +6,7 @@
 //! ```
 //! // of `itchsnap check day.itch`
 //! let job = read_job(alloc, words.as_slice(), false, None)?;
-//! let request = Request::Check { file: Some("day.itch") };
+//! let request = Request::Check { file: Some("day.itch"), limit: Limit::whole(), form: Form::Text };
 //! assert_eq!(job, Job::Files { request, progress: false });
 //! ```
 
@@ -16,6 +16,7 @@ mod completions;
 mod job;
 mod request;
 mod session;
+mod time;
 
 pub use commands::usage_fault;
 pub use completions::{Completions, Shell};

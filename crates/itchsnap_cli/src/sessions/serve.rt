@@ -1,15 +1,15 @@
 //! `serve`: a market served to one connection after another.
-ghost use Rattle.std.specs.Prelude.{◌<◌, ◌-◌, ◌+◌, ◌^◌, length, None, IfErr};
+ghost use Rattle.std.specs.Prelude.{◌<◌, ◌-◌, ◌+◌, ◌^◌, length, IfErr};
 ghost use Rattle.itch_snapshot.specs.Snapshot.{snap};
 ghost use Rattle.itch_commands.specs.declared.fault.Source.TheVariants.{Only};
-ghost use Rattle.itchsnap_cli.specs.Sessions.{IsUnserved, ServesNext, ServesOn, ServesMarket, ServesDay};
-ghost use Rattle.itch_commands.specs.Readings.{ReadsDay};
+ghost use Rattle.itchsnap_cli.specs.Sessions.{IsUnserved, ServesNext, ServesOn, ServesMarket, ServesFile};
+ghost use Rattle.itch_commands.specs.Files.{ReadsFile};
 
 use crate::sessions::connection::serve_stream;
 use crate::sessions::ending::write_ending;
 use itch_book::OrderBook;
 use itch_codec::{MOST_MESSAGES, Seq};
-use itch_commands::{Book, Source, ToolFault, read_market, system_fault};
+use itch_commands::{Book, FileKind, Source, ToolFault, file_market, system_fault};
 use itch_frame::{BlockReader, CountedRead, CountedWrite};
 use itch_market::Market;
 use itch_snapshot::snapshot_len;
@@ -20,14 +20,15 @@ use std::io;
 use std::net::{Net, OpenListener, OpenStream, SocketAddr, TcpListener};
 use std::rt::Clock;
 
-/// Serves the market of a day file on a port of this machine, as [`serve_on`] does: the snapshot after all of its messages. The
-/// port 0 is a free one. A line on standard error says when the port is listened on, and which it is.
+/// Serves the market that a file leaves on a port of this machine, as [`serve_on`] does: the snapshot after all of its messages, or
+/// that of a snapshot file with its number. The port 0 is a free one. A line on standard error says when the port is listened on, and which it is.
 ///
 /// If the file is refused, or its snapshot has too many messages (`TooMany`), nothing is served. `Socket` if the port cannot be
 /// listened on.
 pub fn serve_blocks<R, F: CountedRead, D: Allocator, A: Allocator + Copy, W: CountedWrite>(
     rt: &R,
     reader: &mut BlockReader<F, D>,
+    kind: FileKind,
     address: SocketAddr,
     config: &ServerConfig,
     count: u64,
@@ -35,9 +36,9 @@ pub fn serve_blocks<R, F: CountedRead, D: Allocator, A: Allocator + Copy, W: Cou
 ) -> Result<bool, ToolFault>
 where
     R: Clock + Eprint + Alloc<A = A> + Net,
-    ensures { ServesDay R.Stream.remaining R.Stream.contents W.contents W.failures (ReadsDay F.remaining F.failures Only None reader.old reader.new) config.now count out.old result out.new }
+    ensures { ServesFile R.Stream.remaining R.Stream.contents W.contents W.failures (ReadsFile F.remaining F.failures Only kind reader.old reader.new) config.now count out.old result out.new }
 {
-    serve_over::<R, F, D, Book<A>, W>(rt, rt.alloc(), reader, address, config, count, out)
+    serve_over::<R, F, D, Book<A>, W>(rt, rt.alloc(), reader, kind, address, config, count, out)
 }
 
 // The same with any book of orders.
@@ -45,6 +46,7 @@ fn serve_over<R, F: CountedRead, D: Allocator, B: OrderBook, W: CountedWrite>(
     rt: &R,
     alloc: B::Alloc,
     reader: &mut BlockReader<F, D>,
+    kind: FileKind,
     address: SocketAddr,
     config: &ServerConfig,
     count: u64,
@@ -52,13 +54,9 @@ fn serve_over<R, F: CountedRead, D: Allocator, B: OrderBook, W: CountedWrite>(
 ) -> Result<bool, ToolFault>
 where
     R: Clock + Eprint + Alloc + Net,
-    ensures { ServesDay R.Stream.remaining R.Stream.contents W.contents W.failures (ReadsDay F.remaining F.failures Only None reader.old reader.new) config.now count out.old result out.new }
+    ensures { ServesFile R.Stream.remaining R.Stream.contents W.contents W.failures (ReadsFile F.remaining F.failures Only kind reader.old reader.new) config.now count out.old result out.new }
 {
-    let mut market: Market<B> = Market::new(alloc);
-    let read = read_market(reader, &mut market, None, Source::Only)?;
-    let Some(next) = Seq::new(read + 1) else {
-        unreachable!()
-    };
+    let (market, next): (Market<B>, Seq) = file_market(alloc, reader, kind, Source::Only)?;
     serve_market(rt, &market, next, address, config, count, out)
 }
 

@@ -14,7 +14,9 @@ const MOST_SECONDS: i64 = 86_400;
 pub enum Argument {
     File,
     After,
+    Until,
     Only,
+    Json,
     Progress,
     // The files of `compare`.
     First,
@@ -22,12 +24,15 @@ pub enum Argument {
     // The file of `canon`, and its flag.
     Snapshot,
     Check,
+    // What the files are, if not day files.
+    Recorded,
     // The files of `join`.
     Joined,
     Feed,
     // What `book` prints.
     Locate,
     Depth,
+    Csv,
     // The file of `serve`, which has to be named, and where it listens.
     Served,
     Count,
@@ -51,12 +56,16 @@ impl Argument {
         match self {
             Argument::File => file(alloc),
             Argument::After => after(alloc),
+            Argument::Until => until(alloc),
+            Argument::Json => json(alloc),
+            Argument::Csv => csv(alloc),
             Argument::Only => only(alloc),
             Argument::Progress => progress(alloc),
             Argument::First => named(alloc, "A", "The first file; `-` for standard input"),
             Argument::Second => named(alloc, "B", "The second file, or `-`"),
             Argument::Snapshot => snapshot(alloc),
             Argument::Check => only_check(alloc),
+            Argument::Recorded => recorded(alloc),
             Argument::Joined => named(
                 alloc,
                 "SNAP",
@@ -68,7 +77,7 @@ impl Argument {
             Argument::Served => named(
                 alloc,
                 "FILE",
-                "The day file whose market is served; `-` for standard input",
+                "The file whose market is served; `-` for standard input",
             ),
             Argument::Count => count(alloc),
             Argument::Bind => bind(alloc),
@@ -93,6 +102,13 @@ fn after<'a>(alloc: Global) -> Arg<'a> {
         .value_parser(clap::value_parser!(u64).range(0..=MOST_COUNTED))
 }
 
+fn until<'a>(alloc: Global) -> Arg<'a> {
+    Arg::new(alloc, "until")
+        .long("until")
+        .value_name("TIME")
+        .help("Stop before the first message at TIME or later, such as 10:30")
+}
+
 fn snapshot<'a>(alloc: Global) -> Arg<'a> {
     Arg::new(alloc, "SNAP").help("The snapshot to read; standard input if it is `-` or left out")
 }
@@ -101,6 +117,13 @@ fn only_check<'a>(alloc: Global) -> Arg<'a> {
     Arg::new(alloc, "check")
         .long("check")
         .help("Only report whether the snapshot is in canonical form")
+        .action(ArgAction::SetTrue)
+}
+
+fn recorded<'a>(alloc: Global) -> Arg<'a> {
+    Arg::new(alloc, "snapshot")
+        .long("snapshot")
+        .help("Read a snapshot, and not a day file")
         .action(ArgAction::SetTrue)
 }
 
@@ -130,6 +153,20 @@ fn progress<'a>(alloc: Global) -> Arg<'a> {
     Arg::new(alloc, "progress")
         .long("progress")
         .help("Show every 64 MiB, on standard error, how much was read so far")
+        .action(ArgAction::SetTrue)
+}
+
+fn json<'a>(alloc: Global) -> Arg<'a> {
+    Arg::new(alloc, "json")
+        .long("json")
+        .help("Print JSON, an object a line")
+        .action(ArgAction::SetTrue)
+}
+
+fn csv<'a>(alloc: Global) -> Arg<'a> {
+    Arg::new(alloc, "csv")
+        .long("csv")
+        .help("Print comma-separated values, after a line with the names of the columns")
         .action(ArgAction::SetTrue)
 }
 

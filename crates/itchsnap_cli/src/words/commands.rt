@@ -27,6 +27,7 @@ const COMMANDS: [Entry; 10] = [
         takes: &[
             Argument::File,
             Argument::After,
+            Argument::Until,
             Argument::Only,
             Argument::Progress,
         ],
@@ -35,13 +36,27 @@ const COMMANDS: [Entry; 10] = [
     Entry {
         name: "check",
         about: "Check that a file follows the order rules",
-        takes: &[Argument::File, Argument::Progress],
+        takes: &[
+            Argument::File,
+            Argument::After,
+            Argument::Until,
+            Argument::Json,
+            Argument::Progress,
+        ],
         example: "Example: itchsnap check day.itch",
     },
     Entry {
         name: "compare",
         about: "Check whether two files leave the same market",
-        takes: &[Argument::First, Argument::Second, Argument::Progress],
+        takes: &[
+            Argument::First,
+            Argument::Second,
+            Argument::After,
+            Argument::Until,
+            Argument::Recorded,
+            Argument::Json,
+            Argument::Progress,
+        ],
         example: "Example: itchsnap compare day.itch other.itch",
     },
     Entry {
@@ -64,7 +79,13 @@ const COMMANDS: [Entry; 10] = [
     Entry {
         name: "show",
         about: "Print each message of a file as a line of text",
-        takes: &[Argument::File, Argument::Progress],
+        takes: &[
+            Argument::File,
+            Argument::After,
+            Argument::Until,
+            Argument::Recorded,
+            Argument::Progress,
+        ],
         example: "Example: itchsnap show day.snap | tail -n 1",
     },
     Entry {
@@ -74,15 +95,23 @@ const COMMANDS: [Entry; 10] = [
             Argument::Locate,
             Argument::File,
             Argument::Depth,
+            Argument::After,
+            Argument::Until,
+            Argument::Recorded,
+            Argument::Json,
+            Argument::Csv,
             Argument::Progress,
         ],
-        example: "Example: itchsnap book 1 day.itch --depth 5",
+        example: "Example: itchsnap book 1 day.itch --until 10:30 --depth 5",
     },
     Entry {
         name: "serve",
         about: "Serve the snapshot of a file over SoupBinTCP",
         takes: &[
             Argument::Served,
+            Argument::After,
+            Argument::Until,
+            Argument::Recorded,
             Argument::Count,
             Argument::Progress,
             Argument::Bind,

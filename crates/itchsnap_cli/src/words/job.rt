@@ -4,12 +4,12 @@ ghost use Rattle.itchsnap_cli.specs.Jobs.{file_of, password_file, writes_snapsho
 
 use crate::words::commands::{command, usage_fault};
 use crate::words::completions::Shell;
-use crate::words::request::{read_path, read_request};
+use crate::words::request::{read_kind, read_path, read_request};
 use crate::words::session::{
     LoginWords, Password, Server, read_address, read_login, read_number, read_server,
 };
 use clap::{ArgMatches, Error};
-use itch_commands::{Request, Source};
+use itch_commands::{FileKind, Request, Source};
 use std::alloc::Global;
 use std::net::SocketAddr;
 
@@ -24,6 +24,7 @@ pub enum Job<'a> {
     /// Serve the market of a file, or of standard input where none is named, to `count` connections. The port 0 is a free one.
     Serve {
         file: Option<&'a str>,
+        kind: FileKind,
         address: SocketAddr,
         login: LoginWords<'a>,
         count: u64,
@@ -115,6 +116,7 @@ fn read_serve<'a>(
 ) -> Result<Job<'a>, Error> {
     Ok(Job::Serve {
         file: read_path(options, "FILE"),
+        kind: read_kind(alloc, options)?,
         address: read_address(alloc, options)?,
         login: read_login(alloc, options, password)?,
         count: read_number(alloc, options, "count")?,

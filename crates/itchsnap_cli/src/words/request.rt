@@ -1,8 +1,9 @@
 //! Requests over files, made from the matched words of the command line.
 
 use crate::words::commands::usage_fault;
+use crate::words::time::read_time;
 use clap::{ArgMatches, Error};
-use itch_commands::{Request, path_of};
+use itch_commands::{BookForm, FileKind, Form, Limit, Request, path_of};
 use std::alloc::Global;
 
 /// Reads the matched words of a request over files.
@@ -13,9 +14,12 @@ pub fn read_request<'a>(alloc: Global, matches: &ArgMatches<'a>) -> Result<Reque
         Some(("snap", options)) => read_snap(alloc, options),
         Some(("check", options)) => Ok(Request::Check {
             file: read_path(options, "FILE"),
+            limit: read_limit(alloc, options)?,
+            form: read_form(options),
         }),
         Some(("show", options)) => Ok(Request::Show {
             file: read_path(options, "FILE"),
+            kind: read_kind(alloc, options)?,
         }),
         Some(("canon", options)) => Ok(Request::Canon {
             file: read_path(options, "SNAP"),
@@ -29,17 +33,21 @@ pub fn read_request<'a>(alloc: Global, matches: &ArgMatches<'a>) -> Result<Reque
 }
 
 fn read_snap<'a>(alloc: Global, options: &ArgMatches<'a>) -> Result<Request<'a>, Error> {
-    let after = read_count(alloc, options, "after", "--after takes decimal digits")?;
     Ok(Request::Snap {
         file: read_path(options, "FILE"),
-        after,
+        limit: read_limit(alloc, options)?,
         only: options.get_str("only"),
     })
 }
 
 fn read_compare<'a>(alloc: Global, options: &ArgMatches<'a>) -> Result<Request<'a>, Error> {
     let (first, second) = read_two(alloc, options, "A", "B")?;
-    Ok(Request::Compare { first, second })
+    Ok(Request::Compare {
+        first,
+        second,
+        kind: read_kind(alloc, options)?,
+        form: read_form(options),
+    })
 }
 
 fn read_join<'a>(alloc: Global, options: &ArgMatches<'a>) -> Result<Request<'a>, Error> {
@@ -76,7 +84,63 @@ fn read_book<'a>(alloc: Global, options: &ArgMatches<'a>) -> Result<Request<'a>,
         locate,
         depth,
         file: read_path(options, "FILE"),
+        kind: read_kind(alloc, options)?,
+        form: read_book_form(alloc, options)?,
     })
+}
+
+/// What a file is: a snapshot after `--snapshot`, and otherwise a day file or the part of it that is wanted.
+pub fn read_kind<'a>(alloc: Global, options: &ArgMatches<'a>) -> Result<FileKind, Error> {
+    let limit = read_limit(alloc, options)?;
+    if !options.get_flag("snapshot") {
+        return Ok(FileKind::Day(limit));
+    }
+    if limit != Limit::whole() {
+        return Err(usage_fault(
+            alloc,
+            "--snapshot excludes --after and --until: a snapshot is read to its end",
+        )?);
+    }
+    Ok(FileKind::Snapshot)
+}
+
+// The form of a count or a verdict.
+fn read_form(options: &ArgMatches<'_>) -> Form {
+    if options.get_flag("json") {
+        Form::Json
+    } else {
+        Form::Text
+    }
+}
+
+fn read_book_form<'a>(alloc: Global, options: &ArgMatches<'a>) -> Result<BookForm, Error> {
+    match (options.get_flag("json"), options.get_flag("csv")) {
+        (false, false) => Ok(BookForm::Text),
+        (true, false) => Ok(BookForm::Json),
+        (false, true) => Ok(BookForm::Csv),
+        (true, true) => Err(usage_fault(alloc, "--json and --csv exclude each other")?),
+    }
+}
+
+// The part of a file that is wanted, after `--after` and `--until`.
+fn read_limit<'a>(alloc: Global, options: &ArgMatches<'a>) -> Result<Limit, Error> {
+    Ok(Limit {
+        after: read_count(alloc, options, "after", "--after takes decimal digits")?,
+        until: read_until(alloc, options)?,
+    })
+}
+
+fn read_until<'a>(alloc: Global, options: &ArgMatches<'a>) -> Result<Option<u64>, Error> {
+    let Some(text) = options.get_str("until") else {
+        return Ok(None);
+    };
+    match read_time(text) {
+        Some(time) => Ok(Some(time)),
+        None => Err(usage_fault(
+            alloc,
+            "--until takes a time such as 10:30 or 10:30:00.000000001, or nanoseconds since midnight",
+        )?),
+    }
 }
 
 /// The number after an option, if it is given, in decimal digits alone; otherwise the usage fault is this one.

@@ -99,9 +99,10 @@ pub fn read_login<'a>(
 
 /// The number after an option, in decimal digits alone.
 pub fn read_number<'a>(alloc: Global, options: &ArgMatches<'a>, name: &str) -> Result<u64, Error> {
-    match (options.get_str(name), options.get_one::<u64>(name)) {
-        (Some(text), Some(number)) if text.bytes().all(|byte| byte.is_ascii_digit()) => Ok(number),
-        _ => Err(usage_fault(alloc, "a number must have decimal digits only")?),
+    let fault = "a number must have decimal digits only";
+    match read_count(alloc, options, name, fault)? {
+        Some(number) => Ok(number),
+        None => Err(usage_fault(alloc, fault)?),
     }
 }
 

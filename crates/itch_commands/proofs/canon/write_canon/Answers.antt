@@ -1,11 +1,11 @@
-use Rattle.std.proofs.Common.{inr}
-use Rattle.itch_frame.specs.Reading.{bytes_left}
-use Rattle.itch_commands.proofs.Snapshots.{read_short}
+use Rattle.std.proofs.Common.{refl, inl, inr}
+use Rattle.std.proofs.lemmas.Result.{err_from_is_err_and}
 use Rattle.itch_commands.proofs.canon.write_canon.Goals as goal
 
-pub write_closed-requires : goal.write_closed-requires
-write_closed-requires g c =
-    read_short (bytes_left g.R.CountedRead.remaining c.args.reader.now) (bytes_left g.R.CountedRead.remaining c.read_snapshot-read.new.reader) c.in-Ok.done c.in-Ok.ensures.steps
+pub returns-in_err-market : goal.returns-in_err-market
+returns-in_err-market g c =
+    let p = err_from_is_err_and c.from_residual.result c.from_residual.ensures.1 in
+    rw (p.1, p.2) (inl (_, refl, c.in_err-market.ensures.reads, refl))
 
 pub returns : goal.returns
-returns g c = inr (c.in-Ok.done, (c.in-Ok.ensures.market, c.in-Ok.ensures.steps, c.in-Ok.ensures.failures), c.write_closed.ensures)
+returns g c = inr ((c.in_ok-market.market, c.in_ok-market.next), c.in_ok-market.ensures.reads, c.write_closed.ensures)

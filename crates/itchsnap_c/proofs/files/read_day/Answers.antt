@@ -1,12 +1,33 @@
-use Rattle.std.proofs.Common.{◌≡◌, ◌++◌, Some, ap, ◌∙◌, subst, sym}
+use Rattle.std.proofs.Common.{◌≡◌, ◌++◌, Some, IfSome, Ok, Err, ap, ◌∙◌, subst, sym}
+use Rattle.itch_commands.specs.Limits.{counted}
+use Rattle.itch_commands.specs.Readings.{IsPart, ReadsMarket}
+use Rattle.itch_commands.specs.declared.fault.Source.TheVariants.{Only}
+use Rattle.itch_commands.proofs.DayReadings.{read_done}
 use Rattle.itchsnap_c.specs.Files.{RefusesDay}
 use Rattle.itchsnap_c.proofs.Days.{day_refused}
 use Rattle.itchsnap_c.proofs.files.read_day.Goals as goal
 
+pub returns-in-Ok-read_market-clause-read : goal.returns-in-Ok-read_market-clause-read
+returns-in-Ok-read_market-clause-read c =
+    let r = c.in-Ok.reader in
+    let n = c.read_market.new.reader in
+    let same : r.held ++ r.reader.rest.now ≡ c.args.day.now =
+    ap (λ held. held ++ r.reader.rest.now) c.in-Ok.ensures.1 ∙ ap (λ slice. slice.rest.now) c.in-Ok.ensures.0 in
+    let limit = counted c.args.after in
+    let applied = read_done Only limit _ _ c.new-market.result c.in-Ok-read_market.count c.read_market.new.market c.new-market.ensures
+    (subst (λ part. ReadsMarket Only part c.new-market.result (Some (r.held ++ r.reader.rest.now)) (Some (n.held ++ n.reader.rest.now)) (Ok c.in-Ok-read_market.count) c.read_market.new.market) c.counted.ensures c.in-Ok-read_market.ensures.reads) in (
+      applied.payloads,
+      (applied.taken, subst (λ b. IfSome b (λ day. IsPart limit day applied.payloads)) (ap Some same) applied.part, applied.fits),
+      applied.left,
+      applied.counted,
+    )
+
 pub returns-clause-refused : goal.returns-clause-refused
 returns-clause-refused c =
     let r = c.in-Ok.reader in
+    let n = c.read_market.new.reader in
     let same : r.held ++ r.reader.rest.now ≡ c.args.day.now =
     ap (λ held. held ++ r.reader.rest.now) c.in-Ok.ensures.1 ∙ ap (λ slice. slice.rest.now) c.in-Ok.ensures.0 in
     subst (λ outcome. RefusesDay c.args.day.now c.args.after outcome) (sym c.refused_day.ensures)
-    (day_refused c.args.after c.new-market.result c.read_market.new.market c.args.day.now _ _ c.in-Err.fault c.new-market.ensures (ap Some same) c.in-Err.ensures.reads c.in-Err.ensures.failures)
+    (day_refused c.args.after c.new-market.result c.read_market.new.market c.args.day.now (Some (r.held ++ r.reader.rest.now)) (Some (n.held ++ n.reader.rest.now)) c.in-Err.fault c.new-market.ensures (ap Some same)
+    (subst (λ part. ReadsMarket Only part c.new-market.result (Some (r.held ++ r.reader.rest.now)) (Some (n.held ++ n.reader.rest.now)) (Err c.in-Err.fault) c.read_market.new.market) c.counted.ensures c.in-Err.ensures.reads) c.in-Err.ensures.failures)

@@ -1,0 +1,63 @@
+-- Which part of a file is wanted: as many messages as are asked for, or those before a time.
+use Rattle.std.specs.Prelude.{◌≡◌, ℕ, ◌-◌, ◌^◌, ◌<◌, nat_le, Bool, true, false, List, Option, None, Some, IfSome, option_map}
+use Rattle.itch_codec.specs.Messages.{fault, message_of}
+use Rattle.itch_codec.specs.declared.header.Header.{Header}
+use Rattle.itch_codec.specs.declared.message.Message.{Message}
+use Rattle.itch_codec.specs.declared.message.Message.TheVariants as is
+use Rattle.itch_commands.specs.declared.limit.Limit.{Limit}
+
+-- the first messages, as many as this; or the whole file
+abbrev pub counted : Option ℕ → Limit
+counted after = record { after = after; until = None }
+
+-- the header of a message, if it has one
+abbrev pub header : Message → Option Header
+header (is.SystemEvent m) = Some m.header
+header (is.StockDirectory m) = Some m.header
+header (is.TradingAction m) = Some m.header
+header (is.RegSho m) = Some m.header
+header (is.Halt m) = Some m.header
+header (is.Position m) = Some m.header
+header (is.AddOrder m) = Some m.header
+header (is.AttributedAddOrder m) = Some m.order.header
+header (is.OrderExecuted m) = Some m.header
+header (is.OrderExecutedWithPrice m) = Some m.execution.header
+header (is.OrderCancel m) = Some m.header
+header (is.OrderDelete m) = Some m.header
+header (is.OrderReplace m) = Some m.header
+header (is.Trade m) = Some m.header
+header (is.CrossTrade m) = Some m.header
+header (is.BrokenTrade m) = Some m.header
+header (is.End next) = None
+header (is.Other bytes) = None
+
+-- when a message was made, in nanoseconds since midnight, if it says so
+abbrev pub time_of : Message → Option ℕ
+time_of message = option_map (λ (h : Header). h.stamp) (header message)
+
+-- a time is this one or later
+abbrev pub is_from : ℕ → Option ℕ → Bool
+is_from until None = false
+is_from until (Some time) = nat_le until time
+
+-- a message is at the time where the part ends, or later
+abbrev pub is_late : Option ℕ → Message → Bool
+is_late None message = false
+is_late (Some until) message = is_from until (time_of message)
+
+-- a payload spells no message at the time where the part ends, or later
+abbrev pub IsEarly : Limit → List ℕ → Type 0
+IsEarly limit payload = is_late limit.until (message_of payload) ≡ false
+
+-- a payload spells such a message
+abbrev pub IsLate : Limit → List ℕ → Type 0
+IsLate limit payload = (fault payload ≡ None) × (is_late limit.until (message_of payload) ≡ true)
+
+-- so many messages are fewer than are wanted, where a number is
+abbrev pub IsBefore : Limit → ℕ → Type 0
+IsBefore limit count = IfSome limit.after (λ most. count < most)
+
+-- the number of messages that are wanted at most: where none is given, more than any file may have
+abbrev pub most_of : Option ℕ → ℕ
+most_of None = 2 ^ 64 - 1
+most_of (Some most) = most

@@ -1,0 +1,21 @@
+//! The forms of output: for the eye, and for other programs.
+
+/// How a verdict or a count is written.
+#[derive(Clone, Copy, Debug, PartialEq, Eq)]
+pub enum Form {
+    /// A line of text.
+    Text,
+    /// A line with a JSON object (RFC 8259).
+    Json,
+}
+
+/// How a book is written.
+#[derive(Clone, Copy, Debug, PartialEq, Eq)]
+pub enum BookForm {
+    /// A line `LOCATE STOCK`, and then a line for each price.
+    Text,
+    /// A line with a JSON object (RFC 8259) for each price.
+    Json,
+    /// Comma-separated values (RFC 4180): a line with the names of the columns, and then a line for each price.
+    Csv,
+}

@@ -1,0 +1,54 @@
+"""Runs whose output other programs read: JSON and comma-separated values, parsed by Python's own modules.
+
+RUNS has a function for each run, named for what it shows; it is given the program, and yields what differs.
+"""
+import csv
+import io
+import json
+
+from common import blocks, differs, ended
+
+# Every character that a stock may have, eight in each.
+STOCKS = [bytes(range(first, first + 8)) for first in range(0x20, 0x78, 8)] + [b"xyz{|}~ ", b'"""""""\\', b"\\\\\\\\\\\\\\\"", b",,,,,,,,", b"x,\"y\"   "]
+AAPL, BUY = "AAPL", "BUY_1"
+
+
+def day(stock):
+    """An entry with this stock, and an order of it."""
+    return b"".join(blocks()[name].replace(b"AAPL    ", stock) for name in (AAPL, BUY))
+
+
+def columns(stock):
+    """What the book has of it: the values as they are to be read, each a text or a number."""
+    return {"locate": 1, "stock": stock.decode().rstrip(" "), "side": "B", "price": "150.0000", "shares": 100, "orders": 1}
+
+
+def a_book_as_json_is_read_for_every_stock(program):
+    for stock in STOCKS:
+        status, output, error = ended(program, "book", "1", "day.itch", "--json", day=day(stock))
+        yield from differs(f"{stock}: status and error", (status, error), (0, b""))
+        yield from differs(f"{stock}: rows", [json.loads(line) for line in output.splitlines()], [columns(stock)])
+
+
+def a_book_as_csv_is_read_for_every_stock(program):
+    for stock in STOCKS:
+        status, output, error = ended(program, "book", "1", "day.itch", "--csv", day=day(stock))
+        yield from differs(f"{stock}: status and error", (status, error), (0, b""))
+        rows = list(csv.DictReader(io.StringIO(output.decode()), strict=True))
+        yield from differs(f"{stock}: rows", rows, [{name: str(value) for name, value in columns(stock).items()}])
+
+
+def counts_and_verdicts_as_json_are_read(program):
+    data = day(b"AAPL    ")
+    cases = [
+        (("check", "day.itch"), 0, {"messages": 2}),
+        (("compare", "day.itch", "day.itch"), 0, {"same": True}),
+        (("compare", "day.itch", "other.itch"), 1, {"same": False, "place": 2}),
+    ]
+    for words, wanted, value in cases:
+        status, output, error = ended(program, *words, "--json", day=data, other=blocks()[AAPL])
+        yield from differs(f"{words}: status and error", (status, error), (wanted, b""))
+        yield from differs(f"{words}: lines", [json.loads(line) for line in output.splitlines()], [value])
+
+
+RUNS = [a_book_as_json_is_read_for_every_stock, a_book_as_csv_is_read_for_every_stock, counts_and_verdicts_as_json_are_read]
