@@ -18,6 +18,34 @@ TRYING = re.compile(r"^rt: (\w+): trying its must-fail edits", re.MULTILINE)
 FEWEST = 2
 
 
+class Turns:
+    """Lets as many tasks run at once as there are lanes, and half as many while `rt ci` runs, which has as many of its own."""
+
+    def __init__(self, lanes, proofs):
+        self.lanes = lanes
+        self.proofs = proofs
+        self.running = 0
+        self.changing = threading.Condition()
+
+    def is_free(self):
+        return self.running < (self.lanes if self.proofs.have_ended else max(1, self.lanes // 2))
+
+    @contextlib.contextmanager
+    def turn(self):
+        """Waits for a turn, and keeps it until the task has ended."""
+        with self.changing:
+            # (nobody says when rt ci has ended)
+            while not self.changing.wait_for(self.is_free, timeout=1):
+                pass
+            self.running += 1
+        try:
+            yield
+        finally:
+            with self.changing:
+                self.running -= 1
+                self.changing.notify()
+
+
 class Proofs:
     """Follows the log of `rt ci`, and takes copies of what it makes: as it ends, it may put older libraries in place of its own."""
 
