@@ -56,9 +56,9 @@ members (key ∷ keys) [] values = []
 members (key ∷ keys) (column ∷ columns) [] = []
 members (key ∷ keys) (column ∷ columns) (value ∷ values) = members_at key column value ++ members keys columns values
 
--- what follows the number: the type and the fields; or the type of a message that is not decoded, and its length
+-- what follows the number: the type, and the fields or the length of a message that is not decoded
 abbrev pub members_of : List Key → Shape → List ℕ
-members_of keys (Fields layout values) = codes ",\"type\":\"" ++ layout.kind ∷ codes "\"" ++ members keys layout.columns values
+members_of keys (Fields layout values) = member is.Kind Code (Number layout.kind) ++ members keys layout.columns values
 members_of keys (Payload bytes) =
     member is.Kind Code (Number (byte_at 0 bytes)) ++ member is.Length Integer (Number (length bytes))
 

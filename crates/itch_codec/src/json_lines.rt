@@ -19,7 +19,7 @@ use crate::number::Seq;
 use crate::pieces::push_number;
 use crate::undecoded::Undecoded;
 use std::marker::Model;
-use words::{JsonWords, put_code, put_number};
+use words::{JsonWords, put_code, put_digits, put_number};
 
 /// A line of JSON that shows a message, with its line feed. It is stored in the value itself and needs no allocation.
 #[derive(Drop)]
@@ -36,10 +36,10 @@ impl Model for JsonText {
 }
 
 impl JsonText {
-    /// The text, which is ASCII and has at most 640 bytes.
+    /// The text, which is ASCII and has at most 648 bytes.
     pub fn as_str(&self) -> &str
         ensures text { result.now ≡ self.now }
-        ensures short { length result.now ≤ 640 }
+        ensures short { length result.now ≤ 648 }
     {
         self.text.as_str()
     }
@@ -64,7 +64,7 @@ pub fn json(number: u64, message: &Message<'_>) -> JsonText
 fn put_members(message: &Message<'_>, line: &mut JsonWords)
     requires { array_string_len line.old ≤ 30 }
     ensures bytes { line.new.bytes ≡ line.old.bytes ++ members_of (keys message.now) (shape message.now) }
-    ensures len { array_string_len line.new ≤ 638 }
+    ensures len { array_string_len line.new ≤ 646 }
 {
     match message {
         Message::SystemEvent(m) => stocks::system_event(line, m),
@@ -92,17 +92,17 @@ fn put_members(message: &Message<'_>, line: &mut JsonWords)
 fn put_end(line: &mut JsonWords, next: Seq)
     requires { array_string_len line.old ≤ 30 }
     ensures bytes { line.new.bytes ≡ line.old.bytes ++ members_of end_of_snapshot_keys (Fields end_of_snapshot (Number next ∷ [])) }
-    ensures len { array_string_len line.new ≤ 638 }
+    ensures len { array_string_len line.new ≤ 646 }
 {
-    line.push_str(",\"type\":\"G\"");
-    put_number(line, Key::SequenceNumber, next.value());
+    put_code(line, Key::Kind, b'G');
+    put_digits(line, Key::SequenceNumber, next.value());
 }
 
 #[tactic(auto, using(crate::proofs::Joining::joining))]
 fn put_other(line: &mut JsonWords, message: &Undecoded<'_>)
     requires { array_string_len line.old ≤ 30 }
     ensures bytes { line.new.bytes ≡ line.old.bytes ++ members_of [] (Payload message.now) }
-    ensures len { array_string_len line.new ≤ 638 }
+    ensures len { array_string_len line.new ≤ 646 }
 {
     put_code(line, Key::Kind, message.kind());
     put_number(line, Key::Length, message.payload().len() as u64);

@@ -1,8 +1,10 @@
 //! The messages that make, change and end live orders, as members of an object.
-ghost use Rattle.std.specs.Prelude.{◌≡◌, ◌≤◌, [], ◌++◌, length, codes};
+ghost use Rattle.std.specs.Prelude.{◌≡◌, ◌≤◌, [], ◌++◌};
 ghost use Rattle.arrayvec.specs.ArrayString.{array_string_len};
-ghost use Rattle.itch_codec.specs.Json.{members, members_of};
-ghost use Rattle.itch_codec.specs.Layouts.{with_header, execution_columns, order_columns, add_order, attributed_add_order, order_executed, order_executed_with_price, order_cancel, order_delete, order_replace};
+ghost use Rattle.itch_codec.specs.Fields.{Number};
+ghost use Rattle.itch_codec.specs.declared.names.Key.TheVariants.{Kind};
+ghost use Rattle.itch_codec.specs.Json.{member, members, members_of};
+ghost use Rattle.itch_codec.specs.Layouts.{with_header, execution_columns, order_columns, add_order, attributed_add_order, order_executed, order_executed_with_price, order_cancel, order_delete, order_replace, Code};
 ghost use Rattle.itch_codec.specs.Messages.{Fields};
 ghost use Rattle.itch_codec.specs.Names.{order_keys, execution_keys, add_order_keys, attributed_add_order_keys, order_executed_keys, order_executed_with_price_keys, order_cancel_keys, order_delete_keys, order_replace_keys};
 ghost use Rattle.itch_codec.specs.Values.{order_values, execution_values, add_order_values, attributed_add_order_values, order_executed_values, order_executed_with_price_values, order_cancel_values, order_delete_values, order_replace_values};
@@ -14,15 +16,14 @@ use crate::orders::{
     OrderReplace,
 };
 
-// The fields of a new order, after the letter of its type.
+// The fields of a new order, after its type.
 #[tactic(auto, using(crate::proofs::Joining::joining), unfolding(crate::specs::Json::members))]
-fn order_as(line: &mut JsonWords, letter: &str, m: &AddOrder)
-    requires number { array_string_len line.old ≤ 30 }
-    requires letter { length letter.now ≤ 1 }
-    ensures bytes { line.new.bytes ≡ line.old.bytes ++ codes ",\"type\":\"" ++ letter.now ++ codes "\"" ++ members (order_keys []) (with_header (order_columns [])) (order_values m.now []) }
-    ensures len { array_string_len line.new ≤ 400 }
+fn order_as(line: &mut JsonWords, kind: u8, m: &AddOrder)
+    requires { array_string_len line.old ≤ 30 }
+    ensures bytes { line.new.bytes ≡ line.old.bytes ++ member Kind Code (Number kind) ++ members (order_keys []) (with_header (order_columns [])) (order_values m.now []) }
+    ensures len { array_string_len line.new ≤ 420 }
 {
-    put_header(line, letter, &m.header);
+    put_header(line, kind, &m.header);
     put_number(line, Key::OrderReferenceNumber, m.reference);
     put_side(line, Key::BuySellIndicator, m.side);
     put_number(line, Key::Shares, u64::from(m.shares));
@@ -35,9 +36,9 @@ fn order_as(line: &mut JsonWords, letter: &str, m: &AddOrder)
 pub(super) fn add_order(line: &mut JsonWords, m: &AddOrder)
     requires { array_string_len line.old ≤ 30 }
     ensures bytes { line.new.bytes ≡ line.old.bytes ++ members_of add_order_keys (Fields add_order (add_order_values m.now)) }
-    ensures len { array_string_len line.new ≤ 638 }
+    ensures len { array_string_len line.new ≤ 646 }
 {
-    order_as(line, "A", m);
+    order_as(line, b'A', m);
 }
 
 /// Add Order with attribution.
@@ -45,21 +46,20 @@ pub(super) fn add_order(line: &mut JsonWords, m: &AddOrder)
 pub(super) fn attributed_add_order(line: &mut JsonWords, m: &AttributedAddOrder)
     requires { array_string_len line.old ≤ 30 }
     ensures bytes { line.new.bytes ≡ line.old.bytes ++ members_of attributed_add_order_keys (Fields attributed_add_order (attributed_add_order_values m.now)) }
-    ensures len { array_string_len line.new ≤ 638 }
+    ensures len { array_string_len line.new ≤ 646 }
 {
-    order_as(line, "F", &m.order);
+    order_as(line, b'F', &m.order);
     put_text(line, Key::Attribution, &m.attribution);
 }
 
-// The fields of an execution, after the letter of its type.
+// The fields of an execution, after its type.
 #[tactic(auto, using(crate::proofs::Joining::joining), unfolding(crate::specs::Json::members))]
-fn execution_as(line: &mut JsonWords, letter: &str, m: &OrderExecuted)
-    requires number { array_string_len line.old ≤ 30 }
-    requires letter { length letter.now ≤ 1 }
-    ensures bytes { line.new.bytes ≡ line.old.bytes ++ codes ",\"type\":\"" ++ letter.now ++ codes "\"" ++ members (execution_keys []) (with_header (execution_columns [])) (execution_values m.now []) }
-    ensures len { array_string_len line.new ≤ 300 }
+fn execution_as(line: &mut JsonWords, kind: u8, m: &OrderExecuted)
+    requires { array_string_len line.old ≤ 30 }
+    ensures bytes { line.new.bytes ≡ line.old.bytes ++ member Kind Code (Number kind) ++ members (execution_keys []) (with_header (execution_columns [])) (execution_values m.now []) }
+    ensures len { array_string_len line.new ≤ 310 }
 {
-    put_header(line, letter, &m.header);
+    put_header(line, kind, &m.header);
     put_number(line, Key::OrderReferenceNumber, m.reference);
     put_number(line, Key::ExecutedShares, u64::from(m.shares));
     put_number(line, Key::MatchNumber, m.match_number);
@@ -70,9 +70,9 @@ fn execution_as(line: &mut JsonWords, letter: &str, m: &OrderExecuted)
 pub(super) fn order_executed(line: &mut JsonWords, m: &OrderExecuted)
     requires { array_string_len line.old ≤ 30 }
     ensures bytes { line.new.bytes ≡ line.old.bytes ++ members_of order_executed_keys (Fields order_executed (order_executed_values m.now)) }
-    ensures len { array_string_len line.new ≤ 638 }
+    ensures len { array_string_len line.new ≤ 646 }
 {
-    execution_as(line, "E", m);
+    execution_as(line, b'E', m);
 }
 
 /// Order Executed With Price.
@@ -80,9 +80,9 @@ pub(super) fn order_executed(line: &mut JsonWords, m: &OrderExecuted)
 pub(super) fn order_executed_with_price(line: &mut JsonWords, m: &OrderExecutedWithPrice)
     requires { array_string_len line.old ≤ 30 }
     ensures bytes { line.new.bytes ≡ line.old.bytes ++ members_of order_executed_with_price_keys (Fields order_executed_with_price (order_executed_with_price_values m.now)) }
-    ensures len { array_string_len line.new ≤ 638 }
+    ensures len { array_string_len line.new ≤ 646 }
 {
-    execution_as(line, "C", &m.execution);
+    execution_as(line, b'C', &m.execution);
     put_code(line, Key::Printable, m.printable);
     put_price(line, Key::ExecutionPrice, m.price);
 }
@@ -92,9 +92,9 @@ pub(super) fn order_executed_with_price(line: &mut JsonWords, m: &OrderExecutedW
 pub(super) fn order_cancel(line: &mut JsonWords, m: &OrderCancel)
     requires { array_string_len line.old ≤ 30 }
     ensures bytes { line.new.bytes ≡ line.old.bytes ++ members_of order_cancel_keys (Fields order_cancel (order_cancel_values m.now)) }
-    ensures len { array_string_len line.new ≤ 638 }
+    ensures len { array_string_len line.new ≤ 646 }
 {
-    put_header(line, "X", &m.header);
+    put_header(line, b'X', &m.header);
     put_number(line, Key::OrderReferenceNumber, m.reference);
     put_number(line, Key::CancelledShares, u64::from(m.shares));
 }
@@ -104,9 +104,9 @@ pub(super) fn order_cancel(line: &mut JsonWords, m: &OrderCancel)
 pub(super) fn order_delete(line: &mut JsonWords, m: &OrderDelete)
     requires { array_string_len line.old ≤ 30 }
     ensures bytes { line.new.bytes ≡ line.old.bytes ++ members_of order_delete_keys (Fields order_delete (order_delete_values m.now)) }
-    ensures len { array_string_len line.new ≤ 638 }
+    ensures len { array_string_len line.new ≤ 646 }
 {
-    put_header(line, "D", &m.header);
+    put_header(line, b'D', &m.header);
     put_number(line, Key::OrderReferenceNumber, m.reference);
 }
 
@@ -115,9 +115,9 @@ pub(super) fn order_delete(line: &mut JsonWords, m: &OrderDelete)
 pub(super) fn order_replace(line: &mut JsonWords, m: &OrderReplace)
     requires { array_string_len line.old ≤ 30 }
     ensures bytes { line.new.bytes ≡ line.old.bytes ++ members_of order_replace_keys (Fields order_replace (order_replace_values m.now)) }
-    ensures len { array_string_len line.new ≤ 638 }
+    ensures len { array_string_len line.new ≤ 646 }
 {
-    put_header(line, "U", &m.header);
+    put_header(line, b'U', &m.header);
     put_number(line, Key::OriginalOrderReferenceNumber, m.original);
     put_number(line, Key::NewOrderReferenceNumber, m.reference);
     put_number(line, Key::Shares, u64::from(m.shares));

@@ -19,18 +19,18 @@ use crate::stocks::{
 pub(super) fn system_event(line: &mut JsonWords, m: &SystemEvent)
     requires { array_string_len line.old ≤ 30 }
     ensures bytes { line.new.bytes ≡ line.old.bytes ++ members_of system_event_keys (Fields system_event (system_event_values m.now)) }
-    ensures len { array_string_len line.new ≤ 638 }
+    ensures len { array_string_len line.new ≤ 646 }
 {
-    put_header(line, "S", &m.header);
+    put_header(line, b'S', &m.header);
     put_code(line, Key::EventCode, m.code);
 }
 
 // The fields of a directory entry.
 #[tactic(auto, using(crate::proofs::Joining::joining), unfolding(crate::specs::Json::members))]
 fn directory(line: &mut JsonWords, m: &Directory)
-    requires { array_string_len line.old ≤ 170 }
+    requires { array_string_len line.old ≤ 175 }
     ensures bytes { line.new.bytes ≡ line.old.bytes ++ members directory_keys directory_columns (directory_values m.now) }
-    ensures len { array_string_len line.new ≤ 638 }
+    ensures len { array_string_len line.new ≤ 646 }
 {
     put_text(line, Key::Stock, &m.stock);
     put_code(line, Key::MarketCategory, m.market_category);
@@ -61,9 +61,9 @@ fn directory(line: &mut JsonWords, m: &Directory)
 pub(super) fn stock_directory(line: &mut JsonWords, m: &StockDirectory)
     requires { array_string_len line.old ≤ 30 }
     ensures bytes { line.new.bytes ≡ line.old.bytes ++ members_of stock_directory_keys (Fields stock_directory (stock_directory_values m.now)) }
-    ensures len { array_string_len line.new ≤ 638 }
+    ensures len { array_string_len line.new ≤ 646 }
 {
-    put_header(line, "R", &m.header);
+    put_header(line, b'R', &m.header);
     directory(line, &m.entry);
 }
 
@@ -72,9 +72,9 @@ pub(super) fn stock_directory(line: &mut JsonWords, m: &StockDirectory)
 pub(super) fn trading_action(line: &mut JsonWords, m: &TradingAction)
     requires { array_string_len line.old ≤ 30 }
     ensures bytes { line.new.bytes ≡ line.old.bytes ++ members_of trading_action_keys (Fields trading_action (trading_action_values m.now)) }
-    ensures len { array_string_len line.new ≤ 638 }
+    ensures len { array_string_len line.new ≤ 646 }
 {
-    put_header(line, "H", &m.header);
+    put_header(line, b'H', &m.header);
     put_text(line, Key::Stock, &m.stock);
     put_code(line, Key::TradingState, m.state);
     put_code(line, Key::Reserved, m.reserved);
@@ -86,9 +86,9 @@ pub(super) fn trading_action(line: &mut JsonWords, m: &TradingAction)
 pub(super) fn reg_sho(line: &mut JsonWords, m: &RegSho)
     requires { array_string_len line.old ≤ 30 }
     ensures bytes { line.new.bytes ≡ line.old.bytes ++ members_of reg_sho_keys (Fields reg_sho (reg_sho_values m.now)) }
-    ensures len { array_string_len line.new ≤ 638 }
+    ensures len { array_string_len line.new ≤ 646 }
 {
-    put_header(line, "Y", &m.header);
+    put_header(line, b'Y', &m.header);
     put_text(line, Key::Stock, &m.stock);
     put_code(line, Key::RegShoAction, m.action);
 }
@@ -98,9 +98,9 @@ pub(super) fn reg_sho(line: &mut JsonWords, m: &RegSho)
 pub(super) fn operational_halt(line: &mut JsonWords, m: &OperationalHalt)
     requires { array_string_len line.old ≤ 30 }
     ensures bytes { line.new.bytes ≡ line.old.bytes ++ members_of operational_halt_keys (Fields operational_halt (operational_halt_values m.now)) }
-    ensures len { array_string_len line.new ≤ 638 }
+    ensures len { array_string_len line.new ≤ 646 }
 {
-    put_header(line, "h", &m.header);
+    put_header(line, b'h', &m.header);
     put_text(line, Key::Stock, &m.stock);
     put_code(line, Key::MarketCode, m.market_code);
     put_code(line, Key::OperationalHaltAction, m.action);
@@ -111,9 +111,9 @@ pub(super) fn operational_halt(line: &mut JsonWords, m: &OperationalHalt)
 pub(super) fn participant_position(line: &mut JsonWords, m: &ParticipantPosition)
     requires { array_string_len line.old ≤ 30 }
     ensures bytes { line.new.bytes ≡ line.old.bytes ++ members_of participant_position_keys (Fields participant_position (participant_position_values m.now)) }
-    ensures len { array_string_len line.new ≤ 638 }
+    ensures len { array_string_len line.new ≤ 646 }
 {
-    put_header(line, "L", &m.header);
+    put_header(line, b'L', &m.header);
     put_text(line, Key::Mpid, &m.mpid);
     put_text(line, Key::Stock, &m.stock);
     put_code(line, Key::PrimaryMarketMaker, m.primary_market_maker);

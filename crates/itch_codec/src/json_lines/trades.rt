@@ -16,9 +16,9 @@ use crate::trades::{BrokenTrade, CrossTrade, Trade};
 pub(super) fn trade(line: &mut JsonWords, m: &Trade)
     requires { array_string_len line.old ≤ 30 }
     ensures bytes { line.new.bytes ≡ line.old.bytes ++ members_of trade_keys (Fields trade (trade_values m.now)) }
-    ensures len { array_string_len line.new ≤ 638 }
+    ensures len { array_string_len line.new ≤ 646 }
 {
-    put_header(line, "P", &m.header);
+    put_header(line, b'P', &m.header);
     put_number(line, Key::OrderReferenceNumber, m.reference);
     put_side(line, Key::BuySellIndicator, m.side);
     put_number(line, Key::Shares, u64::from(m.shares));
@@ -32,9 +32,9 @@ pub(super) fn trade(line: &mut JsonWords, m: &Trade)
 pub(super) fn cross_trade(line: &mut JsonWords, m: &CrossTrade)
     requires { array_string_len line.old ≤ 30 }
     ensures bytes { line.new.bytes ≡ line.old.bytes ++ members_of cross_trade_keys (Fields cross_trade (cross_trade_values m.now)) }
-    ensures len { array_string_len line.new ≤ 638 }
+    ensures len { array_string_len line.new ≤ 646 }
 {
-    put_header(line, "Q", &m.header);
+    put_header(line, b'Q', &m.header);
     put_number(line, Key::Shares, m.shares);
     put_text(line, Key::Stock, &m.stock);
     put_price(line, Key::CrossPrice, m.price);
@@ -47,8 +47,8 @@ pub(super) fn cross_trade(line: &mut JsonWords, m: &CrossTrade)
 pub(super) fn broken_trade(line: &mut JsonWords, m: &BrokenTrade)
     requires { array_string_len line.old ≤ 30 }
     ensures bytes { line.new.bytes ≡ line.old.bytes ++ members_of broken_trade_keys (Fields broken_trade (broken_trade_values m.now)) }
-    ensures len { array_string_len line.new ≤ 638 }
+    ensures len { array_string_len line.new ≤ 646 }
 {
-    put_header(line, "B", &m.header);
+    put_header(line, b'B', &m.header);
     put_number(line, Key::MatchNumber, m.match_number);
 }

@@ -13,7 +13,7 @@ use crate::orders::{
 };
 use crate::words::{Words, show_number, show_price, show_side, show_text};
 
-// The fields of a new order, after the letter of its type.
+// The fields of a new order, after its type.
 #[tactic(auto, using(crate::proofs::Joining::joining), unfolding(crate::specs::Named::named_words))]
 fn order_as(line: &mut Words, letter: &str, m: &AddOrder)
     requires number { array_string_len line.old ≤ 21 }
@@ -50,7 +50,7 @@ pub(super) fn attributed_add_order(line: &mut Words, m: &AttributedAddOrder)
     show_text(line, &m.attribution);
 }
 
-// The fields of an execution, after the letter of its type.
+// The fields of an execution, after its type.
 #[tactic(auto, using(crate::proofs::Joining::joining), unfolding(crate::specs::Named::named_words))]
 fn execution_as(line: &mut Words, letter: &str, m: &OrderExecuted)
     requires number { array_string_len line.old ≤ 21 }
