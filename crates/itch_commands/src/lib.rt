@@ -40,7 +40,7 @@ pub use closed_pipe::{ends_by_closed_pipe, final_status};
 pub use fault::{Source, ToolFault, status, system_fault};
 pub use form::{BookForm, Form};
 pub use kind::{FileKind, file_market};
-pub use limit::{Limit, time_of};
+pub use limit::Limit;
 pub use locates::read_locates;
 pub use order_book::Book;
 pub use performing::perform;
