@@ -2,6 +2,7 @@
 pub(super) mod content;
 mod locate_sets;
 mod messages;
+mod plain;
 mod replaying;
 
 use self::content::references;

@@ -19,3 +19,4 @@ pub mod Runs
 pub mod SameMarkets
 pub mod ReplayReaders
 pub mod Partials
+pub mod PlainMessages

@@ -11,3 +11,4 @@ pub mod Stops
 pub mod Replays
 pub mod Partial
 pub mod Wanted
+pub mod Plain

@@ -14,6 +14,7 @@ ghost use Rattle.itch_codec.specs.Widths.{IsMessage};
 ghost use Rattle.itch_market.specs.GoodMarkets.{IsGood};
 ghost use Rattle.itch_market.specs.Runs.{AreMessages, FollowsFrom, Follows, after, run};
 ghost use Rattle.itch_market.specs.Partial.{kept, only};
+ghost use Rattle.itch_market.specs.Plain.{plain};
 ghost use Rattle.itch_market.specs.SameMarkets.{Same};
 ghost use Rattle.itch_market.specs.Stops.{Stops};
 ghost use Rattle.itch_market.specs.declared.stop.Stop.{Stop};
@@ -43,6 +44,18 @@ pub fn good_stays_good()
 pub fn same_stay_same()
     ensures reason { (m n : Content) → (x : Message) → IsGood m → IsGood n → Same m n → reason m x ≡ reason n x }
     ensures effect { (m n : Content) → (x : Message) → IsGood m → IsGood n → IsMessage x → reason m x ≡ None → Same m n → Same (effect m x) (effect n x) }
+{}
+
+/// The plainest message with the effect of another one: its fields fit, no rule refuses it where none refuses the other, and it
+/// changes a good market exactly as the other does. So two messages with one plainest message, each in its own market, change
+/// markets that are the same in the same way, and what they leave is the same.
+#[tactic(auto, using(crate::proofs::LawRules::plain_laws))]
+pub fn plain_acts_alike()
+    ensures reason { (m : Content) → (x : Message) → reason m x ≡ None → reason m (plain m x) ≡ None }
+    ensures fits { (m : Content) → (x : Message) → IsMessage x → IsMessage (plain m x) }
+    ensures effect { (m : Content) → (x : Message) → IsGood m → effect m (plain m x) ≡ effect m x }
+    ensures alike { (m n : Content) → (x y : Message) → IsGood m → IsGood n → Same m n → IsMessage x → reason m x ≡ None → plain m x ≡ plain n y
+        → Same (effect m x) (effect n y) }
 {}
 
 /// If messages follow the order rules, those that are not skipped follow them too, and leave the market that all of them

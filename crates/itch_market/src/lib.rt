@@ -13,6 +13,7 @@
 //! ```
 #![tactic(auto)]
 
+mod equality;
 mod halts;
 pub mod laws;
 mod locate_set;
@@ -26,6 +27,7 @@ mod securities;
 mod security;
 mod stop;
 
+pub use equality::same_message;
 pub use halts::Halts;
 pub use locate_set::LocateSet;
 pub use locates::Locates;

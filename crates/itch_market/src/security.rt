@@ -126,6 +126,20 @@ impl<A: Allocator> Security<A> {
         }
     }
 
+    /// The last action of an operational halt at a market code, if any came.
+    pub fn halt(&self, market_code: u8) -> Option<u8>
+        ensures { result ≡ map.get self.now.halts market_code }
+    {
+        self.halts.get(&market_code).copied()
+    }
+
+    /// The last position of a market participant, if any came: primary market maker, mode and state.
+    pub fn position(&self, mpid: &Alpha<4>) -> Option<[u8; 3]>
+        ensures { result ≡ map.get self.now.positions mpid.now }
+    {
+        self.positions.get(mpid).copied()
+    }
+
     /// How many market codes have an action.
     pub fn halts_len(&self) -> usize
         ensures len { result ≡ map.len self.now.halts }

@@ -16,7 +16,7 @@ pub(super) fn stock(text: &str) -> Option<Alpha<8>> {
     Alpha::from_text(text).ok()
 }
 
-fn header(locate: u16) -> Option<Header> {
+pub(super) fn header(locate: u16) -> Option<Header> {
     Some(Header {
         locate,
         tracking: 0,
