@@ -1,4 +1,4 @@
--- The plainest message that changes a market as another one does. Those that are not refused have one plainest message for each change.
+-- The plainest message that changes a market as another one does.
 use Rattle.std.specs.Prelude.{ℕ, ◌==◌, Bool, true, false, ◌&&◌, if◌then◌else◌, List, Option, Some, None}
 use Rattle.std.specs.Str.{bytes_eq}
 use Rattle.std.specs.FinMap as map
