@@ -279,7 +279,10 @@ fn the_first_message_of_a_fetch_is_read(rt: HostRuntime) -> Result<(), Fail> {
         ("", None),
         ("--from 1", Some(1)),
         ("--from=007 --session S", Some(7)),
-        ("--from 9999999999999999999", Some(9_999_999_999_999_999_999)),
+        (
+            "--from 9999999999999999999",
+            Some(9_999_999_999_999_999_999),
+        ),
     ];
     for (line, wanted) in cases {
         same_in(&rt, line, first_asked(rt.alloc(), line)?, wanted);

@@ -72,7 +72,14 @@ where
     let credentials = login.credentials(server.session);
     let alloc = rt.alloc();
     let answer = match from {
-        Some(from) => fetch_rest(alloc, &mut reader, &mut writer, &credentials, from, &mut out)?,
+        Some(from) => fetch_rest(
+            alloc,
+            &mut reader,
+            &mut writer,
+            &credentials,
+            from,
+            &mut out,
+        )?,
         None => fetch(alloc, &mut reader, &mut writer, &credentials, &mut out)?,
     };
     match out.into_inner().flush() {

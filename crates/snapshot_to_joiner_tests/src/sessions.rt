@@ -33,7 +33,8 @@ pub(crate) const FROM_3: &[u8] = b"\0\x1fA  ITCHSNAP                   3\
     \0\x16SG                   5\0\x01Z";
 
 /// The blocks of the messages from the third on.
-pub(crate) const REST_3: &[u8] = b"\0\x24A\0\x01\0\0\0\0\0\0\0\0\0\0\0\0\0\0\0\x01B\0\0\0dAAPL    \0\x16\xe3\x60\
+pub(crate) const REST_3: &[u8] =
+    b"\0\x24A\0\x01\0\0\0\0\0\0\0\0\0\0\0\0\0\0\0\x01B\0\0\0dAAPL    \0\x16\xe3\x60\
     \0\x24A\0\x01\0\0\0\0\0\0\0\0\0\0\0\0\0\0\0\x02B\0\0\0\xc8AAPL    \0\x16\xe3\x60\
     \0\x15G                   5";
 

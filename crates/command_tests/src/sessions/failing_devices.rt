@@ -35,7 +35,8 @@ const ANSWER_4: &[u8] = b"\0\x1fA  ITCHSNAP                   4\
     \0\x25SA\0\x01\0\0\0\0\0\0\0\0\0\0\0\0\0\0\0\x02B\0\0\0\xc8AAPL    \0\x16\xe3\x60\
     \0\x16SG                   5\0\x01Z";
 
-const REST_4: &[u8] = b"\0\x24A\0\x01\0\0\0\0\0\0\0\0\0\0\0\0\0\0\0\x02B\0\0\0\xc8AAPL    \0\x16\xe3\x60\
+const REST_4: &[u8] =
+    b"\0\x24A\0\x01\0\0\0\0\0\0\0\0\0\0\0\0\0\0\0\x02B\0\0\0\xc8AAPL    \0\x16\xe3\x60\
     \0\x15G                   5";
 
 fn login(rt: &impl Abort) -> Login {
@@ -99,7 +100,12 @@ fn writes_of_a_rest(rt: HostRuntime) -> Result<(), Fail> {
     let credentials = credentials(&rt);
     for at in 0..REST_4.len() {
         let mut out = FuseWriter::new(alloc, 1, Some((at as u64).saturating_add(1)));
-        same_in(&rt, ("status", at), fetch_fourth(&rt, alloc, &credentials, &mut out)?, 3);
+        same_in(
+            &rt,
+            ("status", at),
+            fetch_fourth(&rt, alloc, &credentials, &mut out)?,
+            3,
+        );
         same_in(&rt, ("write", at), Some(out.written()), REST_4.get(..at));
     }
     let mut out = FuseWriter::new(alloc, 1, None);

@@ -228,10 +228,9 @@ fn timeout<'a>(alloc: Global) -> Arg<'a> {
 }
 
 fn from<'a>(alloc: Global) -> Arg<'a> {
-    Arg::new(alloc, "from")
-        .long("from")
-        .value_name("N")
-        .help("Write the messages from number N on, as they come, and no whole snapshot")
+    Arg::new(alloc, "from").long("from").value_name("N").help(
+        "Write the messages from number N on, as they come, and no whole snapshot",
+    )
 }
 
 fn user<'a>(alloc: Global) -> Arg<'a> {

@@ -24,7 +24,12 @@ fn check_rest(
 #[test]
 fn a_rest_is_fetched(rt: HostRuntime) -> Result<(), Fail> {
     for piece in [1, 64] {
-        check_rest(&rt, rt.alloc(), PieceReader::new(FROM_3, piece, None), REST_3)?;
+        check_rest(
+            &rt,
+            rt.alloc(),
+            PieceReader::new(FROM_3, piece, None),
+            REST_3,
+        )?;
     }
     Ok(())
 }
