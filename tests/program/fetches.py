@@ -18,6 +18,9 @@ DAY = file("START AAPL BUY_1 BUY_2_OF_200")
 SNAPSHOT = file("START AAPL BUY_1 BUY_2_OF_200 END_5")
 ENDED = b"\0\x01Z"
 LOGIN_3 = LOGIN[:-1] + b"3"
+REST_3 = file("BUY_1 BUY_2_OF_200 END_5")
+FROM_3 = "--from", "3"
+REST = False, (0, REST_3, b"")
 WRONG = LOGIN_3.replace(b"secret", b"wrong ")
 FETCHED = False, (0, SNAPSHOT, b"")
 CAUSE = "Input/output error (os error 5)"
@@ -74,14 +77,14 @@ def answering(data):
 
 @contextlib.contextmanager
 def failing_fetch(program):
-    """A function that fetches from a port in pieces of one byte, with a call failing, as `recv:3`. It returns whether one did, and what
-    the program ended with."""
+    """A function that fetches from a port, with further words, in pieces of one byte, with a call failing, as `recv:3`. It returns
+    whether one did, and what the program ended with."""
     with tempfile.TemporaryDirectory() as name:
         shim, failed = failing.build_shim(name), Path(name) / "a call failed"
 
-        def perform(port, failure):
+        def perform(port, failure, *words):
             failed.unlink(missing_ok=True)
-            ending = ended_in(name, program, "fetch", *login_words(port), LD_PRELOAD=str(shim), FAIL=failure, FAILED=str(failed), PIECE="1")
+            ending = ended_in(name, program, "fetch", *login_words(port), *words, LD_PRELOAD=str(shim), FAIL=failure, FAILED=str(failed), PIECE="1")
             return failed.exists(), ending
 
         yield perform
@@ -131,6 +134,39 @@ def each_allocation_of_a_fetch_is_refused(program):
                 return
             yield from differs(f"allocation {nth - first}", ending, OUT_OF_MEMORY)
             yield from differs(f"login {nth - first}", login, LOGIN if nth >= first + 3 else b"")
+        yield "more than 64 allocations"
+
+
+def each_call_of_the_fetch_of_a_rest_fails_in_turn(program):
+    """The end of the session is not read, and nothing is written before all is received."""
+    reads = len(answer(3)) - len(ENDED)
+    with failing_fetch(program) as perform, answering(answer(3)) as (port, heard):
+        error = f"itchsnap: read failed\n  127.0.0.1:{port}: {CAUSE}\n".encode()
+        for nth in range(1, reads + 1):
+            yield from differs(f"read {nth}", perform(port, f"recv:{nth}", *FROM_3), (True, (3, b"", error)))
+            yield from differs(f"login {nth}", heard(), LOGIN_3)
+        yield from differs("all reads", perform(port, f"recv:{reads + 1}", *FROM_3), REST)
+        error = f"itchsnap: write failed\n  standard output: {CAUSE}\n".encode()
+        for at in range(len(REST_3)):
+            yield from differs(f"write {at + 1}", perform(port, f"write:{at + 1}+", *FROM_3), (True, (3, REST_3[:at], error)))
+        yield from differs("all writes", perform(port, f"write:{len(REST_3) + 1}", *FROM_3), REST)
+
+
+def each_allocation_of_the_fetch_of_a_rest_is_refused(program):
+    """The first three are those of the buffers, before the login."""
+    with failing_fetch(program) as perform, answering(answer(3)) as (port, heard):
+        closed = free_port()
+        first = first_unmet(lambda nth: perform(closed, f"memory:{nth}", *FROM_3)[0])
+        for nth in range(first, first + 64):
+            failed, ending = perform(port, f"memory:{nth}", *FROM_3)
+            login = heard()
+            if not failed:
+                yield from differs("all allocations", (failed, ending), REST)
+                if nth < first + 4:
+                    yield f"{nth - first} allocations"
+                return
+            yield from differs(f"allocation {nth - first}", ending, OUT_OF_MEMORY)
+            yield from differs(f"login {nth - first}", login, LOGIN_3 if nth >= first + 3 else b"")
         yield "more than 64 allocations"
 
 
@@ -194,6 +230,32 @@ def what_is_no_snapshot_is_not_written(program):
             yield from differs(f"answered {data!r}", perform(port, ""), (False, (1, b"", lines.encode())))
 
 
+def a_rest_is_written_as_it_comes(program):
+    """No order rule is applied to it, and the number in its End of Snapshot is any."""
+    refused = file("MSFT_AT_1 BUY_1 BUY_1 END_4")
+    for data, rest in ((answer(3), REST_3), (acceptance(3) + packets(refused) + b"\0\0", refused)):
+        with failing_fetch(program) as perform, answering(data) as (port, heard):
+            yield from differs(f"answered {data!r}", perform(port, "", *FROM_3), (False, (0, rest, b"")))
+            yield from differs("login", heard(), LOGIN_3)
+
+
+def what_is_no_rest_is_not_written(program):
+    answers = {
+        b"\0\x02JS": ("rejected S", None),
+        answer(1): ("session fault", "accepted from 1, not from 3"),
+        answer(4): ("session fault", "accepted from 4, not from 3"),
+        acceptance(3) + ENDED: ("ended early", None),
+        acceptance(3) + packets(file("BUY_1 BUY_2_OF_200")) + ENDED: ("ended early", None),
+        acceptance(3) + packets(file("BUY_1")) + b"\0\x03SGG": ("session fault", "message 4: wrong length for G: want 21, got 2"),
+        acceptance(3) + b"\0\x01S": ("session fault", "message 3: empty message"),
+        b"\0\0": ("session fault", "no SoupBinTCP packet of a server: empty packet"),
+    }
+    for data, (reason, fault) in answers.items():
+        with failing_fetch(program) as perform, answering(data) as (port, _):
+            lines = f"itchsnap: {reason}\n" + (f"  127.0.0.1:{port}: {fault}\n" if fault else "")
+            yield from differs(f"answered {data!r}", perform(port, "", *FROM_3), (False, (1, b"", lines.encode())))
+
+
 def served(program, clients):
     """Serves clients that all connect before the first one is answered: what each says, what it is answered, and its line."""
     with day_file() as day, Server(program, day, len(clients)) as server, contextlib.ExitStack() as peers:
@@ -225,8 +287,12 @@ RUNS = [
     each_write_of_a_login_fails_in_turn,
     each_write_of_a_fetched_snapshot_fails_in_turn,
     each_allocation_of_a_fetch_is_refused,
+    each_call_of_the_fetch_of_a_rest_fails_in_turn,
+    each_allocation_of_the_fetch_of_a_rest_is_refused,
     each_allocation_of_a_connection_ends_the_serving,
     what_is_no_snapshot_is_not_written,
+    a_rest_is_written_as_it_comes,
+    what_is_no_rest_is_not_written,
     connections_are_served_in_turn,
     a_client_that_says_more_has_its_answer,
     a_fault_of_a_client_ends_one_connection_alone,

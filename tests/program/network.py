@@ -13,7 +13,7 @@ import tempfile
 import time
 from pathlib import Path
 
-from common import differs, ended_in
+from common import differs, ended_in, split
 from fetches import answering
 from sessions import EXAMPLES, STARTING, fetched_differs, messages, snapshot
 
@@ -146,6 +146,21 @@ def a_session_is_asked_for(program):
     yield from differs("its line", (process.returncode, output, error), (0, b"connection 1: rejected S\n", b""))
 
 
+def a_rest_follows_what_is_before_it(program):
+    """The whole, cut before a message, and what is fetched from that message on; past the End of Snapshot nothing is."""
+    whole = split(snapshot(program, DAY))
+    last = len(whole)
+    rests = {n: (0, b"".join(whole[n - 1:]), b"") for n in (1, 2, last - 1, last)}
+    rests[last + 1] = 1, b"", b"itchsnap: ended early\n"
+    rests[last + 2] = 1, b"", b"itchsnap: rejected S\n"
+    for first, wanted in rests.items():
+        with serving(program, *PASS) as (process, _, port):
+            yield from differs(f"from {first}", fetch(program, port, "--from", str(first), "--session", "ITCHSNAP", "--timeout", "60", *PASS), wanted)
+            output, error = process.communicate(timeout=60)
+        line = f"accepted from {first}, {last + 1 - first} packets" if first < last + 2 else "rejected S"
+        yield from differs(f"the line from {first}", (process.returncode, output, error), (0, f"connection 1: {line}\n".encode(), b""))
+
+
 def within(seconds, begun):
     """What differs where this many seconds were to be waited, and not many more."""
     if not seconds - 0.1 < (waited := time.monotonic() - begun) < seconds + 20:
@@ -199,6 +214,7 @@ RUNS = [
     a_file_that_has_no_password_is_told,
     a_variable_that_is_not_utf_8_is_no_password,
     a_session_is_asked_for,
+    a_rest_follows_what_is_before_it,
     a_silent_server_is_left_in_time,
     a_server_that_accepts_nobody_is_left_in_time,
     a_server_in_time_is_fetched_from,

@@ -263,6 +263,45 @@ fn words_of_a_client_are_read(rt: HostRuntime) -> Result<(), Fail> {
     Ok(())
 }
 
+// The number of the first message that a fetch with these words asks for, if they have one.
+fn first_asked(alloc: Global, line: &str) -> Result<Option<u64>, Fail> {
+    let line = format!(in alloc; "fetch --port 1 --user user --pass secret {line}")?;
+    let words = words(alloc, line.as_str())?;
+    match read_job(alloc, words.as_slice(), false, None) {
+        Ok(Job::Fetch { from, .. }) => Ok(from.map(|from| from.value())),
+        _ => Err(Fail::from("no fetch")),
+    }
+}
+
+#[test]
+fn the_first_message_of_a_fetch_is_read(rt: HostRuntime) -> Result<(), Fail> {
+    let cases = [
+        ("", None),
+        ("--from 1", Some(1)),
+        ("--from=007 --session S", Some(7)),
+        (
+            "--from 9999999999999999999",
+            Some(9_999_999_999_999_999_999),
+        ),
+    ];
+    for (line, wanted) in cases {
+        same_in(&rt, line, first_asked(rt.alloc(), line)?, wanted);
+    }
+    for line in [
+        "--from 0",
+        "--from +1",
+        "--from=-1",
+        "--from x",
+        "--from=",
+        "--from 10000000000000000000",
+        "--from 99999999999999999999",
+        "--from 1 --from 2",
+    ] {
+        holds_in(&rt, line, first_asked(rt.alloc(), line).is_err());
+    }
+    Ok(())
+}
+
 #[test]
 fn a_password_has_three_places(rt: HostRuntime) -> Result<(), Fail> {
     let rows = [

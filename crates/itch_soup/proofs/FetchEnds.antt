@@ -25,7 +25,7 @@ use Rattle.itch_soup.specs.declared.packet.Packet.{Packet}
 use Rattle.itch_soup.specs.Packets.{PacketSpells, packet_fault}
 use Rattle.itch_soup.specs.Clients.{Client, client_answer}
 use Rattle.itch_soup.specs.NextPackets.{ReadsBlock}
-use Rattle.itch_soup.specs.Fetching.{HearsPacket, IsRefused, EndsFetch, EndsOtherwise, load_of, IsDecidedFetch}
+use Rattle.itch_soup.specs.Fetching.{AnswersPacket, IsRefused, EndsFetch, EndsOtherwise, load_of, IsDecidedFetch}
 use Rattle.itch_soup.proofs.OnePacket.{packet_at, packet_at-spelled, spelled-none}
 use Rattle.itch_soup.proofs.FrontBlocks.{the_block, some_block, no_bytes, ends_by, cut_off}
 
@@ -52,7 +52,7 @@ by_number None ps p = by_room (is_full (length ps)) ps p
 
 abbrev pub by_start : Bool → ℕ → Option Answer
 by_start true next = None
-by_start false next = Some (Err (broke.WrongStart next))
+by_start false next = Some (Err (broke.WrongStart next 1))
 
 abbrev pub by_answer : ClientAct → List (List ℕ) → Option Answer
 by_answer act.Nothing ps = None
@@ -80,13 +80,13 @@ answered enough c ps q packet room spelled =
     ap (λ b. at_block b c ps q) room ∙ ap (λ f. by_fault f c ps q) (spelled-none packet q Server spelled)
     ∙ ap (λ x. by_answer (client_answer c x) ps) (sym (packet_at-spelled packet q Server spelled))
 
-heard_there : (enough : Bool) (c : Client) (ps : List (List ℕ)) (q rest : List ℕ) (new : Option (List ℕ)) (P : ClientAct → Type 0) → IsPayload q → HearsPacket enough c (Some (block q ++ rest)) new P
+heard_there : (enough : Bool) (c : Client) (ps : List (List ℕ)) (q rest : List ℕ) (new : Option (List ℕ)) (P : ClientAct → Type 0) → IsPayload q → AnswersPacket enough c (Some (block q ++ rest)) new P
     → (answer : ClientAct) × (at_block enough c ps q ≡ by_answer answer ps) × P answer
 heard_there enough c ps q rest new P fits (packet, (room, read), holds) =
     (client_answer c packet, answered enough c ps q packet room (the_block q rest new (λ payload. PacketSpells packet payload Server) fits read), holds)
 
 -- the same for a known answer
-said_there : (enough : Bool) (c : Client) (ps : List (List ℕ)) (q rest : List ℕ) (new : Option (List ℕ)) (wanted : ClientAct) → IsPayload q → HearsPacket enough c (Some (block q ++ rest)) new (λ answer. answer ≡ wanted)
+said_there : (enough : Bool) (c : Client) (ps : List (List ℕ)) (q rest : List ℕ) (new : Option (List ℕ)) (wanted : ClientAct) → IsPayload q → AnswersPacket enough c (Some (block q ++ rest)) new (λ answer. answer ≡ wanted)
     → at_block enough c ps q ≡ by_answer wanted ps
 said_there enough c ps q rest new wanted fits heard = let (answer, there, same) = heard_there enough c ps q rest new (λ answer. answer ≡ wanted) fits heard in there ∙ ap (λ a. by_answer a ps) same
 
@@ -110,7 +110,7 @@ refused_there : (f : SnapFault) (ps : List (List ℕ)) (answer : ClientAct) (loa
 refused_there f ps (act.Data n p) load h decided = refusal_there f ps n p load h decided
 refused_there f ps answer load h decided = absurd h
 
-started_there : (next : ℕ) → ((next ≡ 1) → ⊥) → by_start (next == 1) next ≡ Some (Err (broke.WrongStart next))
+started_there : (next : ℕ) → ((next ≡ 1) → ⊥) → by_start (next == 1) next ≡ Some (Err (broke.WrongStart next 1))
 started_there next wrong = let no : (next == 1) ≡ false = grind (arith, nat_tests) in ap (λ b. by_start b next) no
 
 -- a fault of the block at the front
@@ -129,9 +129,9 @@ otherwise_there (broke.Frame TooLong) enough c ps q rest new load fits h decided
 otherwise_there broke.EndedEarly enough c ps q rest new load fits (inl none) decided = absurd (no_bytes q rest none)
 otherwise_there broke.EndedEarly enough c ps q rest new load fits (inr heard) decided = said_there enough c ps q rest new act.Ended fits heard
 otherwise_there (broke.Rejected code) enough c ps q rest new load fits heard decided = said_there enough c ps q rest new (act.Rejected code) fits heard
-otherwise_there (broke.WrongStart next) enough c ps q rest new load fits heard decided =
+otherwise_there (broke.WrongStart next asked) enough c ps q rest new load fits (heard, one) decided =
     let (answer, there, (same, wrong)) = heard_there enough c ps q rest new (λ answer. (answer ≡ act.Accepted next) × (next ≡ 1 → ⊥)) fits heard in
-    there ∙ ap (λ a. by_answer a ps) same ∙ started_there next wrong
+    there ∙ ap (λ a. by_answer a ps) same ∙ started_there next wrong ∙ ap (λ k. Some (Err (broke.WrongStart next k))) (sym one)
 otherwise_there (broke.Snapshot f) enough c ps q rest new load fits heard decided =
     let (answer, there, refusal) = heard_there enough c ps q rest new (λ answer. IsRefused (load_of ps) answer load (Err (broke.Snapshot f))) fits heard in
     there ∙ refused_there f ps answer load refusal decided
@@ -148,7 +148,7 @@ otherwise_at_end (broke.Frame TooLong) enough c ps b new load none h decided = a
 otherwise_at_end broke.EndedEarly enough c ps b new load none (inl ended) decided = sym (ap at_end ended)
 otherwise_at_end broke.EndedEarly enough c ps b new load none (inr (packet, (room, read), said)) decided = absurd (some_block b new _ none read)
 otherwise_at_end (broke.Rejected code) enough c ps b new load none (packet, (room, read), said) decided = absurd (some_block b new _ none read)
-otherwise_at_end (broke.WrongStart next) enough c ps b new load none (packet, (room, read), said) decided = absurd (some_block b new _ none read)
+otherwise_at_end (broke.WrongStart next asked) enough c ps b new load none ((packet, (room, read), said), one) decided = absurd (some_block b new _ none read)
 otherwise_at_end (broke.Snapshot f) enough c ps b new load none (packet, (room, read), said) decided = absurd (some_block b new _ none read)
 otherwise_at_end f enough c ps b new load none h decided = absurd (some_block b new _ none h.1)
 
@@ -163,7 +163,7 @@ closed_there answer ps done h = absurd h
 
 -- what is at the front ends the fetch
 abbrev pub EndsHere : Bool → Client → List (List ℕ) → List ℕ → Answer → Type 0
-EndsHere enough c ps b (Ok done) = (new : Option (List ℕ)) × HearsPacket enough c (Some b) new (λ answer. Closes answer ps done)
+EndsHere enough c ps b (Ok done) = (new : Option (List ℕ)) × AnswersPacket enough c (Some b) new (λ answer. Closes answer ps done)
 EndsHere enough c ps b (Err f) = (new : Option (List ℕ)) × (load : Load) × EndsFetch enough c (load_of ps) (Some b) new f load
 
 pub ends_there : (r : Answer) (enough : Bool) (c : Client) (ps : List (List ℕ)) (q rest : List ℕ) → IsPayload q → EndsHere enough c ps (block q ++ rest) r → IsDecidedFetch r → at_block enough c ps q ≡ Some r

@@ -26,18 +26,15 @@ use Rattle.itch_soup.specs.Clients.{Client, client_answer, client_after_packet}
 use Rattle.itch_soup.specs.NextPackets.{is_enough}
 use Rattle.itch_soup.specs.Fetching.{IsDecidedFetch}
 use Rattle.itch_soup.proofs.OnePacket.{same_packet}
+use Rattle.itch_soup.proofs.SessionSteps.{heard_by}
 use Rattle.itch_soup.proofs.FetchEnds.{Answer, so_far, by_cause, by_start, by_answer, at_block, answered, open_there, EndsHere, ends_there, same_end}
 
--- an answer after which the fetch goes on, and the messages taken then
+-- an answer after which the fetch goes on
 abbrev pub Goes : ClientAct → List (List ℕ) → Type 0
 Goes act.Nothing ps = Unit {0}
 Goes (act.Accepted next) ps = next ≡ 1
 Goes (act.Data n p) ps = (is_full (length ps) ≡ false) × (cause (so_far ps) p ≡ None) × Fits p
 Goes answer ps = ⊥
-
-abbrev pub heard_by : ClientAct → List (List ℕ) → List (List ℕ)
-heard_by (act.Data n p) ps = ps ++ p ∷ []
-heard_by answer ps = ps
 
 -- an End of Snapshot is refused as a message
 no_end : (m : Content) (p : List ℕ) → cause m p ≡ None → closing_number p ≡ None

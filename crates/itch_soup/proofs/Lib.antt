@@ -7,8 +7,11 @@ pub mod ClosedSessions
 pub mod SentBlocks
 pub mod SentSessions
 pub mod LoginWaits
+pub mod SessionSteps
 pub mod FetchSteps
+pub mod RestSteps
 pub mod ServedIsFetched
+pub mod ServedRest
 pub mod FrontBlocks
 pub mod BlockFaults
 pub mod OneWait

@@ -27,7 +27,8 @@ use Rattle.itch_soup.specs.Clients.{Client, client_answer, client_after_packet}
 use Rattle.itch_soup.specs.NextPackets.{is_enough}
 use Rattle.itch_soup.specs.Fetching.{ArePackets, news, after_packets, Hears, EndsFetch, load_of, Receives, IsDecidedFetch}
 use Rattle.itch_soup.proofs.FetchEnds.{Answer, so_far, Closes, EndsHere}
-use Rattle.itch_soup.proofs.FetchRuns.{Goes, heard_by, Run, one_run}
+use Rattle.itch_soup.proofs.FetchRuns.{Goes, Run, one_run}
+use Rattle.itch_soup.proofs.SessionSteps.{heard_by}
 use Rattle.itch_soup.proofs.ClientAnswers.{Says, Next, next_heard, nothing_heard}
 
 -- there are fewer messages than packets after the login was accepted

@@ -40,7 +40,7 @@ use Rattle.itch_soup.proofs.SentSessions.{snap_fits, packet_fits}
 use Rattle.itch_soup.proofs.SessionNames.{server_session-fits}
 
 -- what is written for an acceptance spells it
-accepted-spelled : (config : ServerConfig) (n : ℕ) → IsAlpha 10 config.session → 1 ≤ n → n ≤ 10 ^ 19
+pub accepted-spelled : (config : ServerConfig) (n : ℕ) → IsAlpha 10 config.session → 1 ≤ n → n ≤ 10 ^ 19
     → PacketSpells (is.LoginAccepted (acceptance config n)) (packet_spelling (is.LoginAccepted (acceptance config n))) Server
 accepted-spelled config n alpha low high = acceptance-spelled (acceptance config n) _ (server_session-fits config.session alpha) low high refl
 
@@ -48,7 +48,7 @@ accepted-spelled config n alpha low high = acceptance-spelled (acceptance config
 data-spelled : (x : Message) → PacketSpells (data_packet x) (packet_spelling (data_packet x)) Server
 data-spelled x = record { first = refl; side = refl; size = omega arith; parts = (sym (append-nil (spelling x)), tt) }
 
-data_packets : (xs : List Message) → FitPackets xs → ArePackets (map data_packet xs) (map packet_spelling (map data_packet xs))
+pub data_packets : (xs : List Message) → FitPackets xs → ArePackets (map data_packet xs) (map packet_spelling (map data_packet xs))
 data_packets [] fit = tt
 data_packets (x ∷ xs) fit = ((fit.0, data-spelled x), data_packets xs fit.1)
 
@@ -57,7 +57,7 @@ data_turn : (at : Stage) (next : ℕ) (payload : List ℕ) → at ≡ stage.Acce
     → client_turn next at (is.SequencedData payload) ≡ (act.Data next payload, stage.Accepted, next + 1)
 data_turn at next payload e k = rw e (rw k refl)
 
-data_news : (c : Client) (n : ℕ) (xs : List Message) → c.connection.stage ≡ stage.Accepted → c.next ≡ n → n + length xs ≤ 10 ^ 19 → news c (map data_packet xs) ≡ numbered n (map spelling xs)
+pub data_news : (c : Client) (n : ℕ) (xs : List Message) → c.connection.stage ≡ stage.Accepted → c.next ≡ n → n + length xs ≤ 10 ^ 19 → news c (map data_packet xs) ≡ numbered n (map spelling xs)
 data_news c n [] at next few = refl
 data_news c n (x ∷ xs) at next few =
     let room : nat_lt c.next (10 ^ 19) ≡ true = grind (arith, nat_tests) in
@@ -67,16 +67,27 @@ data_news c n (x ∷ xs) at next few =
     ∙ ap (λ k. act.Data k (spelling x) ∷ news later (map data_packet xs)) next
     ∙ ap (λ rest. act.Data n (spelling x) ∷ rest) (data_news later (n + 1) xs (ap (λ (t : ClientAct × Stage × ℕ). t.1) turn) (ap (λ (t : ClientAct × Stage × ℕ). t.2) turn ∙ ap (λ k. k + 1) next) (omega arith))
 
+-- what is served is the packets that are heard, and then the end of the session
+pub whole_answer : (first : Packet) (xs : List Message) (more : List ℕ)
+    → blocks (map packet_spelling (first ∷ session_packets xs)) ++ more ≡ blocks (map packet_spelling (first ∷ map data_packet xs)) ++ (block (90 ∷ []) ++ more)
+whole_answer first xs more =
+    let heard = first ∷ map data_packet xs in
+    ap (λ bytes. bytes ++ more)
+    (ap blocks (map-append packet_spelling heard (is.EndOfSession ∷ []))
+    ∙ blocks-append (map packet_spelling heard) (packet_spelling is.EndOfSession ∷ [])
+    ∙ ap (λ last. blocks (map packet_spelling heard) ++ last) (append-nil (block (90 ∷ []))))
+    ∙ append_assoc (blocks (map packet_spelling heard)) (block (90 ∷ [])) more
+
 spelled_list : (xs : List Message) → AreMessages xs → AreSpelled xs (map spelling xs)
 spelled_list [] fit = tt
 spelled_list (x ∷ xs) fit = (Spells-spelling x fit.0, spelled_list xs fit.1)
 
 module _ (m : Content) (next : ℕ) (config : ServerConfig) (good : IsGood m) (number : IsSequence next) (alpha : IsAlpha 10 config.session)
     (few : length (snap m) < 10 ^ 19 - 1) where
-  all_fit : FitPackets (messages m next)
+  pub all_fit : FitPackets (messages m next)
   all_fit = All-append_rec (λ x. IsPayload (packet_spelling (data_packet x))) (snap m) (message.End next ∷ []) (snap_fits m 0 good) (packet_fits (message.End next) number (λ kept. kept), tt)
 
-  count : length (messages m next) ≡ length (snap m) + 1
+  pub count : length (messages m next) ≡ length (snap m) + 1
   count = length-append (snap m) (message.End next ∷ [])
 
   abbrev first : Packet
@@ -96,14 +107,6 @@ module _ (m : Content) (next : ℕ) (config : ServerConfig) (good : IsGood m) (n
     closes = Spells-spelling (message.End next) number;
   }
 
-  whole_answer : (more : List ℕ) → blocks (map packet_spelling (first ∷ session_packets (messages m next))) ++ more ≡ blocks (map packet_spelling heard) ++ (block (90 ∷ []) ++ more)
-  whole_answer more =
-      ap (λ bytes. bytes ++ more)
-      (ap blocks (map-append packet_spelling heard (is.EndOfSession ∷ []))
-      ∙ blocks-append (map packet_spelling heard) (packet_spelling is.EndOfSession ∷ [])
-      ∙ ap (λ last. blocks (map packet_spelling heard) ++ last) (append-nil (block (90 ∷ []))))
-      ∙ append_assoc (blocks (map packet_spelling heard)) (block (90 ∷ [])) more
-
   -- the answer to an accepted login for number 1, and anything after it, is fetched
   pub served_fetched : (credentials : Credentials) (more : List ℕ) → verdict m next config (login_of (asking credentials)) ≡ server.Accept 1
       → Fetched (asking credentials) (Some (served m next config (login_of (asking credentials)) ++ more)) (Some (block (90 ∷ []) ++ more)) (laid m, next)
@@ -115,7 +118,7 @@ module _ (m : Content) (next : ℕ) (config : ServerConfig) (good : IsGood m) (n
       read = map packet_spelling heard;
       bytes =
           ap (λ a. blocks (map packet_spelling (packets_for m next config a)) ++ more) accepted
-          ∙ whole_answer more;
+          ∙ whole_answer first (messages m next) more;
       spelled = ((omega (arith, (accepted-spelled config 1 alpha (omega arith) (omega arith)).size), accepted-spelled config 1 alpha (omega arith) (omega arith)), data_packets (messages m next) all_fit);
       few = omega (arith, count, length-map (messages m next) data_packet);
       heard = ap (λ rest. act.Accepted 1 ∷ rest) (data_news (client_after_packet (asking credentials) first 0) 1 (messages m next) refl refl (omega (arith, count)));

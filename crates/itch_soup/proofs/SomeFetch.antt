@@ -38,9 +38,10 @@ use Rattle.itch_soup.specs.declared.packet.Packet.TheVariants as is
 use Rattle.itch_soup.specs.Packets.{PacketSpells, packet_fault}
 use Rattle.itch_soup.specs.Clients.{Client, client_turn, client_answer, client_after_packet}
 use Rattle.itch_soup.specs.NextPackets.{is_enough, PacketHere}
-use Rattle.itch_soup.specs.Fetching.{HearsNext, TakesAnswer, IsRefused, Receives, IsDecidedFetch}
+use Rattle.itch_soup.specs.Fetching.{TakesPacket, TakesAnswer, IsRefused, Receives, IsDecidedFetch}
 use Rattle.itch_soup.proofs.FaultlessBlocks.{faultless-spelled}
-use Rattle.itch_soup.proofs.FetchSteps.{Hearing, hearing_first, hearing_on, hearing_closed, hearing_ends, turn_shows, Shows}
+use Rattle.itch_soup.proofs.FetchSteps.{Hearing, hearing_first, hearing_on, hearing_closed, hearing_ends}
+use Rattle.itch_soup.proofs.SessionSteps.{Shows, turn_shows}
 use Rattle.itch_soup.proofs.BlockFaults.{OfBlock, of_block, of_each}
 
 -- a session's own faults are decided by what is received
@@ -61,9 +62,9 @@ turn_decided at next packet = tt
 -- the next packet is taken, and fewer bytes are left; or the snapshot is closed; or the fetch ends
 abbrev Outcome : Bool → Client → Load → List ℕ → Type 0
 Outcome enough c load rest =
-    ((more : List ℕ) × (later : Client) × (after : Load) × HearsNext enough c load (Some rest) (Some more) (Ok false) later after × (length more < length rest) × AreBytes more)
-    ⊎ (((new : Option (List ℕ)) × (later : Client) × (after : Load) × (done : Content × ℕ) × HearsNext enough c load (Some rest) new (Ok true) later after × Finishes after (Ok done))
-    ⊎ ((new : Option (List ℕ)) × (later : Client) × (after : Load) × (f : SoupFault) × HearsNext enough c load (Some rest) new (Err f) later after × IsDecidedFetch (Err f)))
+    ((more : List ℕ) × (later : Client) × (after : Load) × TakesPacket enough c load (Some rest) (Some more) (Ok false) later after × (length more < length rest) × AreBytes more)
+    ⊎ (((new : Option (List ℕ)) × (later : Client) × (after : Load) × (done : Content × ℕ) × TakesPacket enough c load (Some rest) new (Ok true) later after × Finishes after (Ok done))
+    ⊎ ((new : Option (List ℕ)) × (later : Client) × (after : Load) × (f : SoupFault) × TakesPacket enough c load (Some rest) new (Err f) later after × IsDecidedFetch (Err f)))
 
 at_end : (enough : Bool) (c : Client) (load : Load) (rest : List ℕ) → HasNoBlock rest → Outcome enough c load rest
 at_end enough c load [] none = inr (inr (Some [], c, load, broke.EndedEarly, inr (inl refl), tt))
@@ -164,7 +165,7 @@ module _ (c : Client) (load : Load) (taking : load.stage ≡ at.Taking) (q more 
 
     by_start : (next : ℕ) → client_answer c packet ≡ act.Accepted next → (b : Bool) → (next == 1) ≡ b → Here
     by_start next is true e = goes load (act.Accepted next) is (eqb-true next 1 e, refl, refl)
-    by_start next is false e = inr (inr (Some more, later, load, broke.WrongStart next, inr (packet, read, (is, eqb-false next 1 e)), tt))
+    by_start next is false e = inr (inr (Some more, later, load, broke.WrongStart next 1, inr ((packet, read, (is, eqb-false next 1 e)), refl), tt))
 
     held : (n : ℕ) (p : List ℕ) → client_answer c packet ≡ act.Data n p → AreBytes p
     held n p same =

@@ -16,6 +16,7 @@ use Rattle.itch_market.specs.Content.{Content, empty, laid}
 use Rattle.itch_market.specs.Runs.{after, run, Follows}
 use Rattle.itch_market.specs.Replays.{NoCause, Fits, IsDecided}
 use Rattle.itch_market.specs.declared.stop.Stop.TheVariants as stop
+use Rattle.itch_snapshot.specs.declared.fault.SnapFault.{SnapFault}
 use Rattle.itch_snapshot.specs.declared.reader.Stage.TheVariants.{Taking}
 use Rattle.itch_snapshot.specs.Files.{AreSpelled}
 use Rattle.itch_snapshot.specs.TakenMessages.{Load, Loads}
@@ -33,13 +34,21 @@ use Rattle.itch_soup.specs.Clients.{Client, new_client, login_of, client_answer,
 use Rattle.itch_soup.specs.NextPackets.{is_enough, PacketHere}
 use Rattle.itch_soup.specs.Serving.{CountsWait}
 
+-- a client that asks for the messages from this number on
+abbrev pub asking_from : ℕ → Credentials → Client
+asking_from n credentials = new_client credentials n 0
+
 -- a client that asks for all messages
 abbrev pub asking : Credentials → Client
-asking credentials = new_client credentials 1 0
+asking credentials = asking_from 1 credentials
 
--- the bytes of its login
+-- the bytes of the login of a client
+abbrev pub login_bytes_of : Client → List ℕ
+login_bytes_of c = packet_spelling (is.LoginRequest (login_of c))
+
+-- those of one that asks for all messages
 abbrev pub login_bytes : Credentials → List ℕ
-login_bytes credentials = packet_spelling (is.LoginRequest (login_of (asking credentials)))
+login_bytes credentials = login_bytes_of (asking credentials)
 
 -- each block, from the server, spells the packet at its place
 abbrev pub ArePackets : List Packet → List (List ℕ) → Type 0
@@ -67,19 +76,27 @@ abbrev pub numbered : ℕ → List (List ℕ) → List ClientAct
 numbered n [] = []
 numbered n (payload ∷ payloads) = act.Data n payload ∷ numbered (n + 1) payloads
 
--- nothing yet; or the login is accepted from number 1, and then these messages come
-abbrev pub Hears : List ClientAct → List (List ℕ) → Type 0
-Hears [] payloads = payloads ≡ []
-Hears answers payloads = answers ≡ act.Accepted 1 ∷ numbered 1 payloads
+-- nothing yet; or the login is accepted from this number, and then these messages come
+abbrev pub HearsFrom : ℕ → List ClientAct → List (List ℕ) → Type 0
+HearsFrom n [] payloads = payloads ≡ []
+HearsFrom n answers payloads = answers ≡ act.Accepted n ∷ numbered n payloads
 
--- packets came off the front, and what they mean is an acceptance from number 1 and these messages
-pub record Heard (c : Client) (old new : Option (List ℕ)) (payloads : List (List ℕ)) : Type 0 where
+-- the same from number 1
+abbrev pub Hears : List ClientAct → List (List ℕ) → Type 0
+Hears answers payloads = HearsFrom 1 answers payloads
+
+-- packets came off the front, and what they mean is an acceptance from this number and these messages
+pub record HeardFrom (n : ℕ) (c : Client) (old new : Option (List ℕ)) (payloads : List (List ℕ)) : Type 0 where
   pub packets : List Packet
   pub read : List (List ℕ)
   pub bytes : Consumes old new (blocks read)
   pub spelled : ArePackets packets read
   pub few : length packets ≤ 10 ^ 19
-  pub heard : Hears (news c packets) payloads
+  pub heard : HearsFrom n (news c packets) payloads
+
+-- the same from number 1
+abbrev pub Heard : Client → Option (List ℕ) → Option (List ℕ) → List (List ℕ) → Type 0
+Heard c old new payloads = HeardFrom 1 c old new payloads
 
 -- the payloads spell these messages, which follow the order rules (so that none is End of Snapshot), and then an End of
 -- Snapshot with this number
@@ -104,8 +121,8 @@ Fetched c old new done =
     × IsLast heard.packets snapshot.last)
 
 -- a packet came off the front, and the session's answer to it is so
-abbrev pub HearsPacket : Bool → Client → Option (List ℕ) → Option (List ℕ) → (ClientAct → Type 0) → Type 0
-HearsPacket enough c old new P =
+abbrev pub AnswersPacket : Bool → Client → Option (List ℕ) → Option (List ℕ) → (ClientAct → Type 0) → Type 0
+AnswersPacket enough c old new P =
     (packet : Packet) × PacketHere Server enough old new (Ok (Some packet)) × P (client_answer c packet)
 
 -- a message that the snapshot's reader refuses
@@ -113,18 +130,23 @@ abbrev pub IsRefused : Load → ClientAct → Load → Result (Option ℕ) SoupF
 IsRefused old (act.Data number payload) new (Err (Snapshot fault)) = Loads old payload (Err fault) new
 IsRefused old answer new result = ⊥
 
+-- why messages from a number on are no longer received, if the session finds no fault: what is at the front, where a message is
+-- refused as `Refuses` says
+abbrev pub EndsFrom : ℕ → (ClientAct → SnapFault → Type 0) → Bool → Client → Option (List ℕ) → Option (List ℕ) → SoupFault → Type 0
+EndsFrom n Refuses enough c old new EndedEarly = PacketHere Server enough old new (Ok None) ⊎ AnswersPacket enough c old new (λ answer. answer ≡ act.Ended)
+EndsFrom n Refuses enough c old new (Rejected code) = AnswersPacket enough c old new (λ answer. answer ≡ act.Rejected code)
+EndsFrom n Refuses enough c old new (WrongStart next asked) = AnswersPacket enough c old new (λ answer. (answer ≡ act.Accepted next) × (next ≢ n)) × (asked ≡ n)
+EndsFrom n Refuses enough c old new (Snapshot fault) = AnswersPacket enough c old new (λ answer. Refuses answer fault)
+EndsFrom n Refuses enough c old new fault = PacketHere Server enough old new (Err fault)
+
 -- why a fetch ends without a snapshot, if the session finds no fault: what is at the front, and how it is taken
 abbrev pub EndsOtherwise : Bool → Client → Load → Option (List ℕ) → Option (List ℕ) → SoupFault → Load → Type 0
-EndsOtherwise enough c load old new EndedEarly after = PacketHere Server enough old new (Ok None) ⊎ HearsPacket enough c old new (λ answer. answer ≡ act.Ended)
-EndsOtherwise enough c load old new (Rejected code) after = HearsPacket enough c old new (λ answer. answer ≡ act.Rejected code)
-EndsOtherwise enough c load old new (WrongStart next) after = HearsPacket enough c old new (λ answer. (answer ≡ act.Accepted next) × (next ≢ 1))
-EndsOtherwise enough c load old new (Snapshot fault) after = HearsPacket enough c old new (λ answer. IsRefused load answer after (Err (Snapshot fault)))
-EndsOtherwise enough c load old new fault after = PacketHere Server enough old new (Err fault)
+EndsOtherwise enough c load old new fault after = EndsFrom 1 (λ answer why. IsRefused load answer after (Err (Snapshot why))) enough c old new fault
 
 -- why a fetch ends without a snapshot
 abbrev pub EndsFetch : Bool → Client → Load → Option (List ℕ) → Option (List ℕ) → SoupFault → Load → Type 0
 EndsFetch enough c load old new fault after =
-    HearsPacket enough c old new (λ answer. answer ≡ act.Fault fault) ⊎ EndsOtherwise enough c load old new fault after
+    AnswersPacket enough c old new (λ answer. answer ≡ act.Fault fault) ⊎ EndsOtherwise enough c load old new fault after
 
 -- what an answer does to the snapshot's reader, and whether the snapshot is closed then
 abbrev pub TakesAnswer : ClientAct → Load → Bool → Load → Type 0
@@ -134,11 +156,11 @@ TakesAnswer (act.Data number payload) old closed new = (taken : Option ℕ) × L
 TakesAnswer answer old closed new = ⊥
 
 -- the next packet: the session and the snapshot's reader take it, or the fetch ends
-abbrev pub HearsNext : Bool → Client → Load → Option (List ℕ) → Option (List ℕ) → Result Bool SoupFault → Client → Load → Type 0
-HearsNext enough c load old new (Ok closed) c_after load_after =
+abbrev pub TakesPacket : Bool → Client → Load → Option (List ℕ) → Option (List ℕ) → Result Bool SoupFault → Client → Load → Type 0
+TakesPacket enough c load old new (Ok closed) c_after load_after =
     (packet : Packet) × PacketHere Server enough old new (Ok (Some packet)) × (c_after ≡ client_after_packet c packet 0)
     × TakesAnswer (client_answer c packet) load closed load_after
-HearsNext enough c load old new (Err fault) c_after load_after = EndsFetch enough c load old new fault load_after
+TakesPacket enough c load old new (Err fault) c_after load_after = EndsFetch enough c load old new fault load_after
 
 -- a snapshot's reader that has taken these messages
 abbrev pub load_of : List (List ℕ) → Load
@@ -151,12 +173,17 @@ Receives c old new (Err fault) =
     (payloads : List (List ℕ)) × (mid : Option (List ℕ)) × (heard : Heard c old mid payloads) × NoCause empty payloads × AllByRecursion Fits payloads
     × ((load : Load) × EndsFetch (is_enough (length heard.packets)) (after_packets c heard.packets) (load_of payloads) mid new fault load)
 
+-- what is read after a login was written, as `Reads` says; or it was not written, and nothing is read
+abbrev pub ReadsAfterLogin : {R T : Type 0} → (R → Option (List ℕ)) → (R → Failures) → (Option (List ℕ) → Option (List ℕ) → Result T SoupFault → Type 0) → Result (Unit {0}) FrameFault → Reading R → Result T SoupFault → Reading R → Type 0
+ReadsAfterLogin remaining reads Reads (Ok done) reader result reader_after =
+    Reads (bytes_left remaining reader) (bytes_left remaining reader_after) result × CountsWait result (reads reader.reader) (reads reader_after.reader)
+    × OnOk result (reader_after.held ≡ [])
+ReadsAfterLogin remaining reads Reads (Err fault) reader result reader_after = (result ≡ Err (Frame fault)) × (reader_after ≡ reader)
+
 -- what a fetch does after the login was written, or was not
 abbrev pub FetchesAfterLogin : {R : Type 0} → (R → Option (List ℕ)) → (R → Failures) → Credentials → Result (Unit {0}) FrameFault → Reading R → Result (Content × ℕ) SoupFault → Reading R → Type 0
-FetchesAfterLogin remaining reads credentials (Ok done) reader result reader_after =
-    Receives (asking credentials) (bytes_left remaining reader) (bytes_left remaining reader_after) result × CountsWait result (reads reader.reader) (reads reader_after.reader)
-    × OnOk result (reader_after.held ≡ [])
-FetchesAfterLogin remaining reads credentials (Err fault) reader result reader_after = (result ≡ Err (Frame fault)) × (reader_after ≡ reader)
+FetchesAfterLogin remaining reads credentials sent reader result reader_after =
+    ReadsAfterLogin remaining reads (Receives (asking credentials)) sent reader result reader_after
 
 -- what a fetch does: the login is written, and then its answer is read
 abbrev pub Fetches : {R W : Type 0} → (R → Option (List ℕ)) → (R → Failures) → (W → Option (List ℕ)) → (W → Failures) → Credentials → Reading R → W → Result (Content × ℕ) SoupFault → Reading R → W → Type 0

@@ -9,3 +9,4 @@ pub mod Closing
 pub mod Sending
 pub mod Serving
 pub mod Fetching
+pub mod FetchingRest

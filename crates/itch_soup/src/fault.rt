@@ -48,9 +48,9 @@ pub enum SoupFault {
     /// The server rejected the login with this code.
     #[error("login rejected with {}", char::from(*.0))]
     Rejected(u8),
-    /// The server accepted the login from another number than 1.
-    #[error("accepted from {}, not from 1", .next.value())]
-    WrongStart { next: Seq },
+    /// The server accepted the login from another number than was asked for.
+    #[error("accepted from {}, not from {}", .next.value(), .asked.value())]
+    WrongStart { next: Seq, asked: Seq },
     /// The session or the input ended before the End of Snapshot.
     #[error("ended early")]
     EndedEarly,

@@ -1,8 +1,10 @@
-//! A snapshot fetched in one session.
+//! A snapshot, or the rest of one, fetched in one session.
 ghost use Rattle.std.specs.Prelude.{◌≡◌, [], OnOk};
 ghost use Rattle.itch_frame.specs.Reading.{bytes_left};
 ghost use Rattle.itch_soup.specs.Serving.{CountsWait};
-ghost use Rattle.itch_soup.specs.Fetching.{HearsNext, Receives, Fetches};
+ghost use Rattle.itch_soup.specs.Fetching.{TakesPacket, Receives, Fetches};
+
+mod rest;
 
 use crate::client::{ClientAct, ClientSession};
 use crate::connection::Stage;
@@ -16,6 +18,7 @@ use itch_codec::Seq;
 use itch_frame::{BlockReader, CountedRead, CountedWrite, write_block};
 use itch_market::Market;
 use itch_snapshot::SnapshotReader;
+pub use rest::{Rest, fetch_rest};
 use std::alloc::Allocator;
 
 /// Fetches a snapshot: writes a login that asks for all messages, and reads up to the End of Snapshot, no further.
@@ -67,7 +70,7 @@ fn take_packet<R: CountedRead, A: Allocator, B: OrderBook>(
     snapshot: &mut SnapshotReader<B>,
     enough: bool,
 ) -> Result<bool, SoupFault>
-    ensures step { HearsNext enough session.old snapshot.old (bytes_left R.remaining reader.old) (bytes_left R.remaining reader.new) result session.new snapshot.new }
+    ensures step { TakesPacket enough session.old snapshot.old (bytes_left R.remaining reader.old) (bytes_left R.remaining reader.new) result session.new snapshot.new }
     ensures held { OnOk result (reader.new.held ≡ []) }
     ensures failures { CountsWait result (R.failures reader.old.reader) (R.failures reader.new.reader) }
 {
@@ -79,7 +82,8 @@ fn take_packet<R: CountedRead, A: Allocator, B: OrderBook>(
         ClientAct::Nothing => Ok(false),
         ClientAct::Accepted { next } => {
             if next.value() != 1 {
-                return Err(SoupFault::WrongStart { next });
+                let asked = Seq::new(1).unwrap();
+                return Err(SoupFault::WrongStart { next, asked });
             }
             Ok(false)
         }

@@ -1,17 +1,20 @@
 //! Laws of the packets and of both sides of a session, about the definitions alone. Each function does nothing.
-ghost use Rattle.std.specs.Prelude.{◌≡◌, ℕ, ◌-◌, ◌<◌, ◌^◌, List, [], ◌∷◌, ◌++◌, length, map, Option, None, Some, Result};
+ghost use Rattle.std.specs.Prelude.{◌≡◌, ℕ, ◌-◌, ◌<◌, ◌≤◌, ◌^◌, List, [], ◌∷◌, ◌++◌, length, map, take, Option, None, Some, Result};
 ghost use Rattle.itch_codec.specs.Fields.{AreBytes, IsAlpha};
+ghost use Rattle.itch_codec.specs.Messages.{spelling};
 ghost use Rattle.itch_codec.specs.Widths.{IsSequence};
-ghost use Rattle.itch_frame.specs.Blocks.{block};
+ghost use Rattle.itch_frame.specs.Blocks.{block, blocks};
 ghost use Rattle.itch_market.specs.Content.{Content, laid};
 ghost use Rattle.itch_market.specs.GoodMarkets.{IsGood};
 ghost use Rattle.itch_market.specs.SameMarkets.{Same};
+ghost use Rattle.itch_snapshot.specs.Bytes.{canon, closing};
 ghost use Rattle.itch_snapshot.specs.Snapshot.{snap};
 ghost use Rattle.itch_soup.specs.declared.login.Credentials.{Credentials};
 ghost use Rattle.itch_soup.specs.declared.login.ServerConfig.{ServerConfig};
 ghost use Rattle.itch_soup.specs.declared.server.ServerAct.{ServerAct};
-ghost use Rattle.itch_soup.specs.Sending.{verdict, served};
-ghost use Rattle.itch_soup.specs.Fetching.{asking, Fetched, Receives, IsDecidedFetch};
+ghost use Rattle.itch_soup.specs.Sending.{messages, messages_from, verdict, served};
+ghost use Rattle.itch_soup.specs.Fetching.{asking, asking_from, Fetched, Receives, IsDecidedFetch};
+ghost use Rattle.itch_soup.specs.FetchingRest.{FetchedRest};
 ghost use Rattle.itch_soup.specs.declared.fault.SoupFault.{SoupFault};
 ghost use Rattle.itch_soup.specs.Serving.{Wait, WaitsForLogin, IsDecidedWait, IsIdle};
 ghost use Rattle.itch_soup.specs.declared.origin.Origin.{Origin};
@@ -57,6 +60,19 @@ pub fn served_is_fetched()
         → verdict m next config (login_of (asking credentials)) ≡ ServerAct.Accept 1
         → Fetched (asking credentials) (Some (served m next config (login_of (asking credentials)) ++ more)) (Some (block (90 ∷ []) ++ more)) (laid m, next) }
     ensures same { (m : Content) → IsGood m → Same (laid m) m }
+{}
+
+/// What is served to a login for the messages from a number on, if it is accepted from there and the End of Snapshot is among
+/// them, is fetched as their blocks. They follow the blocks of the messages before that number, where those of the whole
+/// snapshot are cut there.
+pub fn rest_is_fetched()
+    ensures fetched { (m : Content) → (next n : ℕ) → (config : ServerConfig) → (credentials : Credentials) → (more : List ℕ)
+        → IsGood m → IsSequence next → IsAlpha 10 config.session → length (snap m) < 10 ^ 19 - 1 → 1 ≤ n → n ≤ length (messages m next)
+        → verdict m next config (login_of (asking_from n credentials)) ≡ ServerAct.Accept n
+        → FetchedRest n (asking_from n credentials) (Some (served m next config (login_of (asking_from n credentials)) ++ more)) (Some (block (90 ∷ []) ++ more))
+        (blocks (map spelling (messages_from n m next))) }
+    ensures joined { (m : Content) → (next n : ℕ) → IsGood m
+        → blocks (map spelling (take (n - 1) (messages m next))) ++ blocks (map spelling (messages_from n m next)) ≡ canon (laid m) ++ closing next }
 {}
 
 /// Unless a read fails, the bytes of a client end a server's wait for a login in one way: by the first login, logout, end of

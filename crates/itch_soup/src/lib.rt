@@ -1,8 +1,9 @@
 //! SoupBinTCP 3.00: its packets, the server's and the client's side of a session, and one snapshot served or fetched.
 //!
-//! Nothing here reads a clock or opens a socket, and only [`fetch_one`] allocates memory, for the market that it makes.
+//! Nothing here reads a clock or opens a socket. Only [`fetch_one`] and [`fetch_rest`] allocate memory, for the market or the bytes
+//! that they return.
 //!
-//! [`serve_one`] and [`fetch_one`] are whole sessions over a reader and a writer. For any other session a caller cuts the
+//! [`serve_one`], [`fetch_one`] and [`fetch_rest`] are whole sessions over a reader and a writer. For any other session a caller cuts the
 //! stream into blocks, parses each with [`parse_packet`], passes the packet to [`ServerSession`] or [`ClientSession`], and
 //! does what the session answers. It sends the packets that the session's functions return, and messages by [`write_data`].
 //! Times are milliseconds since a time of the caller's choice.
@@ -35,7 +36,7 @@ mod server;
 pub use client::{ClientAct, ClientSession};
 pub use connection::Tick;
 pub use fault::SoupFault;
-pub use fetch::fetch_one;
+pub use fetch::{Rest, fetch_one, fetch_rest};
 pub use login::{Credentials, ServerConfig};
 pub use origin::Origin;
 pub use packet::{LoginAccepted, LoginRequest, Packet};

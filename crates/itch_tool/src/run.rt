@@ -34,7 +34,11 @@ where
             count,
             progress,
         } => run_serve(rt, *file, *kind, *address, login, *count, *progress),
-        Job::Fetch { server, login } => run_fetch(rt, server, login),
+        Job::Fetch {
+            server,
+            login,
+            from,
+        } => run_fetch(rt, server, login, *from),
         Job::Completions(shell) => print_completions(rt, *shell),
     }
 }

@@ -2,10 +2,11 @@
 
 use crate::opened::open;
 use crate::password::read_password;
+use itch_codec::Seq;
 use itch_commands::{FileKind, Source, ToolFault, system_fault};
 use itch_frame::{BlockReader, Buffered, Counted};
 use itchsnap_cli::input::Progress;
-use itchsnap_cli::sessions::{Login, PIECE, fetch, serve_blocks};
+use itchsnap_cli::sessions::{Login, PIECE, fetch, fetch_rest, serve_blocks};
 use itchsnap_cli::words::{LoginWords, Server};
 use std::io::{self, BufReader, BufWriter, Write};
 use std::net::{Net, SocketAddr, TcpListener, TcpStream, ToSocketAddrs};
@@ -46,8 +47,14 @@ where
     )
 }
 
-/// Fetches the snapshot that a server has. It waits until the server answers, unless there is a time limit.
-pub fn run_fetch<R>(rt: &R, server: &Server<'_>, login: &LoginWords<'_>) -> Result<bool, ToolFault>
+/// Fetches the snapshot that a server has, or its messages from a number on. It waits until the server answers, unless there is a
+/// time limit.
+pub fn run_fetch<R>(
+    rt: &R,
+    server: &Server<'_>,
+    login: &LoginWords<'_>,
+    from: Option<Seq>,
+) -> Result<bool, ToolFault>
 where
     R: Files + Print + AllocGlobal + Net<Stream = TcpStream>,
 {
@@ -62,13 +69,19 @@ where
     };
     let mut out = Counted::new(buffered);
     let mut writer = Counted::new(&stream);
-    let answer = fetch(
-        rt.alloc(),
-        &mut reader,
-        &mut writer,
-        &login.credentials(server.session),
-        &mut out,
-    )?;
+    let credentials = login.credentials(server.session);
+    let alloc = rt.alloc();
+    let answer = match from {
+        Some(from) => fetch_rest(
+            alloc,
+            &mut reader,
+            &mut writer,
+            &credentials,
+            from,
+            &mut out,
+        )?,
+        None => fetch(alloc, &mut reader, &mut writer, &credentials, &mut out)?,
+    };
     match out.into_inner().flush() {
         Ok(()) => Ok(answer),
         Err(error) => Err(ToolFault::Write(error)),

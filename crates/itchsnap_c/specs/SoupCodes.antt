@@ -29,7 +29,7 @@ soup_fault_act (fault.Early kind) = act 99 0 kind
 soup_fault_act fault.Closed = act 100 0 0
 soup_fault_act (fault.Frame frame) = act 101 0 0
 soup_fault_act (fault.Rejected code) = act 101 0 0
-soup_fault_act (fault.WrongStart next) = act 101 0 0
+soup_fault_act (fault.WrongStart next asked) = act 101 0 0
 soup_fault_act fault.EndedEarly = act 101 0 0
 soup_fault_act (fault.Snapshot why) = act 101 0 0
 

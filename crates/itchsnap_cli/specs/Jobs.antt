@@ -19,13 +19,13 @@ abbrev pub file_of : Job → Source → Option (List ℕ)
 file_of (Files request progress) source = requests.file_of request source
 file_of (Serve file kind address login count progress) PasswordFile = password_file login.password
 file_of (Serve file kind address login count progress) source = option_map (λ path. path.now) file
-file_of (Fetch server login) PasswordFile = password_file login.password
-file_of (Fetch server login) source = None
+file_of (Fetch server login from) PasswordFile = password_file login.password
+file_of (Fetch server login from) source = None
 file_of (Completions shell) source = None
 
 -- the jobs whose output is a snapshot, which is no text
 abbrev pub writes_snapshot : Job → Bool
 writes_snapshot (Files request progress) = is_binary request
 writes_snapshot (Serve file kind address login count progress) = false
-writes_snapshot (Fetch server login) = true
+writes_snapshot (Fetch server login from) = true
 writes_snapshot (Completions shell) = false

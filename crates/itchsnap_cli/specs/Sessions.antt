@@ -13,6 +13,7 @@ use Rattle.itch_soup.specs.declared.login.ServerConfig.{ServerConfig}
 use Rattle.itch_soup.specs.declared.serve.Served.{Served}
 use Rattle.itch_soup.specs.declared.serve.Served.TheVariants.{Accepted, Rejected, Left}
 use Rattle.itch_soup.specs.Fetching.{Fetches}
+use Rattle.itch_soup.specs.FetchingRest.{FetchesRest}
 use Rattle.itch_soup.specs.declared.fault.SoupFault.{SoupFault}
 use Rattle.itch_soup.specs.Serving.{Serves}
 use Rattle.itch_commands.specs.declared.fault.ToolFault.{ToolFault}
@@ -28,6 +29,15 @@ module _ {R V : Type 0} (remaining : R → Option (List ℕ)) (reads : R → Fai
   FetchesMarket credentials reader writer reader_after writer_after (Err (tool.Soup fault)) =
       Fetches remaining reads contents writes credentials reader writer (Err fault) reader_after writer_after
   FetchesMarket credentials reader writer reader_after writer_after (Err fault) = ⊥
+
+module _ {R V : Type 0} (remaining : R → Option (List ℕ)) (reads : R → Failures) (contents : V → Option (List ℕ)) (writes : V → Failures) where
+  -- what is fetched from a peer from this number on: the bytes of blocks; or the session's fault is the program's
+  abbrev pub FetchesBytes : Credentials → ℕ → Reading R → V → Reading R → V → Result (List ℕ) ToolFault → Type 0
+  FetchesBytes credentials n reader writer reader_after writer_after (Ok bytes) =
+      FetchesRest remaining reads contents writes credentials n reader writer (Ok bytes) reader_after writer_after
+  FetchesBytes credentials n reader writer reader_after writer_after (Err (tool.Soup fault)) =
+      FetchesRest remaining reads contents writes credentials n reader writer (Err fault) reader_after writer_after
+  FetchesBytes credentials n reader writer reader_after writer_after (Err fault) = ⊥
 
 -- how a connection ended, or none where it had a fault
 abbrev pub Ending : Type 0

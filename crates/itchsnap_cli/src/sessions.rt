@@ -3,8 +3,8 @@
 //!
 //! [`serve_blocks`] reads a day file and serves the snapshot of its market to one connection after another, with a line for each:
 //! the clauses say what is served and how each connection ended, in terms of what its socket gave and took. No peer keeps the
-//! others waiting for longer than [`time_left`] allows. [`fetch`] logs in, receives a snapshot and writes it in canonical form. A
-//! [`Login`] is the user name and the password of both.
+//! others waiting for longer than [`time_left`] allows. [`fetch`] logs in, receives a snapshot and writes it in canonical form;
+//! [`fetch_rest`] writes the messages from a number on as they come. A [`Login`] is the user name and the password of both ends.
 //!
 //! ```
 //! let login = Login::new("desk", "secret")?;
@@ -17,6 +17,7 @@ mod ending;
 mod fetching;
 mod login;
 mod patient;
+mod rest;
 mod sending;
 mod serve;
 
@@ -25,5 +26,6 @@ pub use ending::{Ending, write_ending};
 pub use fetching::fetch;
 pub use login::{Login, first_line};
 pub use patient::{Patient, time_left};
+pub use rest::fetch_rest;
 pub use sending::Sending;
 pub use serve::{Listening, serve_blocks, serve_on};

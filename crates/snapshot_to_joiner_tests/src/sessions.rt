@@ -7,7 +7,9 @@ use itch_frame::testing::{FuseWriter, PieceReader};
 use itch_frame::{BlockReader, CountedRead, CountedWrite};
 use itch_market::Market;
 use itch_snapshot::snapshot_len;
-use itch_soup::{Credentials, Served, ServerConfig, SoupFault, fetch_one, serve_one};
+use itch_soup::{
+    Credentials, Rest, Served, ServerConfig, SoupFault, fetch_one, fetch_rest, serve_one,
+};
 use std::alloc::{Allocator, Global};
 use std::process::Abort;
 use std::test::Fail;
@@ -29,6 +31,12 @@ pub(crate) const FROM_3: &[u8] = b"\0\x1fA  ITCHSNAP                   3\
     \0\x25SA\0\x01\0\0\0\0\0\0\0\0\0\0\0\0\0\0\0\x01B\0\0\0dAAPL    \0\x16\xe3\x60\
     \0\x25SA\0\x01\0\0\0\0\0\0\0\0\0\0\0\0\0\0\0\x02B\0\0\0\xc8AAPL    \0\x16\xe3\x60\
     \0\x16SG                   5\0\x01Z";
+
+/// The blocks of the messages from the third on.
+pub(crate) const REST_3: &[u8] =
+    b"\0\x24A\0\x01\0\0\0\0\0\0\0\0\0\0\0\0\0\0\0\x01B\0\0\0dAAPL    \0\x16\xe3\x60\
+    \0\x24A\0\x01\0\0\0\0\0\0\0\0\0\0\0\0\0\0\0\x02B\0\0\0\xc8AAPL    \0\x16\xe3\x60\
+    \0\x15G                   5";
 
 /// What is served: four messages, and then End of Snapshot with number 5.
 pub(crate) const SERVED: &[&[u8]] = &[EVENT, AAPL, ADD_1, ADD_2];
@@ -125,6 +133,30 @@ pub(crate) fn fetch_fault<R: CountedRead + Drop>(
     reader: R,
 ) -> Result<Option<SoupFault>, Fail> {
     fault_over::<R, ListBook>(rt, alloc, alloc, reader)
+}
+
+/// Fetches the messages from the third on over a reader and a writer.
+pub(crate) fn fetch_third<R: CountedRead, A: Allocator, M: Allocator>(
+    rt: &impl Abort,
+    memory: M,
+    reader: &mut BlockReader<R, A>,
+    writer: &mut FuseWriter,
+) -> Result<Rest<M>, SoupFault> {
+    fetch_rest(memory, reader, writer, &credentials(rt), seq(rt, 3))
+}
+
+/// What this reader gives from the third message on, after a login for it.
+pub(crate) fn third_fetched<R: CountedRead + Drop, M: Allocator>(
+    rt: &impl Abort,
+    alloc: Global,
+    memory: M,
+    reader: R,
+) -> Result<Result<Rest<M>, SoupFault>, Fail> {
+    let mut reader = BlockReader::new(alloc, reader)?;
+    let mut writer = FuseWriter::new(alloc, 64, None);
+    let result = fetch_third(rt, memory, &mut reader, &mut writer);
+    same(rt, writer.written(), LOGIN_3);
+    Ok(result)
 }
 
 /// This market is the one that is served, and this the number of its End of Snapshot.

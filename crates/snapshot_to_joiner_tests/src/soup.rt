@@ -13,6 +13,7 @@ use std::fmt::Debug;
 use std::process::Abort;
 use std::test::Fail;
 
+mod rest;
 mod served;
 
 const LOGIN: &[u8; 47] = b"Luser  secret                                 3";
@@ -437,8 +438,11 @@ fn texts(rt: HostRuntime) -> Result<(), Fail> {
         (SoupFault::Frame(FrameFault::TooLong), "payload too long"),
         (SoupFault::Rejected(b'S'), "login rejected with S"),
         (
-            SoupFault::WrongStart { next: seq(&rt, 3) },
-            "accepted from 3, not from 1",
+            SoupFault::WrongStart {
+                next: seq(&rt, 3),
+                asked: seq(&rt, 2),
+            },
+            "accepted from 3, not from 2",
         ),
         (SoupFault::EndedEarly, "ended early"),
         (SoupFault::Snapshot(SnapFault::NoEnd), "no end of snapshot"),

@@ -8,7 +8,7 @@ use itch_frame::{BlockReader, CountedRead};
 use itch_market::Market;
 use itch_snapshot::snapshot_len;
 use itch_soup::Credentials;
-use itchsnap_cli::sessions::{Login, Sending, fetch, serve_peer};
+use itchsnap_cli::sessions::{Login, Sending, fetch, fetch_rest, serve_peer};
 use std::alloc::{Allocator, Global};
 use std::io::{self, Write};
 use std::process::Abort;
@@ -28,6 +28,15 @@ const SNAPSHOT: &[u8] = b"\0\x0cS\0\0\0\0\0\0\0\0\0\0O\
     \0\x27R\0\x01\0\0\0\0\0\0\0\0AAPL    QN\0\0\0dNCZ PNN1N\0\0\0\0N\
     \0\x24A\0\x01\0\0\0\0\0\0\0\0\0\0\0\0\0\0\0\x01B\0\0\0dAAPL    \0\x16\xe3\x60\
     \0\x24A\0\x01\0\0\0\0\0\0\0\0\0\0\0\0\0\0\0\x02B\0\0\0\xc8AAPL    \0\x16\xe3\x60\
+    \0\x15G                   5";
+
+// What is answered to a login for the fourth message on, and its blocks.
+const ANSWER_4: &[u8] = b"\0\x1fA  ITCHSNAP                   4\
+    \0\x25SA\0\x01\0\0\0\0\0\0\0\0\0\0\0\0\0\0\0\x02B\0\0\0\xc8AAPL    \0\x16\xe3\x60\
+    \0\x16SG                   5\0\x01Z";
+
+const REST_4: &[u8] =
+    b"\0\x24A\0\x01\0\0\0\0\0\0\0\0\0\0\0\0\0\0\0\x02B\0\0\0\xc8AAPL    \0\x16\xe3\x60\
     \0\x15G                   5";
 
 fn login(rt: &impl Abort) -> Login {
@@ -68,6 +77,40 @@ fn writes_of_a_fetched_snapshot(rt: HostRuntime) -> Result<(), Fail> {
         fetch_fails(&rt, alloc, &mut reader, &mut writer, &credentials, &mut out);
         same_in(&rt, ("write", at), Some(out.written()), SNAPSHOT.get(..at));
     }
+    Ok(())
+}
+
+// Fetches the rest of a snapshot, which is written up to a write that fails, if one does.
+fn fetch_fourth(
+    rt: &impl Abort,
+    alloc: Global,
+    credentials: &Credentials,
+    out: &mut FuseWriter,
+) -> Result<u8, Fail> {
+    let from = Seq::new(4).ok_or("a number")?;
+    let mut reader = BlockReader::new(alloc, PieceReader::new(ANSWER_4, 64, None))?;
+    let mut writer = FuseWriter::new(alloc, 64, None);
+    let answer = fetch_rest(alloc, &mut reader, &mut writer, credentials, from, out);
+    Ok(status(&answer))
+}
+
+#[test]
+fn writes_of_a_rest(rt: HostRuntime) -> Result<(), Fail> {
+    let alloc = rt.alloc();
+    let credentials = credentials(&rt);
+    for at in 0..REST_4.len() {
+        let mut out = FuseWriter::new(alloc, 1, Some((at as u64).saturating_add(1)));
+        same_in(
+            &rt,
+            ("status", at),
+            fetch_fourth(&rt, alloc, &credentials, &mut out)?,
+            3,
+        );
+        same_in(&rt, ("write", at), Some(out.written()), REST_4.get(..at));
+    }
+    let mut out = FuseWriter::new(alloc, 1, None);
+    same(&rt, fetch_fourth(&rt, alloc, &credentials, &mut out)?, 0);
+    same(&rt, out.written(), REST_4);
     Ok(())
 }
 

@@ -43,6 +43,7 @@ pub enum Argument {
     Port,
     Session,
     Timeout,
+    From,
     // The login of both.
     User,
     Password,
@@ -86,6 +87,7 @@ impl Argument {
             Argument::Port => port(alloc, "The port of the server", 1),
             Argument::Session => session(alloc),
             Argument::Timeout => timeout(alloc),
+            Argument::From => from(alloc),
             Argument::User => user(alloc),
             Argument::Password => password(alloc),
             Argument::PasswordFile => password_file(alloc),
@@ -223,6 +225,12 @@ fn timeout<'a>(alloc: Global) -> Arg<'a> {
         .value_name("SECONDS")
         .help("Give up if the server is silent for so long, 1 to 86400")
         .value_parser(clap::value_parser!(u64).range(1..=MOST_SECONDS))
+}
+
+fn from<'a>(alloc: Global) -> Arg<'a> {
+    Arg::new(alloc, "from").long("from").value_name("N").help(
+        "Write the messages from number N on, as they come, and no whole snapshot",
+    )
 }
 
 fn user<'a>(alloc: Global) -> Arg<'a> {

@@ -133,6 +133,7 @@ const COMMANDS: [Entry; 10] = [
             Argument::PasswordFile,
             Argument::Session,
             Argument::Timeout,
+            Argument::From,
         ],
         example: "Example: itchsnap fetch --port 5100 --user desk --pass secret > day.snap",
     },

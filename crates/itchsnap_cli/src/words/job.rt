@@ -6,9 +6,10 @@ use crate::words::commands::{command, usage_fault};
 use crate::words::completions::Shell;
 use crate::words::request::{read_kind, read_path, read_request};
 use crate::words::session::{
-    LoginWords, Password, Server, read_address, read_login, read_number, read_server,
+    LoginWords, Password, Server, read_address, read_from, read_login, read_number, read_server,
 };
 use clap::{ArgMatches, Error};
+use itch_codec::Seq;
 use itch_commands::{FileKind, Request, Source};
 use std::alloc::Global;
 use std::net::SocketAddr;
@@ -30,10 +31,11 @@ pub enum Job<'a> {
         count: u64,
         progress: bool,
     },
-    /// Fetch the snapshot that a server has.
+    /// Fetch the snapshot that a server has, or its messages from a number on.
     Fetch {
         server: Server<'a>,
         login: LoginWords<'a>,
+        from: Option<Seq>,
     },
     /// Print the completions of a shell.
     Completions(Shell),
@@ -92,6 +94,7 @@ pub fn read_job<'a>(
         Some(("fetch", options)) => Job::Fetch {
             server: read_server(alloc, options)?,
             login: read_login(alloc, options, password)?,
+            from: read_from(alloc, options)?,
         },
         Some(("completions", options)) => Job::Completions(read_shell(alloc, options)?),
         Some((_, options)) => Job::Files {

@@ -2,8 +2,9 @@
 
 use crate::words::commands::usage_fault;
 use crate::words::request::read_count;
+use crate::words::time::read_digits;
 use clap::{ArgMatches, Error};
-use itch_codec::Alpha;
+use itch_codec::{Alpha, MOST_MESSAGES, Seq};
 use std::alloc::Global;
 use std::fmt::{self, Debug, Formatter};
 use std::net::{IpAddr, Ipv4Addr, SocketAddr};
@@ -66,6 +67,17 @@ pub fn read_server<'a>(alloc: Global, options: &ArgMatches<'a>) -> Result<Server
         session: read_session(alloc, options)?,
         timeout: read_count(alloc, options, "timeout", "--timeout takes decimal digits")?,
     })
+}
+
+/// The number after `--from`, if it is given: that of the first message to fetch.
+pub fn read_from<'a>(alloc: Global, options: &ArgMatches<'a>) -> Result<Option<Seq>, Error> {
+    let Some(text) = options.get_str("from") else {
+        return Ok(None);
+    };
+    match read_digits(text).and_then(Seq::new) {
+        Some(from) if from.value() <= MOST_MESSAGES => Ok(Some(from)),
+        _ => Err(usage_fault(alloc, "--from takes a number from 1 on")?),
+    }
 }
 
 /// The login after `--user` and `--pass` or `--pass-file`; `environment` is the password without either.

@@ -67,8 +67,8 @@ fn two_digits(text: &str, end: u64) -> Option<u64>
     if number < end { Some(number) } else { None }
 }
 
-// A number in decimal digits alone.
-fn read_digits(text: &str) -> Option<u64> {
+/// A number in decimal digits alone.
+pub fn read_digits(text: &str) -> Option<u64> {
     if text.bytes().all(|byte| byte.is_ascii_digit()) {
         text.parse::<u64>().ok()
     } else {

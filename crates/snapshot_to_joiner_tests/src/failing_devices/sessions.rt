@@ -2,6 +2,7 @@
 use crate::equal::same;
 use crate::sessions::{
     FROM_1, FROM_3, LOGIN_1, LOGIN_3, fetch, fetch_fault, serve, serve_from, served_market,
+    third_fetched,
 };
 use itch_book::{ListBook, OrderBook};
 use itch_frame::testing::{FuseWriter, PieceReader};
@@ -71,6 +72,21 @@ fn an_answer_is_not_read(rt: HostRuntime) -> Result<(), Fail> {
         let fault = fetch_fault(&rt, rt.alloc(), PieceReader::new(FROM_1, 7, Some(nth)))?;
         let has_failed = matches!(fault, Some(SoupFault::Frame(FrameFault::Read(_))));
         same(&rt, has_failed, nth <= ANSWER_READS);
+        same(&rt, fault.is_some(), has_failed);
+    }
+    Ok(())
+}
+
+// The length of each packet, and by sevens its 31, 37, 37 and 22 bytes.
+const REST_READS: u64 = 4 + 5 + 6 + 6 + 4;
+
+#[test]
+fn a_rest_is_not_read(rt: HostRuntime) -> Result<(), Fail> {
+    for nth in 1..40 {
+        let reader = PieceReader::new(FROM_3, 7, Some(nth));
+        let fault = third_fetched(&rt, rt.alloc(), rt.alloc(), reader)?.err();
+        let has_failed = matches!(fault, Some(SoupFault::Frame(FrameFault::Read(_))));
+        same(&rt, has_failed, nth <= REST_READS);
         same(&rt, fault.is_some(), has_failed);
     }
     Ok(())

@@ -1,7 +1,10 @@
 //! A session fetched, and one served, which takes no memory.
 use crate::equal::same;
 use crate::files::market;
-use crate::sessions::{FROM_1, FROM_3, LOGIN_1, LOGIN_3, SERVED, fetched, is_served_market, serve};
+use crate::sessions::{
+    FROM_1, FROM_3, LOGIN_1, LOGIN_3, REST_3, SERVED, fetched, is_served_market, serve,
+    third_fetched,
+};
 use itch_book::{IndexedBook, ListBook, OrderBook};
 use itch_frame::testing::PieceReader;
 use itch_frame::{BlockReader, Counted, CountedRead};
@@ -57,6 +60,31 @@ fn no_market_is_fetched_over_a_list(rt: HostRuntime) -> Result<(), Fail> {
     for nth in 0..16 {
         let refusing = Refusing::new(rt.alloc(), nth);
         if !refuse_to_fetch::<ListBook<Refused<'_>>>(&rt, rt.alloc(), &refusing, &refusing)? {
+            assert!(rt; nth > 1);
+            return Ok(());
+        }
+    }
+    panic!(rt; "more than 16 allocations")
+}
+
+// Fetches a rest with one allocation refused. Returns whether it was.
+fn refuse_a_rest(
+    rt: &impl Abort,
+    alloc: Global,
+    refusing: &Refusing<Global>,
+) -> Result<bool, Fail> {
+    match third_fetched(rt, alloc, refusing, PieceReader::new(FROM_3, 64, None))? {
+        Ok(rest) => same(rt, rest.bytes(), REST_3),
+        Err(fault) => assert!(rt; refusing.has_refused() && wants_memory(&fault)),
+    }
+    Ok(refusing.has_refused())
+}
+
+#[test]
+fn no_rest_is_fetched(rt: HostRuntime) -> Result<(), Fail> {
+    for nth in 0..16 {
+        let refusing = Refusing::new(rt.alloc(), nth);
+        if !refuse_a_rest(&rt, rt.alloc(), &refusing)? {
             assert!(rt; nth > 1);
             return Ok(());
         }
