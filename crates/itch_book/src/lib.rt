@@ -13,19 +13,25 @@
 //! ```
 #![tactic(auto)]
 
+mod arrivals;
+mod arrived;
 mod book;
 mod changes;
 mod index;
 mod indexed_book;
 pub mod laws;
+mod line;
 mod link;
 mod list_book;
 mod order;
 mod prices;
 mod priority;
 mod queues;
+mod references;
+mod settled_book;
 
 pub use book::OrderBook;
 pub use indexed_book::IndexedBook;
 pub use list_book::ListBook;
 pub use order::{Order, Taken};
+pub use settled_book::SettledBook;

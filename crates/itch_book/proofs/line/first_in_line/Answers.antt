@@ -1,0 +1,28 @@
+use Rattle.std.proofs.Common.{◌≡◌, not, true, false, rules, sym, ◌∙◌}
+use Rattle.std.specs.List.Sorted.{IsPartitionPoint}
+use Rattle.std.proofs.lemmas.List.Sorted.{IsPartitionPoint-from_clause}
+use Rattle.itch_book.specs.declared.arrived.Arrived.{Arrived}
+use Rattle.itch_book.specs.Settled.{begins}
+use Rattle.itch_book.proofs.LineLemmas.{line_parted, read_at, read_past, line_hit, line_miss, line_end}
+use Rattle.itch_book.proofs.line.first_in_line.Goals as goal
+
+pub returns-then-wants : goal.returns-then-wants
+returns-then-wants c =
+    let w = c.args.wanted in let line = c.args.line.now in let i = c.partition_point-place.result in
+    let point : IsPartitionPoint (λ (y : Arrived). not (begins w y) ≡ true) (λ (y : Arrived). not (begins w y) ≡ false) line i =
+    IsPartitionPoint-from_clause (λ (y : Arrived). not (begins w y)) line i c.partition_point-place.ensures.partitioned (line_parted w line c.requires) (λ a r q k. search rules) in
+    line_hit w line c.requires i c.partition_point-place.ensures.bound point c.in-Some.one.now (read_at line i c.in-Some.one.now c.in-Some.ensures.lookup.0 c.in-Some.ensures.lookup.1) (sym c.wants.ensures ∙ c.if-wants.true)
+
+pub returns-else-wants : goal.returns-else-wants
+returns-else-wants c =
+    let w = c.args.wanted in let line = c.args.line.now in let i = c.partition_point-place.result in
+    let point : IsPartitionPoint (λ (y : Arrived). not (begins w y) ≡ true) (λ (y : Arrived). not (begins w y) ≡ false) line i =
+    IsPartitionPoint-from_clause (λ (y : Arrived). not (begins w y)) line i c.partition_point-place.ensures.partitioned (line_parted w line c.requires) (λ a r q k. search rules) in
+    line_miss w line c.requires i c.partition_point-place.ensures.bound point c.in-Some.one.now (read_at line i c.in-Some.one.now c.in-Some.ensures.lookup.0 c.in-Some.ensures.lookup.1) (sym c.wants.ensures ∙ c.if-wants.false)
+
+pub returns-in-None : goal.returns-in-None
+returns-in-None c =
+    let w = c.args.wanted in let line = c.args.line.now in let i = c.partition_point-place.result in
+    let point : IsPartitionPoint (λ (y : Arrived). not (begins w y) ≡ true) (λ (y : Arrived). not (begins w y) ≡ false) line i =
+    IsPartitionPoint-from_clause (λ (y : Arrived). not (begins w y)) line i c.partition_point-place.ensures.partitioned (line_parted w line c.requires) (λ a r q k. search rules) in
+    line_end w line c.requires i c.partition_point-place.ensures.bound point (read_past line i c.in-None.ensures.lookup.0)
