@@ -4,7 +4,7 @@ use Rattle.std.specs.List.{AllByRecursion, sum_by}
 use Rattle.std.specs.List.Sorted.{IsPartitionedBy, IsPartitionPoint}
 use Rattle.std.proofs.lemmas.Bool.{false≢true, cases_eq, not-true, not-false, not_from_false}
 use Rattle.std.proofs.lemmas.Bool.Decides.{nat_tests}
-use Rattle.std.proofs.lemmas.List.{length-map, length-take-le, get_or-take, get_or-drop, length-drop, take-append-drop, drop-take}
+use Rattle.std.proofs.lemmas.List.{append-nil, length-map, length-take-le, get_or-take, get_or-drop, length-drop, take-append-drop, drop-take}
 use Rattle.std.proofs.lemmas.List.Elements.{filter-append}
 use Rattle.std.proofs.lemmas.List.Sums.{sum_by-cons}
 use Rattle.std.proofs.ByRecursion.{All-from_get_or}
@@ -76,16 +76,12 @@ cut_front p xs i d within h =
     (λ k lt. let here : k < i = omega (arith, long) in subst (λ x. p x ≡ false) (sym (get_or-take i xs k d here)) (h k here))) in
     sym (ap (filter p) (sym (take-append-drop i xs)) ∙ filter-append p (take i xs) (drop i xs) ∙ ap (λ t. t ++ filter p (drop i xs)) none)
 
-nothing_more : {X : Type 0} (xs : List X) → xs ++ [] ≡ xs
-nothing_more [] = refl
-nothing_more (x ∷ xs) = ap (λ t. x ∷ t) (nothing_more xs)
-
 cut_back : {X : Type 0} (p : X → Bool) (xs : List X) (i : ℕ) (d : X) → ((k : ℕ) → i ≤ k → k < length xs → p (get_or xs k d) ≡ false) → filter p (take i xs) ≡ filter p xs
 cut_back p xs i d h =
     let long = length-drop i xs in
     let none : filter p (drop i xs) ≡ [] = filter_none p (drop i xs) (All-from_get_or (λ x. p x ≡ false) (drop i xs) d
     (λ k lt. subst (λ x. p x ≡ false) (sym (get_or-drop i xs k d)) (h (i + k) (omega arith) (omega (arith, long))))) in
-    sym (ap (filter p) (sym (take-append-drop i xs)) ∙ filter-append p (take i xs) (drop i xs) ∙ ap (λ t. filter p (take i xs) ++ t) none ∙ nothing_more (filter p (take i xs)))
+    sym (ap (filter p) (sym (take-append-drop i xs)) ∙ filter-append p (take i xs) (drop i xs) ∙ ap (λ t. filter p (take i xs) ++ t) none ∙ append-nil (filter p (take i xs)))
 
 level_shown : (l : ℕ) (s : Side) (p : ℕ) (xs : List Arrived) → level (map its_order xs) l s p ≡ map its_order (filter (at_level l s p) xs)
 level_shown l s p xs = filter-map (is_level l s p) (at_level l s p) its_order (λ x. refl) xs

@@ -4,6 +4,7 @@ use Rattle.std.specs.List.{AllByRecursion}
 use Rattle.std.specs.Map.{lookup, values_of}
 use Rattle.std.proofs.lemmas.Bool.{false≢true}
 use Rattle.std.proofs.lemmas.Bool.Decides.{nat_tests}
+use Rattle.std.proofs.lemmas.List.{append-nil, map-append}
 use Rattle.itch_codec.specs.declared.orders.Side.{Side}
 use Rattle.itch_book.specs.declared.order.Order.{Order}
 use Rattle.itch_book.specs.declared.arrived.Arrived.{Arrived}
@@ -26,23 +27,19 @@ shown b = b.now
 abbrev pub least_of : Wanted → List Arrived → Option Arrived
 least_of w xs = find (wants w) (in_order comes_before xs)
 
-shown_more : (bs : List (Bor Arrived)) (b : Bor Arrived) → map shown (bs ++ b ∷ []) ≡ map shown bs ++ b.now ∷ []
-shown_more [] b = refl
-shown_more (a ∷ bs) b = ap (λ t. a.now ∷ t) (shown_more bs b)
-
 sooner_is : (p : Arrived → Bool) (x : Arrived) (o : Option Arrived) → first_of comes_before arrival_order p x o ≡ sooner x o
 sooner_is p x None = refl
 sooner_is p x (Some y) = refl
 
 pub least_more : (w : Wanted) (bs : List (Bor Arrived)) (b : Bor Arrived) (o : Option Arrived) → o ≡ least_of w (map shown bs) → wants w b.now ≡ true → sooner b.now o ≡ least_of w (map shown (bs ++ b ∷ []))
 least_more w bs b o h t =
-    ap (sooner b.now) h ∙ sym (ap (least_of w) (shown_more bs b) ∙ find_push comes_before arrival_order (wants w) (map shown bs) b.now
+    ap (sooner b.now) h ∙ sym (ap (least_of w) (map-append shown bs (b ∷ [])) ∙ find_push comes_before arrival_order (wants w) (map shown bs) b.now
     ∙ ap (λ q. cond q (first_of comes_before arrival_order (wants w) b.now (least_of w (map shown bs))) (least_of w (map shown bs))) t
     ∙ sooner_is (wants w) b.now (least_of w (map shown bs)))
 
 pub least_same : (w : Wanted) (bs : List (Bor Arrived)) (b : Bor Arrived) (o : Option Arrived) → o ≡ least_of w (map shown bs) → wants w b.now ≡ false → o ≡ least_of w (map shown (bs ++ b ∷ []))
 least_same w bs b o h t =
-    h ∙ sym (ap (least_of w) (shown_more bs b) ∙ find_push comes_before arrival_order (wants w) (map shown bs) b.now
+    h ∙ sym (ap (least_of w) (map-append shown bs (b ∷ [])) ∙ find_push comes_before arrival_order (wants w) (map shown bs) b.now
     ∙ ap (λ q. cond q (first_of comes_before arrival_order (wants w) b.now (least_of w (map shown bs))) (least_of w (map shown bs))) t)
 
 -- what was gone over, and what is left, are all
@@ -54,11 +51,7 @@ rest_more bs b left rest all h e = moved bs ∙ ap (λ t. map shown bs ++ t) (sy
     moved (a ∷ cs) = ap (λ t. a.now ∷ t) (moved cs)
 
 pub rest_none : (bs : List (Bor Arrived)) (left all : List Arrived) → map shown bs ++ left ≡ all → left ≡ [] → map shown bs ≡ all
-rest_none bs left all h e = sym (ap (λ t. map shown bs ++ t) e ∙ nothing (map shown bs)) ∙ h
-  where
-    nothing : (xs : List Arrived) → xs ++ [] ≡ xs
-    nothing [] = refl
-    nothing (x ∷ xs) = ap (λ t. x ∷ t) (nothing xs)
+rest_none bs left all h e = sym (ap (λ t. map shown bs ++ t) e ∙ append-nil (map shown bs)) ∙ h
 
 find_shown : (p : Order → Bool) (q : Arrived → Bool) → ((x : Arrived) → q x ≡ p x.order) → (xs : List Arrived) → option_map its_order (find q xs) ≡ find p (map its_order xs)
 find_shown p q same [] = refl

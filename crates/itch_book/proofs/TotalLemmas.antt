@@ -1,7 +1,7 @@
 -- The total of a price, summed over all orders in whatever order.
 use Rattle.std.proofs.Common.{◌≡◌, ℕ, ◌≤◌, ◌<◌, ◌+◌, ◌*◌, ◌^◌, Bool, true, false, List, [], ◌∷◌, ◌++◌, map, length, filter, Bor, refl, sym, ap, ap₂, ◌∙◌, arith, length-append}
 use Rattle.std.specs.List.{sum_by}
-use Rattle.std.proofs.lemmas.List.{length-map}
+use Rattle.std.proofs.lemmas.List.{append-nil, length-map, map-append}
 use Rattle.std.proofs.lemmas.List.Elements.{filter-append}
 use Rattle.std.proofs.lemmas.List.Sums.{sum_by-append, sum_by-cons}
 use Rattle.std.proofs.lemmas.List.Sorted.{IsPermutation-map, sum_by-IsPermutation, length_permutation}
@@ -38,29 +38,17 @@ total_is l s p xs =
     (sym (ap shares_in e ∙ sum_by-IsPermutation (λ (x : Order). x.shares) (map its_order ys) (map its_order (in_order comes_before ys)) moved))
     (sym (ap length e ∙ length_permutation (map its_order ys) (map its_order (in_order comes_before ys)) moved))
 
-shown_more : (bs : List (Bor Arrived)) (b : Bor Arrived) → map shown (bs ++ b ∷ []) ≡ map shown bs ++ b.now ∷ []
-shown_more [] b = refl
-shown_more (a ∷ bs) b = ap (λ t. a.now ∷ t) (shown_more bs b)
-
-map_more : (xs : List Arrived) (x : Arrived) → map its_order (xs ++ x ∷ []) ≡ map its_order xs ++ x.order ∷ []
-map_more [] x = refl
-map_more (y ∷ xs) x = ap (λ t. y.order ∷ t) (map_more xs x)
-
-nothing_more : (xs : List Arrived) → xs ++ [] ≡ xs
-nothing_more [] = refl
-nothing_more (x ∷ xs) = ap (λ t. x ∷ t) (nothing_more xs)
-
 level_more : (l : ℕ) (s : Side) (p : ℕ) (bs : List (Bor Arrived)) (b : Bor Arrived) → is_level l s p b.now.order ≡ true → level_of l s p (map shown (bs ++ b ∷ [])) ≡ level_of l s p (map shown bs) ++ b.now.order ∷ []
 level_more l s p bs b t =
-    ap (level_of l s p) (shown_more bs b)
+    ap (level_of l s p) (map-append shown bs (b ∷ []))
     ∙ ap (map its_order) (filter-append (λ (x : Arrived). is_level l s p x.order) (map shown bs) (b.now ∷ []))
-    ∙ simp t (map_more (filter (λ (x : Arrived). is_level l s p x.order) (map shown bs)) b.now)
+    ∙ simp t (map-append its_order (filter (λ (x : Arrived). is_level l s p x.order) (map shown bs)) (b.now ∷ []))
 
 pub level_same : (l : ℕ) (s : Side) (p : ℕ) (bs : List (Bor Arrived)) (b : Bor Arrived) → is_level l s p b.now.order ≡ false → level_of l s p (map shown (bs ++ b ∷ [])) ≡ level_of l s p (map shown bs)
 level_same l s p bs b t =
-    ap (level_of l s p) (shown_more bs b)
+    ap (level_of l s p) (map-append shown bs (b ∷ []))
     ∙ ap (map its_order) (filter-append (λ (x : Arrived). is_level l s p x.order) (map shown bs) (b.now ∷ []))
-    ∙ simp t (ap (map its_order) (nothing_more (filter (λ (x : Arrived). is_level l s p x.order) (map shown bs))))
+    ∙ simp t (ap (map its_order) (append-nil (filter (λ (x : Arrived). is_level l s p x.order) (map shown bs))))
 
 pub shares_more : (l : ℕ) (s : Side) (p : ℕ) (bs : List (Bor Arrived)) (b : Bor Arrived) → is_level l s p b.now.order ≡ true → shares_in (level_of l s p (map shown (bs ++ b ∷ []))) ≡ shares_in (level_of l s p (map shown bs)) + b.now.order.shares
 shares_more l s p bs b t =

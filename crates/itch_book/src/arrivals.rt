@@ -86,10 +86,8 @@ impl<A: Allocator + Copy> Arrivals<A> {
         ensures order { option_copied result ≡ get self.now.orders reference }
         ensures book { IsBook self.now.orders }
     {
-        match self.references.get(&reference) {
-            Some(arrived) => Some(&arrived.order),
-            None => None,
-        }
+        let arrived = self.references.get(&reference)?;
+        Some(&arrived.order)
     }
 
     /// The first order of a locate.
@@ -112,10 +110,8 @@ impl<A: Allocator + Copy> Arrivals<A> {
         ensures { result ≡ next_price self.now.orders locate side last }
     {
         let wanted = Wanted::Next(locate, side, last);
-        match sought(&self.references, &self.line, wanted) {
-            Some(arrived) => Some(arrived.order.price),
-            None => None,
-        }
+        let arrived = sought(&self.references, &self.line, wanted)?;
+        Some(arrived.order.price)
     }
 
     /// The order of the same locate after that of a reference.
@@ -155,7 +151,7 @@ impl<A: Allocator + Copy> Arrivals<A> {
         Ok(())
     }
 
-    /// Takes shares from an order, which keeps its place, and is gone where nothing remains.
+    /// Takes shares from an order, which keeps its place, and is removed if none remain.
     pub(crate) fn take(&mut self, reference: u64, shares: u32) -> Taken
         requires { IsSomeAnd (get self.old.orders reference) (λ x. shares ≤ x.shares) }
         ensures orders { self.new.orders ≡ lay (taken reference shares self.old.orders) }
@@ -205,10 +201,7 @@ impl<A: Allocator + Copy> Arrivals<A> {
         ensures ok { OnOk result (self.new.orders ≡ lay (replaced original reference shares price self.old.orders)) }
         ensures err { OnErr result (self.new.orders ≡ self.old.orders) }
     {
-        let old = match self.get(original) {
-            Some(order) => *order,
-            None => unreachable!(),
-        };
+        let old = *self.get(original).unwrap();
         let order = Order {
             reference,
             shares,

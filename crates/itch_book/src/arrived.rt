@@ -88,8 +88,6 @@ pub(crate) fn sooner<'a>(one: &'a Arrived, other: Option<&'a Arrived>) -> Option
 pub(crate) fn order_of(arrived: Option<&Arrived>) -> Option<&Order>
     ensures { option_copied result ≡ option_map its_order (option_copied arrived.entry) }
 {
-    match arrived {
-        Some(arrived) => Some(&arrived.order),
-        None => None,
-    }
+    let arrived = arrived?;
+    Some(&arrived.order)
 }

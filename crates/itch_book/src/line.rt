@@ -16,10 +16,8 @@ pub(crate) fn first_in_line(line: &[Arrived], wanted: Wanted) -> Option<&Arrived
     ensures { option_copied result ≡ find (wants wanted) line.now }
 {
     let place = line.partition_point(|one| !begins(&wanted, one));
-    match line.get(place) {
-        Some(one) => { if wants(&wanted, one) { Some(one) } else { None } }
-        None => None,
-    }
+    let one = line.get(place)?;
+    if wants(&wanted, one) { Some(one) } else { None }
 }
 
 // The shares at a price, and the number of orders.

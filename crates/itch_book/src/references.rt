@@ -18,18 +18,15 @@ use std::hash::{BuildHasherDefault, FoldHasher};
 /// The orders under their references.
 pub(crate) type References<A> = HashMap<u64, Arrived, BuildHasherDefault<FoldHasher>, A>;
 
-// What a reference leads to.
+// The order of a reference that has one.
 pub(crate) fn known<A: Allocator>(references: &References<A>, reference: u64) -> Arrived
     requires { IsSome (lookup (eqb reference) references.now.entries) }
     ensures { lookup (eqb reference) references.now.entries ≡ Some result }
 {
-    match references.get(&reference) {
-        Some(arrived) => *arrived,
-        None => unreachable!(),
-    }
+    *references.get(&reference).unwrap()
 }
 
-// Puts an order under its reference. Where memory is refused, nothing changes.
+// Puts an order under its reference. If an allocation fails, nothing changes.
 pub(crate) fn put<A: Allocator + Copy>(
     references: &mut References<A>,
     arrived: Arrived,
@@ -44,27 +41,21 @@ pub(crate) fn put<A: Allocator + Copy>(
     }
 }
 
-// Takes out what a reference leads to.
+// Takes out the order of a reference.
 pub(crate) fn cut<A: Allocator>(references: &mut References<A>, reference: u64) -> Arrived
     requires { IsSome (lookup (eqb reference) references.old.entries) }
     ensures found { lookup (eqb reference) references.old.entries ≡ Some result }
     ensures entries { IsPermutation (remove_entry (eqb reference) references.old.entries) references.new.entries }
 {
-    match references.remove(&reference) {
-        Some(arrived) => arrived,
-        None => unreachable!(),
-    }
+    references.remove(&reference).unwrap()
 }
 
-// Writes what a reference leads to.
+// Writes another order in place of that of a reference.
 pub(crate) fn write<A: Allocator>(references: &mut References<A>, reference: u64, arrived: Arrived)
     requires { IsSome (lookup (eqb reference) references.old.entries) }
     ensures { references.new.entries ≡ set_value (eqb reference) references.old.entries arrived }
 {
-    match references.get_mut(&reference) {
-        Some(place) => *place = arrived,
-        None => unreachable!(),
-    }
+    *references.get_mut(&reference).unwrap() = arrived;
 }
 
 // The orders as a line. Arrivals differ, so whichever way they are sorted there is one line.
