@@ -39,7 +39,7 @@ pub(crate) fn level_in_line(line: &[Arrived], locate: u16, side: Side, price: u3
     total_in(&line[start..end], locate, side, price)
 }
 
-// The same, by going over all orders.
+// The shares at a price, and the number of orders, by going over all of these orders.
 fn total_in(orders: &[Arrived], locate: u16, side: Side, price: u32) -> (u128, u64)
     ensures { result ≡ level_total (map its_order orders.now) locate side price }
 {
