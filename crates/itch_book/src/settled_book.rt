@@ -11,7 +11,8 @@ use std::alloc::{AllocError, Allocator, Global};
 
 /// The live orders under their references, each with the number of its arrival.
 ///
-/// A change takes one look-up. A question about the order goes over all orders, unless they are settled.
+/// It serves where only the last state is looked at: `settle` sorts the orders, and until the next change they are
+/// found by search. Without that, each look-up but that of a reference goes over all orders.
 #[derive(Drop)]
 pub struct SettledBook<A: Allocator = Global> {
     arrivals: Arrivals<A>,
@@ -57,6 +58,7 @@ impl<A: Allocator + Copy> OrderBook for SettledBook<A> {
         self.arrivals.level_total(locate, side, price)
     }
 
+    // Fails too once every number of an arrival is used up.
     fn add(&mut self, order: Order) -> Result<(), AllocError> {
         self.arrivals.add(order)
     }
@@ -69,6 +71,7 @@ impl<A: Allocator + Copy> OrderBook for SettledBook<A> {
         self.arrivals.delete(reference)
     }
 
+    // The same, since a replacement arrives anew.
     fn replace(
         &mut self,
         original: u64,
