@@ -271,4 +271,5 @@ fn indexed_book_keeps_priority(rt: HostRuntime) -> Result<(), Fail> {
 }
 
 mod many;
+mod settled;
 mod side_by_side;

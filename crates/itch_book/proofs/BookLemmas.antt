@@ -54,7 +54,7 @@ lay-without_laid r os = lay-filter_laid (λ x. not (has_reference r x)) os
 less_fits : (r n : ℕ) (x : Order) → fits (less r n x) ≡ fits x
 less_fits r n x = cond_both (has_reference r x) (record x { shares = x.shares - n }) x (λ y. fits y ≡ fits x) (λ e. refl) (λ e. refl)
 
-less_stands : (r n : ℕ) (x y : Order) → stands_before (less r n x) (less r n y) ≡ stands_before x y
+pub less_stands : (r n : ℕ) (x y : Order) → stands_before (less r n x) (less r n y) ≡ stands_before x y
 less_stands r n x y =
     cond_both (has_reference r x) (record x { shares = x.shares - n }) x (λ a. stands_before a (less r n y) ≡ stands_before x y)
     (λ e. cond_both (has_reference r y) (record y { shares = y.shares - n }) y (λ b. stands_before (record x { shares = x.shares - n }) b ≡ stands_before x y) (λ f. refl) (λ f. refl))

@@ -30,3 +30,9 @@ pub mod KeptLemmas
 pub mod CutLemmas
 pub mod CloseLemmas
 mod PlaceLemmas
+pub mod SettledLemmas
+pub mod ArrivedSteps
+pub mod LeastLemmas
+pub mod TotalLemmas
+pub mod LineLemmas
+pub mod BetweenLemmas

@@ -7,3 +7,4 @@ pub mod Link
 pub mod Links
 pub mod Queued
 pub mod Indexed
+pub mod Settled

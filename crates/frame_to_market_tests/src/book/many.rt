@@ -3,7 +3,7 @@
 //! The clauses of a list's book say where it is never refused any; it would take too long here.
 use super::{add, has_len, order, reference, replace, total};
 use crate::equal::same;
-use itch_book::{IndexedBook, OrderBook};
+use itch_book::{IndexedBook, OrderBook, SettledBook};
 use itch_codec::Side;
 use std::alloc::AllocError;
 use std::process::Abort;
@@ -46,5 +46,18 @@ fn check_many<B: OrderBook>(rt: &impl Abort, memory: B::Alloc) -> Result<(), All
 #[test]
 fn indexed_book_of_many_orders(rt: HostRuntime) -> Result<(), Fail> {
     check_many::<IndexedBook>(&rt, rt.alloc())?;
+    Ok(())
+}
+
+// The same of a settled book, before it is settled and after that.
+#[test]
+fn settled_book_of_many_orders(rt: HostRuntime) -> Result<(), Fail> {
+    let mut book: SettledBook = SettledBook::new(rt.alloc());
+    fill(&rt, &mut book)?;
+    replace_first(&rt, &mut book)?;
+    check_changed(&rt, &book);
+    book.settle()?;
+    assert!(rt; book.is_settled());
+    check_changed(&rt, &book);
     Ok(())
 }

@@ -1,7 +1,8 @@
-//! Both books side by side: random calls return the same, and leave the same orders.
+//! Two books side by side: random calls return the same, and leave the same orders.
+use super::settled::Settling;
 use super::{add, after, delete, first, live, order, replace, take};
 use crate::equal::same;
-use itch_book::{IndexedBook, ListBook, Order, OrderBook};
+use itch_book::{IndexedBook, ListBook, Order, OrderBook, SettledBook};
 use itch_codec::Side;
 use std::alloc::AllocError;
 use std::process::Abort;
@@ -189,5 +190,17 @@ fn check_new<B: OrderBook, C: OrderBook>(
 #[test]
 fn both_books_stay_the_same(rt: HostRuntime) -> Result<(), Fail> {
     check_new::<ListBook, IndexedBook>(&rt, rt.alloc(), rt.alloc())?;
+    Ok(())
+}
+
+#[test]
+fn a_settled_book_stays_the_same(rt: HostRuntime) -> Result<(), Fail> {
+    check_new::<IndexedBook, SettledBook>(&rt, rt.alloc(), rt.alloc())?;
+    Ok(())
+}
+
+#[test]
+fn a_book_that_is_settled_stays_the_same(rt: HostRuntime) -> Result<(), Fail> {
+    check_new::<ListBook, Settling>(&rt, rt.alloc(), rt.alloc())?;
     Ok(())
 }

@@ -1,7 +1,7 @@
 //! Orders added and replaced.
-use crate::book::{after, has_len, live, next_price, total};
+use crate::book::{after, has_len, live, next_price, take, total};
 use crate::equal::same;
-use itch_book::{IndexedBook, ListBook, Order, OrderBook};
+use itch_book::{IndexedBook, ListBook, Order, OrderBook, SettledBook};
 use itch_codec::Side;
 use std::alloc::{AllocError, Global};
 use std::process::Abort;
@@ -203,5 +203,50 @@ fn an_indexed_book_stays_as_it_was(rt: HostRuntime) -> Result<(), Fail> {
         assert!(rt; additions > 4 || every == 1);
         assert!(rt; replacements > 4 || every == 3);
     }
+    Ok(())
+}
+
+#[test]
+fn a_settled_book_stays_as_it_was(rt: HostRuntime) -> Result<(), Fail> {
+    for (step, every) in [(0, 1), (0, 3), (100, 1), (100, 3)] {
+        let refusing = Refusing::new(rt.alloc(), 0);
+        let mut book: SettledBook<&Refusing<Global>> = SettledBook::new(&refusing);
+        let (additions, replacements) = grow(&rt, rt.alloc(), &refusing, &mut book, step, every)?;
+        assert!(rt; additions > 1);
+        assert!(rt; replacements > 0 || every == 3);
+    }
+    Ok(())
+}
+
+// Settles a book with each allocation refused in turn, and then with memory. Returns how many were refused.
+fn refuse_to_settle(
+    rt: &impl Abort,
+    alloc: Global,
+    refusing: &Refusing<Global>,
+    book: &mut SettledBook<&Refusing<Global>>,
+) -> Result<u64, AllocError> {
+    let orders = listed(rt, alloc, book)?;
+    for nth in 0..16 {
+        // Even a change of no shares leaves the book unsettled.
+        take(rt, book, 1, 0);
+        refusing.arm(nth);
+        let settled = book.settle().is_ok();
+        assert!(rt; settled || refusing.has_refused());
+        assert!(rt; settled == book.is_settled());
+        has_orders(rt, alloc, book, &orders)?;
+        if !refusing.has_refused() {
+            return Ok(nth);
+        }
+    }
+    panic!(rt; "more than 16 allocations")
+}
+
+#[test]
+fn a_book_that_is_not_settled_stays_as_it_was(rt: HostRuntime) -> Result<(), Fail> {
+    let refusing = Refusing::new(rt.alloc(), 0);
+    let mut book: SettledBook<&Refusing<Global>> = SettledBook::new(&refusing);
+    grow(&rt, rt.alloc(), &refusing, &mut book, 100, 3)?;
+    let refused = refuse_to_settle(&rt, rt.alloc(), &refusing, &mut book)?;
+    assert!(rt; refused > 0);
     Ok(())
 }

@@ -1,0 +1,122 @@
+//! Settled books by the same rows as the others: one that is never settled, and one that is settled after each change.
+use super::{add, check_calls, check_priority, first, order};
+use itch_book::{Order, OrderBook, SettledBook, Taken};
+use itch_codec::Side;
+use std::alloc::{AllocError, Allocator, Global};
+use std::test::Fail;
+
+/// A book that is settled after each change, so that each look-up is a search.
+#[derive(Drop)]
+pub(super) struct Settling<A: Allocator = Global> {
+    book: SettledBook<A>,
+}
+
+impl<A: Allocator + Copy> Settling<A> {
+    // Without memory the book is not settled, which no look-up shows.
+    fn settle(&mut self)
+        ensures { self.new.book.arrivals.orders ≡ self.old.book.arrivals.orders }
+    {
+        let _refused = self.book.settle();
+    }
+}
+
+impl<A: Allocator + Copy> OrderBook for Settling<A> {
+    type Alloc = A;
+
+    ghost orders = { λ b. b.book.arrivals.orders };
+
+    fn new(alloc: A) -> Self {
+        Settling {
+            book: SettledBook::new(alloc),
+        }
+    }
+
+    fn len(&self) -> usize {
+        self.book.len()
+    }
+
+    fn get(&self, reference: u64) -> Option<&Order> {
+        self.book.get(reference)
+    }
+
+    fn first(&self, locate: u16) -> Option<&Order> {
+        self.book.first(locate)
+    }
+
+    fn after(&self, reference: u64) -> Option<&Order> {
+        self.book.after(reference)
+    }
+
+    fn front(&self, locate: u16, side: Side) -> Option<&Order> {
+        self.book.front(locate, side)
+    }
+
+    fn next_price(&self, locate: u16, side: Side, last: Option<u32>) -> Option<u32> {
+        self.book.next_price(locate, side, last)
+    }
+
+    fn level_total(&self, locate: u16, side: Side, price: u32) -> (u128, u64) {
+        self.book.level_total(locate, side, price)
+    }
+
+    fn add(&mut self, order: Order) -> Result<(), AllocError> {
+        self.book.add(order)?;
+        self.settle();
+        Ok(())
+    }
+
+    fn take(&mut self, reference: u64, shares: u32) -> Taken {
+        let left = self.book.take(reference, shares);
+        self.settle();
+        left
+    }
+
+    fn delete(&mut self, reference: u64) -> Order {
+        let order = self.book.delete(reference);
+        self.settle();
+        order
+    }
+
+    fn replace(
+        &mut self,
+        original: u64,
+        reference: u64,
+        shares: u32,
+        price: u32,
+    ) -> Result<(), AllocError> {
+        self.book.replace(original, reference, shares, price)?;
+        self.settle();
+        Ok(())
+    }
+
+    ghost is_book = { λ b. b.book.is_kept };
+}
+
+#[test]
+fn settled_book_calls(rt: HostRuntime) -> Result<(), Fail> {
+    check_calls::<SettledBook>(&rt, rt.alloc())?;
+    check_calls::<Settling>(&rt, rt.alloc())?;
+    Ok(())
+}
+
+#[test]
+fn settled_book_keeps_priority(rt: HostRuntime) -> Result<(), Fail> {
+    check_priority::<SettledBook>(&rt, rt.alloc())?;
+    check_priority::<Settling>(&rt, rt.alloc())?;
+    Ok(())
+}
+
+// Whether a change leaves a book of one order settled.
+#[test]
+fn settled_until_a_change(rt: HostRuntime) -> Result<(), Fail> {
+    let mut book: SettledBook = SettledBook::new(rt.alloc());
+    assert!(rt; !book.is_settled());
+    book.settle()?;
+    assert!(rt; book.is_settled());
+    add(&rt, &mut book, order(1, Side::Buy, 10, 1500000))?;
+    assert!(rt; !book.is_settled());
+    book.settle()?;
+    assert!(rt; book.is_settled());
+    assert!(rt; first(&book, 1).is_some());
+    Ok(())
+}

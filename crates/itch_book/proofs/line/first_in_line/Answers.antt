@@ -1,0 +1,29 @@
+use Rattle.std.proofs.Common.{◌≡◌, not, true, false, rules, sym, ap, ◌∙◌}
+use Rattle.std.specs.Option.{option_copied}
+use Rattle.std.specs.List.Sorted.{IsPartitionPoint}
+use Rattle.std.proofs.lemmas.List.Sorted.{IsPartitionPoint-from_clause}
+use Rattle.itch_book.specs.declared.arrived.Arrived.{Arrived}
+use Rattle.itch_book.specs.Settled.{begins}
+use Rattle.itch_book.proofs.LineLemmas.{line_parted, read_at, read_past, line_hit, line_miss, line_end}
+use Rattle.itch_book.proofs.line.first_in_line.Goals as goal
+
+pub returns-then-wants : goal.returns-then-wants
+returns-then-wants c =
+    let w = c.args.wanted in let line = c.args.line.now in let i = c.partition_point-place.result in
+    let point : IsPartitionPoint (λ (y : Arrived). not (begins w y) ≡ true) (λ (y : Arrived). not (begins w y) ≡ false) line i =
+    IsPartitionPoint-from_clause (λ (y : Arrived). not (begins w y)) line i c.partition_point-place.ensures.partitioned (line_parted w line c.requires) (λ a r q k. search rules) in
+    line_hit w line c.requires i c.partition_point-place.ensures.bound point c.in_ok-one.one.now (read_at line i c.in_ok-one.one.now c.in_ok-one.ensures.lookup.0 c.in_ok-one.ensures.lookup.1) (sym c.wants.ensures ∙ c.if-wants.true)
+
+pub returns-else-wants : goal.returns-else-wants
+returns-else-wants c =
+    let w = c.args.wanted in let line = c.args.line.now in let i = c.partition_point-place.result in
+    let point : IsPartitionPoint (λ (y : Arrived). not (begins w y) ≡ true) (λ (y : Arrived). not (begins w y) ≡ false) line i =
+    IsPartitionPoint-from_clause (λ (y : Arrived). not (begins w y)) line i c.partition_point-place.ensures.partitioned (line_parted w line c.requires) (λ a r q k. search rules) in
+    line_miss w line c.requires i c.partition_point-place.ensures.bound point c.in_ok-one.one.now (read_at line i c.in_ok-one.one.now c.in_ok-one.ensures.lookup.0 c.in_ok-one.ensures.lookup.1) (sym c.wants.ensures ∙ c.if-wants.false)
+
+pub returns-in_err-one : goal.returns-in_err-one
+returns-in_err-one c =
+    let w = c.args.wanted in let line = c.args.line.now in let i = c.partition_point-place.result in
+    let point : IsPartitionPoint (λ (y : Arrived). not (begins w y) ≡ true) (λ (y : Arrived). not (begins w y) ≡ false) line i =
+    IsPartitionPoint-from_clause (λ (y : Arrived). not (begins w y)) line i c.partition_point-place.ensures.partitioned (line_parted w line c.requires) (λ a r q k. search rules) in
+    ap option_copied c.from_residual.ensures ∙ line_end w line c.requires i c.partition_point-place.ensures.bound point (read_past line i c.in_err-one.ensures.lookup.0)

@@ -1,0 +1,79 @@
+-- Orders with the numbers of their arrivals, and the one list in snapshot order that they make.
+use Rattle.std.specs.Prelude.{◌≡◌, ℕ, ◌≤◌, ◌<◌, ◌==◌, nat_lt, Bool, not, ◌&&◌, ◌||◌, List, map, length, Option, Some, None, is_some, cond}
+use Rattle.std.specs.List.{filter, AllByRecursion}
+use Rattle.std.specs.Map.{values_of}
+use Rattle.itch_codec.specs.declared.orders.Side.{Side}
+use Rattle.itch_codec.specs.declared.orders.Side.TheVariants.{Buy, Sell}
+use Rattle.itch_book.specs.declared.order.Order.{Order}
+use Rattle.itch_book.specs.declared.arrived.Arrived.{Arrived}
+use Rattle.itch_book.specs.declared.arrived.Wanted.{Wanted}
+use Rattle.itch_book.specs.declared.arrived.Wanted.TheVariants.{In, Next, After}
+use Rattle.itch_book.specs.StableLists.{in_order}
+use Rattle.itch_book.specs.Orders.{stands_before, same_side, is_in, is_of, is_worse, is_next, IsBook}
+
+-- x stands before y in snapshot order: by its place, or at one price because it came first
+abbrev pub comes_before : Arrived → Arrived → Bool
+comes_before x y = stands_before x.order y.order || (not (stands_before y.order x.order) && nat_lt x.arrival y.arrival)
+
+-- the order alone
+abbrev pub its_order : Arrived → Order
+its_order x = x.order
+
+-- the orders in snapshot order
+abbrev pub settled : List Arrived → List Order
+settled xs = map its_order (in_order comes_before xs)
+
+-- the order came as this one
+abbrev pub came_at : ℕ → Arrived → Bool
+came_at n x = x.arrival == n
+
+-- no two orders came as one
+abbrev pub IsApart : List Arrived → Type 0
+IsApart xs = (n : ℕ) → length (filter (came_at n) xs) ≤ 1
+
+-- orders under their references, which came before the next
+pub record IsArrived (es : List (ℕ × Arrived)) (next : ℕ) : Type 0 where
+  pub book : IsBook (settled (values_of es))
+  pub keyed : AllByRecursion (λ (e : ℕ × Arrived). e.0 ≡ e.1.order.reference) es
+  pub earlier : AllByRecursion (λ (x : Arrived). x.arrival < next) (values_of es)
+  pub apart : IsApart (values_of es)
+
+-- the line, if there is one, has the orders in snapshot order
+abbrev pub IsLineOr : List Arrived → Option (List Arrived) → Type 0
+IsLineOr xs None = Unit {0}
+IsLineOr xs (Some line) = line ≡ in_order comes_before xs
+
+-- the orders, with a line or without
+pub record IsHeld (es : List (ℕ × Arrived)) (next : ℕ) (laid : Option (List Arrived)) : Type 0 where
+  pub arrived : IsArrived es next
+  pub line : IsLineOr (values_of es) laid
+
+-- what is seen of the orders: the list in snapshot order, and whether it is there as a line
+pub record Held : Type 0 where
+  pub orders : List Order
+  pub is_settled : Bool
+
+-- what is seen of orders that have this line, or none
+abbrev pub held : List Arrived → Option (List Arrived) → Held
+held xs laid = record { orders = settled xs; is_settled = is_some laid }
+
+-- the order is looked for
+abbrev pub wants : Wanted → Arrived → Bool
+wants (In locate) x = is_in locate x.order
+wants (Next locate side last) x = is_next locate side last x.order
+wants (After y) x = is_in y.order.locate x.order && comes_before y x
+
+-- an order of this locate and side, or one that stands after those
+abbrev pub is_from : ℕ → Side → Order → Bool
+is_from locate side x = nat_lt locate x.locate || ((x.locate == locate) && (same_side side Buy || same_side x.side Sell))
+
+-- all that is looked for is this order or stands after it
+abbrev pub begins : Wanted → Arrived → Bool
+begins (In locate) x = not (nat_lt x.order.locate locate)
+begins (Next locate side last) x = is_from locate side x.order && (not (is_of locate side x.order) || is_worse side last x.order.price)
+begins (After y) x = comes_before y x
+
+-- the one of two that stands before the other, if there is another
+abbrev pub sooner : Arrived → Option Arrived → Option Arrived
+sooner x None = Some x
+sooner x (Some y) = cond (comes_before x y) (Some x) (Some y)

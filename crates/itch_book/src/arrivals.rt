@@ -1,0 +1,230 @@
+//! Orders as they came, with or without the line of them in snapshot order.
+ghost use Rattle.std.specs.Prelude.{◌≡◌, ◌<◌, ◌≤◌, ◌-◌, [], length, None, Some, OnOk, OnErr, IsSome, IsSomeAnd, IfSome, find, true, false, option_map};
+ghost use Rattle.std.specs.Map.{values_of};
+ghost use Rattle.std.specs.Option.{option_copied};
+ghost use Rattle.itch_book.specs.StableLists.{in_order};
+ghost use Rattle.itch_book.specs.Orders.{get, is_in, is_of, after, next_price, level_total, lay, added, taken, without, replaced, IsBook};
+ghost use Rattle.itch_book.specs.Settled.{comes_before, settled, wants, IsApart, IsLineOr};
+ghost use Rattle.itch_book.specs.TakenShares.{IsLeft};
+
+use crate::arrived::{Arrived, Wanted, order_of};
+use crate::line::{first_in_line, level_in_line};
+use crate::order::{Order, Taken};
+use crate::references::{References, cut, known, laid, least, put, total_of, write};
+use itch_codec::Side;
+use std::alloc::{AllocError, Allocator, Global};
+use std::collections::HashMap;
+use std::marker::Model;
+
+/// The live orders, seen as the list in snapshot order, and whether it is there as a line.
+#[derive(Drop)]
+pub(crate) struct Arrivals<A: Allocator = Global> {
+    references: References<A>,
+    // The arrival of the next order.
+    next: u64,
+    // The orders in snapshot order, unless there was a change since they were laid.
+    line: Option<Vec<Arrived, A>>,
+    alloc: A,
+}
+
+impl<A: Allocator> Model for Arrivals<A> {
+    ghost use Rattle.std.specs.Prelude.{option_map};
+    ghost use Rattle.std.specs.Map.{values_of};
+    ghost use Rattle.itch_book.specs.Settled.{Held, held, IsHeld};
+
+    ghost Value = { Held };
+
+    ghost view = { λ b. held (values_of b.references.entries) (option_map (λ v. v.items) b.line) };
+
+    ghost invariant = { λ b. IsHeld b.references.entries b.next (option_map (λ v. v.items) b.line) };
+}
+
+impl<A: Allocator + Copy> Arrivals<A> {
+    /// No orders.
+    pub(crate) fn new(alloc: A) -> Self
+        ensures orders { result.orders ≡ [] }
+        ensures settled { result.is_settled ≡ false }
+    {
+        Arrivals {
+            references: HashMap::new(alloc),
+            next: 0,
+            line: None,
+            alloc,
+        }
+    }
+
+    /// Whether there is a line, so that orders are found by search.
+    pub(crate) fn is_settled(&self) -> bool
+        ensures { result ≡ self.now.is_settled }
+    {
+        self.line.is_some()
+    }
+
+    /// Lays the orders in snapshot order, so that until the next change they are found by search.
+    /// If an allocation fails, nothing changes.
+    pub(crate) fn settle(&mut self) -> Result<(), AllocError>
+        ensures orders { self.new.orders ≡ self.old.orders }
+        ensures ok { OnOk result (self.new.is_settled ≡ true) }
+        ensures err { OnErr result (self.new ≡ self.old) }
+    {
+        if self.line.is_none() {
+            let line = laid(&self.references, self.alloc)?;
+            self.line = Some(line);
+        }
+        Ok(())
+    }
+
+    /// The number of orders.
+    pub(crate) fn len(&self) -> usize
+        ensures { result ≡ length self.now.orders }
+    {
+        self.references.len()
+    }
+
+    /// The order of a reference.
+    pub(crate) fn get(&self, reference: u64) -> Option<&Order>
+        ensures order { option_copied result ≡ get self.now.orders reference }
+        ensures book { IsBook self.now.orders }
+    {
+        let arrived = self.references.get(&reference)?;
+        Some(&arrived.order)
+    }
+
+    /// The first order of a locate.
+    pub(crate) fn first(&self, locate: u16) -> Option<&Order>
+        ensures { option_copied result ≡ find (is_in locate) self.now.orders }
+    {
+        order_of(sought(&self.references, &self.line, Wanted::In(locate)))
+    }
+
+    /// The order of a locate and side that has priority over all others there.
+    pub(crate) fn front(&self, locate: u16, side: Side) -> Option<&Order>
+        ensures { option_copied result ≡ find (is_of locate side) self.now.orders }
+    {
+        let wanted = Wanted::Next(locate, side, None);
+        order_of(sought(&self.references, &self.line, wanted))
+    }
+
+    /// The best price of a side, or the best one worse than the last.
+    pub(crate) fn next_price(&self, locate: u16, side: Side, last: Option<u32>) -> Option<u32>
+        ensures { result ≡ next_price self.now.orders locate side last }
+    {
+        let wanted = Wanted::Next(locate, side, last);
+        let arrived = sought(&self.references, &self.line, wanted)?;
+        Some(arrived.order.price)
+    }
+
+    /// The order of the same locate after that of a reference.
+    pub(crate) fn after(&self, reference: u64) -> Option<&Order>
+        requires { IsSome (get self.now.orders reference) }
+        ensures { option_copied result ≡ after self.now.orders reference }
+    {
+        let this = known(&self.references, reference);
+        order_of(sought(&self.references, &self.line, Wanted::After(this)))
+    }
+
+    /// The shares at a price, and the number of orders.
+    pub(crate) fn level_total(&self, locate: u16, side: Side, price: u32) -> (u128, u64)
+        ensures { result ≡ level_total self.now.orders locate side price }
+    {
+        match &self.line {
+            Some(line) => level_in_line(line, locate, side, price),
+            None => total_of(&self.references, locate, side, price),
+        }
+    }
+
+    /// Adds an order, last at its price. If an allocation fails, or if there is no number left for its arrival, no order
+    /// changes.
+    pub(crate) fn add(&mut self, order: Order) -> Result<(), AllocError>
+        requires some_shares { 0 < order.shares }
+        requires new_reference { get self.old.orders order.reference ≡ None }
+        ensures ok { OnOk result (self.new.orders ≡ lay (added order self.old.orders)) }
+        ensures err { OnErr result (self.new.orders ≡ self.old.orders) }
+    {
+        let arrival = self.next;
+        if arrival == u64::MAX {
+            return Err(AllocError);
+        }
+        self.line = None;
+        put(&mut self.references, Arrived { order, arrival })?;
+        self.next = arrival + 1;
+        Ok(())
+    }
+
+    /// Takes shares from an order, which keeps its place, and is removed if none remain.
+    pub(crate) fn take(&mut self, reference: u64, shares: u32) -> Taken
+        requires { IsSomeAnd (get self.old.orders reference) (λ x. shares ≤ x.shares) }
+        ensures orders { self.new.orders ≡ lay (taken reference shares self.old.orders) }
+        ensures left { IfSome (get self.old.orders reference) (λ x. IsLeft (x.shares - shares) result) }
+    {
+        let arrived = known(&self.references, reference);
+        let left = arrived.order.shares - shares;
+        self.line = None;
+        if left == 0 {
+            cut(&mut self.references, reference);
+            return Taken::Gone;
+        }
+        let order = Order {
+            shares: left,
+            ..arrived.order
+        };
+        write(
+            &mut self.references,
+            reference,
+            Arrived { order, ..arrived },
+        );
+        Taken::Left(left)
+    }
+
+    /// Removes an order, and returns it.
+    pub(crate) fn delete(&mut self, reference: u64) -> Order
+        requires { IsSome (get self.old.orders reference) }
+        ensures orders { self.new.orders ≡ lay (without reference self.old.orders) }
+        ensures order { get self.old.orders reference ≡ Some result }
+    {
+        self.line = None;
+        cut(&mut self.references, reference).order
+    }
+
+    /// Replaces an order by a new one, last at its price, with the side, locate and attribution of the original.
+    /// If an allocation fails, or if there is no number left for its arrival, no order changes.
+    pub(crate) fn replace(
+        &mut self,
+        original: u64,
+        reference: u64,
+        shares: u32,
+        price: u32,
+    ) -> Result<(), AllocError>
+        requires live { IsSome (get self.old.orders original) }
+        requires some_shares { 0 < shares }
+        requires new_reference { get self.old.orders reference ≡ None }
+        ensures ok { OnOk result (self.new.orders ≡ lay (replaced original reference shares price self.old.orders)) }
+        ensures err { OnErr result (self.new.orders ≡ self.old.orders) }
+    {
+        let old = *self.get(original).unwrap();
+        let order = Order {
+            reference,
+            shares,
+            price,
+            ..old
+        };
+        self.add(order)?;
+        self.delete(original);
+        Ok(())
+    }
+}
+
+// The first in snapshot order that is looked for: by search in the line, or where there is none by going over all orders.
+fn sought<'a, A: Allocator>(
+    references: &'a References<A>,
+    line: &'a Option<Vec<Arrived, A>>,
+    wanted: Wanted,
+) -> Option<&'a Arrived>
+    requires { IsLineOr (values_of references.now.entries) (option_map (λ v. v.items) line.now) }
+    ensures { option_copied result ≡ find (wants wanted) (in_order comes_before (values_of references.now.entries)) }
+{
+    match line {
+        Some(line) => first_in_line(line, wanted),
+        None => least(references, wanted),
+    }
+}

@@ -1,0 +1,108 @@
+//! A book that keeps orders as they came, and lays them in snapshot order when it is told to.
+ghost use Rattle.std.specs.Prelude.{◌≡◌, true, OnOk, OnErr};
+ghost use Rattle.itch_book.specs.Orders.{IsBook};
+ghost use Rattle.itch_book.specs.BookLists.{IsBook-prop};
+
+use crate::arrivals::Arrivals;
+use crate::book::OrderBook;
+use crate::order::{Order, Taken};
+use itch_codec::Side;
+use std::alloc::{AllocError, Allocator, Global};
+
+/// The live orders under their references, each with the number of its arrival.
+///
+/// It serves where only the last state is looked at: `settle` sorts the orders, and until the next change they are
+/// found by search. Without that, each look-up but that of a reference goes over all orders.
+#[derive(Drop)]
+pub struct SettledBook<A: Allocator = Global> {
+    arrivals: Arrivals<A>,
+    ghost is_kept: { IsBook arrivals.orders } by { IsBook-prop arrivals.orders },
+}
+
+impl<A: Allocator + Copy> OrderBook for SettledBook<A> {
+    type Alloc = A;
+
+    ghost orders = { λ b. b.arrivals.orders };
+
+    fn new(alloc: A) -> Self {
+        SettledBook {
+            arrivals: Arrivals::new(alloc),
+        }
+    }
+
+    fn len(&self) -> usize {
+        self.arrivals.len()
+    }
+
+    fn get(&self, reference: u64) -> Option<&Order> {
+        self.arrivals.get(reference)
+    }
+
+    fn first(&self, locate: u16) -> Option<&Order> {
+        self.arrivals.first(locate)
+    }
+
+    fn after(&self, reference: u64) -> Option<&Order> {
+        self.arrivals.after(reference)
+    }
+
+    fn front(&self, locate: u16, side: Side) -> Option<&Order> {
+        self.arrivals.front(locate, side)
+    }
+
+    fn next_price(&self, locate: u16, side: Side, last: Option<u32>) -> Option<u32> {
+        self.arrivals.next_price(locate, side, last)
+    }
+
+    fn level_total(&self, locate: u16, side: Side, price: u32) -> (u128, u64) {
+        self.arrivals.level_total(locate, side, price)
+    }
+
+    // Fails too once every number of an arrival is used up.
+    fn add(&mut self, order: Order) -> Result<(), AllocError> {
+        self.arrivals.add(order)
+    }
+
+    fn take(&mut self, reference: u64, shares: u32) -> Taken {
+        self.arrivals.take(reference, shares)
+    }
+
+    fn delete(&mut self, reference: u64) -> Order {
+        self.arrivals.delete(reference)
+    }
+
+    // The same, since a replacement arrives anew.
+    fn replace(
+        &mut self,
+        original: u64,
+        reference: u64,
+        shares: u32,
+        price: u32,
+    ) -> Result<(), AllocError> {
+        self.arrivals.replace(original, reference, shares, price)
+    }
+
+    ghost is_book = { λ b. b.is_kept };
+}
+
+impl<A: Allocator + Copy> SettledBook<A> {
+    /// Lays the orders in snapshot order, so that until the next change they are found by search.
+    ///
+    /// # Errors
+    ///
+    /// If an allocation fails, the book is left as it was.
+    pub fn settle(&mut self) -> Result<(), AllocError>
+        ensures orders { self.new.arrivals.orders ≡ self.old.arrivals.orders }
+        ensures ok { OnOk result (self.new.arrivals.is_settled ≡ true) }
+        ensures err { OnErr result (self.new.arrivals ≡ self.old.arrivals) }
+    {
+        self.arrivals.settle()
+    }
+
+    /// Whether the book is settled, so that orders are found by search.
+    pub fn is_settled(&self) -> bool
+        ensures { result ≡ self.now.arrivals.is_settled }
+    {
+        self.arrivals.is_settled()
+    }
+}
