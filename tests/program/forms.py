@@ -38,6 +38,19 @@ def a_book_as_csv_is_read_for_every_stock(program):
         yield from differs(f"{stock}: rows", rows, [{name: str(value) for name, value in columns(stock).items()}])
 
 
+def a_stock_of_any_characters_is_found_by_its_name(program):
+    """But for one with a comma, which separates names."""
+    for stock in STOCKS:
+        name = stock.decode().rstrip(" ")
+        found = ended(program, "book", f"--stock={name}", "day.itch", day=day(stock))
+        if "," not in name:
+            yield from differs(stock, found, (0, f"1 {name}\nB 150.0000 100 1\n".encode(), b""))
+        elif all(name.split(",")):
+            yield from differs(stock, found, (1, b"", b"itchsnap: unknown stock\n"))
+        else:
+            yield from differs(stock, found[:2], (2, b""))
+
+
 def counts_and_verdicts_as_json_are_read(program):
     data = day(b"AAPL    ")
     cases = [
@@ -51,4 +64,9 @@ def counts_and_verdicts_as_json_are_read(program):
         yield from differs(f"{words}: lines", [json.loads(line) for line in output.splitlines()], [value])
 
 
-RUNS = [a_book_as_json_is_read_for_every_stock, a_book_as_csv_is_read_for_every_stock, counts_and_verdicts_as_json_are_read]
+RUNS = [
+    a_book_as_json_is_read_for_every_stock,
+    a_book_as_csv_is_read_for_every_stock,
+    a_stock_of_any_characters_is_found_by_its_name,
+    counts_and_verdicts_as_json_are_read,
+]

@@ -38,6 +38,34 @@ def a_list_of_1000_locates_is_read(program):
                        (2, b"", b"itchsnap: bad locate list\n"))
 
 
+def a_list_of_1000_stocks_is_read(program):
+    day, snapshot = large.orders(20_000, symbols=2000)
+    wanted = range(2, 2001, 2)
+    cut = of_locates(snapshot, wanted)
+    names = [large.stock(it).decode() for it in reversed(wanted)]
+    words = ",".join(names)
+    yield from differs("snap", ended(program, "snap", "day.itch", "--stock", words, day=day), (0, cut, b""))
+    yield from differs("join", ended(program, "join", "start.itch", "day.itch", "--stock", words, day=day, start=large.closing(1)), (0, cut, b""))
+    yield from differs("book", ended(program, "book", "--stock", words, "day.itch", day=day),
+                       ended(program, "book", ",".join(map(str, wanted)), "day.itch", day=day))
+    yield from differs("an unknown one among them", ended(program, "snap", "day.itch", "--stock", words + ",S,S0000002", day=day),
+                       (1, b"", b"itchsnap: unknown stock\n"))
+
+
+def books_and_stocks_of_65536_locates_are_found(program):
+    day, snapshot = large.locates(65_536)
+    titles = [b"%d %s\n" % (it, large.stock(it)) for it in range(65_536)]
+    yield from differs("book of all", ended(program, "book", "0-65535", "day.itch", day=day), (0, b"".join(titles), b""))
+    yield from differs("book of the last", ended(program, "book", "--stock", "S0065535,S0000000", "day.itch", day=day), (0, titles[0] + titles[-1], b""))
+    yield from differs("book without the last", ended(program, "book", "0-65535", "day.itch", day=large.locates(65_535)[0]),
+                       (1, b"", b"itchsnap: unknown locate\n"))
+    yield from differs("snap of the last", ended(program, "snap", "--stock", "S0065535", "day.itch", day=day),
+                       (0, of_locates(snapshot, [65_535]), b""))
+    same = b"".join(large.block(b"R", it, b"SAME    " + large.ENTRY) for it in range(65_536))
+    yield from differs("snap of one stock at all locates", ended(program, "snap", "--stock", "SAME", "day.itch", day=same),
+                       (0, same + large.closing(65_537), b""))
+
+
 def a_large_snapshot_of_all_market_categories_is_canonical(program):
     entries = (large.block(b"R", it, large.stock(it) + b"QGSNAPZV "[it % 9:][:1] + large.ENTRY[1:]) for it in range(65_536))
     snapshot = b"".join(entries) + large.closing(65_537)
@@ -59,6 +87,8 @@ def a_word_of_100000_letters_is_refused(program):
     for words, status, line in (
             (["check", word], 3, f"itchsnap: cannot open\n  {word}: File name too long (os error 36)".encode()),
             (["snap", "--only", word], 2, b"itchsnap: bad locate list"),
+            (["book", word], 2, b"itchsnap: bad locate list"),
+            (["snap", "--stock", word], 1, b"itchsnap: unknown stock"),
             (["fetch", "--port", "1", "--user", word, "--pass", "p"], 2, b"itchsnap: bad user"),
             (["fetch", "--port", "1", "--user", "u", "--pass", word], 2, b"itchsnap: bad password")):
         yield from differs(words[0], ended(program, *words), (status, b"", line + b"\n"))
@@ -101,6 +131,8 @@ def the_longest_message_waits_in_a_joiner(_program):
 
 RUNS = [
     a_list_of_1000_locates_is_read,
+    a_list_of_1000_stocks_is_read,
+    books_and_stocks_of_65536_locates_are_found,
     a_large_snapshot_of_all_market_categories_is_canonical,
     words_that_are_no_utf_8_are_refused,
     a_word_of_100000_letters_is_refused,

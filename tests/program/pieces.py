@@ -101,6 +101,9 @@ COMMANDS = [
     Command("join start.snap day.itch", [Input("start.snap", "START AAPL ATTRIBUTED_1 END_4", "snapshot: "), DAY], AFTER, 6),
     Command("show day.itch", [DAY], LINES, 2),
     Command("book 1 day.itch", [DAY], b"1 AAPL\nB 150.0000 300 2\n", 4),
+    Command("book --stock AAPL day.itch", [DAY], b"1 AAPL\nB 150.0000 300 2\n", 4),
+    Command("snap --stock AAPL day.itch", [DAY], AFTER, 4),
+    Command("join start.snap day.itch --stock AAPL", [Input("start.snap", "START AAPL ATTRIBUTED_1 END_4", "snapshot: "), DAY], AFTER, 6),
 ]
 
 

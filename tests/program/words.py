@@ -47,10 +47,23 @@ FAULTS = [
     "book 1 --progress --progress",
     "fetch --progress",
     "check --only 1",
-    "book 65536",
-    "book +1",
+    "check --stock AAPL",
+    "snap --stock",
+    "snap --stock=",
+    "snap --stock ,",
+    "snap --stock ,AAPL",
+    "snap --stock AAPL,",
+    "snap --stock AAPL,,MSFT",
+    "snap --stock AAPL --stock MSFT",
+    "snap --stock AAPL --only 1",
+    "join a.snap b.itch --stock AAPL,",
+    "join a.snap b.itch --only 1 --stock AAPL",
+    "book --stock",
+    "book --stock=",
+    "book --stock AAPL,",
+    "book --stock AAPL 1 day.itch",
+    "book --only 1",
     "book -1",
-    "book one",
     "book",
     "book 1 --depth",
     "book 1 --depth +1",
@@ -149,7 +162,7 @@ def bash_completes_what_is_typed(program):
     rows = {
         ("itchsnap", "c"): ["check", "compare", "canon", "completions"],
         ("itchsnap", ""): [*commands(program), "help", "--help", "--version"],
-        ("itchsnap", "snap", "--"): ["--after", "--until", "--only", "--progress", "--help"],
+        ("itchsnap", "snap", "--"): ["--after", "--until", "--only", "--stock", "--progress", "--help"],
         ("itchsnap", "fetch", "--host", "h", "--p"): ["--port", "--pass", "--pass-file"],
         ("itchsnap", "completions", ""): ["bash", "zsh", "fish", "--help"],
         # A file's name is completed by the shell itself.
@@ -192,6 +205,7 @@ def no_words_are_a_usage_fault(program):
 def other_texts_are_no_lists_of_locates(program):
     for text in NO_LISTS:
         yield from differs(repr(text), ended(program, "snap", f"--only={text}"), (2, b"", b"itchsnap: bad locate list\n"))
+        yield from differs(f"{text!r} of a book", ended(program, "book", "--", text), (2, b"", b"itchsnap: bad locate list\n"))
 
 
 RUNS = [

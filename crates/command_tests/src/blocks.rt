@@ -25,6 +25,9 @@ pub const MSFT_AT_1: &str =
 /// Stock Directory: MAX at locate 65535.
 pub const MAX: &str =
     "002752ffff00000000000000004d41582020202020514e000000644e435a20504e4e314e000000004e";
+/// Stock Directory: AAPL at locate 3.
+pub const AAPL_AT_3: &str =
+    "002752000300000000000000004141504c20202020514e000000644e435a20504e4e314e000000004e";
 /// AAPL trades.
 pub const TRADING: &str = "001948000100000000000000004141504c20202020542020202020";
 /// The same with reserved byte 00.

@@ -1,6 +1,7 @@
 //! Commands over files, with files of their own, and what they write of them.
 use super::blocks::*;
 use super::files::file;
+use super::stocks::{booked_of_stocks, joined_of_stocks, snapped_of_stocks};
 use itch_commands::ToolFault;
 use itch_commands::book::book;
 use itch_commands::canon::canon;
@@ -10,6 +11,7 @@ use itch_commands::join::join;
 use itch_commands::show::show;
 use itch_commands::snap::snap;
 use itch_frame::{CountedRead, CountedWrite};
+use itch_market::LocateSet;
 use std::alloc::Global;
 use std::test::Fail;
 
@@ -22,6 +24,8 @@ pub(super) enum Single {
     CanonCheck,
     Show,
     Book,
+    SnapStocks,
+    BookStocks,
 }
 
 /// A command over two files.
@@ -29,6 +33,7 @@ pub(super) enum Single {
 pub(super) enum Double {
     Compare,
     Join,
+    JoinStocks,
 }
 
 pub(super) const DAY: [&str; 4] = [AAPL, ATTRIBUTED_1, BUY_2_OF_200, REPLACE_1_BY_3];
@@ -39,6 +44,8 @@ const LINES: &[u8] = b"1 R 1 0 0 [AAPL] 51 4e 100 4e 43 5a20 50 4e 4e 31 4e 0 4e
     2 F 1 0 0 1 B 100 [AAPL] 150.0000 [ABCD]\n\
     3 A 1 0 0 2 B 200 [AAPL] 150.0000\n\
     4 U 1 0 0 1 3 100 150.0000\n";
+
+const AS_CSV: &[u8] = b"locate,stock,side,price,shares,orders\n1,AAPL,B,150.0000,300,2\n";
 
 // Each command without its contract, so that what calls one of them does not carry it.
 fn checked<R: CountedRead + Drop, W: CountedWrite>(
@@ -79,7 +86,9 @@ fn booked<R: CountedRead + Drop, W: CountedWrite>(
     reader: R,
     out: &mut W,
 ) -> Result<bool, ToolFault> {
-    book(alloc, 1, reader, out)
+    let mut only = LocateSet::new(alloc);
+    only.insert(1)?;
+    book(alloc, Some(&only), reader, out)
 }
 
 fn compared<R: CountedRead + Drop, S: CountedRead + Drop, W: CountedWrite>(
@@ -114,6 +123,8 @@ pub(super) fn perform_single<R: CountedRead + Drop, W: CountedWrite>(
         Single::CanonCheck => made_canonical(alloc, reader, true, out),
         Single::Show => shown(alloc, reader, out),
         Single::Book => booked(alloc, reader, out),
+        Single::SnapStocks => snapped_of_stocks(alloc, reader, out),
+        Single::BookStocks => booked_of_stocks(alloc, reader, out),
     }
 }
 
@@ -128,6 +139,7 @@ pub(super) fn perform_double<R: CountedRead + Drop, S: CountedRead + Drop, W: Co
     match command {
         Double::Compare => compared(alloc, first, second, out),
         Double::Join => joined(alloc, first, second, out),
+        Double::JoinStocks => joined_of_stocks(alloc, first, second, out),
     }
 }
 
@@ -138,6 +150,7 @@ pub(super) fn wanted(alloc: Global, command: Single) -> Result<Vec<u8>, Fail> {
         Single::CanonCheck => Ok(Vec::from_slice(alloc, b"canonical\n")?),
         Single::Show => Ok(Vec::from_slice(alloc, LINES)?),
         Single::Book => Ok(Vec::from_slice(alloc, b"1 AAPL\nB 150.0000 300 2\n")?),
-        Single::Snap | Single::Canon => file(alloc, &SNAPSHOT),
+        Single::BookStocks => Ok(Vec::from_slice(alloc, AS_CSV)?),
+        Single::Snap | Single::SnapStocks | Single::Canon => file(alloc, &SNAPSHOT),
     }
 }

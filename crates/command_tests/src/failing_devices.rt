@@ -69,6 +69,7 @@ fn writes_of_lines(rt: HostRuntime) -> Result<(), Fail> {
         Single::CanonCheck,
         Single::Show,
         Single::Book,
+        Single::BookStocks,
     ] {
         let bytes = bytes_of(alloc, command)?;
         fail_single(&rt, alloc, command, bytes.as_slice())?;
@@ -82,7 +83,7 @@ fn writes_of_lines(rt: HostRuntime) -> Result<(), Fail> {
 #[test]
 fn writes_of_snapshots(rt: HostRuntime) -> Result<(), Fail> {
     let alloc = rt.alloc();
-    for command in [Single::Snap, Single::Canon] {
+    for command in [Single::Snap, Single::SnapStocks, Single::Canon] {
         let bytes = bytes_of(alloc, command)?;
         fail_single(&rt, alloc, command, bytes.as_slice())?;
     }
@@ -90,5 +91,6 @@ fn writes_of_snapshots(rt: HostRuntime) -> Result<(), Fail> {
     let (day, wanted) = (file(alloc, &DAY)?, file(alloc, &SNAPSHOT)?);
     let files = (snapshot.as_slice(), day.as_slice());
     fail_double(&rt, alloc, Double::Join, files, wanted.as_slice());
+    fail_double(&rt, alloc, Double::JoinStocks, files, wanted.as_slice());
     Ok(())
 }

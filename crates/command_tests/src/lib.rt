@@ -25,4 +25,6 @@ mod restricted;
 #[cfg(test)]
 mod sessions;
 #[cfg(test)]
+mod stocks;
+#[cfg(test)]
 mod words;

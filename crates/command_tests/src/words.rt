@@ -33,27 +33,27 @@ fn requests_are_read(rt: HostRuntime) -> Result<(), Fail> {
     let cases = [
         (
             "snap",
-            "Snap { file: None, limit: Limit { after: None, until: None }, only: None }",
+            "Snap { file: None, limit: Limit { after: None, until: None }, selection: All }",
         ),
         (
             "snap day.itch",
-            "Snap { file: Some(\"day.itch\"), limit: Limit { after: None, until: None }, only: None }",
+            "Snap { file: Some(\"day.itch\"), limit: Limit { after: None, until: None }, selection: All }",
         ),
         (
             "snap day.itch --after 0",
-            "Snap { file: Some(\"day.itch\"), limit: Limit { after: Some(0), until: None }, only: None }",
+            "Snap { file: Some(\"day.itch\"), limit: Limit { after: Some(0), until: None }, selection: All }",
         ),
         (
             "snap --after 007 day.itch",
-            "Snap { file: Some(\"day.itch\"), limit: Limit { after: Some(7), until: None }, only: None }",
+            "Snap { file: Some(\"day.itch\"), limit: Limit { after: Some(7), until: None }, selection: All }",
         ),
         (
             "snap --after 999999999999",
-            "Snap { file: None, limit: Limit { after: Some(999999999999), until: None }, only: None }",
+            "Snap { file: None, limit: Limit { after: Some(999999999999), until: None }, selection: All }",
         ),
         (
             "snap day.itch --only 1,2 --after 3",
-            "Snap { file: Some(\"day.itch\"), limit: Limit { after: Some(3), until: None }, only: Some(\"1,2\") }",
+            "Snap { file: Some(\"day.itch\"), limit: Limit { after: Some(3), until: None }, selection: Locates(\"1,2\") }",
         ),
         (
             "check -",
@@ -91,19 +91,19 @@ fn requests_are_read(rt: HostRuntime) -> Result<(), Fail> {
         ),
         (
             "join a.snap day.itch",
-            "Join { snapshot: Some(\"a.snap\"), feed: Some(\"day.itch\"), only: None }",
+            "Join { snapshot: Some(\"a.snap\"), feed: Some(\"day.itch\"), selection: All }",
         ),
         (
             "join --only=40 a.snap -",
-            "Join { snapshot: Some(\"a.snap\"), feed: None, only: Some(\"40\") }",
+            "Join { snapshot: Some(\"a.snap\"), feed: None, selection: Locates(\"40\") }",
         ),
         (
             "book 0",
-            "Book { locate: 0, depth: None, file: None, kind: Day(Limit { after: None, until: None }), form: Text }",
+            "Book { selection: Locates(\"0\"), depth: None, file: None, kind: Day(Limit { after: None, until: None }), form: Text }",
         ),
         (
             "book 1 --depth 0",
-            "Book { locate: 1, depth: Some(0), file: None, kind: Day(Limit { after: None, until: None }), form: Text }",
+            "Book { selection: Locates(\"1\"), depth: Some(0), file: None, kind: Day(Limit { after: None, until: None }), form: Text }",
         ),
         (
             "show --snapshot day.snap",
@@ -119,15 +119,35 @@ fn requests_are_read(rt: HostRuntime) -> Result<(), Fail> {
         ),
         (
             "book 1 --json",
-            "Book { locate: 1, depth: None, file: None, kind: Day(Limit { after: None, until: None }), form: Json }",
+            "Book { selection: Locates(\"1\"), depth: None, file: None, kind: Day(Limit { after: None, until: None }), form: Json }",
         ),
         (
             "book 1 --csv",
-            "Book { locate: 1, depth: None, file: None, kind: Day(Limit { after: None, until: None }), form: Csv }",
+            "Book { selection: Locates(\"1\"), depth: None, file: None, kind: Day(Limit { after: None, until: None }), form: Csv }",
+        ),
+        (
+            "snap day.itch --stock AAPL,MSFT",
+            "Snap { file: Some(\"day.itch\"), limit: Limit { after: None, until: None }, selection: Stocks(\"AAPL,MSFT\") }",
+        ),
+        (
+            "join --stock AAPL a.snap -",
+            "Join { snapshot: Some(\"a.snap\"), feed: None, selection: Stocks(\"AAPL\") }",
+        ),
+        (
+            "book --stock=AAPL --csv day.itch",
+            "Book { selection: Stocks(\"AAPL\"), depth: None, file: Some(\"day.itch\"), kind: Day(Limit { after: None, until: None }), form: Csv }",
+        ),
+        (
+            "book --snapshot - --stock AAPL",
+            "Book { selection: Stocks(\"AAPL\"), depth: None, file: None, kind: Snapshot, form: Text }",
+        ),
+        (
+            "book 1-3,7 --depth 2",
+            "Book { selection: Locates(\"1-3,7\"), depth: Some(2), file: None, kind: Day(Limit { after: None, until: None }), form: Text }",
         ),
         (
             "book --depth=05 0065535 day.itch",
-            "Book { locate: 65535, depth: Some(5), file: Some(\"day.itch\"), kind: Day(Limit { after: None, until: None }), form: Text }",
+            "Book { selection: Locates(\"0065535\"), depth: Some(5), file: Some(\"day.itch\"), kind: Day(Limit { after: None, until: None }), form: Text }",
         ),
     ];
     for (line, request) in cases {

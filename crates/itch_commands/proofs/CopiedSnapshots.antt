@@ -76,6 +76,7 @@ module _ (old mid new : Option (List ℕ)) (load : Load) (count : ℕ) (copy : L
   copied_refused (tool.Snap at fault) n more (only, step) = (only, fault_read empty old mid new load.taken load.market n fault so_far.going step)
   copied_refused (tool.Short at c) n more h = absurd h
   copied_refused tool.UnknownLocate n more h = absurd h
+  copied_refused tool.UnknownStock n more h = absurd h
   copied_refused (tool.Write error) n more h = absurd h
   copied_refused tool.OutOfMemory n more (None, step) =
       let going = message_read empty old mid new load.taken load.market n so_far.going step in
@@ -130,6 +131,7 @@ module _ {R : Type 0} (remaining : R → Option (List ℕ)) (failures : R → Fa
       (only, steps, reads_fault (bytes_left remaining old) (bytes_left remaining new) (Err fault) steps, counts)
   refused_before new (tool.Short at c) n copy h counts = absurd h
   refused_before new tool.UnknownLocate n copy h counts = absurd h
+  refused_before new tool.UnknownStock n copy h counts = absurd h
   refused_before new (tool.Write error) n copy h counts = absurd h
   refused_before new tool.OutOfMemory n copy room counts = (room, counts)
   refused_before new (tool.Open file error) n copy h counts = absurd h
@@ -151,6 +153,7 @@ module _ {R : Type 0} (remaining : R → Option (List ℕ)) (failures : R → Fa
         (only, steps, reads_fault (bytes_left remaining old) (bytes_left remaining new) (Err fault) steps, subst (λ f. CountsFault fault f (failures new.reader)) uncounted counts)
     refused_after (tool.Short at c) h counts = absurd h
     refused_after tool.UnknownLocate h counts = absurd h
+    refused_after tool.UnknownStock h counts = absurd h
     refused_after (tool.Write error) h counts = absurd h
     refused_after tool.OutOfMemory h counts = absurd h
     refused_after (tool.Open file error) h counts = absurd h

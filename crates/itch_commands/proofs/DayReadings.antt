@@ -106,6 +106,7 @@ module _ {R : Type 0} (remaining : R → Option (List ℕ)) (failures : R → Fa
         )
         by_fault (tool.Snap at f) h counted leaves = absurd h
         by_fault tool.UnknownLocate h counted leaves = absurd h
+        by_fault tool.UnknownStock h counted leaves = absurd h
         by_fault (tool.Write error) h counted leaves = absurd h
         by_fault tool.OutOfMemory h counted leaves = absurd h
         by_fault (tool.Open file error) h counted leaves = absurd h

@@ -21,6 +21,7 @@ module _ {W : Type 0} (contents : W → Option (List ℕ)) (failures : W → Fai
   text_fails xs ys old new (tool.Snap at f) h = absurd h
   text_fails xs ys old new (tool.Short at count) h = absurd h
   text_fails xs ys old new tool.UnknownLocate h = absurd h
+  text_fails xs ys old new tool.UnknownStock h = absurd h
   text_fails xs ys old new tool.OutOfMemory h = absurd h
   text_fails xs ys old new (tool.Open file error) h = absurd h
   text_fails xs ys old new tool.BadUser h = absurd h
@@ -46,6 +47,7 @@ module _ {W : Type 0} (contents : W → Option (List ℕ)) (failures : W → Fai
   text_then xs ys old mid new (Err (tool.Snap at f)) first h = absurd h
   text_then xs ys old mid new (Err (tool.Short at n)) first h = absurd h
   text_then xs ys old mid new (Err tool.UnknownLocate) first h = absurd h
+  text_then xs ys old mid new (Err tool.UnknownStock) first h = absurd h
   text_then xs ys old mid new (Err tool.OutOfMemory) first h = absurd h
   text_then xs ys old mid new (Err (tool.Open file error)) first h = absurd h
   text_then xs ys old mid new (Err tool.BadUser) first h = absurd h

@@ -15,9 +15,12 @@ pub mod JoinerSteps
 pub mod FeedsTaken
 pub mod FeedStops
 pub mod Joinings
+pub mod JoinedStocks
 pub mod JoinedTexts
 pub mod QueuePrices
 pub mod SideLines
 pub mod BookLines
+pub mod BooksInTurn
 pub mod RecordedLines
 pub mod LocateLists
+pub mod StockNames

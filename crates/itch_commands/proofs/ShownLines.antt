@@ -224,3 +224,4 @@ module _ {R W : Type 0} (contents : W → Option (List ℕ)) (failures : W → F
   shown_ends old mid new count out on out' (tool.Socket error) shown before (p, next, none) counts leaves = absurd none
   shown_ends old mid new count out on out' (tool.Snap file f) shown before (p, next, none) counts leaves = absurd none
   shown_ends old mid new count out on out' tool.UnknownLocate shown before (p, next, none) counts leaves = absurd none
+  shown_ends old mid new count out on out' tool.UnknownStock shown before (p, next, none) counts leaves = absurd none

@@ -1,5 +1,5 @@
 -- The snapshot of what a file's messages leave.
-use Rattle.std.proofs.Common.{◌≡◌, ℕ, ◌+◌, ◌<◌, ◌≤◌, ◌^◌, List, ◌++◌, map, length, Bool, not, Option, None, Some, Ok, refl, sym, ap, ◌∙◌, arith}
+use Rattle.std.proofs.Common.{◌≡◌, ℕ, ◌+◌, ◌<◌, ◌≤◌, ◌^◌, List, ◌++◌, map, length, Bool, true, not, Option, None, Some, Ok, refl, sym, ap, subst, ◌∙◌, arith}
 use Rattle.std.specs.List.{AllByRecursion}
 use Rattle.std.specs.Option.{option_copied}
 use Rattle.std.proofs.lemmas.List.{length-map}
@@ -27,7 +27,9 @@ use Rattle.itch_snapshot.proofs.PartialSnapshots.{snap_only}
 use Rattle.itch_snapshot.proofs.OneSnapshot.{snap_same, snap-laid}
 use Rattle.itch_snapshot.proofs.Sizes.{short_snap}
 use Rattle.itch_snapshot.proofs.CanonicalBytes.{canon-laid}
-use Rattle.itch_commands.specs.Outputs.{snapshot_of, snapshot_in}
+use Rattle.itch_commands.specs.Outputs.{snapshot_of, snapshot_in, directory_after, stocks_snapshot}
+use Rattle.itch_commands.specs.Stocks.{are_known, has_one_of, only_stocks, IsStockFault}
+use Rattle.itch_commands.specs.declared.fault.ToolFault.{ToolFault}
 use Rattle.itch_commands.specs.declared.limit.Limit.{Limit}
 use Rattle.itch_commands.proofs.DayReadings.{Applied}
 
@@ -44,6 +46,16 @@ taken_short ps n fits none left =
 pub read_short : (old new : Option (List ℕ)) (done : Content × ℕ) → ReadsSnapshot old new (Ok done) → length (snap done.0) < 10 ^ 19
 read_short old new done (mid, (ps, at, takes, few, closes), ends) = omega (arith, few, taken_short ps done.0 takes.fits takes.none takes.left)
 
+-- a market cut down to some locates has no more messages
+pub only_short : (wanted : ℕ → Bool) (n : Content) → length (snap (only wanted n)) ≤ length (snap n)
+only_short wanted n =
+    let passes = λ (x : Message). not (skips wanted x) in
+    omega (arith, ap length (snap_only wanted n), length-filter_both passes (λ x. not (passes x)) (λ x. refl) (snap n))
+
+-- and the same bytes in whichever order its orders stand
+pub only_bytes : (wanted : ℕ → Bool) (m n : Content) → snap n ≡ snap m → canon (only wanted n) ≡ canon (only wanted m)
+only_bytes wanted m n same = ap (λ xs. blocks (map spelling xs)) (snap_only wanted n ∙ ap (kept wanted) same ∙ sym (snap_only wanted m))
+
 module _ (limit : Limit) (bytes new : Option (List ℕ)) (count : ℕ) (n : Content) (applied : Applied limit bytes new count n) where
   fit : AreMessages (map message_of applied.payloads)
   fit = All-map_rec IsMessage message_of applied.payloads applied.fits
@@ -55,7 +67,7 @@ module _ (limit : Limit) (bytes new : Option (List ℕ)) (count : ℕ) (n : Cont
   good = run_good (map message_of applied.payloads) fit follow
 
   -- it has no more messages than the file
-  applied_short : length (snap n) ≤ count
+  pub applied_short : length (snap n) ≤ count
   applied_short = omega (arith, taken_short applied.payloads n applied.fits applied.taken.taken applied.left, applied.counted)
 
   -- and is the snapshot of the messages
@@ -93,3 +105,24 @@ module _ (limit : Limit) (bytes new : Option (List ℕ)) (count : ℕ) (n : Cont
   pub cut_snapshot : (set : Option (Bor Wanted)) → canon (cut_to set n) ++ closing (count + 1) ≡ snapshot_in (option_copied set) applied.payloads
   cut_snapshot None = applied_snapshot
   cut_snapshot (Some set) = set_snapshot set.now
+
+  -- the directory that they leave
+  same_listings : Content.securities n ≡ directory_after applied.payloads
+  same_listings = ap Content.securities applied.left
+
+  -- it has the stocks of these names
+  pub stocks_after : (names : List (List ℕ)) → are_known (Content.securities n) names ≡ true → are_known (directory_after applied.payloads) names ≡ true
+  stocks_after names known = subst (λ listings. are_known listings names ≡ true) same_listings known
+
+  pub unknown_after : (names : List (List ℕ)) (fault : ToolFault) → IsStockFault (Content.securities n) names fault → IsStockFault (directory_after applied.payloads) names fault
+  unknown_after names fault unknown = subst (λ listings. IsStockFault listings names fault) same_listings unknown
+
+  -- and this is the snapshot of the locates that have them
+  pub stocks_written : (set : Wanted) (names : List (List ℕ)) → ((l : ℕ) → has set l ≡ has_one_of (Content.securities n) names l)
+      → canon (only (has set) n) ++ closing (count + 1) ≡ stocks_snapshot names applied.payloads
+  stocks_written set names members =
+      let m = run (map message_of applied.payloads) in
+      let named : has set ≡ has_one_of (Content.securities n) names = λ i l. members l i in
+      let same : has set ≡ has_one_of (Content.securities m) names = named ∙ ap (λ listings. has_one_of listings names) same_listings in
+      ap (λ bytes. bytes ++ closing (count + 1)) (ap (λ (wanted : ℕ → Bool). canon (only wanted n)) same ∙ only_bytes (has_one_of (Content.securities m) names) m n same_list)
+      ∙ ap (λ k. canon (only_stocks names m) ++ closing (k + 1)) (sym applied.counted)

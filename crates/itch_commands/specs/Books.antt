@@ -1,14 +1,15 @@
--- The lines of the book at a locate.
-use Rattle.std.specs.Prelude.{◌≡◌, ℕ, zero, suc, ◌==◌, ◌⊎◌, not, List, [], ◌∷◌, ◌++◌, length, take, Option, None, Some, Result, Ok, Err}
+-- The lines of the books of locates.
+use Rattle.std.specs.Prelude.{◌≡◌, ℕ, zero, suc, ◌<◌, ◌==◌, ◌⊎◌, ⊤, Bool, true, not, List, [], ◌∷◌, ◌++◌, length, take, Option, None, Some, IsSome, Result, Ok, Err}
 use Rattle.std.specs.List.{filter, sum_by, flat_map}
 use Rattle.std.specs.FinMap as finite
-use Rattle.itch_codec.specs.Text.{IsTextOf}
+use Rattle.itch_codec.specs.Text.{before_spaces}
 use Rattle.itch_codec.specs.declared.orders.Side.{Side}
 use Rattle.itch_codec.specs.declared.orders.Side.TheVariants.{Buy, Sell}
 use Rattle.itch_book.specs.declared.order.Order.{Order}
 use Rattle.itch_book.specs.Orders.{queue, is_at_price}
-use Rattle.itch_market.specs.Content.{Content, Listing}
-use Rattle.itch_commands.specs.Forms.{heading, row}
+use Rattle.itch_market.specs.Content.{Content, Listing, Securities}
+use Rattle.itch_market.specs.Wanted.{Wanted, has}
+use Rattle.itch_commands.specs.Forms.{head, title, row}
 use Rattle.itch_commands.specs.declared.fault.ToolFault.{ToolFault}
 use Rattle.itch_commands.specs.declared.fault.ToolFault.TheVariants as tool
 use Rattle.itch_commands.specs.declared.form.BookForm.{BookForm}
@@ -38,20 +39,43 @@ next_wanted (Some (suc more)) price = price
 abbrev pub side_lines : (Side → ℕ → ℕ → ℕ → List ℕ) → Option ℕ → Side → List Order → List ℕ
 side_lines line depth side orders = flat_map (price_line line side orders) (first_of depth (prices orders))
 
--- the lines of a book in a form: its heading, the bids, and the asks
+-- the lines of the book of a locate in a form: its title, the bids, and the asks
 abbrev pub book_lines : BookForm → ℕ → Option ℕ → List ℕ → List Order → List ℕ
 book_lines form locate depth stock orders =
-    heading form locate stock
+    title form locate stock
     ++ (side_lines (row form locate stock) depth Buy (queue orders locate Buy) ++ side_lines (row form locate stock) depth Sell (queue orders locate Sell))
 
--- the same of a market, where the locate has this stock
-abbrev pub book_of : BookForm → ℕ → Option ℕ → (Content × ℕ) × List ℕ → List ℕ
-book_of form locate depth read = book_lines form locate depth read.1 (Content.orders read.0.0)
+-- the same of a locate that has this in the directory, if anything
+abbrev pub listed_lines : BookForm → Option ℕ → List Order → ℕ → Option Listing → List ℕ
+listed_lines form depth orders locate None = []
+listed_lines form depth orders locate (Some s) = book_lines form locate depth (before_spaces s.entry.stock) orders
 
--- a file is read, and a locate has a directory entry there, with this stock; or the file is refused, or has no such entry
-abbrev pub ReadsListed : ℕ → (Result (Content × ℕ) ToolFault → Type 0) → Result ((Content × ℕ) × List ℕ) ToolFault → Type 0
-ReadsListed locate reads (Ok read) =
-    reads (Ok read.0) × ((s : Listing) × (finite.get (Content.securities read.0.0) locate ≡ Some s) × IsTextOf s.entry.stock read.1)
-ReadsListed locate reads (Err fault) =
+-- the lines of the book of a locate of a market
+abbrev pub lines_at : BookForm → Option ℕ → Content → ℕ → List ℕ
+lines_at form depth m locate = listed_lines form depth m.orders locate (finite.get m.securities locate)
+
+-- the books of the locates of the directory that are wanted, in rising order, below one heading
+abbrev pub books_of : BookForm → Option ℕ → (ℕ → Bool) → Content → List ℕ
+books_of form depth wanted m = head form ++ flat_map (lines_at form depth m) (filter wanted (finite.keys m.securities))
+
+-- the locates that are wanted: those of a set, or all where there is none
+abbrev pub wanted_by : Option Wanted → ℕ → Bool
+wanted_by None locate = true
+wanted_by (Some set) locate = has set locate
+
+-- the directory has each locate of a set
+abbrev pub AreListed : Option Wanted → Securities → Type 0
+AreListed None listings = ⊤
+AreListed (Some set) listings = (locate : ℕ) → locate < 65536 → has set locate ≡ true → IsSome (finite.get listings locate)
+
+-- the directory lacks a locate of a set
+abbrev pub IsUnlisted : Option Wanted → Securities → Type 0
+IsUnlisted None listings = ⊥
+IsUnlisted (Some set) listings = (locate : ℕ) × (locate < 65536) × (has set locate ≡ true) × (finite.get listings locate ≡ None)
+
+-- a file is read, and the directory has each locate that is named there; or the file is refused, or the directory lacks one
+abbrev pub ReadsListed : Option Wanted → (Result (Content × ℕ) ToolFault → Type 0) → Result (Content × ℕ) ToolFault → Type 0
+ReadsListed only reads (Ok done) = reads (Ok done) × AreListed only (Content.securities done.0)
+ReadsListed only reads (Err fault) =
     reads (Err fault)
-    ⊎ ((fault ≡ tool.UnknownLocate) × ((done : Content × ℕ) × reads (Ok done) × (finite.get (Content.securities done.0) locate ≡ None)))
+    ⊎ ((fault ≡ tool.UnknownLocate) × ((done : Content × ℕ) × reads (Ok done) × IsUnlisted only (Content.securities done.0)))

@@ -5,14 +5,15 @@ use Rattle.itch_market.specs.Content.{Content}
 use Rattle.itch_market.specs.Wanted.{Wanted}
 use Rattle.itch_commands.specs.declared.fault.Source.TheVariants.{Only, First, Second}
 use Rattle.itch_commands.specs.declared.fault.ToolFault.{ToolFault}
-use Rattle.itch_commands.specs.Books.{ReadsListed, book_of}
+use Rattle.itch_commands.specs.Books.{ReadsListed, books_of, wanted_by}
 use Rattle.itch_commands.specs.Canons.{ChecksSnap, canonical_line}
 use Rattle.itch_commands.specs.Comparing.{ReadsBoth, PartsAt}
 use Rattle.itch_commands.specs.Forms.{count_line_of, verdict_line}
-use Rattle.itch_commands.specs.Joining.{Start, ReadsStart, ReadsFeed, HasRoom, joined}
-use Rattle.itch_commands.specs.Outputs.{Outputs, snapshot_in, closed_bytes}
+use Rattle.itch_commands.specs.Joining.{Start, ReadsStart, ReadsFeed, HasRoom, joined, joined_market, joined_next}
+use Rattle.itch_commands.specs.Outputs.{Outputs, directory_after, snapshot_in, stocks_snapshot, closed_bytes}
 use Rattle.itch_commands.specs.Files.{ReadsFile}
 use Rattle.itch_commands.specs.Showing.{closed_lines}
+use Rattle.itch_commands.specs.Stocks.{ReadsStocks, has_one_of, only_stocks}
 use Rattle.itch_commands.specs.Readings.{From, ReadsDay, ReadsSnap, Then}
 use Rattle.itch_commands.specs.declared.form.BookForm.{BookForm}
 use Rattle.itch_commands.specs.declared.form.Form.{Form}
@@ -28,10 +29,23 @@ module _ {R W : Type 0} (remaining : R → Option (List ℕ)) (failed_reads : R 
   abbrev pub Snaps : Limit → Option Wanted → From R (List (List ℕ)) → W → Result Bool ToolFault → W → Type 0
   Snaps limit set from = Outputs contents failed_writes (from (ReadsDay remaining failed_reads Only limit)) (snapshot_in set) (λ _. true)
 
-  -- `book`: the prices of a locate in the market that a file leaves; as many of each side as are wanted
-  abbrev pub ListsBook : BookForm → ℕ → Option ℕ → FileKind → From R ((Content × ℕ) × List ℕ) → W → Result Bool ToolFault → W → Type 0
-  ListsBook form locate depth kind from =
-      Outputs contents failed_writes (from (λ old new. ReadsListed locate (ReadsFile remaining failed_reads Only kind old new))) (book_of form locate depth) (λ _. true)
+  -- `snap --stock`: the same cut down to the locates that have one of these stocks, each of which the directory has then
+  abbrev pub SnapsStocks : Limit → List (List ℕ) → From R (List (List ℕ)) → W → Result Bool ToolFault → W → Type 0
+  SnapsStocks limit names from =
+      Outputs contents failed_writes (from (λ old new. ReadsStocks directory_after names (ReadsDay remaining failed_reads Only limit old new))) (stocks_snapshot names) (λ _. true)
+
+  -- `book`: the prices of the locates of a set, or of the whole directory, in the market that a file leaves; as many of each side as
+  -- are wanted
+  abbrev pub ListsBooks : BookForm → Option Wanted → Option ℕ → FileKind → From R (Content × ℕ) → W → Result Bool ToolFault → W → Type 0
+  ListsBooks form only depth kind from =
+      Outputs contents failed_writes (from (λ old new. ReadsListed only (ReadsFile remaining failed_reads Only kind old new)))
+      (λ done. books_of form depth (wanted_by only) done.0) (λ _. true)
+
+  -- `book --stock`: the same of the locates that have one of these stocks, each of which the directory has
+  abbrev pub ListsStocks : BookForm → List (List ℕ) → Option ℕ → FileKind → From R (Content × ℕ) → W → Result Bool ToolFault → W → Type 0
+  ListsStocks form names depth kind from =
+      Outputs contents failed_writes (from (λ old new. ReadsStocks (λ done. Content.securities done.0) names (ReadsFile remaining failed_reads Only kind old new)))
+      (λ done. books_of form depth (has_one_of (Content.securities done.0) names) done.0) (λ _. true)
 
   -- `show` of a snapshot file: the lines of its snapshot in canonical form
   abbrev pub ShowsSnapshot : From R (Content × ℕ) → W → Result Bool ToolFault → W → Type 0
@@ -58,3 +72,10 @@ module _ {R S W : Type 0} (remaining : R → Option (List ℕ)) (failed_reads : 
   Joins read snapshot feed =
       Outputs contents failed_writes (snapshot (λ a b. feed (λ c d.
       HasRoom (Then (ReadsStart read remaining failed_reads a b) (d ≡ c) (ReadsFeed read remaining_then failed_then c d))))) (λ both. closed_bytes (joined both)) (λ _. true)
+
+  -- `join --stock`: the same cut down to the locates that have one of these stocks, each of which the directory has in the end
+  abbrev pub JoinsStocks : (List ℕ → List ℕ) → List (List ℕ) → From R (Start × List (List ℕ)) → From S (Start × List (List ℕ)) → W → Result Bool ToolFault → W → Type 0
+  JoinsStocks read names snapshot feed =
+      Outputs contents failed_writes (snapshot (λ a b. feed (λ c d.
+      ReadsStocks (λ both. Content.securities (joined_market both.0 both.1)) names (HasRoom (Then (ReadsStart read remaining failed_reads a b) (d ≡ c) (ReadsFeed read remaining_then failed_then c d))))))
+      (λ both. closed_bytes (only_stocks names (joined_market both.0 both.1), joined_next both.0 both.1)) (λ _. true)

@@ -65,8 +65,14 @@ row book.Csv locate stock side price shares orders =
 abbrev pub title_line : ℕ → List ℕ → List ℕ
 title_line locate stock = decimal locate ++ 32 ∷ (stock ++ 10 ∷ [])
 
--- what stands before the lines of a book
-abbrev pub heading : BookForm → ℕ → List ℕ → List ℕ
-heading book.Text locate stock = title_line locate stock
-heading book.Json locate stock = []
-heading book.Csv locate stock = codes "locate,stock,side,price,shares,orders\n"
+-- what stands before the lines of all books
+abbrev pub head : BookForm → List ℕ
+head book.Text = []
+head book.Json = []
+head book.Csv = codes "locate,stock,side,price,shares,orders\n"
+
+-- what stands before the lines of the book of a locate
+abbrev pub title : BookForm → ℕ → List ℕ → List ℕ
+title book.Text locate stock = title_line locate stock
+title book.Json locate stock = []
+title book.Csv locate stock = []

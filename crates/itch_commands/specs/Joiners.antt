@@ -23,6 +23,7 @@ use Rattle.itch_commands.specs.declared.fault.ToolFault.TheVariants as tool
 use Rattle.itch_commands.specs.AsRead.{ReadsAs, HaltsAs}
 use Rattle.itch_commands.specs.Joining.{Start, IsOfMessage, EndsFeed, joined_market, joined_next}
 use Rattle.itch_commands.specs.Outputs.{WritesOutput, closed_bytes}
+use Rattle.itch_commands.specs.Stocks.{IsStockFault, are_known, only_stocks}
 
 -- the market that a half-read snapshot leaves
 abbrev pub half_market : HalfRead → Content
@@ -152,3 +153,11 @@ module _ {W : Type 0} (contents : W → Option (List ℕ)) (failures : W → Fai
   WritesRoom j old result new =
       ((result ≡ Err tool.TooMany) × (10 ^ 19 ≤ length (snap j.market)) × (new ≡ old))
       ⊎ ((length (snap j.market) < 10 ^ 19) × WritesOutput contents failures (closed_bytes (j.market, j.next)) true old result new)
+
+  -- the same cut down to the locates that have one of these stocks, if the directory has each of them
+  abbrev pub WritesStocks : List (List ℕ) → Position → W → Result Bool ToolFault → W → Type 0
+  WritesStocks names j old result new =
+      ((result ≡ Err tool.TooMany) × (10 ^ 19 ≤ length (snap j.market)) × (new ≡ old))
+      ⊎ ((length (snap j.market) < 10 ^ 19)
+      × (((fault : ToolFault) × (result ≡ Err fault) × IsStockFault (Content.securities j.market) names fault × (new ≡ old))
+      ⊎ ((are_known (Content.securities j.market) names ≡ true) × WritesOutput contents failures (closed_bytes (only_stocks names j.market, j.next)) true old result new)))

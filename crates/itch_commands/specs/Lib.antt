@@ -14,5 +14,6 @@ pub mod Joining
 pub mod Joiners
 pub mod Commands
 pub mod Locates
+pub mod Stocks
 pub mod Requests
 pub mod Endings

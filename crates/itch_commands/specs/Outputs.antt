@@ -4,11 +4,12 @@ use Rattle.std.specs.Io.KnownBytes.{Appends}
 use Rattle.itch_frame.specs.Counting.{failed}
 use Rattle.itch_frame.specs.declared.tally.Failures.{Failures}
 use Rattle.itch_codec.specs.Messages.{message_of}
-use Rattle.itch_market.specs.Content.{Content}
+use Rattle.itch_market.specs.Content.{Content, Securities}
 use Rattle.itch_market.specs.Partial.{only}
 use Rattle.itch_market.specs.Runs.{run}
 use Rattle.itch_market.specs.Wanted.{Wanted, has}
 use Rattle.itch_snapshot.specs.Bytes.{canon, closing}
+use Rattle.itch_commands.specs.Stocks.{only_stocks}
 use Rattle.itch_commands.specs.declared.fault.ToolFault.{ToolFault}
 use Rattle.itch_commands.specs.declared.fault.ToolFault.TheVariants as tool
 
@@ -24,6 +25,14 @@ snapshot_of payloads = canon (run (map message_of payloads)) ++ closing (length 
 abbrev pub snapshot_in : Option Wanted → List (List ℕ) → List ℕ
 snapshot_in None payloads = snapshot_of payloads
 snapshot_in (Some set) payloads = canon (only (has set) (run (map message_of payloads))) ++ closing (length payloads + 1)
+
+-- the directory after these messages
+abbrev pub directory_after : List (List ℕ) → Securities
+directory_after payloads = Content.securities (run (map message_of payloads))
+
+-- the snapshot after them cut down to the locates that have one of these stocks
+abbrev pub stocks_snapshot : List (List ℕ) → List (List ℕ) → List ℕ
+stocks_snapshot names payloads = canon (only_stocks names (run (map message_of payloads))) ++ closing (length payloads + 1)
 
 -- the bytes of the snapshot of a market, with the number of the first message that is not in it
 abbrev pub closed_bytes : Content × ℕ → List ℕ

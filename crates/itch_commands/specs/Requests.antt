@@ -1,5 +1,5 @@
 -- What the program is asked to do over files, and what it does for each request over one file.
-use Rattle.std.specs.Prelude.{ℕ, Bool, true, false, List, Option, None, option_map, Result, ⊤}
+use Rattle.std.specs.Prelude.{ℕ, Bool, true, false, List, Option, Some, None, option_map, Result, ⊤}
 use Rattle.itch_frame.specs.Reading.{Reading}
 use Rattle.itch_frame.specs.declared.tally.Failures.{Failures}
 use Rattle.itch_market.specs.Wanted.{Wanted}
@@ -8,51 +8,75 @@ use Rattle.itch_commands.specs.declared.fault.Source.{Source}
 use Rattle.itch_commands.specs.declared.fault.Source.TheVariants.{Second, Snapshot}
 use Rattle.itch_commands.specs.declared.request.Request.{Request}
 use Rattle.itch_commands.specs.declared.request.Request.TheVariants.{Snap, Check, Show, Canon, Compare, Book, Join}
-use Rattle.itch_commands.specs.Commands.{Snaps, Checks, ShowsSnapshot, WritesCanon, ChecksCanon, ListsBook}
+use Rattle.itch_commands.specs.Commands.{Snaps, SnapsStocks, Checks, ShowsSnapshot, WritesCanon, ChecksCanon, ListsBooks, ListsStocks}
+use Rattle.itch_commands.specs.declared.form.BookForm.{BookForm}
+use Rattle.itch_commands.specs.declared.kind.FileKind.{FileKind}
 use Rattle.itch_commands.specs.declared.kind.FileKind.TheVariants as kind
+use Rattle.itch_commands.specs.declared.limit.Limit.{Limit}
+use Rattle.itch_commands.specs.declared.selection.Selection.{Selection}
+use Rattle.itch_commands.specs.declared.selection.Selection.TheVariants.{All, Locates, Stocks}
 use Rattle.itch_commands.specs.Readings.{FromBlocks}
 use Rattle.itch_commands.specs.Showing.{Shows}
+use Rattle.itch_commands.specs.Stocks.{names_of}
 
 -- the path of the file that a fault of a request names; none if it is standard input
 abbrev pub file_of : Request → Source → Option (List ℕ)
-file_of (Snap file limit only) source = option_map (λ path. path.now) file
+file_of (Snap file limit selection) source = option_map (λ path. path.now) file
 file_of (Check file limit form) source = option_map (λ path. path.now) file
 file_of (Show file kind) source = option_map (λ path. path.now) file
 file_of (Canon file check) source = option_map (λ path. path.now) file
-file_of (Book locate depth file kind form) source = option_map (λ path. path.now) file
+file_of (Book selection depth file kind form) source = option_map (λ path. path.now) file
 file_of (Compare first second kind form) Second = option_map (λ path. path.now) second
 file_of (Compare first second kind form) source = option_map (λ path. path.now) first
-file_of (Join snapshot feed only) Snapshot = option_map (λ path. path.now) snapshot
-file_of (Join snapshot feed only) source = option_map (λ path. path.now) feed
+file_of (Join snapshot feed selection) Snapshot = option_map (λ path. path.now) snapshot
+file_of (Join snapshot feed selection) source = option_map (λ path. path.now) feed
 
--- the list of the locates that a request wants, if not all of them
+-- the list of the locates that are selected, if they are by a list
+abbrev pub list_of : Selection → Option (List ℕ)
+list_of All = None
+list_of (Locates list) = Some list.now
+list_of (Stocks names) = None
+
+-- the list of the locates that a request wants, if it has one
 abbrev pub only_of : Request → Option (List ℕ)
-only_of (Snap file limit only) = option_map (λ list. list.now) only
-only_of (Join snapshot feed only) = option_map (λ list. list.now) only
+only_of (Snap file limit selection) = list_of selection
+only_of (Book selection depth file kind form) = list_of selection
+only_of (Join snapshot feed selection) = list_of selection
 only_of request = None
 
 -- the requests whose output is a snapshot, not text
 abbrev pub is_binary : Request → Bool
-is_binary (Snap file limit only) = true
+is_binary (Snap file limit selection) = true
 is_binary (Canon file false) = true
-is_binary (Join snapshot feed only) = true
+is_binary (Join snapshot feed selection) = true
 is_binary request = false
 
 -- a request over one file
 abbrev pub IsOverOne : Request → Type 0
 IsOverOne (Compare first second kind form) = ⊥
-IsOverOne (Join snapshot feed only) = ⊥
+IsOverOne (Join snapshot feed selection) = ⊥
 IsOverOne request = ⊤
 
 module _ {R W : Type 0} (remaining : R → Option (List ℕ)) (failed_reads : R → Failures) (contents : W → Option (List ℕ)) (failed_writes : W → Failures) where
+  -- `snap` of what is selected: by the names of stocks, or by the set of the locates that are wanted
+  abbrev pub PerformsSnap : Limit → Selection → Option Wanted → Reading R → Reading R → W → Result Bool ToolFault → W → Type 0
+  PerformsSnap limit (Stocks names) set old new = SnapsStocks remaining failed_reads contents failed_writes limit (names_of names.now) (FromBlocks old new)
+  PerformsSnap limit selection set old new = Snaps remaining failed_reads contents failed_writes limit set (FromBlocks old new)
+
+  -- `book` of the same
+  abbrev pub PerformsBook : BookForm → Selection → Option Wanted → Option ℕ → FileKind → Reading R → Reading R → W → Result Bool ToolFault → W → Type 0
+  PerformsBook form (Stocks names) set depth kind old new =
+      ListsStocks remaining failed_reads contents failed_writes form (names_of names.now) depth kind (FromBlocks old new)
+  PerformsBook form selection set depth kind old new = ListsBooks remaining failed_reads contents failed_writes form set depth kind (FromBlocks old new)
+
   -- what a request over the blocks of one file reads, writes and returns, with the set of the locates that are wanted, if not all are
   abbrev pub Performs : Request → Option Wanted → Reading R → Reading R → W → Result Bool ToolFault → W → Type 0
-  Performs (Snap file limit only) set old new = Snaps remaining failed_reads contents failed_writes limit set (FromBlocks old new)
+  Performs (Snap file limit selection) set old new = PerformsSnap limit selection set old new
   Performs (Check file limit form) set old new = Checks remaining failed_reads contents failed_writes form limit (FromBlocks old new)
   Performs (Show file (kind.Day limit)) set old new = Shows contents failed_writes remaining failed_reads limit old new
   Performs (Show file kind.Snapshot) set old new = ShowsSnapshot remaining failed_reads contents failed_writes (FromBlocks old new)
   Performs (Canon file false) set old new = WritesCanon remaining failed_reads contents failed_writes (FromBlocks old new)
   Performs (Canon file true) set old new = ChecksCanon remaining failed_reads contents failed_writes (FromBlocks old new)
-  Performs (Book locate depth file kind form) set old new = ListsBook remaining failed_reads contents failed_writes form locate depth kind (FromBlocks old new)
+  Performs (Book selection depth file kind form) set old new = PerformsBook form selection set depth kind old new
   Performs (Compare first second kind form) set old new = λ out result written. ⊥
-  Performs (Join snapshot feed only) set old new = λ out result written. ⊥
+  Performs (Join snapshot feed selection) set old new = λ out result written. ⊥

@@ -1,8 +1,9 @@
-//! `book`: the prices of a locate.
+//! `book`: the prices of locates.
 ghost use Rattle.std.specs.Prelude.{◌≡◌, ◌≤◌, ◌-◌, None, length, option_map};
+ghost use Rattle.std.specs.Option.{option_copied};
 ghost use Rattle.itch_book.specs.Orders.{queue, next_price};
 ghost use Rattle.itch_commands.specs.Books.{next_wanted, side_lines, book_lines};
-ghost use Rattle.itch_commands.specs.Commands.{ListsBook};
+ghost use Rattle.itch_commands.specs.Commands.{ListsBooks};
 ghost use Rattle.itch_commands.specs.Forms.{row};
 ghost use Rattle.itch_commands.specs.Limits.{counted};
 ghost use Rattle.itch_commands.specs.Outputs.{WritesText};
@@ -10,8 +11,11 @@ ghost use Rattle.itch_commands.specs.Readings.{FromBlocks, FromReader};
 ghost use Rattle.itch_commands.specs.declared.form.BookForm.TheVariants.{Text};
 ghost use Rattle.itch_commands.specs.declared.kind.FileKind.TheVariants.{Day};
 
+mod listed;
 mod rows;
+mod stocks;
 
+use crate::book::listed::{all_listed, write_books};
 use crate::book::rows::Rows;
 use crate::fault::{Source, ToolFault};
 use crate::form::BookForm;
@@ -22,25 +26,27 @@ use crate::writing::write_text;
 use itch_book::OrderBook;
 use itch_codec::{Seq, Side};
 use itch_frame::{BlockReader, CountedRead, CountedWrite};
-use itch_market::Market;
+use itch_market::{LocateSet, Market};
 use std::alloc::Allocator;
+pub use stocks::book_stocks;
 
-/// Writes the price levels of a locate after a day file's messages: a line `LOCATE STOCK`, and then a line
-/// `SIDE PRICE SHARES ORDERS` for each price, bids before asks, the best price first. A price has four decimals.
+/// Writes the price levels of the locates of a set after a day file's messages, or of all locates of the directory: of each, in
+/// rising order, a line `LOCATE STOCK`, and then a line `SIDE PRICE SHARES ORDERS` for each price, bids before asks, the best price
+/// first. A price has four decimals.
 ///
-/// `UnknownLocate` if the directory has no such locate.
+/// `UnknownLocate` if the directory lacks a locate of the set: then nothing is written.
 pub fn book<R: CountedRead + Drop, A: Allocator + Copy, W: CountedWrite>(
     alloc: A,
-    locate: u16,
+    only: Option<&LocateSet<A>>,
     reader: R,
     out: &mut W,
 ) -> Result<bool, ToolFault>
-    ensures { ListsBook R.remaining R.failures W.contents W.failures Text locate None (Day (counted None)) (FromReader reader) out.old result out.new }
+    ensures { ListsBooks R.remaining R.failures W.contents W.failures Text (option_copied only.entry) None (Day (counted None)) (FromReader reader) out.old result out.new }
 {
     let mut reader = BlockReader::new(alloc, reader)?;
     book_blocks(
         alloc,
-        locate,
+        only,
         None,
         &mut reader,
         FileKind::Day(Limit::whole()),
@@ -53,46 +59,37 @@ pub fn book<R: CountedRead + Drop, A: Allocator + Copy, W: CountedWrite>(
 /// given. The reader is left where the reading ended.
 pub fn book_blocks<R: CountedRead, B: Allocator, A: Allocator + Copy, W: CountedWrite>(
     alloc: A,
-    locate: u16,
+    only: Option<&LocateSet<A>>,
     depth: Option<u64>,
     reader: &mut BlockReader<R, B>,
     kind: FileKind,
     form: BookForm,
     out: &mut W,
 ) -> Result<bool, ToolFault>
-    ensures { ListsBook R.remaining R.failures W.contents W.failures form locate depth kind (FromBlocks reader.old reader.new) out.old result out.new }
+    ensures { ListsBooks R.remaining R.failures W.contents W.failures form (option_copied only.entry) depth kind (FromBlocks reader.old reader.new) out.old result out.new }
 {
-    book_over::<R, B, Book<A>, W>(alloc, locate, depth, reader, kind, form, out)
+    book_over::<R, B, Book<A>, W>(alloc, only, depth, reader, kind, form, out)
 }
 
 // The same with any book of orders.
 fn book_over<R: CountedRead, A: Allocator, B: OrderBook, W: CountedWrite>(
     alloc: B::Alloc,
-    locate: u16,
+    only: Option<&LocateSet<B::Alloc>>,
     depth: Option<u64>,
     reader: &mut BlockReader<R, A>,
     kind: FileKind,
     form: BookForm,
     out: &mut W,
 ) -> Result<bool, ToolFault>
-    ensures { ListsBook R.remaining R.failures W.contents W.failures form locate depth kind (FromBlocks reader.old reader.new) out.old result out.new }
+    ensures { ListsBooks R.remaining R.failures W.contents W.failures form (option_copied only.entry) depth kind (FromBlocks reader.old reader.new) out.old result out.new }
 {
     let (market, _): (Market<B>, Seq) = file_market(alloc, reader, kind, Source::Only)?;
-    let Some(security) = market.security(locate) else {
-        return Err(ToolFault::UnknownLocate);
-    };
-    let stock = security.entry.stock;
-    stock.recall_invariant();
-    let rows = Rows {
-        form,
-        locate,
-        stock: stock.text(),
-    };
-    write_book(market.book(), depth, &rows, out)?;
+    all_listed(&market, only)?;
+    write_books(&market, only, depth, form, out)?;
     Ok(true)
 }
 
-// Writes the heading of a book and its prices.
+// Writes the title of a book and its prices.
 fn write_book<B: OrderBook, W: CountedWrite>(
     book: &B,
     depth: Option<u64>,
@@ -102,7 +99,7 @@ fn write_book<B: OrderBook, W: CountedWrite>(
     requires { length rows.now.stock.now ≤ 8 }
     ensures { WritesText W.contents W.failures (book_lines rows.now.form rows.now.locate depth rows.now.stock.now (B.orders book.now)) out.old result out.new }
 {
-    write_text(rows.heading().as_bytes(), out)?;
+    write_text(rows.title().as_bytes(), out)?;
     write_side(book, depth, rows, Side::Buy, out)?;
     write_side(book, depth, rows, Side::Sell, out)
 }

@@ -51,6 +51,8 @@ pub enum ToolFault {
     Short { file: Source, count: u64 },
     /// The directory has no such locate.
     UnknownLocate,
+    /// The directory has no entry with such a stock.
+    UnknownStock,
     /// A write failed.
     Write(io::Error),
     /// Memory was refused.
@@ -79,7 +81,7 @@ impl ToolFault {
         match self {
             ToolFault::Stopped { end, .. } => stop_status(&end.stop),
             ToolFault::Snap { fault, .. } => snapshot_status(fault),
-            ToolFault::Short { .. } | ToolFault::UnknownLocate => 1,
+            ToolFault::Short { .. } | ToolFault::UnknownLocate | ToolFault::UnknownStock => 1,
             ToolFault::Write(_) | ToolFault::Open { .. } => 3,
             ToolFault::OutOfMemory => 4,
             ToolFault::BadUser | ToolFault::BadPassword | ToolFault::BadLocates => 2,
@@ -172,6 +174,7 @@ impl fmt::Display for ToolFault {
             ToolFault::Snap { file, fault } => write!(f, "{file}{fault}"),
             ToolFault::Short { file, count } => write!(f, "{file}only {count} messages"),
             ToolFault::UnknownLocate => f.write_str("unknown locate"),
+            ToolFault::UnknownStock => f.write_str("unknown stock"),
             ToolFault::Write(_) => f.write_str("write failed"),
             ToolFault::OutOfMemory => f.write_str("out of memory"),
             ToolFault::Open { .. } => f.write_str("cannot open"),

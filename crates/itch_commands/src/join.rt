@@ -11,6 +11,7 @@ ghost use Rattle.itch_commands.specs.Readings.{FromBlocks, FromReader};
 
 mod feed;
 mod start;
+mod stocks;
 
 use crate::fault::ToolFault;
 use crate::order_book::Book;
@@ -24,6 +25,7 @@ use itch_market::LocateSet;
 use itch_snapshot::snapshot_len;
 use start::read_start;
 use std::alloc::Allocator;
+pub use stocks::join_stocks;
 
 /// Joins a feed to a snapshot, and writes the snapshot after both: the canonical bytes of the market that the snapshot's
 /// messages leave, and then the feed's from the snapshot's number on, and an End of Snapshot with the number of the first

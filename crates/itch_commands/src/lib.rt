@@ -31,8 +31,10 @@ mod order_book;
 mod performing;
 mod reading;
 mod request;
+mod selection;
 pub mod show;
 pub mod snap;
+mod stocks;
 mod writing;
 
 pub use cause::{Cause, Device};
@@ -46,4 +48,6 @@ pub use order_book::Book;
 pub use performing::perform;
 pub use reading::read_market;
 pub use request::{Request, path_of};
+pub use selection::Selection;
+pub use stocks::stock_locates;
 pub use writing::{write_closed, write_text};

@@ -1,15 +1,18 @@
 //! A request over one file, performed.
 ghost use Rattle.std.specs.Option.{option_copied};
-ghost use Rattle.itch_commands.specs.Requests.{IsOverOne, Performs};
+ghost use Rattle.itch_commands.specs.Requests.{IsOverOne, Performs, PerformsBook, PerformsSnap};
 
-use crate::book::book_blocks;
+use crate::book::{book_blocks, book_stocks};
 use crate::canon::canon_blocks;
 use crate::check::check_blocks;
 use crate::fault::ToolFault;
+use crate::form::BookForm;
 use crate::kind::FileKind;
+use crate::limit::Limit;
 use crate::request::Request;
+use crate::selection::Selection;
 use crate::show::{show_blocks, show_snapshot};
-use crate::snap::snap_blocks;
+use crate::snap::{snap_blocks, snap_stocks};
 use itch_frame::{BlockReader, CountedRead, CountedWrite};
 use itch_market::LocateSet;
 use std::alloc::Allocator;
@@ -26,7 +29,11 @@ pub fn perform<R: CountedRead, B: Allocator, A: Allocator + Copy, W: CountedWrit
     ensures { Performs R.remaining R.failures W.contents W.failures request.entry (option_copied only.entry) reader.old reader.new out.old result out.new }
 {
     match request {
-        Request::Snap { limit, .. } => snap_blocks(alloc, reader, limit, only, out),
+        Request::Snap {
+            limit,
+            selection,
+            ..
+        } => snap_selected(alloc, limit, selection, only, reader, out),
         Request::Check { limit, form, .. } => check_blocks(alloc, reader, limit, form, out),
         Request::Show {
             kind: FileKind::Day(limit),
@@ -38,12 +45,50 @@ pub fn perform<R: CountedRead, B: Allocator, A: Allocator + Copy, W: CountedWrit
         } => show_snapshot(alloc, reader, out),
         Request::Canon { check, .. } => canon_blocks(alloc, reader, check, out),
         Request::Book {
-            locate,
+            selection,
             depth,
             kind,
             form,
             ..
-        } => book_blocks(alloc, locate, depth, reader, kind, form, out),
+        } => book_selected(alloc, selection, only, depth, reader, kind, form, out),
         Request::Compare { .. } | Request::Join { .. } => unreachable!(),
+    }
+}
+
+// `snap` of what is selected: by the names of stocks, or by the set.
+fn snap_selected<R: CountedRead, B: Allocator, A: Allocator + Copy, W: CountedWrite>(
+    alloc: A,
+    limit: Limit,
+    selection: Selection<'_>,
+    only: Option<&LocateSet<A>>,
+    reader: &mut BlockReader<R, B>,
+    out: &mut W,
+) -> Result<bool, ToolFault>
+    ensures { PerformsSnap R.remaining R.failures W.contents W.failures limit selection.entry (option_copied only.entry) reader.old reader.new out.old result out.new }
+{
+    match selection {
+        Selection::Stocks(names) => snap_stocks(alloc, reader, limit, names, out),
+        Selection::All => snap_blocks(alloc, reader, limit, only, out),
+        Selection::Locates(_) => snap_blocks(alloc, reader, limit, only, out),
+    }
+}
+
+// `book` of the same.
+fn book_selected<R: CountedRead, B: Allocator, A: Allocator + Copy, W: CountedWrite>(
+    alloc: A,
+    selection: Selection<'_>,
+    only: Option<&LocateSet<A>>,
+    depth: Option<u64>,
+    reader: &mut BlockReader<R, B>,
+    kind: FileKind,
+    form: BookForm,
+    out: &mut W,
+) -> Result<bool, ToolFault>
+    ensures { PerformsBook R.remaining R.failures W.contents W.failures form selection.entry (option_copied only.entry) depth kind reader.old reader.new out.old result out.new }
+{
+    match selection {
+        Selection::Stocks(names) => book_stocks(alloc, names, depth, reader, kind, form, out),
+        Selection::All => book_blocks(alloc, only, depth, reader, kind, form, out),
+        Selection::Locates(_) => book_blocks(alloc, only, depth, reader, kind, form, out),
     }
 }

@@ -6,15 +6,16 @@ use crate::fault::Source;
 use crate::form::{BookForm, Form};
 use crate::kind::FileKind;
 use crate::limit::Limit;
+use crate::selection::Selection;
 
 /// What the program is asked to do. A file is its path, or none for standard input; a limit says which part of it is wanted.
 #[derive(Clone, Copy, Debug, PartialEq, Eq)]
 pub enum Request<'a> {
-    /// Write the snapshot after the file's messages; with a list, cut down to its locates.
+    /// Write the snapshot after the file's messages, cut down to the locates that are selected.
     Snap {
         file: Option<&'a str>,
         limit: Limit,
-        only: Option<&'a str>,
+        selection: Selection<'a>,
     },
     /// Check that a file follows the order rules, and count its messages.
     Check {
@@ -39,19 +40,19 @@ pub enum Request<'a> {
         kind: FileKind,
         form: Form,
     },
-    /// Write the price levels of a locate, or the first ones of each side.
+    /// Write the price levels of the locates that are selected, or the first ones of each side.
     Book {
-        locate: u16,
+        selection: Selection<'a>,
         depth: Option<u64>,
         file: Option<&'a str>,
         kind: FileKind,
         form: BookForm,
     },
-    /// Join a feed to a snapshot, and write the snapshot after both; with a list, for its locates only.
+    /// Join a feed to a snapshot, and write the snapshot after both, for the locates that are selected only.
     Join {
         snapshot: Option<&'a str>,
         feed: Option<&'a str>,
-        only: Option<&'a str>,
+        selection: Selection<'a>,
     },
 }
 
@@ -87,12 +88,14 @@ impl<'a> Request<'a> {
         )
     }
 
-    /// The list of the locates that are wanted, if not all are.
+    /// The list of the locates that are wanted, if there is one.
     pub fn only(&self) -> Option<&'a str>
         ensures { option_map (λ list. list.now) result ≡ only_of self.now }
     {
-        match *self {
-            Request::Snap { only, .. } | Request::Join { only, .. } => only,
+        match self {
+            Request::Snap { selection, .. }
+            | Request::Book { selection, .. }
+            | Request::Join { selection, .. } => selection.list(),
             _ => None,
         }
     }

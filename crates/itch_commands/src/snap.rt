@@ -4,6 +4,8 @@ ghost use Rattle.itch_commands.specs.Commands.{Snaps};
 ghost use Rattle.itch_commands.specs.Limits.{counted};
 ghost use Rattle.itch_commands.specs.Readings.{FromBlocks, FromReader};
 
+mod stocks;
+
 use crate::fault::{Source, ToolFault};
 use crate::limit::Limit;
 use crate::order_book::Book;
@@ -14,6 +16,7 @@ use itch_codec::Seq;
 use itch_frame::{BlockReader, CountedRead, CountedWrite};
 use itch_market::{LocateSet, Market};
 use std::alloc::Allocator;
+pub use stocks::snap_stocks;
 
 /// Writes the canonical snapshot after a day file's messages, or after its first ones: the canonical bytes of the market
 /// that they leave, and an End of Snapshot with the number of the first message that it does not contain.

@@ -4,9 +4,9 @@ ghost use Rattle.itch_commands.specs.Requests.{IsOverOne};
 use crate::opened::open;
 use crate::sockets::{run_fetch, run_serve};
 use itch_commands::compare::compare_blocks;
-use itch_commands::join::join_blocks;
+use itch_commands::join::{join_blocks, join_stocks};
 use itch_commands::{
-    FileKind, Form, Request, Source, ToolFault, perform, read_locates, system_fault,
+    FileKind, Form, Request, Selection, Source, ToolFault, perform, read_locates, system_fault,
 };
 use itch_frame::{BlockReader, Buffered, Counted, CountedWrite};
 use itch_market::LocateSet;
@@ -94,10 +94,14 @@ fn answer<R: Files + Input + Eprint + AllocGlobal + Clock, W: CountedWrite>(
             let second = open(rt, second, Source::Second, progress)?;
             compare_over(alloc, first, second, kind, form, out)
         }
-        Request::Join { snapshot, feed, .. } => {
+        Request::Join {
+            snapshot,
+            feed,
+            selection,
+        } => {
             let snapshot = open(rt, snapshot, Source::Snapshot, progress)?;
             let feed = open(rt, feed, Source::Only, progress)?;
-            join_over(alloc, snapshot, feed, only, out)
+            join_over(alloc, snapshot, feed, selection, only, out)
         }
         _ => {
             let file = open(rt, request.file(Source::Only), Source::Only, progress)?;
@@ -125,12 +129,16 @@ fn join_over<A: Allocator + Copy, R: Read + Drop, W: CountedWrite>(
     alloc: A,
     snapshot: R,
     feed: R,
+    selection: Selection<'_>,
     only: Option<LocateSet<A>>,
     out: &mut W,
 ) -> Result<bool, ToolFault> {
     let mut snapshot = blocks(alloc, snapshot)?;
     let mut feed = blocks(alloc, feed)?;
-    join_blocks(alloc, &mut snapshot, &mut feed, only, out)
+    match selection {
+        Selection::Stocks(names) => join_stocks(alloc, &mut snapshot, &mut feed, names, out),
+        _ => join_blocks(alloc, &mut snapshot, &mut feed, only, out),
+    }
 }
 
 // A reader of the blocks of a file.

@@ -102,6 +102,7 @@ day_refused after m n day bytes new (tool.Short at count) first known (same, som
     inr (inl (count, refl, (some, halts.0), halts_at after n day new count End (halts_first after m n day bytes new count End first known halts) tt))
 day_refused after m n day bytes new (tool.Snap at fault) first known reads counts = absurd reads
 day_refused after m n day bytes new tool.UnknownLocate first known reads counts = absurd reads
+day_refused after m n day bytes new tool.UnknownStock first known reads counts = absurd reads
 day_refused after m n day bytes new (tool.Write error) first known reads counts = absurd reads
 day_refused after m n day bytes new tool.OutOfMemory first known reads counts = absurd reads
 day_refused after m n day bytes new (tool.Open file error) first known reads counts = absurd reads

@@ -110,6 +110,7 @@ fn refused_day(fault: &ToolFault) -> Outcome
         ToolFault::Short { count, .. } => outcome(*count, 0, 0, SHORT),
         ToolFault::Snap { .. }
         | ToolFault::UnknownLocate
+        | ToolFault::UnknownStock
         | ToolFault::Write(_)
         | ToolFault::OutOfMemory
         | ToolFault::Open { .. }

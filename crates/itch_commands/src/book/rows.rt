@@ -1,14 +1,14 @@
 //! The lines of a book, in each form.
 ghost use Rattle.std.specs.Prelude.{◌≡◌, ◌≤◌, [], ◌∷◌, length};
 ghost use Rattle.itch_codec.specs.Fields.{side_byte};
-ghost use Rattle.itch_commands.specs.Forms.{heading, level_line, row};
+ghost use Rattle.itch_commands.specs.Forms.{head, level_line, row, title};
 ghost use Rattle.itch_commands.specs.declared.form.BookForm.TheVariants.{Json, Csv};
 
 use crate::form::BookForm;
 use crate::line::Line;
 use itch_codec::Side;
 
-/// The lines of a book: their form, and the locate and stock that are in the heading, or in each of them.
+/// The lines of a book: their form, and the locate and stock that are in the title, or in each of them.
 #[derive(Clone, Copy)]
 pub struct Rows<'a> {
     pub form: BookForm,
@@ -16,11 +16,23 @@ pub struct Rows<'a> {
     pub stock: &'a str,
 }
 
+/// What stands before all books.
+pub fn head(form: BookForm) -> Line
+    ensures { result ≡ head form }
+{
+    let mut line = Line::new();
+    match form {
+        BookForm::Text | BookForm::Json => {}
+        BookForm::Csv => line.text(b"locate,stock,side,price,shares,orders\n"),
+    }
+    line
+}
+
 impl Rows<'_> {
     /// What stands before the lines of the prices.
-    pub fn heading(&self) -> Line
+    pub fn title(&self) -> Line
         requires { length self.now.stock.now ≤ 8 }
-        ensures { result ≡ heading self.now.form self.now.locate self.now.stock.now }
+        ensures { result ≡ title self.now.form self.now.locate self.now.stock.now }
     {
         let mut line = Line::new();
         match self.form {
@@ -30,8 +42,7 @@ impl Rows<'_> {
                 line.text(self.stock.as_bytes());
                 line.text(b"\n");
             }
-            BookForm::Json => {}
-            BookForm::Csv => line.text(b"locate,stock,side,price,shares,orders\n"),
+            BookForm::Json | BookForm::Csv => {}
         }
         line
     }

@@ -16,6 +16,7 @@ pub enum Argument {
     After,
     Until,
     Only,
+    Stock,
     Json,
     Progress,
     // The files of `compare`.
@@ -31,6 +32,7 @@ pub enum Argument {
     Feed,
     // What `book` prints.
     Locate,
+    BookStock,
     Depth,
     Csv,
     // The file of `serve`, which has to be named, and where it listens.
@@ -61,6 +63,10 @@ impl Argument {
             Argument::Json => json(alloc),
             Argument::Csv => csv(alloc),
             Argument::Only => only(alloc),
+            Argument::Stock => stock(
+                alloc,
+                "Keep only the locates with these stocks, such as AAPL,MSFT",
+            ),
             Argument::Progress => progress(alloc),
             Argument::First => named(alloc, "A", "The first file; `-` for standard input"),
             Argument::Second => named(alloc, "B", "The second file, or `-`"),
@@ -74,6 +80,10 @@ impl Argument {
             ),
             Argument::Feed => named(alloc, "FEED", "The feed, from its first message on, or `-`"),
             Argument::Locate => locate(alloc),
+            Argument::BookStock => stock(
+                alloc,
+                "Print the locates with these stocks, such as AAPL,MSFT; LOCATE is left out",
+            ),
             Argument::Depth => depth(alloc),
             Argument::Served => named(
                 alloc,
@@ -129,11 +139,9 @@ fn recorded<'a>(alloc: Global) -> Arg<'a> {
         .action(ArgAction::SetTrue)
 }
 
+// With `--stock` the first word is the file, so this one is not required.
 fn locate<'a>(alloc: Global) -> Arg<'a> {
-    Arg::new(alloc, "LOCATE")
-        .help("The locate, 0 to 65535")
-        .required(true)
-        .value_parser(clap::value_parser!(u16))
+    Arg::new(alloc, "LOCATE").help("The locates, such as 1-40,77")
 }
 
 fn depth<'a>(alloc: Global) -> Arg<'a> {
@@ -149,6 +157,13 @@ fn only<'a>(alloc: Global) -> Arg<'a> {
         .long("only")
         .value_name("LIST")
         .help("Keep only these locates, such as 1-40,77")
+}
+
+fn stock<'a>(alloc: Global, help: &'a str) -> Arg<'a> {
+    Arg::new(alloc, "stock")
+        .long("stock")
+        .value_name("LIST")
+        .help(help)
 }
 
 fn progress<'a>(alloc: Global) -> Arg<'a> {

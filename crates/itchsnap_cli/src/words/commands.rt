@@ -29,6 +29,7 @@ const COMMANDS: [Entry; 10] = [
             Argument::After,
             Argument::Until,
             Argument::Only,
+            Argument::Stock,
             Argument::Progress,
         ],
         example: "Example: itchsnap snap day.itch --only 1-40,77 > day.snap",
@@ -72,6 +73,7 @@ const COMMANDS: [Entry; 10] = [
             Argument::Joined,
             Argument::Feed,
             Argument::Only,
+            Argument::Stock,
             Argument::Progress,
         ],
         example: "Example: itchsnap join early.snap day.itch > day.snap",
@@ -90,10 +92,11 @@ const COMMANDS: [Entry; 10] = [
     },
     Entry {
         name: "book",
-        about: "Print the price levels of a locate",
+        about: "Print the price levels of locates",
         takes: &[
             Argument::Locate,
             Argument::File,
+            Argument::BookStock,
             Argument::Depth,
             Argument::After,
             Argument::Until,

@@ -3,7 +3,7 @@
 use crate::words::commands::usage_fault;
 use crate::words::time::read_time;
 use clap::{ArgMatches, Error};
-use itch_commands::{BookForm, FileKind, Form, Limit, Request, path_of};
+use itch_commands::{BookForm, FileKind, Form, Limit, Request, Selection, path_of};
 use std::alloc::Global;
 
 /// Reads the matched words of a request over files.
@@ -36,7 +36,7 @@ fn read_snap<'a>(alloc: Global, options: &ArgMatches<'a>) -> Result<Request<'a>,
     Ok(Request::Snap {
         file: read_path(options, "FILE"),
         limit: read_limit(alloc, options)?,
-        only: options.get_str("only"),
+        selection: read_selection(alloc, options)?,
     })
 }
 
@@ -55,7 +55,7 @@ fn read_join<'a>(alloc: Global, options: &ArgMatches<'a>) -> Result<Request<'a>,
     Ok(Request::Join {
         snapshot,
         feed,
-        only: options.get_str("only"),
+        selection: read_selection(alloc, options)?,
     })
 }
 
@@ -78,15 +78,55 @@ pub fn read_path<'a>(options: &ArgMatches<'a>, name: &str) -> Option<&'a str> {
 }
 
 fn read_book<'a>(alloc: Global, options: &ArgMatches<'a>) -> Result<Request<'a>, Error> {
-    let locate = read_locate(alloc, options)?;
+    let (selection, file) = read_booked(alloc, options)?;
     let depth = read_count(alloc, options, "depth", "--depth takes decimal digits")?;
     Ok(Request::Book {
-        locate,
+        selection,
         depth,
-        file: read_path(options, "FILE"),
+        file,
         kind: read_kind(alloc, options)?,
         form: read_book_form(alloc, options)?,
     })
+}
+
+// The locates that `book` prints, and its file. After `--stock` there is no LOCATE, and the first word is the file.
+fn read_booked<'a>(
+    alloc: Global,
+    options: &ArgMatches<'a>,
+) -> Result<(Selection<'a>, Option<&'a str>), Error> {
+    let (first, second) = (options.get_str("LOCATE"), options.get_str("FILE"));
+    match (read_stocks(alloc, options)?, first, second) {
+        (Some(names), file, None) => Ok((Selection::Stocks(names), path_of(file))),
+        (Some(_), _, Some(_)) => Err(usage_fault(alloc, "LOCATE and --stock exclude each other")?),
+        (None, Some(list), file) => Ok((Selection::Locates(list), path_of(file))),
+        (None, None, _) => Err(usage_fault(alloc, "LOCATE or --stock is missing")?),
+    }
+}
+
+// The locates that `--only` or `--stock` selects.
+fn read_selection<'a>(alloc: Global, options: &ArgMatches<'a>) -> Result<Selection<'a>, Error> {
+    match (options.get_str("only"), read_stocks(alloc, options)?) {
+        (None, None) => Ok(Selection::All),
+        (Some(list), None) => Ok(Selection::Locates(list)),
+        (None, Some(names)) => Ok(Selection::Stocks(names)),
+        (Some(_), Some(_)) => Err(usage_fault(alloc, "--only and --stock exclude each other")?),
+    }
+}
+
+// The names after `--stock`, none of which is empty.
+fn read_stocks<'a>(alloc: Global, options: &ArgMatches<'a>) -> Result<Option<&'a str>, Error> {
+    let Some(names) = options.get_str("stock") else {
+        return Ok(None);
+    };
+    if has_empty_part(names) {
+        return Err(usage_fault(alloc, "--stock takes names separated by commas")?);
+    }
+    Ok(Some(names))
+}
+
+// Whether nothing stands before a comma of a list, or after one.
+fn has_empty_part(names: &str) -> bool {
+    names.is_empty() || names.starts_with(',') || names.ends_with(',') || names.contains(",,")
 }
 
 /// What a file is: a snapshot after `--snapshot`, and otherwise a day file or the part of it that is wanted.
@@ -157,15 +197,4 @@ pub fn read_count<'a>(
         return Err(usage_fault(alloc, fault)?);
     }
     Ok(options.get_one::<u64>(name))
-}
-
-// The locate of a book, in decimal digits alone.
-fn read_locate<'a>(alloc: Global, options: &ArgMatches<'a>) -> Result<u16, Error> {
-    let digits = options
-        .get_str("LOCATE")
-        .is_some_and(|text| text.bytes().all(|byte| byte.is_ascii_digit()));
-    match options.get_one::<u16>("LOCATE") {
-        Some(locate) if digits => Ok(locate),
-        _ => Err(usage_fault(alloc, "LOCATE takes decimal digits")?),
-    }
 }

@@ -1,10 +1,10 @@
 use Rattle.itch_commands.proofs.performing.perform.Goals as goal
 
 pub returns-in-Snap : goal.returns-in-Snap
-returns-in-Snap g c = rw c.in-Snap.is c.snap_blocks.ensures
+returns-in-Snap g c = rw c.in-Snap.is c.snap_selected.ensures
 
 pub returns-in-Check : goal.returns-in-Check
 returns-in-Check g c = rw c.in-Check.is c.check_blocks.ensures
 
 pub returns-in-Book : goal.returns-in-Book
-returns-in-Book g c = rw c.in-Book.is c.book_blocks.ensures
+returns-in-Book g c = rw c.in-Book.is c.book_selected.ensures

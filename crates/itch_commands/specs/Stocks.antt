@@ -1,0 +1,65 @@
+-- Stocks by their names, and the locates of the directory that have them.
+use Rattle.std.specs.Prelude.{◌≡◌, ℕ, ◌==◌, ◌⊎◌, ◌||◌, Bool, true, false, if◌then◌else◌, List, [], ◌∷◌, bytes_eq, Option, None, Some, Result, Ok, Err}
+use Rattle.std.specs.List.{list_all, list_any}
+use Rattle.std.specs.FinMap as finite
+use Rattle.itch_codec.specs.Text.{before_spaces}
+use Rattle.itch_market.specs.Content.{Content, Listing, Securities}
+use Rattle.itch_market.specs.Partial.{only}
+use Rattle.itch_market.specs.Wanted.{Wanted, has}
+use Rattle.itch_commands.specs.declared.fault.ToolFault.{ToolFault}
+use Rattle.itch_commands.specs.declared.fault.ToolFault.TheVariants as tool
+
+-- a byte before the first of these parts
+abbrev pub with_first : ℕ → List (List ℕ) → List (List ℕ)
+with_first byte [] = (byte ∷ []) ∷ []
+with_first byte (part ∷ parts) = (byte ∷ part) ∷ parts
+
+-- the names of a list: the parts between its commas, of which there is one more than of commas
+abbrev pub names_of : List ℕ → List (List ℕ)
+names_of [] = [] ∷ []
+names_of (byte ∷ bytes) = if byte == 44 then [] ∷ names_of bytes else with_first byte (names_of bytes)
+
+-- an entry of the directory has the stock of this name: the same bytes, without the spaces that pad it
+abbrev pub is_named : List ℕ → Option Listing → Bool
+is_named name None = false
+is_named name (Some s) = bytes_eq (before_spaces s.entry.stock) name
+
+-- a locate has the stock of this name
+abbrev pub has_stock : Securities → List ℕ → ℕ → Bool
+has_stock listings name locate = is_named name (finite.get listings locate)
+
+-- a locate has the stock of one of these names
+abbrev pub has_one_of : Securities → List (List ℕ) → ℕ → Bool
+has_one_of listings names locate = list_any (λ name. has_stock listings name locate) names
+
+-- a market cut down to the locates that have one of these stocks
+abbrev pub only_stocks : List (List ℕ) → Content → Content
+only_stocks names m = only (has_one_of (Content.securities m) names) m
+
+-- a locate of the directory has the stock of this name
+abbrev pub is_known : Securities → List ℕ → Bool
+is_known listings name = list_any (has_stock listings name) (finite.keys listings)
+
+-- the same of each of these names
+abbrev pub are_known : Securities → List (List ℕ) → Bool
+are_known listings names = list_all (is_known listings) names
+
+-- why the locates of these names are not found: one of them is unknown, or memory is refused
+abbrev pub IsStockFault : Securities → List (List ℕ) → ToolFault → Type 0
+IsStockFault listings names fault = ((fault ≡ tool.UnknownStock) × (are_known listings names ≡ false)) ⊎ (fault ≡ tool.OutOfMemory)
+
+-- what looking these names up returns: each is known, and the set is of the locates that have one of them
+abbrev pub FindsStocks : Securities → List (List ℕ) → Result Wanted ToolFault → Type 0
+FindsStocks listings names (Ok set) = (are_known listings names ≡ true) × ((locate : ℕ) → has set locate ≡ has_one_of listings names locate)
+FindsStocks listings names (Err fault) = IsStockFault listings names fault
+
+-- what looking up a further name does to a set
+abbrev pub AddsStock : Securities → List ℕ → Wanted → Result (Unit {0}) ToolFault → Wanted → Type 0
+AddsStock listings name old (Ok done) new =
+    (is_known listings name ≡ true) × ((locate : ℕ) → has new locate ≡ (has_stock listings name locate || has old locate))
+AddsStock listings name old (Err fault) new = IsStockFault listings (name ∷ []) fault
+
+-- something is read, and the directory that it leaves knows each of these names; or the reading is refused, or they are not found
+abbrev pub ReadsStocks : {X : Type 0} → (X → Securities) → List (List ℕ) → (Result X ToolFault → Type 0) → Result X ToolFault → Type 0
+ReadsStocks listings names reads (Ok x) = reads (Ok x) × (are_known (listings x) names ≡ true)
+ReadsStocks {X} listings names reads (Err fault) = reads (Err fault) ⊎ ((x : X) × reads (Ok x) × IsStockFault (listings x) names fault)

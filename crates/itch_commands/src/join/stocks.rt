@@ -1,0 +1,99 @@
+//! A feed joined to a snapshot, for the locates of some stocks.
+ghost use Rattle.std.specs.Prelude.{◌≡◌, None};
+ghost use Rattle.itch_codec.specs.Widths.{IsSequence};
+ghost use Rattle.itch_market.specs.Wanted.{has};
+ghost use Rattle.itch_join.specs.Positions.{Position};
+ghost use Rattle.itch_join.specs.States.{new as fresh};
+ghost use Rattle.itch_commands.specs.AsRead.{as_read, read_by};
+ghost use Rattle.itch_commands.specs.Commands.{JoinsStocks};
+ghost use Rattle.itch_commands.specs.Joiners.{IsJoined, WritesStocks, position_of};
+ghost use Rattle.itch_commands.specs.Readings.{FromBlocks};
+ghost use Rattle.itch_commands.specs.Stocks.{names_of};
+
+use crate::fault::ToolFault;
+use crate::join::feed::read_feed;
+use crate::join::new_joiner;
+use crate::join::start::read_start;
+use crate::order_book::Book;
+use crate::stocks::stock_locates;
+use crate::writing::write_closed_of;
+use itch_book::OrderBook;
+use itch_codec::{MOST_MESSAGES, Seq};
+use itch_frame::{BlockReader, CountedRead, CountedWrite};
+use itch_join::Joiner;
+use itch_snapshot::snapshot_len;
+use std::alloc::Allocator;
+
+/// Joins the whole feed to the whole snapshot, and writes what [`join`](crate::join::join) does, cut down to the locates that have one
+/// of these stocks, by the directory in the end. The names are separated by commas.
+///
+/// So each message of both files has to follow the rules, unlike those that `join` skips for a set.
+///
+/// # Faults
+///
+/// Those of `join`, and `UnknownStock` if the directory has no entry with the stock of a name: then nothing is written.
+pub fn join_stocks<
+    R: CountedRead,
+    S: CountedRead,
+    B: Allocator,
+    C: Allocator,
+    A: Allocator + Copy,
+    W: CountedWrite,
+>(
+    alloc: A,
+    snapshot: &mut BlockReader<R, B>,
+    feed: &mut BlockReader<S, C>,
+    names: &str,
+    out: &mut W,
+) -> Result<bool, ToolFault>
+    ensures { JoinsStocks R.remaining R.failures S.remaining S.failures W.contents W.failures (read_by None) (names_of names.now) (FromBlocks snapshot.old snapshot.new)
+        (FromBlocks feed.old feed.new) out.old result out.new }
+{
+    let mut joiner: Joiner<Book<A>> = new_joiner(alloc, None);
+    join_with(alloc, &mut joiner, snapshot, feed, names, out)
+}
+
+// The same with a joiner that has taken nothing.
+fn join_with<
+    R: CountedRead,
+    S: CountedRead,
+    B: Allocator,
+    C: Allocator,
+    D: OrderBook,
+    W: CountedWrite,
+>(
+    alloc: D::Alloc,
+    joiner: &mut Joiner<D>,
+    snapshot: &mut BlockReader<R, B>,
+    feed: &mut BlockReader<S, C>,
+    names: &str,
+    out: &mut W,
+) -> Result<bool, ToolFault>
+    requires { joiner.old.state ≡ fresh }
+    ensures { JoinsStocks R.remaining R.failures S.remaining S.failures W.contents W.failures (as_read (has joiner.old.set)) (names_of names.now) (FromBlocks snapshot.old snapshot.new)
+        (FromBlocks feed.old feed.new) out.old result out.new }
+{
+    read_start(snapshot, joiner)?;
+    read_feed(feed, joiner)?;
+    write_stocks(alloc, joiner, names, out)
+}
+
+// Writes the snapshot of a joiner's market, if it is one, cut down to the locates of these stocks.
+fn write_stocks<B: OrderBook, W: CountedWrite>(
+    alloc: B::Alloc,
+    joiner: &Joiner<B>,
+    names: &str,
+    out: &mut W,
+) -> Result<bool, ToolFault>
+    requires joined { IsJoined joiner.now.state }
+    requires number { IsSequence (Position.next (position_of joiner.now.state)) }
+    ensures { WritesStocks W.contents W.failures (names_of names.now) (position_of joiner.now.state) out.old result out.new }
+{
+    let market = joiner.market().unwrap();
+    if snapshot_len(market) > u128::from(MOST_MESSAGES) {
+        return Err(ToolFault::TooMany);
+    }
+    let next = Seq::new(joiner.next().unwrap()).unwrap();
+    let set = stock_locates(alloc, market, names)?;
+    write_closed_of(market, Some(&set), next, out)
+}
