@@ -1,15 +1,15 @@
 //! Commands over files, with files of their own, and what they write of them.
 use super::blocks::*;
 use super::files::file;
-use itch_commands::ToolFault;
 use itch_commands::book::book;
 use itch_commands::canon::canon;
 use itch_commands::check::check;
 use itch_commands::compare::compare;
 use itch_commands::join::join;
-use itch_commands::show::show;
+use itch_commands::show::{show, show_blocks, show_snapshot};
 use itch_commands::snap::snap;
-use itch_frame::{CountedRead, CountedWrite};
+use itch_commands::{Choice, Filters, Limit, ShowForm, ToolFault, read_locates};
+use itch_frame::{BlockReader, CountedRead, CountedWrite};
 use std::alloc::Global;
 use std::test::Fail;
 
@@ -21,6 +21,8 @@ pub(super) enum Single {
     Canon,
     CanonCheck,
     Show,
+    ShowChosen,
+    ShowSnapshot,
     Book,
 }
 
@@ -39,6 +41,12 @@ const LINES: &[u8] = b"1 R 1 0 0 [AAPL] 51 4e 100 4e 43 5a20 50 4e 4e 31 4e 0 4e
     2 F 1 0 0 1 B 100 [AAPL] 150.0000 [ABCD]\n\
     3 A 1 0 0 2 B 200 [AAPL] 150.0000\n\
     4 U 1 0 0 1 3 100 150.0000\n";
+
+const CHOSEN_LINES: &[u8] = b"2 F 1 0 0 1 B 100 [AAPL] 150.0000 [ABCD]\n\
+    4 U 1 0 0 1 3 100 150.0000\n";
+
+const SNAPSHOT_LINES: &[u8] = b"1 R 1 0 0 [AAPL] 51 4e 100 4e 43 5a20 50 4e 4e 31 4e 0 4e\n\
+    4 G 5\n";
 
 // Each command without its contract, so that what calls one of them does not carry it.
 fn checked<R: CountedRead + Drop, W: CountedWrite>(
@@ -72,6 +80,39 @@ fn shown<R: CountedRead + Drop, W: CountedWrite>(
     out: &mut W,
 ) -> Result<bool, ToolFault> {
     show(alloc, reader, out)
+}
+
+// The messages of order 1, of some locates and types.
+fn shown_chosen<R: CountedRead + Drop, W: CountedWrite>(
+    alloc: Global,
+    reader: R,
+    out: &mut W,
+) -> Result<bool, ToolFault> {
+    let set = read_locates(alloc, "1-3")?;
+    let filters = Filters {
+        only: Some("1-3"),
+        types: Some("FU"),
+        reference: Some(1),
+    };
+    let choice = Choice::new(Some(&set), filters);
+    let mut reader = BlockReader::new(alloc, reader)?;
+    show_blocks(&mut reader, Limit::whole(), ShowForm::Text, choice, out)
+}
+
+// The directory of a snapshot, and its End.
+fn shown_snapshot<R: CountedRead + Drop, W: CountedWrite>(
+    alloc: Global,
+    reader: R,
+    out: &mut W,
+) -> Result<bool, ToolFault> {
+    let filters = Filters {
+        only: None,
+        types: Some("RG"),
+        reference: None,
+    };
+    let choice = Choice::new(None, filters);
+    let mut reader = BlockReader::new(alloc, reader)?;
+    show_snapshot(alloc, &mut reader, ShowForm::Text, choice, out)
 }
 
 fn booked<R: CountedRead + Drop, W: CountedWrite>(
@@ -113,6 +154,8 @@ pub(super) fn perform_single<R: CountedRead + Drop, W: CountedWrite>(
         Single::Canon => made_canonical(alloc, reader, false, out),
         Single::CanonCheck => made_canonical(alloc, reader, true, out),
         Single::Show => shown(alloc, reader, out),
+        Single::ShowChosen => shown_chosen(alloc, reader, out),
+        Single::ShowSnapshot => shown_snapshot(alloc, reader, out),
         Single::Book => booked(alloc, reader, out),
     }
 }
@@ -131,12 +174,14 @@ pub(super) fn perform_double<R: CountedRead + Drop, S: CountedRead + Drop, W: Co
     }
 }
 
-/// What a command writes of its file, which is the day or, of `canon`, the snapshot.
+/// What a command writes of its file, which is the day or, of `canon` and `show_snapshot`, the snapshot.
 pub(super) fn wanted(alloc: Global, command: Single) -> Result<Vec<u8>, Fail> {
     match command {
         Single::Check => Ok(Vec::from_slice(alloc, b"ok 4 messages\n")?),
         Single::CanonCheck => Ok(Vec::from_slice(alloc, b"canonical\n")?),
         Single::Show => Ok(Vec::from_slice(alloc, LINES)?),
+        Single::ShowChosen => Ok(Vec::from_slice(alloc, CHOSEN_LINES)?),
+        Single::ShowSnapshot => Ok(Vec::from_slice(alloc, SNAPSHOT_LINES)?),
         Single::Book => Ok(Vec::from_slice(alloc, b"1 AAPL\nB 150.0000 300 2\n")?),
         Single::Snap | Single::Canon => file(alloc, &SNAPSHOT),
     }

@@ -21,3 +21,4 @@ pub mod SideLines
 pub mod BookLines
 pub mod RecordedLines
 pub mod LocateLists
+pub mod UnfilteredLines

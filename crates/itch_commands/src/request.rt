@@ -3,7 +3,8 @@ ghost use Rattle.std.specs.Prelude.{◌≡◌, ◌↔◌, Some, IsNone, IfSome, 
 ghost use Rattle.itch_commands.specs.Requests.{file_of, is_binary, only_of};
 
 use crate::fault::Source;
-use crate::form::{BookForm, Form};
+use crate::filters::Filters;
+use crate::form::{BookForm, Form, ShowForm};
 use crate::kind::FileKind;
 use crate::limit::Limit;
 
@@ -22,10 +23,12 @@ pub enum Request<'a> {
         limit: Limit,
         form: Form,
     },
-    /// Show each message of a file as a line.
+    /// Show each message of a file as a line, or those that are chosen.
     Show {
         file: Option<&'a str>,
         kind: FileKind,
+        form: ShowForm,
+        filters: Filters<'a>,
     },
     /// Write a snapshot in canonical form, or only check whether it is in that form.
     Canon {
@@ -93,6 +96,7 @@ impl<'a> Request<'a> {
     {
         match *self {
             Request::Snap { only, .. } | Request::Join { only, .. } => only,
+            Request::Show { filters, .. } => filters.only,
             _ => None,
         }
     }

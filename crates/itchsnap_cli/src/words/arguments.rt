@@ -26,6 +26,10 @@ pub enum Argument {
     Check,
     // What the files are, if not day files.
     Recorded,
+    // Which messages `show` prints.
+    ShownOnly,
+    Types,
+    Reference,
     // The files of `join`.
     Joined,
     Feed,
@@ -66,6 +70,9 @@ impl Argument {
             Argument::Snapshot => snapshot(alloc),
             Argument::Check => only_check(alloc),
             Argument::Recorded => recorded(alloc),
+            Argument::ShownOnly => shown_only(alloc),
+            Argument::Types => types(alloc),
+            Argument::Reference => reference(alloc),
             Argument::Joined => named(
                 alloc,
                 "SNAP",
@@ -147,6 +154,28 @@ fn only<'a>(alloc: Global) -> Arg<'a> {
         .long("only")
         .value_name("LIST")
         .help("Keep only these locates, such as 1-40,77")
+}
+
+fn shown_only<'a>(alloc: Global) -> Arg<'a> {
+    Arg::new(alloc, "only")
+        .long("only")
+        .value_name("LIST")
+        .help("Print only messages of these locates, such as 1-40,77")
+}
+
+fn types<'a>(alloc: Global) -> Arg<'a> {
+    Arg::new(alloc, "types")
+        .long("types")
+        .value_name("LETTERS")
+        .help("Print only messages of these types, such as AEX")
+}
+
+fn reference<'a>(alloc: Global) -> Arg<'a> {
+    Arg::new(alloc, "reference")
+        .long("reference")
+        .value_name("N")
+        .help("Print only messages of this order, through its replacements")
+        .value_parser(clap::value_parser!(u64))
 }
 
 fn progress<'a>(alloc: Global) -> Arg<'a> {

@@ -3,7 +3,7 @@
 use crate::words::commands::usage_fault;
 use crate::words::time::read_time;
 use clap::{ArgMatches, Error};
-use itch_commands::{BookForm, FileKind, Form, Limit, Request, path_of};
+use itch_commands::{BookForm, FileKind, Filters, Form, Limit, Request, ShowForm, path_of};
 use std::alloc::Global;
 
 /// Reads the matched words of a request over files.
@@ -17,10 +17,7 @@ pub fn read_request<'a>(alloc: Global, matches: &ArgMatches<'a>) -> Result<Reque
             limit: read_limit(alloc, options)?,
             form: read_form(options),
         }),
-        Some(("show", options)) => Ok(Request::Show {
-            file: read_path(options, "FILE"),
-            kind: read_kind(alloc, options)?,
-        }),
+        Some(("show", options)) => read_show(alloc, options),
         Some(("canon", options)) => Ok(Request::Canon {
             file: read_path(options, "SNAP"),
             check: options.get_flag("check"),
@@ -57,6 +54,38 @@ fn read_join<'a>(alloc: Global, options: &ArgMatches<'a>) -> Result<Request<'a>,
         feed,
         only: options.get_str("only"),
     })
+}
+
+fn read_show<'a>(alloc: Global, options: &ArgMatches<'a>) -> Result<Request<'a>, Error> {
+    Ok(Request::Show {
+        file: read_path(options, "FILE"),
+        kind: read_kind(alloc, options)?,
+        form: ShowForm::Text,
+        filters: read_filters(alloc, options)?,
+    })
+}
+
+// What chooses the messages that are shown.
+fn read_filters<'a>(alloc: Global, options: &ArgMatches<'a>) -> Result<Filters<'a>, Error> {
+    Ok(Filters {
+        only: options.get_str("only"),
+        types: read_types(alloc, options)?,
+        reference: read_count(alloc, options, "reference", "--reference takes decimal digits")?,
+    })
+}
+
+// The letters of message types: one or more, printable and ASCII.
+fn read_types<'a>(alloc: Global, options: &ArgMatches<'a>) -> Result<Option<&'a str>, Error> {
+    let Some(types) = options.get_str("types") else {
+        return Ok(None);
+    };
+    if types.is_empty() || !types.bytes().all(|byte| matches!(byte, b' '..=b'~')) {
+        return Err(usage_fault(
+            alloc,
+            "--types takes letters of message types, such as AEX",
+        )?);
+    }
+    Ok(Some(types))
 }
 
 // The two files of a command, of which one may be standard input.
