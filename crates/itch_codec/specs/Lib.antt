@@ -8,3 +8,8 @@ pub mod Widths
 pub mod Messages
 pub mod Encoded
 pub mod Lines
+pub mod Headers
+pub mod Clock
+pub mod Names
+pub mod Json
+pub mod Named

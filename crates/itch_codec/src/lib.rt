@@ -2,7 +2,8 @@
 //!
 //! [`decode`] makes a [`Message`] of a payload, or returns its first fault; [`encode`] spells a message. A payload that is
 //! decoded and encoded again has the same bytes, except for the padding of End of Snapshot. Types that are not decoded are kept whole, as
-//! [`Undecoded`]. [`show`] makes a line of text of a message. Only [`line`], which makes that line a string, allocates.
+//! [`Undecoded`]. [`show`] makes a line of text of a message,
+//! [`show_named`] one with its codes as characters, and [`json`] a line of JSON. Only [`line`], which makes a string, allocates.
 //!
 //! Every value is valid: an [`Alpha`] is printable, a [`Seq`] is from 1 to 10^19, a [`Stamp`] fits its six bytes.
 //! `laws` states what holds of every payload and every message.
@@ -23,10 +24,14 @@ mod encoding;
 mod fault;
 mod fields;
 mod header;
+mod json_lines;
 pub mod laws;
 mod message;
+mod named;
+mod names;
 mod number;
 mod orders;
+mod pieces;
 mod showing;
 mod sizes;
 pub mod spaces;
@@ -42,7 +47,9 @@ pub use encoded::Encoded;
 pub use encoding::encode;
 pub use fault::CodecFault;
 pub use header::{Header, Stamp};
+pub use json_lines::{JsonText, json};
 pub use message::Message;
+pub use named::show_named;
 pub use number::{GREATEST_SEQ, MOST_MESSAGES, Seq, number20, read_number20};
 pub use orders::{
     AddOrder, AttributedAddOrder, OrderCancel, OrderDelete, OrderExecuted, OrderExecutedWithPrice,

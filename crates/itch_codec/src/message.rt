@@ -1,5 +1,8 @@
 //! A message of the feed or of a snapshot.
+ghost use Rattle.std.specs.Prelude.{◌≡◌};
+ghost use Rattle.itch_codec.specs.Headers.{header, kind_of, reference_of, time_of};
 
+use crate::header::Header;
 use crate::number::Seq;
 use crate::orders::{
     AddOrder, AttributedAddOrder, OrderCancel, OrderDelete, OrderExecuted, OrderExecutedWithPrice,
@@ -33,4 +36,85 @@ pub enum Message<'a> {
     /// End of Snapshot (GLIMPSE 5.0), with the number of the first message that the snapshot does not contain.
     End { next: Seq },
     Other(Undecoded<'a>),
+}
+
+impl Message<'_> {
+    /// The message's type: the first byte of its payload.
+    pub fn kind(&self) -> u8
+        ensures { result ≡ kind_of self.now }
+    {
+        match self {
+            Message::SystemEvent(_) => b'S',
+            Message::StockDirectory(_) => b'R',
+            Message::TradingAction(_) => b'H',
+            Message::RegSho(_) => b'Y',
+            Message::Halt(_) => b'h',
+            Message::Position(_) => b'L',
+            Message::AddOrder(_) => b'A',
+            Message::AttributedAddOrder(_) => b'F',
+            Message::OrderExecuted(_) => b'E',
+            Message::OrderExecutedWithPrice(_) => b'C',
+            Message::OrderCancel(_) => b'X',
+            Message::OrderDelete(_) => b'D',
+            Message::OrderReplace(_) => b'U',
+            Message::Trade(_) => b'P',
+            Message::CrossTrade(_) => b'Q',
+            Message::BrokenTrade(_) => b'B',
+            Message::End { .. } => b'G',
+            Message::Other(m) => m.kind(),
+        }
+    }
+
+    /// The header. An End of Snapshot has none, nor does a message that is not decoded.
+    pub fn header(&self) -> Option<Header>
+        ensures { result ≡ header self.now }
+    {
+        match self {
+            Message::SystemEvent(m) => Some(m.header),
+            Message::StockDirectory(m) => Some(m.header),
+            Message::TradingAction(m) => Some(m.header),
+            Message::RegSho(m) => Some(m.header),
+            Message::Halt(m) => Some(m.header),
+            Message::Position(m) => Some(m.header),
+            Message::AddOrder(m) => Some(m.header),
+            Message::AttributedAddOrder(m) => Some(m.order.header),
+            Message::OrderExecuted(m) => Some(m.header),
+            Message::OrderExecutedWithPrice(m) => Some(m.execution.header),
+            Message::OrderCancel(m) => Some(m.header),
+            Message::OrderDelete(m) => Some(m.header),
+            Message::OrderReplace(m) => Some(m.header),
+            Message::Trade(m) => Some(m.header),
+            Message::CrossTrade(m) => Some(m.header),
+            Message::BrokenTrade(m) => Some(m.header),
+            Message::End { .. } | Message::Other(_) => None,
+        }
+    }
+
+    /// When the message was made, in nanoseconds since midnight, if it has a header.
+    pub fn time(&self) -> Option<u64>
+        ensures { result ≡ time_of self.now }
+    {
+        match self.header() {
+            Some(header) => Some(header.stamp.value()),
+            None => None,
+        }
+    }
+
+    /// The order reference number of the live order that the message adds, changes or ends: of a replace the original one.
+    ///
+    /// A Trade has a number too, but names no order of the book by it.
+    pub fn reference(&self) -> Option<u64>
+        ensures { result ≡ reference_of self.now }
+    {
+        match self {
+            Message::AddOrder(m) => Some(m.reference),
+            Message::AttributedAddOrder(m) => Some(m.order.reference),
+            Message::OrderExecuted(m) => Some(m.reference),
+            Message::OrderExecutedWithPrice(m) => Some(m.execution.reference),
+            Message::OrderCancel(m) => Some(m.reference),
+            Message::OrderDelete(m) => Some(m.reference),
+            Message::OrderReplace(m) => Some(m.original),
+            _ => None,
+        }
+    }
 }

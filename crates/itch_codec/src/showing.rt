@@ -9,8 +9,9 @@ ghost use Rattle.itch_codec.specs.Messages.{Payload, shape};
 
 use crate::message::Message;
 use crate::number::Seq;
+use crate::pieces::push_number;
 use crate::undecoded::Undecoded;
-use crate::words::{Words, show_code, show_digits, show_number};
+use crate::words::{Words, show_code, show_number};
 use std::alloc::{AllocError, Allocator};
 use std::marker::Model;
 
@@ -29,6 +30,12 @@ impl Model for LineText {
 }
 
 impl LineText {
+    pub(crate) fn of(text: Words) -> LineText
+        ensures { result ≡ text.bytes }
+    {
+        LineText { text }
+    }
+
     /// The text, which is ASCII and has at most 192 bytes.
     pub fn as_str(&self) -> &str
         ensures text { result.now ≡ self.now }
@@ -47,7 +54,7 @@ pub fn show(number: u64, message: &Message<'_>) -> LineText
     ensures { result ≡ line_of number message.now }
 {
     let mut text = Words::new();
-    show_digits(&mut text, number);
+    push_number(&mut text, number);
     text.push_str(" ");
     show_words(message, &mut text);
     text.push_str("\n");

@@ -1,14 +1,14 @@
 //! Words of a line that shows a message: one writer for each class of field, which puts a space before it.
-ghost use Rattle.std.specs.Prelude.{◌≡◌, ◌+◌, ◌*◌, ◌/◌, ◌%◌, ◌<◌, ◌≤◌, [], ◌∷◌, ◌++◌, decimal, length};
+ghost use Rattle.std.specs.Prelude.{◌≡◌, ◌+◌, ◌*◌, ◌≤◌, [], ◌∷◌, ◌++◌, length};
 ghost use Rattle.arrayvec.specs.ArrayString.{array_string_len};
 ghost use Rattle.itch_codec.specs.Fields.{Number, Bytes, TheSide};
-ghost use Rattle.itch_codec.specs.Lines.{word, hex_digit};
+ghost use Rattle.itch_codec.specs.Lines.{word};
 ghost use Rattle.itch_codec.specs.Layouts.{Integer, Price, Text, OneSide, Code, Codes};
 
 use crate::orders::Side;
+use crate::pieces::{push_hex, push_number, push_price};
 use crate::text::Alpha;
 use arrayvec::ArrayString;
-use itoa::Buffer;
 
 /// The text of a line as it is built. The longest line, of a trade, has 129 bytes.
 pub(crate) type Words = ArrayString<192>;
@@ -21,16 +21,7 @@ pub(crate) fn show_number(line: &mut Words, number: u64)
     ensures len { array_string_len line.new ≤ array_string_len line.old + 21 }
 {
     line.push_str(" ");
-    show_digits(line, number);
-}
-
-/// Appends a number in decimal digits.
-pub(crate) fn show_digits(line: &mut Words, number: u64)
-    requires { array_string_len line.old ≤ 172 }
-    ensures bytes { line.new.bytes ≡ line.old.bytes ++ decimal number }
-    ensures len { array_string_len line.new ≤ array_string_len line.old + 20 }
-{
-    line.push_str(Buffer::new().format(number));
+    push_number(line, number);
 }
 
 /// Appends a space and a price with its four decimals.
@@ -40,30 +31,8 @@ pub(crate) fn show_price(line: &mut Words, price: u32)
     ensures bytes { line.new.bytes ≡ line.old.bytes ++ word Price (Number price) }
     ensures len { array_string_len line.new ≤ array_string_len line.old + 26 }
 {
-    show_number(line, u64::from(price / 10_000));
-    line.push_str(".");
-    push_digit(line, price / 1000 % 10);
-    push_digit(line, price / 100 % 10);
-    push_digit(line, price / 10 % 10);
-    push_digit(line, price % 10);
-}
-
-fn push_digit(line: &mut Words, digit: u32)
-    requires digit { digit < 10 }
-    requires room { array_string_len line.old < 192 }
-    ensures bytes { line.new.bytes ≡ line.old.bytes ++ (48 + digit) ∷ [] }
-    ensures len { array_string_len line.new ≡ array_string_len line.old + 1 }
-{
-    push_ascii(line, b'0' + digit as u8);
-}
-
-fn push_ascii(line: &mut Words, byte: u8)
-    requires ascii { byte < 128 }
-    requires room { array_string_len line.old < 192 }
-    ensures bytes { line.new.bytes ≡ line.old.bytes ++ byte ∷ [] }
-    ensures len { array_string_len line.new ≡ array_string_len line.old + 1 }
-{
-    line.push(char::from(byte));
+    line.push_str(" ");
+    push_price(line, price);
 }
 
 /// Appends a space, and a text in square brackets without the spaces at its end.
@@ -112,26 +81,5 @@ pub(crate) fn show_codes(line: &mut Words, bytes: &[u8])
     line.push_str(" ");
     for &byte in bytes {
         push_hex(line, byte);
-    }
-}
-
-fn push_hex(line: &mut Words, byte: u8)
-    requires { array_string_len line.old ≤ 190 }
-    ensures bytes { line.new.bytes ≡ line.old.bytes ++ hex_digit (byte / 16) ∷ hex_digit (byte % 16) ∷ [] }
-    ensures len { array_string_len line.new ≡ array_string_len line.old + 2 }
-{
-    push_ascii(line, hex_digit(byte / 16));
-    push_ascii(line, hex_digit(byte % 16));
-}
-
-fn hex_digit(digit: u8) -> u8
-    requires { digit < 16 }
-    ensures digit { result ≡ hex_digit digit }
-    ensures ascii { result < 128 }
-{
-    if digit < 10 {
-        b'0' + digit
-    } else {
-        b'a' + digit - 10
     }
 }

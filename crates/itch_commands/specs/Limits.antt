@@ -1,39 +1,13 @@
 -- Which part of a file is wanted: as many messages as are asked for, or those before a time.
-use Rattle.std.specs.Prelude.{◌≡◌, ℕ, ◌-◌, ◌^◌, ◌<◌, nat_le, Bool, true, false, List, Option, None, Some, IfSome, option_map}
+use Rattle.std.specs.Prelude.{◌≡◌, ℕ, ◌-◌, ◌^◌, ◌<◌, nat_le, Bool, true, false, List, Option, None, Some, IfSome}
 use Rattle.itch_codec.specs.Messages.{fault, message_of}
-use Rattle.itch_codec.specs.declared.header.Header.{Header}
+use Rattle.itch_codec.specs.Headers.{time_of}
 use Rattle.itch_codec.specs.declared.message.Message.{Message}
-use Rattle.itch_codec.specs.declared.message.Message.TheVariants as is
 use Rattle.itch_commands.specs.declared.limit.Limit.{Limit}
 
 -- the first messages, as many as this; or the whole file
 abbrev pub counted : Option ℕ → Limit
 counted after = record { after = after; until = None }
-
--- the header of a message, if it has one
-abbrev pub header : Message → Option Header
-header (is.SystemEvent m) = Some m.header
-header (is.StockDirectory m) = Some m.header
-header (is.TradingAction m) = Some m.header
-header (is.RegSho m) = Some m.header
-header (is.Halt m) = Some m.header
-header (is.Position m) = Some m.header
-header (is.AddOrder m) = Some m.header
-header (is.AttributedAddOrder m) = Some m.order.header
-header (is.OrderExecuted m) = Some m.header
-header (is.OrderExecutedWithPrice m) = Some m.execution.header
-header (is.OrderCancel m) = Some m.header
-header (is.OrderDelete m) = Some m.header
-header (is.OrderReplace m) = Some m.header
-header (is.Trade m) = Some m.header
-header (is.CrossTrade m) = Some m.header
-header (is.BrokenTrade m) = Some m.header
-header (is.End next) = None
-header (is.Other bytes) = None
-
--- when a message was made, in nanoseconds since midnight, if it says so
-abbrev pub time_of : Message → Option ℕ
-time_of message = option_map (λ (h : Header). h.stamp) (header message)
 
 -- a time is this one or later
 abbrev pub is_from : ℕ → Option ℕ → Bool

@@ -45,7 +45,7 @@ pub use fault::{Source, ToolFault, status, system_fault};
 pub use filters::Filters;
 pub use form::{BookForm, Form, ShowForm};
 pub use kind::{FileKind, file_market};
-pub use limit::{Limit, time_of};
+pub use limit::Limit;
 pub use locates::read_locates;
 pub use order_book::Book;
 pub use performing::perform;

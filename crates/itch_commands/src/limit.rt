@@ -1,6 +1,6 @@
 //! Which part of a file is wanted.
 ghost use Rattle.std.specs.Prelude.{◌≡◌};
-ghost use Rattle.itch_commands.specs.Limits.{counted, is_late, most_of, time_of};
+ghost use Rattle.itch_commands.specs.Limits.{counted, is_late, most_of};
 
 use itch_codec::Message;
 
@@ -45,35 +45,9 @@ impl Limit {
         let Some(until) = self.until else {
             return false;
         };
-        match time_of(message) {
+        match message.time() {
             Some(time) => until <= time,
             None => false,
         }
     }
-}
-
-/// When a message was made, in nanoseconds since midnight. An End of Snapshot does not say so, nor does a message that is not decoded.
-pub fn time_of(message: &Message<'_>) -> Option<u64>
-    ensures { result ≡ time_of message.now }
-{
-    let header = match message {
-        Message::SystemEvent(m) => m.header,
-        Message::StockDirectory(m) => m.header,
-        Message::TradingAction(m) => m.header,
-        Message::RegSho(m) => m.header,
-        Message::Halt(m) => m.header,
-        Message::Position(m) => m.header,
-        Message::AddOrder(m) => m.header,
-        Message::AttributedAddOrder(m) => m.order.header,
-        Message::OrderExecuted(m) => m.header,
-        Message::OrderExecutedWithPrice(m) => m.execution.header,
-        Message::OrderCancel(m) => m.header,
-        Message::OrderDelete(m) => m.header,
-        Message::OrderReplace(m) => m.header,
-        Message::Trade(m) => m.header,
-        Message::CrossTrade(m) => m.header,
-        Message::BrokenTrade(m) => m.header,
-        Message::End { .. } | Message::Other(_) => return None,
-    };
-    Some(header.stamp.value())
 }

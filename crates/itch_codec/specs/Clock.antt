@@ -1,0 +1,23 @@
+-- A time of the day as text: hours, minutes, seconds and nine decimals, as in 09:30:00.000000001.
+use Rattle.std.specs.Prelude.{ℕ, ◌+◌, ◌/◌, ◌%◌, ◌==◌, Bool, List, [], ◌∷◌, ◌++◌}
+use Rattle.itch_codec.specs.Layouts.{Column}
+
+-- the last two decimal digits of a number
+unfoldable pub two_digits : ℕ → List ℕ
+two_digits n = (48 + n / 10 % 10) ∷ (48 + n % 10) ∷ []
+
+-- the last nine decimal digits of a number
+unfoldable pub nine_digits : ℕ → List ℕ
+nine_digits n =
+    (48 + n / 100000000 % 10) ∷ (48 + n / 10000000 % 10) ∷ (48 + n / 1000000 % 10) ∷ (48 + n / 100000 % 10) ∷ (48 + n / 10000 % 10)
+    ∷ (48 + n / 1000 % 10) ∷ (48 + n / 100 % 10) ∷ (48 + n / 10 % 10) ∷ (48 + n % 10) ∷ []
+
+-- nanoseconds since midnight as a time of the day. Those of a timestamp, below 2^48, are less than 79 hours
+unfoldable pub clock : ℕ → List ℕ
+clock nanoseconds =
+    two_digits (nanoseconds / 3600000000000) ++ 58 ∷ two_digits (nanoseconds / 60000000000 % 60)
+    ++ 58 ∷ two_digits (nanoseconds / 1000000000 % 60) ++ 46 ∷ nine_digits nanoseconds
+
+-- the field is a timestamp: no other has six bytes
+abbrev pub is_timestamp : Column → Bool
+is_timestamp column = column.width == 6
