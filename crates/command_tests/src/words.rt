@@ -68,6 +68,14 @@ fn requests_are_read(rt: HostRuntime) -> Result<(), Fail> {
             "Show { file: Some(\"day.itch\"), kind: Day(Limit { after: None, until: None }), form: Text, filters: Filters { only: None, types: None, reference: None } }",
         ),
         (
+            "show --names --reference 18446744073709551615",
+            "Show { file: None, kind: Day(Limit { after: None, until: None }), form: Named, filters: Filters { only: None, types: None, reference: Some(18446744073709551615) } }",
+        ),
+        (
+            "show - --json --snapshot",
+            "Show { file: None, kind: Snapshot, form: Json, filters: Filters { only: None, types: None, reference: None } }",
+        ),
+        (
             "show --only 1-3 --types AEX --reference 007",
             "Show { file: None, kind: Day(Limit { after: None, until: None }), form: Text, filters: Filters { only: Some(\"1-3\"), types: Some(\"AEX\"), reference: Some(7) } }",
         ),

@@ -33,7 +33,7 @@ use Rattle.itch_commands.proofs.PartReadings.{is_given, late_given}
 -- lines one after the other
 pub lines-append : (form : ShowForm) (chosen : Chosen) (number : ℕ) (xs ys : List Message)
     → chosen_lines form chosen number (xs ++ ys) ≡ chosen_lines form chosen number xs ++ chosen_lines form (chosen_past chosen xs) (number + length xs) ys
-unfolding chosen_lines, chosen_past
+unfolding chosen_lines chosen_past
 lines-append form chosen number [] ys =
     let same : number ≡ number + length {A = Message} [] = omega arith in ap (λ n. chosen_lines form chosen n ys) same
 lines-append form chosen number (x ∷ xs) ys =
@@ -61,7 +61,7 @@ last_line form chosen number xs x =
     let line : List ℕ = chosen_line form now (number + length xs) x in
     lines-append form chosen number xs (x ∷ [])
     ∙ ap (λ t. chosen_lines form chosen number xs ++ t)
-        (one_line form now (number + length xs) x [] ∙ ap (λ t. line ++ t) (no_lines form (chosen_after now x) (number + length xs + 1)) ∙ append-nil line)
+    (one_line form now (number + length xs) x [] ∙ ap (λ t. line ++ t) (no_lines form (chosen_after now x) (number + length xs + 1)) ∙ append-nil line)
 
 -- nothing was passed yet
 pub past_none : (chosen : Chosen) → chosen ≡ chosen_past chosen []

@@ -6,7 +6,7 @@ use Rattle.itch_commands.specs.Choices.{Chosen, everything, renamed, chosen_afte
 use Rattle.itch_commands.specs.declared.form.ShowForm.TheVariants.{Text}
 
 pub all_lines : (number : ℕ) (messages : List Message) → chosen_lines Text everything number messages ≡ lines_of number messages
-unfolding chosen_lines, lines_of
+unfolding chosen_lines lines_of
 all_lines number [] = refl
 all_lines number (x ∷ xs) = ap (λ t. line_of number x ++ t) (all_lines (number + 1) xs)
 

@@ -1,14 +1,14 @@
 -- Which messages `show` shows, and in which form.
 use Rattle.std.specs.Prelude.{ℕ, ◌+◌, ◌==◌, ◌&&◌, Bool, true, false, List, [], ◌∷◌, ◌++◌, Option, Some, None, option_map, if◌then◌else◌}
 use Rattle.std.specs.List.{list_any}
+use Rattle.itch_codec.specs.Headers.{header, kind_of, reference_of}
+use Rattle.itch_codec.specs.Json.{json_line}
 use Rattle.itch_codec.specs.Lines.{line_of}
-use Rattle.itch_codec.specs.Messages.{Shape, Fields, Payload, shape}
-use Rattle.itch_codec.specs.Numbers.{byte_at}
+use Rattle.itch_codec.specs.Named.{named_line}
 use Rattle.itch_codec.specs.declared.header.Header.{Header}
 use Rattle.itch_codec.specs.declared.message.Message.{Message}
 use Rattle.itch_codec.specs.declared.message.Message.TheVariants as is
 use Rattle.itch_market.specs.Wanted.{Wanted, has}
-use Rattle.itch_commands.specs.Limits.{header}
 use Rattle.itch_commands.specs.declared.filters.Filters.{Filters}
 use Rattle.itch_commands.specs.declared.form.ShowForm.{ShowForm}
 use Rattle.itch_commands.specs.declared.form.ShowForm.TheVariants as form
@@ -37,30 +37,10 @@ abbrev pub is_located : Option Wanted → Message → Bool
 is_located None message = true
 is_located (Some set) message = is_at set (header message)
 
--- the first byte of a message of this shape
-abbrev pub kind_of_shape : Shape → ℕ
-kind_of_shape (Fields layout values) = layout.kind
-kind_of_shape (Payload bytes) = byte_at 0 bytes
-
--- a message's type: the first byte of what spells it
-abbrev pub kind_of : Message → ℕ
-kind_of message = kind_of_shape (shape message)
-
 -- a message has a type that is wanted
 abbrev pub is_typed : Option (List ℕ) → Message → Bool
 is_typed None message = true
 is_typed (Some types) message = list_any (λ letter. letter == kind_of message) types
-
--- the live order that a message adds, changes or ends. A replace names its original order so, and a Trade names none
-abbrev pub reference_of : Message → Option ℕ
-reference_of (is.AddOrder m) = Some m.reference
-reference_of (is.AttributedAddOrder m) = Some m.order.reference
-reference_of (is.OrderExecuted m) = Some m.reference
-reference_of (is.OrderExecutedWithPrice m) = Some m.execution.reference
-reference_of (is.OrderCancel m) = Some m.reference
-reference_of (is.OrderDelete m) = Some m.reference
-reference_of (is.OrderReplace m) = Some m.original
-reference_of message = None
 
 -- a message that names an order names this one
 abbrev pub is_named : ℕ → Option ℕ → Bool
@@ -93,6 +73,8 @@ chosen_past chosen (message ∷ messages) = chosen_past (chosen_after chosen mes
 -- the line of a message in a form
 abbrev pub line_in : ShowForm → ℕ → Message → List ℕ
 line_in form.Text number message = line_of number message
+line_in form.Named number message = named_line number message
+line_in form.Json number message = json_line number message
 
 -- the line of a message if it is chosen, and otherwise nothing
 abbrev pub chosen_line : ShowForm → Chosen → ℕ → Message → List ℕ

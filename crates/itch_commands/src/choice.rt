@@ -4,7 +4,6 @@ ghost use Rattle.std.specs.Option.{option_copied};
 ghost use Rattle.itch_commands.specs.Choices.{everything, chosen_by, is_located, is_typed, is_about, is_chosen, renamed, chosen_after};
 
 use crate::filters::Filters;
-use crate::parts::{header_of, kind_of, reference_of};
 use itch_codec::Message;
 use itch_market::LocateSet;
 use std::alloc::Allocator;
@@ -77,7 +76,7 @@ fn is_located<A: Allocator>(only: Option<&LocateSet<A>>, message: &Message<'_>) 
 {
     match only {
         None => true,
-        Some(set) => match header_of(message) {
+        Some(set) => match message.header() {
             Some(header) => set.contains(header.locate),
             None => false,
         },
@@ -90,7 +89,7 @@ fn is_typed(types: Option<&str>, message: &Message<'_>) -> bool
 {
     match types {
         None => true,
-        Some(types) => types.as_bytes().contains(&kind_of(message)),
+        Some(types) => types.as_bytes().contains(&message.kind()),
     }
 }
 
@@ -100,7 +99,7 @@ fn is_about(reference: Option<u64>, message: &Message<'_>) -> bool
 {
     match reference {
         None => true,
-        Some(_) => reference_of(message) == reference,
+        Some(_) => message.reference() == reference,
     }
 }
 

@@ -25,4 +25,8 @@ pub enum BookForm {
 pub enum ShowForm {
     /// A line of text.
     Text,
+    /// The same with codes as characters, and timestamps as times of the day.
+    Named,
+    /// A line with a JSON object (RFC 8259).
+    Json,
 }

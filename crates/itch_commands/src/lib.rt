@@ -30,7 +30,6 @@ mod limit;
 mod line;
 mod locates;
 mod order_book;
-mod parts;
 mod performing;
 mod reading;
 mod request;

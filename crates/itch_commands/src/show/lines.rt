@@ -7,7 +7,7 @@ use crate::choice::Choice;
 use crate::fault::ToolFault;
 use crate::form::ShowForm;
 use crate::writing::write_text;
-use itch_codec::{Message, show as show_message};
+use itch_codec::{Message, json, show as show_message, show_named};
 use itch_frame::CountedWrite;
 use std::alloc::Allocator;
 
@@ -41,5 +41,7 @@ fn write_line<W: CountedWrite>(
 {
     match form {
         ShowForm::Text => write_text(show_message(number, message).as_str().as_bytes(), out),
+        ShowForm::Named => write_text(show_named(number, message).as_str().as_bytes(), out),
+        ShowForm::Json => write_text(json(number, message).as_str().as_bytes(), out),
     }
 }

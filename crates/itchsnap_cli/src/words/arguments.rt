@@ -26,10 +26,11 @@ pub enum Argument {
     Check,
     // What the files are, if not day files.
     Recorded,
-    // Which messages `show` prints.
+    // Which messages `show` prints, and how.
     ShownOnly,
     Types,
     Reference,
+    Names,
     // The files of `join`.
     Joined,
     Feed,
@@ -73,6 +74,7 @@ impl Argument {
             Argument::ShownOnly => shown_only(alloc),
             Argument::Types => types(alloc),
             Argument::Reference => reference(alloc),
+            Argument::Names => names(alloc),
             Argument::Joined => named(
                 alloc,
                 "SNAP",
@@ -176,6 +178,13 @@ fn reference<'a>(alloc: Global) -> Arg<'a> {
         .value_name("N")
         .help("Print only messages of this order, through its replacements")
         .value_parser(clap::value_parser!(u64))
+}
+
+fn names<'a>(alloc: Global) -> Arg<'a> {
+    Arg::new(alloc, "names")
+        .long("names")
+        .help("Print codes as characters, and timestamps as times of the day")
+        .action(ArgAction::SetTrue)
 }
 
 fn progress<'a>(alloc: Global) -> Arg<'a> {

@@ -87,6 +87,8 @@ const COMMANDS: [Entry; 10] = [
             Argument::ShownOnly,
             Argument::Types,
             Argument::Reference,
+            Argument::Names,
+            Argument::Json,
             Argument::Progress,
         ],
         example: "Example: itchsnap show day.itch --reference 7",

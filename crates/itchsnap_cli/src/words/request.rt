@@ -60,9 +60,18 @@ fn read_show<'a>(alloc: Global, options: &ArgMatches<'a>) -> Result<Request<'a>,
     Ok(Request::Show {
         file: read_path(options, "FILE"),
         kind: read_kind(alloc, options)?,
-        form: ShowForm::Text,
+        form: read_show_form(alloc, options)?,
         filters: read_filters(alloc, options)?,
     })
+}
+
+fn read_show_form<'a>(alloc: Global, options: &ArgMatches<'a>) -> Result<ShowForm, Error> {
+    match (options.get_flag("names"), options.get_flag("json")) {
+        (false, false) => Ok(ShowForm::Text),
+        (true, false) => Ok(ShowForm::Named),
+        (false, true) => Ok(ShowForm::Json),
+        (true, true) => Err(usage_fault(alloc, "--names and --json exclude each other")?),
+    }
 }
 
 // What chooses the messages that are shown.
@@ -70,7 +79,12 @@ fn read_filters<'a>(alloc: Global, options: &ArgMatches<'a>) -> Result<Filters<'
     Ok(Filters {
         only: options.get_str("only"),
         types: read_types(alloc, options)?,
-        reference: read_count(alloc, options, "reference", "--reference takes decimal digits")?,
+        reference: read_count(
+            alloc,
+            options,
+            "reference",
+            "--reference takes decimal digits",
+        )?,
     })
 }
 
@@ -80,10 +94,7 @@ fn read_types<'a>(alloc: Global, options: &ArgMatches<'a>) -> Result<Option<&'a 
         return Ok(None);
     };
     if types.is_empty() || !types.bytes().all(|byte| matches!(byte, b' '..=b'~')) {
-        return Err(usage_fault(
-            alloc,
-            "--types takes letters of message types, such as AEX",
-        )?);
+        return Err(usage_fault(alloc, "--types takes letters of message types, such as AEX")?);
     }
     Ok(Some(types))
 }
