@@ -42,11 +42,14 @@ const LINES: &[u8] = b"1 R 1 0 0 [AAPL] 51 4e 100 4e 43 5a20 50 4e 4e 31 4e 0 4e
     3 A 1 0 0 2 B 200 [AAPL] 150.0000\n\
     4 U 1 0 0 1 3 100 150.0000\n";
 
-const CHOSEN_LINES: &[u8] = b"2 F 1 0 0 1 B 100 [AAPL] 150.0000 [ABCD]\n\
-    4 U 1 0 0 1 3 100 150.0000\n";
+const CHOSEN_LINES: &[u8] = b"2 F 1 0 00:00:00.000000000 1 B 100 [AAPL] 150.0000 [ABCD]\n\
+    4 U 1 0 00:00:00.000000000 1 3 100 150.0000\n";
 
-const SNAPSHOT_LINES: &[u8] = b"1 R 1 0 0 [AAPL] 51 4e 100 4e 43 5a20 50 4e 4e 31 4e 0 4e\n\
-    4 G 5\n";
+const SNAPSHOT_LINES: &[u8] =
+    b"{\"number\":2,\"type\":\"A\",\"stock_locate\":1,\"tracking_number\":0,\
+    \"time\":\"00:00:00.000000000\",\"ns\":0,\"order_reference_number\":2,\"buy_sell_indicator\":\"B\",\
+    \"shares\":200,\"stock\":\"AAPL\",\"price\":\"150.0000\"}\n\
+    {\"number\":4,\"type\":\"G\",\"sequence_number\":5}\n";
 
 // Each command without its contract, so that what calls one of them does not carry it.
 fn checked<R: CountedRead + Drop, W: CountedWrite>(
@@ -82,7 +85,7 @@ fn shown<R: CountedRead + Drop, W: CountedWrite>(
     show(alloc, reader, out)
 }
 
-// The messages of order 1, of some locates and types.
+// The messages of order 1, of some locates and types, with names.
 fn shown_chosen<R: CountedRead + Drop, W: CountedWrite>(
     alloc: Global,
     reader: R,
@@ -96,10 +99,10 @@ fn shown_chosen<R: CountedRead + Drop, W: CountedWrite>(
     };
     let choice = Choice::new(Some(&set), filters);
     let mut reader = BlockReader::new(alloc, reader)?;
-    show_blocks(&mut reader, Limit::whole(), ShowForm::Text, choice, out)
+    show_blocks(&mut reader, Limit::whole(), ShowForm::Named, choice, out)
 }
 
-// The directory of a snapshot, and its End.
+// The orders of a snapshot without attribution, and its End, as JSON.
 fn shown_snapshot<R: CountedRead + Drop, W: CountedWrite>(
     alloc: Global,
     reader: R,
@@ -107,12 +110,12 @@ fn shown_snapshot<R: CountedRead + Drop, W: CountedWrite>(
 ) -> Result<bool, ToolFault> {
     let filters = Filters {
         only: None,
-        types: Some("RG"),
+        types: Some("AG"),
         reference: None,
     };
     let choice = Choice::new(None, filters);
     let mut reader = BlockReader::new(alloc, reader)?;
-    show_snapshot(alloc, &mut reader, ShowForm::Text, choice, out)
+    show_snapshot(alloc, &mut reader, ShowForm::Json, choice, out)
 }
 
 fn booked<R: CountedRead + Drop, W: CountedWrite>(
