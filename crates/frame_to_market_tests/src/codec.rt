@@ -12,6 +12,7 @@ use std::test::Fail;
 
 mod broken_input;
 mod conversions;
+mod json;
 mod lines;
 mod vectors;
 

@@ -10,7 +10,7 @@ use crate::pieces::{push_hex, push_number, push_price};
 use crate::text::Alpha;
 use arrayvec::ArrayString;
 
-/// The text of a line as it is built. The longest line, of a trade, has 129 bytes.
+/// The text of a line as it is built. The longest has 168 bytes: that of a stock directory message with names.
 pub(crate) type Words = ArrayString<192>;
 
 /// Appends a space and a number in decimal digits.

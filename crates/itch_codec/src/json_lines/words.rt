@@ -16,7 +16,7 @@ use crate::pieces::{push_ascii, push_clock, push_hex, push_number, push_price};
 use crate::text::Alpha;
 use arrayvec::ArrayString;
 
-/// The text of a line of JSON as it is built. The longest line, of a stock directory message, has 575 bytes.
+/// The text of a line of JSON as it is built. The longest line, of a stock directory message, has 553 bytes.
 pub(crate) type JsonWords = ArrayString<648>;
 
 fn put_key(line: &mut JsonWords, key: Key)
