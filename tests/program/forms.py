@@ -7,6 +7,7 @@ import io
 import json
 
 from common import blocks, differs, ended
+from messages import file_of, jsons_of, lines_of
 
 # Every character that a stock may have, eight in each.
 STOCKS = [bytes(range(first, first + 8)) for first in range(0x20, 0x78, 8)] + [b"xyz{|}~ ", b'"""""""\\', b"\\\\\\\\\\\\\\\"", b",,,,,,,,", b"x,\"y\"   "]
@@ -64,9 +65,29 @@ def counts_and_verdicts_as_json_are_read(program):
         yield from differs(f"{words}: lines", [json.loads(line) for line in output.splitlines()], [value])
 
 
+def every_message_as_json_is_read(program):
+    status, output, error = ended(program, "show", "day.itch", "--json", day=file_of(STOCKS))
+    yield from differs("status and error", (status, error), (0, b""))
+    lines, wanted = output.splitlines(), jsons_of(STOCKS)
+    yield from differs("lines", len(lines), len(wanted))
+    for line, value in zip(lines, wanted):
+        yield from differs(f"{line}", list(json.loads(line).items()), value)
+
+
+def every_message_has_its_line_with_names(program):
+    status, output, error = ended(program, "show", "day.itch", "--names", day=file_of(STOCKS))
+    yield from differs("status and error", (status, error), (0, b""))
+    lines, wanted = output.decode().splitlines(), lines_of(STOCKS)
+    yield from differs("lines", len(lines), len(wanted))
+    for line, value in zip(lines, wanted):
+        yield from differs("line", line, value)
+
+
 RUNS = [
     a_book_as_json_is_read_for_every_stock,
     a_book_as_csv_is_read_for_every_stock,
     a_stock_of_any_characters_is_found_by_its_name,
     counts_and_verdicts_as_json_are_read,
+    every_message_as_json_is_read,
+    every_message_has_its_line_with_names,
 ]

@@ -2,15 +2,15 @@
 use super::blocks::*;
 use super::files::file;
 use super::stocks::{booked_of_stocks, joined_of_stocks, snapped_of_stocks};
-use itch_commands::ToolFault;
 use itch_commands::book::book;
 use itch_commands::canon::canon;
 use itch_commands::check::check;
 use itch_commands::compare::compare;
 use itch_commands::join::join;
-use itch_commands::show::show;
+use itch_commands::show::{show, show_blocks, show_snapshot};
 use itch_commands::snap::snap;
-use itch_frame::{CountedRead, CountedWrite};
+use itch_commands::{Choice, Filters, Limit, ShowForm, ToolFault, read_locates};
+use itch_frame::{BlockReader, CountedRead, CountedWrite};
 use itch_market::LocateSet;
 use std::alloc::Global;
 use std::test::Fail;
@@ -23,6 +23,8 @@ pub(super) enum Single {
     Canon,
     CanonCheck,
     Show,
+    ShowChosen,
+    ShowSnapshot,
     Book,
     SnapStocks,
     BookStocks,
@@ -46,6 +48,15 @@ const LINES: &[u8] = b"1 R 1 0 0 [AAPL] 51 4e 100 4e 43 5a20 50 4e 4e 31 4e 0 4e
     4 U 1 0 0 1 3 100 150.0000\n";
 
 const AS_CSV: &[u8] = b"locate,stock,side,price,shares,orders\n1,AAPL,B,150.0000,300,2\n";
+
+const CHOSEN_LINES: &[u8] = b"2 F 1 0 00:00:00.000000000 1 B 100 [AAPL] 150.0000 [ABCD]\n\
+    4 U 1 0 00:00:00.000000000 1 3 100 150.0000\n";
+
+const SNAPSHOT_LINES: &[u8] =
+    b"{\"number\":2,\"type\":\"A\",\"stock_locate\":1,\"tracking_number\":0,\
+    \"time\":\"00:00:00.000000000\",\"ns\":0,\"order_reference_number\":2,\"buy_sell_indicator\":\"B\",\
+    \"shares\":200,\"stock\":\"AAPL\",\"price\":\"150.0000\"}\n\
+    {\"number\":4,\"type\":\"G\",\"sequence_number\":5}\n";
 
 // Each command without its contract, so that what calls one of them does not carry it.
 fn checked<R: CountedRead + Drop, W: CountedWrite>(
@@ -79,6 +90,39 @@ fn shown<R: CountedRead + Drop, W: CountedWrite>(
     out: &mut W,
 ) -> Result<bool, ToolFault> {
     show(alloc, reader, out)
+}
+
+// The messages of order 1, of some locates and types, with names.
+fn shown_chosen<R: CountedRead + Drop, W: CountedWrite>(
+    alloc: Global,
+    reader: R,
+    out: &mut W,
+) -> Result<bool, ToolFault> {
+    let set = read_locates(alloc, "1-3")?;
+    let filters = Filters {
+        only: Some("1-3"),
+        types: Some("FU"),
+        reference: Some(1),
+    };
+    let choice = Choice::new(Some(&set), filters);
+    let mut reader = BlockReader::new(alloc, reader)?;
+    show_blocks(&mut reader, Limit::whole(), ShowForm::Named, choice, out)
+}
+
+// The orders of a snapshot without attribution, and its End, as JSON.
+fn shown_snapshot<R: CountedRead + Drop, W: CountedWrite>(
+    alloc: Global,
+    reader: R,
+    out: &mut W,
+) -> Result<bool, ToolFault> {
+    let filters = Filters {
+        only: None,
+        types: Some("AG"),
+        reference: None,
+    };
+    let choice = Choice::new(None, filters);
+    let mut reader = BlockReader::new(alloc, reader)?;
+    show_snapshot(alloc, &mut reader, ShowForm::Json, choice, out)
 }
 
 fn booked<R: CountedRead + Drop, W: CountedWrite>(
@@ -122,6 +166,8 @@ pub(super) fn perform_single<R: CountedRead + Drop, W: CountedWrite>(
         Single::Canon => made_canonical(alloc, reader, false, out),
         Single::CanonCheck => made_canonical(alloc, reader, true, out),
         Single::Show => shown(alloc, reader, out),
+        Single::ShowChosen => shown_chosen(alloc, reader, out),
+        Single::ShowSnapshot => shown_snapshot(alloc, reader, out),
         Single::Book => booked(alloc, reader, out),
         Single::SnapStocks => snapped_of_stocks(alloc, reader, out),
         Single::BookStocks => booked_of_stocks(alloc, reader, out),
@@ -143,12 +189,14 @@ pub(super) fn perform_double<R: CountedRead + Drop, S: CountedRead + Drop, W: Co
     }
 }
 
-/// What a command writes of its file, which is the day or, of `canon`, the snapshot.
+/// What a command writes of its file, which is the day or, of `canon` and `show_snapshot`, the snapshot.
 pub(super) fn wanted(alloc: Global, command: Single) -> Result<Vec<u8>, Fail> {
     match command {
         Single::Check => Ok(Vec::from_slice(alloc, b"ok 4 messages\n")?),
         Single::CanonCheck => Ok(Vec::from_slice(alloc, b"canonical\n")?),
         Single::Show => Ok(Vec::from_slice(alloc, LINES)?),
+        Single::ShowChosen => Ok(Vec::from_slice(alloc, CHOSEN_LINES)?),
+        Single::ShowSnapshot => Ok(Vec::from_slice(alloc, SNAPSHOT_LINES)?),
         Single::Book => Ok(Vec::from_slice(alloc, b"1 AAPL\nB 150.0000 300 2\n")?),
         Single::BookStocks => Ok(Vec::from_slice(alloc, AS_CSV)?),
         Single::Snap | Single::SnapStocks | Single::Canon => file(alloc, &SNAPSHOT),

@@ -56,7 +56,7 @@ fn fail_double(
 // The file of a command over one.
 fn bytes_of(alloc: Global, command: Single) -> Result<Vec<u8>, Fail> {
     match command {
-        Single::Canon | Single::CanonCheck => file(alloc, &SNAPSHOT),
+        Single::Canon | Single::CanonCheck | Single::ShowSnapshot => file(alloc, &SNAPSHOT),
         _ => file(alloc, &DAY),
     }
 }
@@ -68,6 +68,8 @@ fn writes_of_lines(rt: HostRuntime) -> Result<(), Fail> {
         Single::Check,
         Single::CanonCheck,
         Single::Show,
+        Single::ShowChosen,
+        Single::ShowSnapshot,
         Single::Book,
         Single::BookStocks,
     ] {

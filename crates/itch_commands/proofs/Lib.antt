@@ -24,3 +24,4 @@ pub mod BooksInTurn
 pub mod RecordedLines
 pub mod LocateLists
 pub mod StockNames
+pub mod UnfilteredLines

@@ -4,7 +4,6 @@ use Rattle.std.proofs.lemmas.Bool.Decides.{nat_tests}
 use Rattle.std.proofs.lemmas.List.{append_assoc, map-append, length-map}
 use Rattle.std.specs.Io.KnownBytes.{Consumes, Appends}
 use Rattle.std.proofs.KnownBytes.{Consumes-nil, Consumes-trans, Appends-nil}
-use Rattle.itch_codec.specs.Lines.{line_of}
 use Rattle.itch_codec.specs.Messages.{message_of}
 use Rattle.itch_codec.specs.declared.message.Message.{Message}
 use Rattle.itch_frame.specs.Blocks.{block, blocks, IsFull}
@@ -22,41 +21,66 @@ use Rattle.itch_commands.specs.declared.fault.Source.{Source}
 use Rattle.itch_commands.specs.declared.fault.Source.TheVariants.{Only}
 use Rattle.itch_commands.specs.declared.fault.ToolFault.{ToolFault}
 use Rattle.itch_commands.specs.declared.fault.ToolFault.TheVariants as tool
+use Rattle.itch_commands.specs.declared.form.ShowForm.{ShowForm}
 use Rattle.itch_commands.specs.declared.limit.Limit.{Limit}
+use Rattle.itch_commands.specs.Choices.{Chosen, chosen_after, chosen_past, chosen_line, chosen_lines}
 use Rattle.itch_commands.specs.Limits.{IsEarly, IsBefore}
 use Rattle.itch_commands.specs.Readings.{CountsRead}
 use Rattle.itch_commands.specs.Outputs.{Wrote}
-use Rattle.itch_commands.specs.Showing.{lines_of, lines_from, IsClean, ReadsOff, ReadsNext, ShowsNext, ShowsPart, ShowsUntil, Shows, LeavesNext, finish_end, finish_at, finish}
+use Rattle.itch_commands.specs.Showing.{lines_from, line_after, IsClean, ReadsOff, ReadsNext, ShowsNext, ShowsPart, ShowsUntil, Shows, LeavesNext, finish_end, finish_at, finish}
 use Rattle.itch_commands.proofs.PartReadings.{is_given, late_given}
 
 -- lines one after the other
-pub lines-append : (number : ℕ) (xs ys : List Message) → lines_of number (xs ++ ys) ≡ lines_of number xs ++ lines_of (number + length xs) ys
-unfolding lines_of
-lines-append number [] ys = let same : number ≡ number + length {A = Message} [] = omega arith in ap (λ n. lines_of n ys) same
-lines-append number (x ∷ xs) ys =
+pub lines-append : (form : ShowForm) (chosen : Chosen) (number : ℕ) (xs ys : List Message)
+    → chosen_lines form chosen number (xs ++ ys) ≡ chosen_lines form chosen number xs ++ chosen_lines form (chosen_past chosen xs) (number + length xs) ys
+unfolding chosen_lines chosen_past
+lines-append form chosen number [] ys =
+    let same : number ≡ number + length {A = Message} [] = omega arith in ap (λ n. chosen_lines form chosen n ys) same
+lines-append form chosen number (x ∷ xs) ys =
     let same : number + 1 + length xs ≡ number + length (x ∷ xs) = omega arith in
-    ap (λ t. line_of number x ++ t) (lines-append (number + 1) xs ys)
-    ∙ sym (append_assoc (line_of number x) (lines_of (number + 1) xs) (lines_of (number + 1 + length xs) ys))
-    ∙ ap (λ n. line_of number x ++ lines_of (number + 1) xs ++ lines_of n ys) same
+    let then : Chosen = chosen_after chosen x in
+    let first : List ℕ = chosen_line form chosen number x in
+    let others : List ℕ = chosen_lines form then (number + 1) xs in
+    ap (λ t. first ++ t) (lines-append form then (number + 1) xs ys)
+    ∙ sym (append_assoc first others (chosen_lines form (chosen_past then xs) (number + 1 + length xs) ys))
+    ∙ ap (λ n. first ++ others ++ chosen_lines form (chosen_past then xs) n ys) same
 
-pub one_line : (number : ℕ) (x : Message) (xs : List Message) → lines_of number (x ∷ xs) ≡ line_of number x ++ lines_of (number + 1) xs
-unfolding lines_of
-one_line number x xs = refl
+pub one_line : (form : ShowForm) (chosen : Chosen) (number : ℕ) (x : Message) (xs : List Message)
+    → chosen_lines form chosen number (x ∷ xs) ≡ chosen_line form chosen number x ++ chosen_lines form (chosen_after chosen x) (number + 1) xs
+unfolding chosen_lines
+one_line form chosen number x xs = refl
 
-pub no_lines : (number : ℕ) → lines_of number [] ≡ []
-unfolding lines_of
-no_lines number = refl
+pub no_lines : (form : ShowForm) (chosen : Chosen) (number : ℕ) → chosen_lines form chosen number [] ≡ []
+unfolding chosen_lines
+no_lines form chosen number = refl
 
-pub last_line : (number : ℕ) (xs : List Message) (x : Message) → lines_of number (xs ++ x ∷ []) ≡ lines_of number xs ++ line_of (number + length xs) x
-last_line number xs x =
-    lines-append number xs (x ∷ [])
-    ∙ ap (λ t. lines_of number xs ++ t) (one_line (number + length xs) x [] ∙ ap (λ t. line_of (number + length xs) x ++ t) (no_lines (number + length xs + 1)) ∙ append-nil (line_of (number + length xs) x))
+pub last_line : (form : ShowForm) (chosen : Chosen) (number : ℕ) (xs : List Message) (x : Message)
+    → chosen_lines form chosen number (xs ++ x ∷ []) ≡ chosen_lines form chosen number xs ++ chosen_line form (chosen_past chosen xs) (number + length xs) x
+last_line form chosen number xs x =
+    let now : Chosen = chosen_past chosen xs in
+    let line : List ℕ = chosen_line form now (number + length xs) x in
+    lines-append form chosen number xs (x ∷ [])
+    ∙ ap (λ t. chosen_lines form chosen number xs ++ t)
+    (one_line form now (number + length xs) x [] ∙ ap (λ t. line ++ t) (no_lines form (chosen_after now x) (number + length xs + 1)) ∙ append-nil line)
+
+-- nothing was passed yet
+pub past_none : (chosen : Chosen) → chosen ≡ chosen_past chosen []
+unfolding chosen_past
+past_none chosen = refl
+
+-- one message more was passed
+pub past_push : (chosen : Chosen) (xs : List Message) (x : Message) → chosen_after (chosen_past chosen xs) x ≡ chosen_past chosen (xs ++ x ∷ [])
+unfolding chosen_past
+past_push chosen [] x = refl
+past_push chosen (y ∷ ys) x = past_push (chosen_after chosen y) ys x
 
 -- one line more
-lines-push : (number : ℕ) (ps : List (List ℕ)) (p : List ℕ) → lines_from number (ps ++ p ∷ []) ≡ lines_from number ps ++ line_of (number + length ps) (message_of p)
-lines-push number ps p =
-    ap (lines_of number) (map-append message_of ps (p ∷ [])) ∙ last_line number (map message_of ps) (message_of p)
-    ∙ ap (λ n. lines_from number ps ++ line_of (number + n) (message_of p)) (length-map ps message_of)
+lines-push : (form : ShowForm) (chosen : Chosen) (ps : List (List ℕ)) (p : List ℕ)
+    → lines_from form chosen (ps ++ p ∷ []) ≡ lines_from form chosen ps ++ line_after form chosen ps p
+lines-push form chosen ps p =
+    let same : 1 + length (map message_of ps) ≡ length ps + 1 = omega (arith, length-map ps message_of) in
+    ap (chosen_lines form chosen 1) (map-append message_of ps (p ∷ [])) ∙ last_line form chosen 1 (map message_of ps) (message_of p)
+    ∙ ap (λ n. lines_from form chosen ps ++ chosen_line form (chosen_past chosen (map message_of ps)) n (message_of p)) same
 
 -- one payload more
 reads_more : (limit : Limit) (old mid new : Option (List ℕ)) (ps : List (List ℕ)) (p : List ℕ) → ReadsOff limit old mid ps → ReadsNext limit (length ps) mid new p → ReadsOff limit old new (ps ++ p ∷ [])
@@ -70,39 +94,51 @@ reads_more limit old mid new ps p reads (off, clean, room, early) = record {
   few_more : (c d : ℕ) → d ≡ c + 1 → c ≤ 10 ^ 19 - 1 → (c == 10 ^ 19 - 1) ≡ false → d ≤ 10 ^ 19 - 1
   few_more c d one few room = grind (arith, nat_tests)
 
-module _ {R W : Type 0} (contents : W → Option (List ℕ)) (failures : W → Failures) (remaining : R → Option (List ℕ)) (failed_reads : R → Failures) (limit : Limit) where
-  -- the lines of these payloads were written
-  pub record Shown (old : Reading R) (count : ℕ) (new : Reading R) (out out' : W) : Type 0 where
+module _ {R W : Type 0} (contents : W → Option (List ℕ)) (failures : W → Failures) (remaining : R → Option (List ℕ)) (failed_reads : R → Failures)
+    (limit : Limit) (form : ShowForm) (chosen : Chosen) where
+  -- the lines of these payloads were written, and what chooses the next ones is `now`
+  pub record Shown (old : Reading R) (count : ℕ) (new : Reading R) (now : Chosen) (out out' : W) : Type 0 where
     pub payloads : List (List ℕ)
     pub reads : ReadsOff limit (bytes_left remaining old) (bytes_left remaining new) payloads
     pub counted : length payloads ≡ count
-    pub wrote : Wrote contents failures (lines_from 1 payloads) out out'
+    pub passed : now ≡ chosen_past chosen (map message_of payloads)
+    pub wrote : Wrote contents failures (lines_from form chosen payloads) out out'
     pub uncounted : failed_reads new.reader ≡ failed_reads old.reader
     pub standing : Standing old count new
 
-  pub shown_first : (r : Reading R) (w : W) → Shown r 0 r w w
+  pub shown_first : (r : Reading R) (w : W) → Shown r 0 r chosen w w
   shown_first r w = record {
     payloads = [];
     reads = record { bytes = Consumes-nil (bytes_left remaining r); full = tt; clean = tt; few = omega arith; early = tt };
     counted = refl;
-    wrote = (subst (Appends (contents w) (contents w)) (sym (no_lines 1)) (Appends-nil (contents w)), refl);
+    passed = past_none chosen;
+    wrote = (subst (Appends (contents w) (contents w)) (sym (no_lines form chosen 1)) (Appends-nil (contents w)), refl);
     uncounted = refl;
     standing = standing_first r;
   }
 
-  pub shown_on : (old mid new : Reading R) (count : ℕ) (out on out' : W) → Shown old count mid out on
-      → ShowsNext contents failures limit count (bytes_left remaining mid) (bytes_left remaining new) on (Ok true) out'
-      → failed_reads new.reader ≡ failed_reads mid.reader → LeavesReaderFirst mid 1 None new → Shown old (count + 1) new out out'
-  shown_on old mid new count out on out' shown (p, next, (line, unfailed)) same leaves =
+  -- the line of the next payload, by the number of those before it
+  line_is : (ps : List (List ℕ)) (p : List ℕ) (count : ℕ) (now : Chosen) → length ps ≡ count → now ≡ chosen_past chosen (map message_of ps)
+      → chosen_line form now (count + 1) (message_of p) ≡ line_after form chosen ps p
+  line_is ps p count now counted passed =
+      ap (λ c. chosen_line form c (count + 1) (message_of p)) passed
+      ∙ ap (λ n. chosen_line form (chosen_past chosen (map message_of ps)) (n + 1) (message_of p)) (sym counted)
+
+  pub shown_on : (old mid new : Reading R) (count : ℕ) (now then : Chosen) (out on out' : W) → Shown old count mid now out on
+      → ShowsNext contents failures form limit count (bytes_left remaining mid) (bytes_left remaining new) now on (Ok true) then out'
+      → failed_reads new.reader ≡ failed_reads mid.reader → LeavesReaderFirst mid 1 None new → Shown old (count + 1) new then out out'
+  shown_on old mid new count now then out on out' shown (p, next, (line, unfailed), passes) same leaves =
       let ps = shown.payloads in
-      let number : count + 1 ≡ 1 + length ps = omega (arith, shown.counted) in
+      let is : chosen_line form now (count + 1) (message_of p) ≡ line_after form chosen ps p = line_is ps p count now shown.counted shown.passed in
       record {
         payloads = ps ++ p ∷ [];
         reads = reads_more limit _ _ _ ps p shown.reads (subst (λ c. ReadsNext limit c (bytes_left remaining mid) (bytes_left remaining new) p) (sym shown.counted) next);
         counted = length-append ps (p ∷ []) ∙ ap (λ c. c + 1) shown.counted;
+        passed = passes ∙ ap (λ c. chosen_after c (message_of p)) shown.passed ∙ past_push chosen (map message_of ps) (message_of p)
+            ∙ ap (chosen_past chosen) (sym (map-append message_of ps (p ∷ [])));
         wrote = (
-          subst (Appends (contents out) (contents out')) (ap (λ n. lines_from 1 ps ++ line_of n (message_of p)) number ∙ sym (lines-push 1 ps p))
-              (Appends-more (contents out) (contents on) (contents out') (lines_from 1 ps) _ shown.wrote.0 line),
+          subst (Appends (contents out) (contents out')) (ap (λ t. lines_from form chosen ps ++ t) is ∙ sym (lines-push form chosen ps p))
+              (Appends-more (contents out) (contents on) (contents out') (lines_from form chosen ps) _ shown.wrote.0 line),
           unfailed ∙ shown.wrote.1,
         );
         uncounted = same ∙ shown.uncounted;
@@ -110,9 +146,9 @@ module _ {R W : Type 0} (contents : W → Option (List ℕ)) (failures : W → F
       }
 
   -- as many lines as are wanted were written
-  pub shown_all : (old new : Reading R) (count : ℕ) (out out' : W) → Shown old count new out out' → limit.after ≡ Some count
-      → ShowsPart contents failures remaining failed_reads limit old new out out'
-  shown_all old new count out out' shown all =
+  pub shown_all : (old new : Reading R) (count : ℕ) (now : Chosen) (out out' : W) → Shown old count new now out out' → limit.after ≡ Some count
+      → ShowsPart contents failures remaining failed_reads limit form chosen old new out out'
+  shown_all old new count now out out' shown all =
       let ps = shown.payloads in
       let each : limit.after ≡ Some (length ps) = all ∙ ap Some (sym shown.counted) in (
         ps,
@@ -125,16 +161,16 @@ module _ {R W : Type 0} (contents : W → Option (List ℕ)) (failures : W → F
       )
 
   -- or the next message is late
-  pub shown_early : (old mid new : Reading R) (count : ℕ) (out on out' : W) → Shown old count mid out on → IsBefore limit count
-      → ShowsNext contents failures limit count (bytes_left remaining mid) (bytes_left remaining new) on (Ok false) out'
-      → failed_reads new.reader ≡ failed_reads mid.reader → LeavesReaderFirst mid 1 None new → ShowsPart contents failures remaining failed_reads limit old new out out'
-  shown_early old mid new count out on out' shown before (unwritten, (p, off, late)) same leaves =
+  pub shown_early : (old mid new : Reading R) (count : ℕ) (now then : Chosen) (out on out' : W) → Shown old count mid now out on → IsBefore limit count
+      → ShowsNext contents failures form limit count (bytes_left remaining mid) (bytes_left remaining new) now on (Ok false) then out'
+      → failed_reads new.reader ≡ failed_reads mid.reader → LeavesReaderFirst mid 1 None new → ShowsPart contents failures remaining failed_reads limit form chosen old new out out'
+  shown_early old mid new count now then out on out' shown before (unwritten, (p, off, late)) same leaves =
       let ps = shown.payloads in (
         ps,
         bytes_left remaining mid,
         shown.reads,
         inr (inl (subst (IsBefore limit) (sym shown.counted) before, (p, off, late))),
-        subst (Wrote contents failures (lines_from 1 ps) out) (sym unwritten) shown.wrote,
+        subst (Wrote contents failures (lines_from form chosen ps) out) (sym unwritten) shown.wrote,
         same ∙ shown.uncounted,
         inr (inl (
           late_given limit.until (message_of p) late.1,
@@ -143,8 +179,8 @@ module _ {R W : Type 0} (contents : W → Option (List ℕ)) (failures : W → F
       )
 
   -- the file ended, or has fewer messages than are wanted
-  at_end : (wanted : Option ℕ) → limit.after ≡ wanted → (old new : Reading R) (count : ℕ) (out out' : W) → ShowsUntil contents failures remaining failed_reads limit count stop.End old new out out'
-      → Shows contents failures remaining failed_reads limit old new out (finish_end wanted Only count) out'
+  at_end : (wanted : Option ℕ) → limit.after ≡ wanted → (old new : Reading R) (count : ℕ) (out out' : W) → ShowsUntil contents failures remaining failed_reads limit form chosen count stop.End old new out out'
+      → Shows contents failures remaining failed_reads limit form chosen old new out (finish_end wanted Only count) out'
   at_end None is old new count out out' (before, ps, mid, reads, counted, withholds, wrote, counts, leaves) = (
     refl,
     (
@@ -161,30 +197,30 @@ module _ {R W : Type 0} (contents : W → Option (List ℕ)) (failures : W → F
 
   -- a stop that is a fault
   refused : (old new : Reading R) (count : ℕ) (out out' : W) (file : Source) (end : ReplayEnd) → file ≡ Only → end.count ≡ count → end.stop ≢ stop.End
-      → ShowsUntil contents failures remaining failed_reads limit count end.stop old new out out'
-      → Shows contents failures remaining failed_reads limit old new out (Err (tool.Stopped file end)) out'
+      → ShowsUntil contents failures remaining failed_reads limit form chosen count end.stop old new out out'
+      → Shows contents failures remaining failed_reads limit form chosen old new out (Err (tool.Stopped file end)) out'
   refused old new count out out' file end only counted fault until =
-      (only, fault, subst (λ c. ShowsUntil contents failures remaining failed_reads limit c end.stop old new out out') (sym counted) until)
+      (only, fault, subst (λ c. ShowsUntil contents failures remaining failed_reads limit form chosen c end.stop old new out out') (sym counted) until)
 
   stops : (old new : Reading R) (count : ℕ) (out out' : W) (file : Source) (end : ReplayEnd) (why : Stop) → end.stop ≡ why → file ≡ Only → end.count ≡ count
-      → ShowsUntil contents failures remaining failed_reads limit count end.stop old new out out'
-      → Shows contents failures remaining failed_reads limit old new out (finish_at why limit.after file end.count (tool.Stopped file end)) out'
+      → ShowsUntil contents failures remaining failed_reads limit form chosen count end.stop old new out out'
+      → Shows contents failures remaining failed_reads limit form chosen old new out (finish_at why limit.after file end.count (tool.Stopped file end)) out'
   stops old new count out out' file end stop.End is only counted until =
-      subst (λ f. Shows contents failures remaining failed_reads limit old new out (finish_end limit.after f end.count) out') (sym only)
+      subst (λ f. Shows contents failures remaining failed_reads limit form chosen old new out (finish_end limit.after f end.count) out') (sym only)
       (at_end limit.after refl old new end.count out out'
-      (subst (λ c. ShowsUntil contents failures remaining failed_reads limit c stop.End old new out out') (sym counted)
-      (subst (λ w. ShowsUntil contents failures remaining failed_reads limit count w old new out out') is until)))
+      (subst (λ c. ShowsUntil contents failures remaining failed_reads limit form chosen c stop.End old new out out') (sym counted)
+      (subst (λ w. ShowsUntil contents failures remaining failed_reads limit form chosen count w old new out out') is until)))
   stops old new count out out' file end (stop.Frame f) is only counted until = refused old new count out out' file end only counted (λ e. absurd (cc)) until
   stops old new count out out' file end (stop.Codec f) is only counted until = refused old new count out out' file end only counted (λ e. absurd (cc)) until
   stops old new count out out' file end (stop.Rule f) is only counted until = refused old new count out out' file end only counted (λ e. absurd (cc)) until
   stops old new count out out' file end stop.TooManyMessages is only counted until = refused old new count out out' file end only counted (λ e. absurd (cc)) until
 
   -- and there it ends
-  pub shown_ends : (old mid new : Reading R) (count : ℕ) (out on out' : W) (fault : ToolFault) → Shown old count mid out on → IsBefore limit count
-      → ShowsNext contents failures limit count (bytes_left remaining mid) (bytes_left remaining new) on (Err fault) out'
+  pub shown_ends : (old mid new : Reading R) (count : ℕ) (now then : Chosen) (out on out' : W) (fault : ToolFault) → Shown old count mid now out on → IsBefore limit count
+      → ShowsNext contents failures form limit count (bytes_left remaining mid) (bytes_left remaining new) now on (Err fault) then out'
       → CountsRead {X = Bool} (Err fault) (failed_reads mid.reader) (failed_reads new.reader) → LeavesNext (Err fault) mid new
-      → Shows contents failures remaining failed_reads limit old new out (finish limit.after fault) out'
-  shown_ends old mid new count out on out' (tool.Stopped file end) shown before (only, counted, withholds, same) counts leaves =
+      → Shows contents failures remaining failed_reads limit form chosen old new out (finish limit.after fault) out'
+  shown_ends old mid new count now then out on out' (tool.Stopped file end) shown before (only, counted, withholds, same) counts leaves =
       stops old new count out out' file end end.stop refl only counted (
         before,
         shown.payloads,
@@ -192,36 +228,37 @@ module _ {R W : Type 0} (contents : W → Option (List ℕ)) (failures : W → F
         shown.reads,
         shown.counted,
         withholds,
-        subst (Wrote contents failures (lines_from 1 shown.payloads) out) (sym same) shown.wrote,
+        subst (Wrote contents failures (lines_from form chosen shown.payloads) out) (sym same) shown.wrote,
         subst (λ f. Counts end.stop f (failed_reads new.reader)) shown.uncounted counts,
         standing_stops old mid new count end.stop shown.standing leaves,
       )
-  shown_ends old mid new count out on out' (tool.Write error) shown before (p, next, (sent, within, part, unfailed)) same leaves =
+  shown_ends old mid new count now then out on out' (tool.Write error) shown before (p, next, (sent, within, part, unfailed)) same leaves =
       let ps = shown.payloads in
-      let number : count + 1 ≡ length ps + 1 = ap (λ c. c + 1) (sym shown.counted) in (
+      let number : count + 1 ≡ length ps + 1 = ap (λ c. c + 1) (sym shown.counted) in
+      let is : chosen_line form now (count + 1) (message_of p) ≡ line_after form chosen ps p = line_is ps p count now shown.counted shown.passed in (
         ps,
         p,
         reads_more limit _ _ _ ps p shown.reads (subst (λ c. ReadsNext limit c (bytes_left remaining mid) (bytes_left remaining new) p) (sym shown.counted) next),
         subst (IsBefore limit) (sym shown.counted) before,
         (
           sent,
-          subst (λ n. sent < length (line_of n (message_of p))) number within,
-          subst (λ n. Appends (contents out) (contents out') (lines_from 1 ps ++ take sent (line_of n (message_of p)))) number
-              (Appends-more (contents out) (contents on) (contents out') (lines_from 1 ps) _ shown.wrote.0 part),
+          subst (λ line. sent < length line) is within,
+          subst (λ line. Appends (contents out) (contents out') (lines_from form chosen ps ++ take sent line)) is
+              (Appends-more (contents out) (contents on) (contents out') (lines_from form chosen ps) _ shown.wrote.0 part),
           unfailed ∙ ap (failed error) shown.wrote.1,
         ),
         same ∙ shown.uncounted,
         subst (λ n. LeavesReaderFirst old n None new) number (standing_short old (count + 1) new (standing_on old mid new count shown.standing leaves)),
       )
-  shown_ends old mid new count out on out' (tool.Short at k) shown before (p, next, none) counts leaves = absurd none
-  shown_ends old mid new count out on out' tool.OutOfMemory shown before (p, next, none) counts leaves = absurd none
-  shown_ends old mid new count out on out' (tool.Open file error) shown before (p, next, none) counts leaves = absurd none
-  shown_ends old mid new count out on out' tool.BadUser shown before (p, next, none) counts leaves = absurd none
-  shown_ends old mid new count out on out' tool.BadPassword shown before (p, next, none) counts leaves = absurd none
-  shown_ends old mid new count out on out' tool.BadLocates shown before (p, next, none) counts leaves = absurd none
-  shown_ends old mid new count out on out' tool.TooMany shown before (p, next, none) counts leaves = absurd none
-  shown_ends old mid new count out on out' (tool.Soup f) shown before (p, next, none) counts leaves = absurd none
-  shown_ends old mid new count out on out' (tool.Socket error) shown before (p, next, none) counts leaves = absurd none
-  shown_ends old mid new count out on out' (tool.Snap file f) shown before (p, next, none) counts leaves = absurd none
-  shown_ends old mid new count out on out' tool.UnknownLocate shown before (p, next, none) counts leaves = absurd none
-  shown_ends old mid new count out on out' tool.UnknownStock shown before (p, next, none) counts leaves = absurd none
+  shown_ends old mid new count now then out on out' (tool.Short at k) shown before (p, next, none) counts leaves = absurd none
+  shown_ends old mid new count now then out on out' tool.OutOfMemory shown before (p, next, none) counts leaves = absurd none
+  shown_ends old mid new count now then out on out' (tool.Open file error) shown before (p, next, none) counts leaves = absurd none
+  shown_ends old mid new count now then out on out' tool.BadUser shown before (p, next, none) counts leaves = absurd none
+  shown_ends old mid new count now then out on out' tool.BadPassword shown before (p, next, none) counts leaves = absurd none
+  shown_ends old mid new count now then out on out' tool.BadLocates shown before (p, next, none) counts leaves = absurd none
+  shown_ends old mid new count now then out on out' tool.TooMany shown before (p, next, none) counts leaves = absurd none
+  shown_ends old mid new count now then out on out' (tool.Soup f) shown before (p, next, none) counts leaves = absurd none
+  shown_ends old mid new count now then out on out' (tool.Socket error) shown before (p, next, none) counts leaves = absurd none
+  shown_ends old mid new count now then out on out' (tool.Snap file f) shown before (p, next, none) counts leaves = absurd none
+  shown_ends old mid new count now then out on out' tool.UnknownLocate shown before (p, next, none) counts leaves = absurd none
+  shown_ends old mid new count now then out on out' tool.UnknownStock shown before (p, next, none) counts leaves = absurd none

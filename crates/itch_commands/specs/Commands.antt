@@ -7,6 +7,7 @@ use Rattle.itch_commands.specs.declared.fault.Source.TheVariants.{Only, First, S
 use Rattle.itch_commands.specs.declared.fault.ToolFault.{ToolFault}
 use Rattle.itch_commands.specs.Books.{ReadsListed, books_of, wanted_by}
 use Rattle.itch_commands.specs.Canons.{ChecksSnap, canonical_line}
+use Rattle.itch_commands.specs.Choices.{Chosen}
 use Rattle.itch_commands.specs.Comparing.{ReadsBoth, PartsAt}
 use Rattle.itch_commands.specs.Forms.{count_line_of, verdict_line}
 use Rattle.itch_commands.specs.Joining.{Start, ReadsStart, ReadsFeed, HasRoom, joined, joined_market, joined_next}
@@ -17,6 +18,7 @@ use Rattle.itch_commands.specs.Stocks.{ReadsStocks, has_one_of, only_stocks}
 use Rattle.itch_commands.specs.Readings.{From, ReadsDay, ReadsSnap, Then}
 use Rattle.itch_commands.specs.declared.form.BookForm.{BookForm}
 use Rattle.itch_commands.specs.declared.form.Form.{Form}
+use Rattle.itch_commands.specs.declared.form.ShowForm.{ShowForm}
 use Rattle.itch_commands.specs.declared.kind.FileKind.{FileKind}
 use Rattle.itch_commands.specs.declared.limit.Limit.{Limit}
 
@@ -47,9 +49,9 @@ module _ {R W : Type 0} (remaining : R → Option (List ℕ)) (failed_reads : R 
       Outputs contents failed_writes (from (λ old new. ReadsStocks (λ done. Content.securities done.0) names (ReadsFile remaining failed_reads Only kind old new)))
       (λ done. books_of form depth (has_one_of (Content.securities done.0) names) done.0) (λ _. true)
 
-  -- `show` of a snapshot file: the lines of its snapshot in canonical form
-  abbrev pub ShowsSnapshot : From R (Content × ℕ) → W → Result Bool ToolFault → W → Type 0
-  ShowsSnapshot from = Outputs contents failed_writes (from (ReadsSnap remaining failed_reads Only)) closed_lines (λ _. true)
+  -- `show` of a snapshot file: the lines of its snapshot in canonical form, of what is chosen
+  abbrev pub ShowsSnapshot : ShowForm → Chosen → From R (Content × ℕ) → W → Result Bool ToolFault → W → Type 0
+  ShowsSnapshot form chosen from = Outputs contents failed_writes (from (ReadsSnap remaining failed_reads Only)) (closed_lines form chosen) (λ _. true)
 
   -- `canon`: a snapshot in canonical form
   abbrev pub WritesCanon : From R (Content × ℕ) → W → Result Bool ToolFault → W → Type 0

@@ -5,6 +5,7 @@ pub mod Files
 pub mod Outputs
 pub mod Canons
 pub mod Causes
+pub mod Choices
 pub mod Showing
 pub mod Comparing
 pub mod Forms

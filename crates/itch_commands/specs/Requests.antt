@@ -8,6 +8,7 @@ use Rattle.itch_commands.specs.declared.fault.Source.{Source}
 use Rattle.itch_commands.specs.declared.fault.Source.TheVariants.{Second, Snapshot}
 use Rattle.itch_commands.specs.declared.request.Request.{Request}
 use Rattle.itch_commands.specs.declared.request.Request.TheVariants.{Snap, Check, Show, Canon, Compare, Book, Join}
+use Rattle.itch_commands.specs.Choices.{chosen_by}
 use Rattle.itch_commands.specs.Commands.{Snaps, SnapsStocks, Checks, ShowsSnapshot, WritesCanon, ChecksCanon, ListsBooks, ListsStocks}
 use Rattle.itch_commands.specs.declared.form.BookForm.{BookForm}
 use Rattle.itch_commands.specs.declared.kind.FileKind.{FileKind}
@@ -23,7 +24,7 @@ use Rattle.itch_commands.specs.Stocks.{names_of}
 abbrev pub file_of : Request → Source → Option (List ℕ)
 file_of (Snap file limit selection) source = option_map (λ path. path.now) file
 file_of (Check file limit form) source = option_map (λ path. path.now) file
-file_of (Show file kind) source = option_map (λ path. path.now) file
+file_of (Show file kind form filters) source = option_map (λ path. path.now) file
 file_of (Canon file check) source = option_map (λ path. path.now) file
 file_of (Book selection depth file kind form) source = option_map (λ path. path.now) file
 file_of (Compare first second kind form) Second = option_map (λ path. path.now) second
@@ -42,6 +43,7 @@ abbrev pub only_of : Request → Option (List ℕ)
 only_of (Snap file limit selection) = list_of selection
 only_of (Book selection depth file kind form) = list_of selection
 only_of (Join snapshot feed selection) = list_of selection
+only_of (Show file kind form filters) = option_map (λ list. list.now) filters.only
 only_of request = None
 
 -- the requests whose output is a snapshot, not text
@@ -73,8 +75,9 @@ module _ {R W : Type 0} (remaining : R → Option (List ℕ)) (failed_reads : R 
   abbrev pub Performs : Request → Option Wanted → Reading R → Reading R → W → Result Bool ToolFault → W → Type 0
   Performs (Snap file limit selection) set old new = PerformsSnap limit selection set old new
   Performs (Check file limit form) set old new = Checks remaining failed_reads contents failed_writes form limit (FromBlocks old new)
-  Performs (Show file (kind.Day limit)) set old new = Shows contents failed_writes remaining failed_reads limit old new
-  Performs (Show file kind.Snapshot) set old new = ShowsSnapshot remaining failed_reads contents failed_writes (FromBlocks old new)
+  Performs (Show file (kind.Day limit) form filters) set old new = Shows contents failed_writes remaining failed_reads limit form (chosen_by set filters) old new
+  Performs (Show file kind.Snapshot form filters) set old new =
+      ShowsSnapshot remaining failed_reads contents failed_writes form (chosen_by set filters) (FromBlocks old new)
   Performs (Canon file false) set old new = WritesCanon remaining failed_reads contents failed_writes (FromBlocks old new)
   Performs (Canon file true) set old new = ChecksCanon remaining failed_reads contents failed_writes (FromBlocks old new)
   Performs (Book selection depth file kind form) set old new = PerformsBook form selection set depth kind old new

@@ -3,7 +3,6 @@ use Rattle.std.specs.Prelude.{◌≡◌, ◌≢◌, ℕ, ◌+◌, ◌-◌, ◌<�
 use Rattle.std.specs.List.{AllByRecursion}
 use Rattle.std.specs.Io.KnownBytes.{Consumes, Appends}
 use Rattle.std.specs.declared.io.Error.{Error}
-use Rattle.itch_codec.specs.Lines.{line_of}
 use Rattle.itch_codec.specs.Messages.{fault, message_of}
 use Rattle.itch_codec.specs.declared.message.Message.{Message}
 use Rattle.itch_codec.specs.declared.message.Message.TheVariants as is
@@ -16,6 +15,7 @@ use Rattle.itch_market.specs.Replays.{TakesOff, Halts, Counts, LeavesReaderFirst
 use Rattle.itch_market.specs.declared.stop.Stop.{Stop}
 use Rattle.itch_market.specs.declared.stop.Stop.TheVariants as stop
 use Rattle.itch_snapshot.specs.Snapshot.{snap}
+use Rattle.itch_commands.specs.Choices.{Chosen, chosen_after, chosen_past, chosen_line, chosen_lines}
 use Rattle.itch_commands.specs.Limits.{IsEarly, IsLate, IsBefore}
 use Rattle.itch_commands.specs.Outputs.{Wrote, WritesText}
 use Rattle.itch_commands.specs.Readings.{LateNext, IsEnough, IsShort, LeavesDay}
@@ -23,20 +23,20 @@ use Rattle.itch_commands.specs.declared.fault.Source.{Source}
 use Rattle.itch_commands.specs.declared.fault.Source.TheVariants.{Only}
 use Rattle.itch_commands.specs.declared.fault.ToolFault.{ToolFault}
 use Rattle.itch_commands.specs.declared.fault.ToolFault.TheVariants as tool
+use Rattle.itch_commands.specs.declared.form.ShowForm.{ShowForm}
 use Rattle.itch_commands.specs.declared.limit.Limit.{Limit}
 
--- the lines of these messages, numbered from here on
-unfoldable pub lines_of : ℕ → List Message → List ℕ
-lines_of number [] = []
-lines_of number (message ∷ messages) = line_of number message ++ lines_of (number + 1) messages
+-- the lines of the messages that these payloads spell, of those that are chosen
+abbrev pub lines_from : ShowForm → Chosen → List (List ℕ) → List ℕ
+lines_from form chosen payloads = chosen_lines form chosen 1 (map message_of payloads)
 
--- the lines of the messages that these payloads spell
-abbrev pub lines_from : ℕ → List (List ℕ) → List ℕ
-lines_from number payloads = lines_of number (map message_of payloads)
+-- the line of the message that the payload after these spells, if it is chosen
+abbrev pub line_after : ShowForm → Chosen → List (List ℕ) → List ℕ → List ℕ
+line_after form chosen payloads payload = chosen_line form (chosen_past chosen (map message_of payloads)) (length payloads + 1) (message_of payload)
 
--- the lines of the snapshot of a market, and of its End of Snapshot with this number
-abbrev pub closed_lines : Content × ℕ → List ℕ
-closed_lines done = lines_of 1 (snap done.0 ++ is.End done.1 ∷ [])
+-- the lines of the snapshot of a market, and of its End of Snapshot with this number, of what is chosen
+abbrev pub closed_lines : ShowForm → Chosen → Content × ℕ → List ℕ
+closed_lines form chosen done = chosen_lines form chosen 1 (snap done.0 ++ is.End done.1 ∷ [])
 
 -- the payload spells a message
 abbrev pub IsClean : List ℕ → Type 0
@@ -97,49 +97,53 @@ module _ {W : Type 0} (contents : W → Option (List ℕ)) (failures : W → Fai
   WritesPart first last error old new =
       (sent : ℕ) × (sent < length last) × Appends (contents old) (contents new) (first ++ take sent last) × (failures new ≡ failed error (failures old))
 
-  -- what one payload does after n messages: its message's line is written, or it is late, or it spells none
-  abbrev pub ShowsPayload : Limit → ℕ → List ℕ → W → Result Bool ToolFault → W → Type 0
-  ShowsPayload limit count payload out (Ok true) out' =
-      IsClean payload × IsEarly limit payload × WritesText contents failures (line_of (count + 1) (message_of payload)) out (Ok tt) out'
-  ShowsPayload limit count payload out (Ok false) out' = (out' ≡ out) × IsLate limit payload
-  ShowsPayload limit count payload out (Err (tool.Stopped file end)) out' =
+  -- the line of the message that a payload spells is written, if it is chosen
+  abbrev pub WritesLine : ShowForm → Chosen → ℕ → List ℕ → W → Result (Unit {0}) ToolFault → W → Type 0
+  WritesLine form chosen count payload = WritesText contents failures (chosen_line form chosen (count + 1) (message_of payload))
+
+  -- what one payload does after n messages: its message's line is written if it is chosen, or it is late, or it spells none
+  abbrev pub ShowsPayload : ShowForm → Limit → ℕ → List ℕ → Chosen → W → Result Bool ToolFault → Chosen → W → Type 0
+  ShowsPayload form limit count payload chosen out (Ok true) chosen' out' =
+      IsClean payload × IsEarly limit payload × WritesLine form chosen count payload out (Ok tt) out' × (chosen' ≡ chosen_after chosen (message_of payload))
+  ShowsPayload form limit count payload chosen out (Ok false) chosen' out' = (out' ≡ out) × IsLate limit payload
+  ShowsPayload form limit count payload chosen out (Err (tool.Stopped file end)) chosen' out' =
       (file ≡ Only) × (end.count ≡ count) × IsFaultOf payload end.stop × (out' ≡ out)
-  ShowsPayload limit count payload out (Err fault) out' =
-      IsClean payload × IsEarly limit payload × WritesText contents failures (line_of (count + 1) (message_of payload)) out (Err fault) out'
+  ShowsPayload form limit count payload chosen out (Err fault) chosen' out' =
+      IsClean payload × IsEarly limit payload × WritesLine form chosen count payload out (Err fault) out'
 
-  -- what one block does after n messages: its message's line is written, or it is late, or it stops
-  abbrev pub ShowsNext : Limit → ℕ → Option (List ℕ) → Option (List ℕ) → W → Result Bool ToolFault → W → Type 0
-  ShowsNext limit count old new out (Ok true) out' =
-      (payload : List ℕ) × ReadsNext limit count old new payload × WritesText contents failures (line_of (count + 1) (message_of payload)) out (Ok tt) out'
-  ShowsNext limit count old new out (Ok false) out' = (out' ≡ out) × LateNext limit old new
-  ShowsNext limit count old new out (Err (tool.Stopped file end)) out' =
+  -- what one block does after n messages: its message's line is written if it is chosen, or it is late, or it stops
+  abbrev pub ShowsNext : ShowForm → Limit → ℕ → Option (List ℕ) → Option (List ℕ) → Chosen → W → Result Bool ToolFault → Chosen → W → Type 0
+  ShowsNext form limit count old new chosen out (Ok true) chosen' out' =
+      (payload : List ℕ) × ReadsNext limit count old new payload × WritesLine form chosen count payload out (Ok tt) out' × (chosen' ≡ chosen_after chosen (message_of payload))
+  ShowsNext form limit count old new chosen out (Ok false) chosen' out' = (out' ≡ out) × LateNext limit old new
+  ShowsNext form limit count old new chosen out (Err (tool.Stopped file end)) chosen' out' =
       (file ≡ Only) × (end.count ≡ count) × Withholds count old new end.stop × (out' ≡ out)
-  ShowsNext limit count old new out (Err fault) out' =
-      (payload : List ℕ) × ReadsNext limit count old new payload × WritesText contents failures (line_of (count + 1) (message_of payload)) out (Err fault) out'
+  ShowsNext form limit count old new chosen out (Err fault) chosen' out' =
+      (payload : List ℕ) × ReadsNext limit count old new payload × WritesLine form chosen count payload out (Err fault) out'
 
-  module _ {R : Type 0} (remaining : R → Option (List ℕ)) (failed_reads : R → Failures) (limit : Limit) where
-    -- the lines of the messages that are wanted are written
+  module _ {R : Type 0} (remaining : R → Option (List ℕ)) (failed_reads : R → Failures) (limit : Limit) (form : ShowForm) (chosen : Chosen) where
+    -- the lines of the messages that are wanted and chosen are written
     abbrev pub ShowsPart : Reading R → Reading R → W → W → Type 0
     ShowsPart old new out out' =
         (payloads : List (List ℕ)) × (mid : Option (List ℕ)) × ReadsOff limit (bytes_left remaining old) mid payloads
-        × IsEnough limit (length payloads) mid (bytes_left remaining new) × Wrote contents failures (lines_from 1 payloads) out out'
+        × IsEnough limit (length payloads) mid (bytes_left remaining new) × Wrote contents failures (lines_from form chosen payloads) out out'
         × (failed_reads new.reader ≡ failed_reads old.reader) × LeavesDay (Ok (length payloads)) limit old new
 
-    -- the lines of the first messages are written, fewer than are wanted, and then this stop comes
+    -- the lines of the first messages are written, of those that are chosen, and then this stop comes: fewer come than are wanted
     abbrev pub ShowsUntil : ℕ → Stop → Reading R → Reading R → W → W → Type 0
     ShowsUntil count why old new out out' =
         IsBefore limit count × (payloads : List (List ℕ)) × (mid : Option (List ℕ)) × ReadsOff limit (bytes_left remaining old) mid payloads × (length payloads ≡ count)
-        × Withholds count mid (bytes_left remaining new) why × Wrote contents failures (lines_from 1 payloads) out out'
+        × Withholds count mid (bytes_left remaining new) why × Wrote contents failures (lines_from form chosen payloads) out out'
         × Counts why (failed_reads old.reader) (failed_reads new.reader) × LeavesReaderFirst old count (Some why) new
 
-    -- a write failed within the line of the last message read, which is wanted
+    -- a write failed within the line of the last message read, which is wanted and chosen
     abbrev pub ShowsFirst : Error → Reading R → Reading R → W → W → Type 0
     ShowsFirst error old new out out' =
         (payloads : List (List ℕ)) × (payload : List ℕ) × ReadsOff limit (bytes_left remaining old) (bytes_left remaining new) (payloads ++ payload ∷ [])
-        × IsBefore limit (length payloads) × WritesPart (lines_from 1 payloads) (line_of (length payloads + 1) (message_of payload)) error out out'
+        × IsBefore limit (length payloads) × WritesPart (lines_from form chosen payloads) (line_after form chosen payloads payload) error out out'
         × (failed_reads new.reader ≡ failed_reads old.reader) × LeavesReaderFirst old (length payloads + 1) None new
 
-    -- The lines of all messages that are wanted are written; or those before the block that is refused, or before the end of a file
+    -- The lines of all messages that are wanted and chosen are written; or those before the block that is refused, or before the end of a file
     -- that has fewer; or a write failed.
     abbrev pub Shows : Reading R → Reading R → W → Result Bool ToolFault → W → Type 0
     Shows old new out (Ok answer) out' = (answer ≡ true) × ShowsPart old new out out'

@@ -19,3 +19,14 @@ pub enum BookForm {
     /// Comma-separated values (RFC 4180): a line with the names of the columns, and then a line for each price.
     Csv,
 }
+
+/// How messages are shown.
+#[derive(Clone, Copy, Debug, PartialEq, Eq)]
+pub enum ShowForm {
+    /// A line of text.
+    Text,
+    /// The same with codes as characters, and timestamps as times of the day.
+    Named,
+    /// A line with a JSON object (RFC 8259).
+    Json,
+}

@@ -1,10 +1,11 @@
-//! What is read with a set of locates, as `join` reads it.
+//! What is read with a set of locates, as `join` reads it, and what is shown without filters and with them.
 //!
 //! Each function here does nothing: its clauses are the laws.
-ghost use Rattle.std.specs.Prelude.{◌≡◌, ℕ, Bool, List, map};
+ghost use Rattle.std.specs.Prelude.{◌≡◌, ℕ, Bool, List, None, map};
 ghost use Rattle.std.specs.List.{AllByRecursion};
 ghost use Rattle.itch_codec.specs.Fields.{AreBytes};
 ghost use Rattle.itch_codec.specs.Messages.{message_of};
+ghost use Rattle.itch_codec.specs.declared.message.Message.{Message};
 ghost use Rattle.itch_market.specs.Content.{Content, empty};
 ghost use Rattle.itch_market.specs.GoodMarkets.{IsGood};
 ghost use Rattle.itch_market.specs.Partial.{only as cut};
@@ -14,7 +15,9 @@ ghost use Rattle.itch_market.specs.SameMarkets.{Same};
 ghost use Rattle.itch_snapshot.specs.TakenMessages.{closing_number};
 ghost use Rattle.itch_join.specs.Rules.{Rules, market_rules, rules_of, bad, run as run_by};
 ghost use Rattle.itch_commands.specs.AsRead.{as_read};
+ghost use Rattle.itch_commands.specs.Choices.{Chosen, everything, chosen_past, chosen_lines, lines_of};
 ghost use Rattle.itch_commands.specs.Joining.{from_number, joined_market};
+ghost use Rattle.itch_commands.specs.declared.form.ShowForm.TheVariants.{Text};
 
 /// Under the rules of markets, a payload as it is read with a set acts as the payload itself does under the rules of the set: it
 /// is refused for the same cause, has the same effect, takes memory if and only if that does, and ends a snapshot if and only if
@@ -39,4 +42,10 @@ pub fn restricted_reading()
         → NoCause m (from_number number ps) → NoCause n (from_number number (map (as_read wanted) ps)) }
     ensures joined { (wanted : ℕ → Bool) → (m n : Content) → (number : ℕ) → (ps : List (List ℕ)) → IsGood m → IsGood n → Same n (cut wanted m) → AllByRecursion AreBytes (from_number number ps)
         → NoCause m (from_number number ps) → Same (joined_market (n, number) (map (as_read wanted) ps)) (cut wanted (joined_market (m, number) ps)) }
+{}
+
+/// Without filters each message is shown, as a line. Where no order is followed, what chooses the messages stays the same.
+pub fn shown_lines()
+    ensures whole { (number : ℕ) → (messages : List Message) → chosen_lines Text everything number messages ≡ lines_of number messages }
+    ensures constant { (chosen : Chosen) → (messages : List Message) → Chosen.reference chosen ≡ None → chosen_past chosen messages ≡ chosen }
 {}

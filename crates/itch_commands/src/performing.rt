@@ -5,6 +5,7 @@ ghost use Rattle.itch_commands.specs.Requests.{IsOverOne, Performs, PerformsBook
 use crate::book::{book_blocks, book_stocks};
 use crate::canon::canon_blocks;
 use crate::check::check_blocks;
+use crate::choice::Choice;
 use crate::fault::ToolFault;
 use crate::form::BookForm;
 use crate::kind::FileKind;
@@ -37,12 +38,16 @@ pub fn perform<R: CountedRead, B: Allocator, A: Allocator + Copy, W: CountedWrit
         Request::Check { limit, form, .. } => check_blocks(alloc, reader, limit, form, out),
         Request::Show {
             kind: FileKind::Day(limit),
+            form,
+            filters,
             ..
-        } => show_blocks(reader, limit, out),
+        } => show_blocks(reader, limit, form, Choice::new(only, filters), out),
         Request::Show {
             kind: FileKind::Snapshot,
+            form,
+            filters,
             ..
-        } => show_snapshot(alloc, reader, out),
+        } => show_snapshot(alloc, reader, form, Choice::new(only, filters), out),
         Request::Canon { check, .. } => canon_blocks(alloc, reader, check, out),
         Request::Book {
             selection,

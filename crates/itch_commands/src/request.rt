@@ -3,7 +3,8 @@ ghost use Rattle.std.specs.Prelude.{◌≡◌, ◌↔◌, Some, IsNone, IfSome, 
 ghost use Rattle.itch_commands.specs.Requests.{file_of, is_binary, only_of};
 
 use crate::fault::Source;
-use crate::form::{BookForm, Form};
+use crate::filters::Filters;
+use crate::form::{BookForm, Form, ShowForm};
 use crate::kind::FileKind;
 use crate::limit::Limit;
 use crate::selection::Selection;
@@ -23,10 +24,12 @@ pub enum Request<'a> {
         limit: Limit,
         form: Form,
     },
-    /// Show each message of a file as a line.
+    /// Show each message of a file as a line, or those that are chosen.
     Show {
         file: Option<&'a str>,
         kind: FileKind,
+        form: ShowForm,
+        filters: Filters<'a>,
     },
     /// Write a snapshot in canonical form, or only check whether it is in that form.
     Canon {
@@ -96,6 +99,7 @@ impl<'a> Request<'a> {
             Request::Snap { selection, .. }
             | Request::Book { selection, .. }
             | Request::Join { selection, .. } => selection.list(),
+            Request::Show { filters, .. } => filters.only,
             _ => None,
         }
     }

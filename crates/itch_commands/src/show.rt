@@ -1,20 +1,25 @@
 //! `show`: the messages of a file as lines of text.
 ghost use Rattle.std.specs.Prelude.{◌≡◌, ◌^◌, ◌<◌, None, Err};
 ghost use Rattle.itch_frame.specs.Reading.{bytes_left};
+ghost use Rattle.itch_commands.specs.Choices.{everything};
 ghost use Rattle.itch_commands.specs.Limits.{counted};
 ghost use Rattle.itch_commands.specs.Readings.{CountsRead, FromReader};
 ghost use Rattle.itch_commands.specs.Showing.{Shows, ShowsNext, ShowsPayload, LeavesNext, finish};
 ghost use Rattle.itch_commands.specs.declared.fault.Source.TheVariants.{Only};
 ghost use Rattle.itch_commands.specs.declared.fault.ToolFault.TheVariants.{Stopped, OutOfMemory};
+ghost use Rattle.itch_commands.specs.declared.form.ShowForm.TheVariants.{Text};
 
+mod lines;
 mod recorded;
 
+use crate::choice::Choice;
 use crate::fault::{Source, ToolFault};
+use crate::form::ShowForm;
 use crate::limit::Limit;
-use crate::writing::write_text;
-use itch_codec::{MOST_MESSAGES, decode, show as show_message};
+use itch_codec::{MOST_MESSAGES, decode};
 use itch_frame::{BlockReader, CountedRead, CountedWrite};
 use itch_market::{ReplayEnd, Stop, next_message};
+use lines::write_chosen;
 pub use recorded::show_snapshot;
 use std::alloc::Allocator;
 
@@ -26,28 +31,33 @@ pub fn show<R: CountedRead + Drop, A: Allocator, W: CountedWrite>(
     reader: R,
     out: &mut W,
 ) -> Result<bool, ToolFault>
-    ensures shows { FromReader reader (λ old new r. Shows W.contents W.failures R.remaining R.failures (counted None) old new out.old r out.new) result }
+    ensures shows { FromReader reader (λ old new r. Shows W.contents W.failures R.remaining R.failures (counted None) Text everything old new out.old r out.new) result }
     ensures memory { result ≡ Err OutOfMemory → out.new ≡ out.old }
 {
     let mut reader = BlockReader::new(alloc, reader)?;
-    show_blocks(&mut reader, Limit::whole(), out)
+    let choice: Choice<'_, A> = Choice::everything();
+    show_blocks(&mut reader, Limit::whole(), ShowForm::Text, choice, out)
 }
 
-/// The same over a reader of blocks, and for any part of the file. The reader is left after the block that ended the reading.
+/// The same over a reader of blocks, for any part of the file, of those messages that are chosen, and in any form. A message has the
+/// number that it has in the file. The reader is left after the block that ended the reading.
 ///
 /// No order rule is applied, and an End of Snapshot is shown as any other message. The file is never held: each line is written
 /// as its message is read. If a block spells no message, or the file has fewer messages than are wanted (`Short`), the lines before
 /// that have been written.
-pub fn show_blocks<R: CountedRead, A: Allocator, W: CountedWrite>(
-    reader: &mut BlockReader<R, A>,
+pub fn show_blocks<R: CountedRead, B: Allocator, A: Allocator, W: CountedWrite>(
+    reader: &mut BlockReader<R, B>,
     limit: Limit,
+    form: ShowForm,
+    choice: Choice<'_, A>,
     out: &mut W,
 ) -> Result<bool, ToolFault>
-    ensures { Shows W.contents W.failures R.remaining R.failures limit reader.old reader.new out.old result out.new }
+    ensures { Shows W.contents W.failures R.remaining R.failures limit form choice reader.old reader.new out.old result out.new }
 {
+    let mut choice = choice;
     let most = limit.most();
     for count in 0..most {
-        match show_next(reader, count, limit, out) {
+        match show_next(reader, count, limit, form, &mut choice, out) {
             Ok(true) => {}
             Ok(false) => return Ok(true),
             Err(fault) => return finished(fault, limit.after),
@@ -75,33 +85,38 @@ fn finished(fault: ToolFault, wanted: Option<u64>) -> Result<bool, ToolFault>
     }
 }
 
-// Writes the line of the next message, which has the number after `count`, and returns true; or returns false if that is late.
-fn show_next<R: CountedRead, A: Allocator, W: CountedWrite>(
-    reader: &mut BlockReader<R, A>,
+// Writes the line of the next message, which has the number after `count`, if it is chosen, and returns true; or returns false if
+// that is late.
+fn show_next<R: CountedRead, B: Allocator, A: Allocator, W: CountedWrite>(
+    reader: &mut BlockReader<R, B>,
     count: u64,
     limit: Limit,
+    form: ShowForm,
+    choice: &mut Choice<'_, A>,
     out: &mut W,
 ) -> Result<bool, ToolFault>
     requires { count < 10 ^ 19 }
-    ensures shows { ShowsNext W.contents W.failures limit count (bytes_left R.remaining reader.old) (bytes_left R.remaining reader.new) out.old result out.new }
+    ensures shows { ShowsNext W.contents W.failures form limit count (bytes_left R.remaining reader.old) (bytes_left R.remaining reader.new) choice.old out.old result choice.new out.new }
     ensures failures { CountsRead result (R.failures reader.old.reader) (R.failures reader.new.reader) }
     ensures reader { LeavesNext result reader.old reader.new }
 {
     match next_message(reader, count == MOST_MESSAGES) {
-        Ok(payload) => show_payload(payload, count, limit, out),
+        Ok(payload) => show_payload(payload, count, limit, form, choice, out),
         Err(stop) => Err(stopped(count, stop)),
     }
 }
 
-// Writes the line of the message that a payload spells, and returns true; or returns false if that is late.
-fn show_payload<W: CountedWrite>(
+// Writes the line of the message that a payload spells, if it is chosen, and returns true; or returns false if that is late.
+fn show_payload<A: Allocator, W: CountedWrite>(
     payload: &[u8],
     count: u64,
     limit: Limit,
+    form: ShowForm,
+    choice: &mut Choice<'_, A>,
     out: &mut W,
 ) -> Result<bool, ToolFault>
     requires { count < 10 ^ 19 }
-    ensures { ShowsPayload W.contents W.failures limit count payload.now out.old result out.new }
+    ensures { ShowsPayload W.contents W.failures form limit count payload.now choice.old out.old result choice.new out.new }
 {
     let message = match decode(payload) {
         Ok(message) => message,
@@ -110,7 +125,7 @@ fn show_payload<W: CountedWrite>(
     if limit.is_late(&message) {
         return Ok(false);
     }
-    write_text(show_message(count + 1, &message).as_str().as_bytes(), out)?;
+    write_chosen(form, choice, count + 1, &message, out)?;
     Ok(true)
 }
 

@@ -1,70 +1,68 @@
 //! `show` of a snapshot file.
 ghost use Rattle.std.specs.Prelude.{◌<◌, ◌^◌, length};
-ghost use Rattle.itch_codec.specs.Lines.{line_of};
 ghost use Rattle.itch_snapshot.specs.Snapshot.{snap};
 ghost use Rattle.itch_commands.specs.Commands.{ShowsSnapshot};
 ghost use Rattle.itch_commands.specs.Outputs.{WritesText};
 ghost use Rattle.itch_commands.specs.Readings.{FromBlocks};
 ghost use Rattle.itch_commands.specs.Showing.{closed_lines};
 
+use super::lines::write_chosen;
+use crate::choice::Choice;
 use crate::fault::{Source, ToolFault};
+use crate::form::ShowForm;
 use crate::kind::snapshot_market;
 use crate::order_book::Book;
-use crate::writing::write_text;
 use itch_book::OrderBook;
-use itch_codec::{Message, Seq, show as show_message};
+use itch_codec::{Message, Seq};
 use itch_frame::{BlockReader, CountedRead, CountedWrite};
 use itch_market::Market;
 use itch_snapshot::SnapshotIter;
 use std::alloc::Allocator;
 
-/// Writes a line for each message of a snapshot file, in canonical order, and for its End of Snapshot. The file is read wholly first,
-/// and refused as `canon` refuses it; then nothing is written.
+/// Writes a line for each message of a snapshot file, in canonical order, and for its End of Snapshot, of those that are chosen. The
+/// file is read wholly first, and refused as `canon` refuses it; then nothing is written.
 pub fn show_snapshot<R: CountedRead, B: Allocator, A: Allocator + Copy, W: CountedWrite>(
     alloc: A,
     reader: &mut BlockReader<R, B>,
+    form: ShowForm,
+    choice: Choice<'_, A>,
     out: &mut W,
 ) -> Result<bool, ToolFault>
-    ensures { ShowsSnapshot R.remaining R.failures W.contents W.failures (FromBlocks reader.old reader.new) out.old result out.new }
+    ensures { ShowsSnapshot R.remaining R.failures W.contents W.failures form choice (FromBlocks reader.old reader.new) out.old result out.new }
 {
-    show_over::<R, B, Book<A>, W>(alloc, reader, out)
+    show_over::<R, B, Book<A>, W>(alloc, reader, form, choice, out)
 }
 
 // The same with any book of orders.
 fn show_over<R: CountedRead, A: Allocator, B: OrderBook, W: CountedWrite>(
     alloc: B::Alloc,
     reader: &mut BlockReader<R, A>,
+    form: ShowForm,
+    choice: Choice<'_, B::Alloc>,
     out: &mut W,
 ) -> Result<bool, ToolFault>
-    ensures { ShowsSnapshot R.remaining R.failures W.contents W.failures (FromBlocks reader.old reader.new) out.old result out.new }
+    ensures { ShowsSnapshot R.remaining R.failures W.contents W.failures form choice (FromBlocks reader.old reader.new) out.old result out.new }
 {
     let (market, next): (Market<B>, Seq) = snapshot_market(alloc, reader, Source::Only)?;
-    write_lines(&market, next, out)?;
+    write_lines(&market, next, form, choice, out)?;
     Ok(true)
 }
 
 fn write_lines<B: OrderBook, W: CountedWrite>(
     market: &Market<B>,
     next: Seq,
+    form: ShowForm,
+    choice: Choice<'_, B::Alloc>,
     out: &mut W,
 ) -> Result<(), ToolFault>
     requires { length (snap market.now) < 10 ^ 19 }
-    ensures { WritesText W.contents W.failures (closed_lines (market.now, next)) out.old result out.new }
+    ensures { WritesText W.contents W.failures (closed_lines form choice (market.now, next)) out.old result out.new }
 {
+    let mut choice = choice;
     let mut number = 1u64;
     for message in SnapshotIter::new(market) {
-        write_line(number, &message, out)?;
+        write_chosen(form, &mut choice, number, &message, out)?;
         number += 1;
     }
-    write_line(number, &Message::End { next }, out)
-}
-
-fn write_line<W: CountedWrite>(
-    number: u64,
-    message: &Message<'_>,
-    out: &mut W,
-) -> Result<(), ToolFault>
-    ensures { WritesText W.contents W.failures (line_of number message.now) out.old result out.new }
-{
-    write_text(show_message(number, message).as_str().as_bytes(), out)
+    write_chosen(form, &mut choice, number, &Message::End { next }, out)
 }

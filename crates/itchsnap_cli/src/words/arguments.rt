@@ -27,6 +27,11 @@ pub enum Argument {
     Check,
     // What the files are, if not day files.
     Recorded,
+    // Which messages `show` prints, and how.
+    ShownOnly,
+    Types,
+    Reference,
+    Names,
     // The files of `join`.
     Joined,
     Feed,
@@ -73,6 +78,10 @@ impl Argument {
             Argument::Snapshot => snapshot(alloc),
             Argument::Check => only_check(alloc),
             Argument::Recorded => recorded(alloc),
+            Argument::ShownOnly => shown_only(alloc),
+            Argument::Types => types(alloc),
+            Argument::Reference => reference(alloc),
+            Argument::Names => names(alloc),
             Argument::Joined => named(
                 alloc,
                 "SNAP",
@@ -164,6 +173,35 @@ fn stock<'a>(alloc: Global, help: &'a str) -> Arg<'a> {
         .long("stock")
         .value_name("LIST")
         .help(help)
+}
+
+fn shown_only<'a>(alloc: Global) -> Arg<'a> {
+    Arg::new(alloc, "only")
+        .long("only")
+        .value_name("LIST")
+        .help("Print only messages of these locates, such as 1-40,77")
+}
+
+fn types<'a>(alloc: Global) -> Arg<'a> {
+    Arg::new(alloc, "types")
+        .long("types")
+        .value_name("LETTERS")
+        .help("Print only messages of these types, such as AEX")
+}
+
+fn reference<'a>(alloc: Global) -> Arg<'a> {
+    Arg::new(alloc, "reference")
+        .long("reference")
+        .value_name("N")
+        .help("Print only messages of this order, through its replacements")
+        .value_parser(clap::value_parser!(u64))
+}
+
+fn names<'a>(alloc: Global) -> Arg<'a> {
+    Arg::new(alloc, "names")
+        .long("names")
+        .help("Print codes as characters, and timestamps as times of the day")
+        .action(ArgAction::SetTrue)
 }
 
 fn progress<'a>(alloc: Global) -> Arg<'a> {

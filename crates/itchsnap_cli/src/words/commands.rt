@@ -80,15 +80,20 @@ const COMMANDS: [Entry; 10] = [
     },
     Entry {
         name: "show",
-        about: "Print each message of a file as a line of text",
+        about: "Print the messages of a file, each as a line",
         takes: &[
             Argument::File,
             Argument::After,
             Argument::Until,
             Argument::Recorded,
+            Argument::ShownOnly,
+            Argument::Types,
+            Argument::Reference,
+            Argument::Names,
+            Argument::Json,
             Argument::Progress,
         ],
-        example: "Example: itchsnap show day.snap | tail -n 1",
+        example: "Example: itchsnap show day.itch --reference 7",
     },
     Entry {
         name: "book",

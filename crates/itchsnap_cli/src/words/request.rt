@@ -3,7 +3,9 @@
 use crate::words::commands::usage_fault;
 use crate::words::time::read_time;
 use clap::{ArgMatches, Error};
-use itch_commands::{BookForm, FileKind, Form, Limit, Request, Selection, path_of};
+use itch_commands::{
+    BookForm, FileKind, Filters, Form, Limit, Request, Selection, ShowForm, path_of,
+};
 use std::alloc::Global;
 
 /// Reads the matched words of a request over files.
@@ -17,10 +19,7 @@ pub fn read_request<'a>(alloc: Global, matches: &ArgMatches<'a>) -> Result<Reque
             limit: read_limit(alloc, options)?,
             form: read_form(options),
         }),
-        Some(("show", options)) => Ok(Request::Show {
-            file: read_path(options, "FILE"),
-            kind: read_kind(alloc, options)?,
-        }),
+        Some(("show", options)) => read_show(alloc, options),
         Some(("canon", options)) => Ok(Request::Canon {
             file: read_path(options, "SNAP"),
             check: options.get_flag("check"),
@@ -57,6 +56,49 @@ fn read_join<'a>(alloc: Global, options: &ArgMatches<'a>) -> Result<Request<'a>,
         feed,
         selection: read_selection(alloc, options)?,
     })
+}
+
+fn read_show<'a>(alloc: Global, options: &ArgMatches<'a>) -> Result<Request<'a>, Error> {
+    Ok(Request::Show {
+        file: read_path(options, "FILE"),
+        kind: read_kind(alloc, options)?,
+        form: read_show_form(alloc, options)?,
+        filters: read_filters(alloc, options)?,
+    })
+}
+
+fn read_show_form<'a>(alloc: Global, options: &ArgMatches<'a>) -> Result<ShowForm, Error> {
+    match (options.get_flag("names"), options.get_flag("json")) {
+        (false, false) => Ok(ShowForm::Text),
+        (true, false) => Ok(ShowForm::Named),
+        (false, true) => Ok(ShowForm::Json),
+        (true, true) => Err(usage_fault(alloc, "--names and --json exclude each other")?),
+    }
+}
+
+// What chooses the messages that are shown.
+fn read_filters<'a>(alloc: Global, options: &ArgMatches<'a>) -> Result<Filters<'a>, Error> {
+    Ok(Filters {
+        only: options.get_str("only"),
+        types: read_types(alloc, options)?,
+        reference: read_count(
+            alloc,
+            options,
+            "reference",
+            "--reference takes decimal digits",
+        )?,
+    })
+}
+
+// The letters of message types: one or more, printable and ASCII.
+fn read_types<'a>(alloc: Global, options: &ArgMatches<'a>) -> Result<Option<&'a str>, Error> {
+    let Some(types) = options.get_str("types") else {
+        return Ok(None);
+    };
+    if types.is_empty() || !types.bytes().all(|byte| matches!(byte, b' '..=b'~')) {
+        return Err(usage_fault(alloc, "--types takes letters of message types, such as AEX")?);
+    }
+    Ok(Some(types))
 }
 
 // The two files of a command, of which one may be standard input.

@@ -6,7 +6,7 @@ use Rattle.itch_commands.proofs.show.show_blocks.Goals as goal
 
 pub loop-count-init : goal.loop-count-init
 loop-count-init g c =
-    shown_first g.W.CountedWrite.contents g.W.CountedWrite.failures g.R.CountedRead.remaining g.R.CountedRead.failures c.args.limit c.args.reader.now c.args.out.now
+    shown_first g.W.CountedWrite.contents g.W.CountedWrite.failures g.R.CountedRead.remaining g.R.CountedRead.failures c.args.limit c.args.form c.args.choice c.args.reader.now c.args.out.now
 
 pub returns-in-Err : goal.returns-in-Err
 returns-in-Err g c =
@@ -15,12 +15,12 @@ returns-in-Err g c =
     let remaining = g.R.CountedRead.remaining in
     let failed_reads = g.R.CountedRead.failures in
     let limit = c.args.limit in
-    subst (λ r. Shows contents failures remaining failed_reads limit c.args.reader.now c.show_next.new.reader c.args.out.now r c.show_next.new.out) (sym c.finished.ensures)
-    (shown_ends contents failures remaining failed_reads limit _ _ _ _ _ _ _ c.in-Err.fault c.loop-count.invariant
+    subst (λ r. Shows contents failures remaining failed_reads limit c.args.form c.args.choice c.args.reader.now c.show_next.new.reader c.args.out.now r c.show_next.new.out) (sym c.finished.ensures)
+    (shown_ends contents failures remaining failed_reads limit c.args.form c.args.choice _ _ _ _ _ _ _ _ _ c.in-Err.fault c.loop-count.invariant
     (before_most limit.after _ (rw c.most-most.ensures at c.loop-count-test.true))
     c.in-Err.ensures.shows c.in-Err.ensures.failures c.in-Err.ensures.reader)
 
 pub loop-count-preserved : goal.loop-count-preserved
 loop-count-preserved g c =
-    shown_on g.W.CountedWrite.contents g.W.CountedWrite.failures g.R.CountedRead.remaining g.R.CountedRead.failures c.args.limit
-    _ _ _ _ _ _ _ c.loop-count.invariant (rw c.in-Ok-true.field-0-test at c.in-Ok-true.ensures.shows) c.in-Ok-true.ensures.failures c.in-Ok-true.ensures.reader
+    shown_on g.W.CountedWrite.contents g.W.CountedWrite.failures g.R.CountedRead.remaining g.R.CountedRead.failures c.args.limit c.args.form c.args.choice
+    _ _ _ _ _ _ _ _ _ c.loop-count.invariant (rw c.in-Ok-true.field-0-test at c.in-Ok-true.ensures.shows) c.in-Ok-true.ensures.failures c.in-Ok-true.ensures.reader

@@ -5,18 +5,18 @@ use Rattle.itch_commands.proofs.show.recorded.write_lines.Goals as goal
 
 pub loop-message-init : goal.loop-message-init
 loop-message-init g c =
-    subst (λ left. Recorded g.W.CountedWrite.contents g.W.CountedWrite.failures c.args.market.now c.args.next c.args.out.now [] left 1 c.args.out.now) (sym (c.into_iter-message-iterator.ensures.into_iter_gives ∙ c.new-message-items.ensures))
-    (recorded_first g.W.CountedWrite.contents g.W.CountedWrite.failures c.args.market.now c.args.next c.args.out.now)
+    subst (λ left. Recorded g.W.CountedWrite.contents g.W.CountedWrite.failures c.args.form c.args.choice c.args.market.now c.args.next c.args.out.now [] left 1 c.args.choice c.args.out.now) (sym (c.into_iter-message-iterator.ensures.into_iter_gives ∙ c.new-message-items.ensures))
+    (recorded_first g.W.CountedWrite.contents g.W.CountedWrite.failures c.args.form c.args.choice c.args.market.now c.args.next c.args.out.now)
 
 pub loop-message-preserved : goal.loop-message-preserved
 loop-message-preserved g c =
-    recorded_on g.W.CountedWrite.contents g.W.CountedWrite.failures _ c.args.next _ _ _ _ _ _ c.loop-message.invariant _ _ c.in-Some.ensures.steps c.in_ok-write_line.ensures
+    recorded_on g.W.CountedWrite.contents g.W.CountedWrite.failures c.args.form c.args.choice _ c.args.next _ _ _ _ _ _ _ c.loop-message.invariant _ _ _ c.in-Some.ensures.steps c.in_ok-write_chosen.ensures.line c.in_ok-write_chosen.ensures.passed
 
-pub returns-in_err-write_line : goal.returns-in_err-write_line
-returns-in_err-write_line g c =
+pub returns-in_err-write_chosen : goal.returns-in_err-write_chosen
+returns-in_err-write_chosen g c =
     let p = err_from_is_err_and c.from_residual.result c.from_residual.ensures.1 in
-    rw (p.1, p.2) (recorded_fails g.W.CountedWrite.contents g.W.CountedWrite.failures _ c.args.next _ _ _ _ _ _ c.loop-message.invariant _ _ _ c.in-Some.ensures.steps c.in_err-write_line.ensures)
+    rw (p.1, p.2) (recorded_fails g.W.CountedWrite.contents g.W.CountedWrite.failures c.args.form c.args.choice _ c.args.next _ _ _ _ _ _ _ c.loop-message.invariant _ _ _ c.in-Some.ensures.steps c.in_err-write_chosen.ensures.line)
 
 pub returns : goal.returns
 returns g c =
-    recorded_ends g.W.CountedWrite.contents g.W.CountedWrite.failures _ c.args.next _ _ _ _ _ _ c.loop-message.invariant _ c.in-None.ensures.steps.0 c.write_line-2.ensures
+    recorded_ends g.W.CountedWrite.contents g.W.CountedWrite.failures c.args.form c.args.choice _ c.args.next _ _ _ _ _ _ _ c.loop-message.invariant _ c.in-None.ensures.steps.0 c.write_chosen-2.ensures.line

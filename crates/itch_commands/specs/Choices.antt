@@ -1,0 +1,92 @@
+-- Which messages `show` shows, and in which form.
+use Rattle.std.specs.Prelude.{ℕ, ◌+◌, ◌==◌, ◌&&◌, Bool, true, false, List, [], ◌∷◌, ◌++◌, Option, Some, None, option_map, if◌then◌else◌}
+use Rattle.std.specs.List.{list_any}
+use Rattle.itch_codec.specs.Headers.{header, kind_of, reference_of}
+use Rattle.itch_codec.specs.Json.{json_line}
+use Rattle.itch_codec.specs.Lines.{line_of}
+use Rattle.itch_codec.specs.Named.{named_line}
+use Rattle.itch_codec.specs.declared.header.Header.{Header}
+use Rattle.itch_codec.specs.declared.message.Message.{Message}
+use Rattle.itch_codec.specs.declared.message.Message.TheVariants as is
+use Rattle.itch_market.specs.Wanted.{Wanted, has}
+use Rattle.itch_commands.specs.declared.filters.Filters.{Filters}
+use Rattle.itch_commands.specs.declared.form.ShowForm.{ShowForm}
+use Rattle.itch_commands.specs.declared.form.ShowForm.TheVariants as form
+
+-- What chooses a message, where it is given: the locates, the types, and the reference number that an order has by now.
+pub record Chosen : Type 0 where
+  pub only : Option Wanted
+  pub types : Option (List ℕ)
+  pub reference : Option ℕ
+
+-- every message
+abbrev pub everything : Chosen
+everything = record { only = None; types = None; reference = None }
+
+-- what the words ask for, with the set that their list of locates is
+abbrev pub chosen_by : Option Wanted → Filters → Chosen
+chosen_by set filters = record { only = set; types = option_map (λ types. types.now) filters.types; reference = filters.reference }
+
+-- a header has a locate of a set; none has one
+abbrev pub is_at : Wanted → Option Header → Bool
+is_at set None = false
+is_at set (Some h) = has set h.locate
+
+-- a message has a locate that is wanted
+abbrev pub is_located : Option Wanted → Message → Bool
+is_located None message = true
+is_located (Some set) message = is_at set (header message)
+
+-- a message has a type that is wanted
+abbrev pub is_typed : Option (List ℕ) → Message → Bool
+is_typed None message = true
+is_typed (Some types) message = list_any (λ letter. letter == kind_of message) types
+
+-- a message that names an order names this one
+abbrev pub is_named : ℕ → Option ℕ → Bool
+is_named reference None = false
+is_named reference (Some named) = named == reference
+
+-- a message is about the order that is followed
+abbrev pub is_about : Option ℕ → Message → Bool
+is_about None message = true
+is_about (Some reference) message = is_named reference (reference_of message)
+
+-- a message is shown if all that is given chooses it
+abbrev pub is_chosen : Chosen → Message → Bool
+is_chosen chosen message = is_located chosen.only message && is_typed chosen.types message && is_about chosen.reference message
+
+-- the reference number of an order after a message: a replace gives its original order another one
+abbrev pub renamed : Message → ℕ → ℕ
+renamed (is.OrderReplace m) reference = if m.original == reference then m.reference else reference
+renamed message reference = reference
+
+-- what chooses the messages after this one
+abbrev pub chosen_after : Chosen → Message → Chosen
+chosen_after chosen message = record { only = chosen.only; types = chosen.types; reference = option_map (renamed message) chosen.reference }
+
+-- what chooses the messages after these
+unfoldable pub chosen_past : Chosen → List Message → Chosen
+chosen_past chosen [] = chosen
+chosen_past chosen (message ∷ messages) = chosen_past (chosen_after chosen message) messages
+
+-- the line of a message in a form
+abbrev pub line_in : ShowForm → ℕ → Message → List ℕ
+line_in form.Text number message = line_of number message
+line_in form.Named number message = named_line number message
+line_in form.Json number message = json_line number message
+
+-- the line of a message if it is chosen, and otherwise nothing
+abbrev pub chosen_line : ShowForm → Chosen → ℕ → Message → List ℕ
+chosen_line form chosen number message = if is_chosen chosen message then line_in form number message else []
+
+-- The lines of those of these messages that are chosen. The messages are numbered from here on, the others too.
+unfoldable pub chosen_lines : ShowForm → Chosen → ℕ → List Message → List ℕ
+chosen_lines form chosen number [] = []
+chosen_lines form chosen number (message ∷ messages) =
+    chosen_line form chosen number message ++ chosen_lines form (chosen_after chosen message) (number + 1) messages
+
+-- the lines of all these messages, numbered from here on
+unfoldable pub lines_of : ℕ → List Message → List ℕ
+lines_of number [] = []
+lines_of number (message ∷ messages) = line_of number message ++ lines_of (number + 1) messages

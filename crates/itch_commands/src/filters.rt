@@ -1,0 +1,26 @@
+//! Which messages are asked for, in words.
+ghost use Rattle.std.specs.Prelude.{◌≡◌, None};
+
+/// What chooses the messages that are shown. A message is shown if all that is given chooses it.
+#[derive(Clone, Copy, Debug, PartialEq, Eq)]
+pub struct Filters<'a> {
+    /// A list of locates: messages whose header has one of them.
+    pub only: Option<&'a str>,
+    /// Letters of message types: messages of these types.
+    pub types: Option<&'a str>,
+    /// The reference number of an order: messages about it.
+    pub reference: Option<u64>,
+}
+
+impl Filters<'_> {
+    /// Nothing is given, and every message is shown.
+    pub fn none() -> Self
+        ensures { result ≡ record { only = None; types = None; reference = None } }
+    {
+        Filters {
+            only: None,
+            types: None,
+            reference: None,
+        }
+    }
+}
