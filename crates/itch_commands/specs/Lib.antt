@@ -7,6 +7,7 @@ pub mod Canons
 pub mod Causes
 pub mod Showing
 pub mod Comparing
+pub mod FirstDifferences
 pub mod Forms
 pub mod Books
 pub mod AsRead

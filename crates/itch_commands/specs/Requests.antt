@@ -7,7 +7,7 @@ use Rattle.itch_commands.specs.declared.fault.ToolFault.{ToolFault}
 use Rattle.itch_commands.specs.declared.fault.Source.{Source}
 use Rattle.itch_commands.specs.declared.fault.Source.TheVariants.{Second, Snapshot}
 use Rattle.itch_commands.specs.declared.request.Request.{Request}
-use Rattle.itch_commands.specs.declared.request.Request.TheVariants.{Snap, Check, Show, Canon, Compare, Book, Join}
+use Rattle.itch_commands.specs.declared.request.Request.TheVariants.{Snap, Check, Show, Canon, Compare, CompareFirst, Book, Join}
 use Rattle.itch_commands.specs.Commands.{Snaps, Checks, ShowsSnapshot, WritesCanon, ChecksCanon, ListsBook}
 use Rattle.itch_commands.specs.declared.kind.FileKind.TheVariants as kind
 use Rattle.itch_commands.specs.Readings.{FromBlocks}
@@ -22,6 +22,8 @@ file_of (Canon file check) source = option_map (λ path. path.now) file
 file_of (Book locate depth file kind form) source = option_map (λ path. path.now) file
 file_of (Compare first second kind form) Second = option_map (λ path. path.now) second
 file_of (Compare first second kind form) source = option_map (λ path. path.now) first
+file_of (CompareFirst first second limit form) Second = option_map (λ path. path.now) second
+file_of (CompareFirst first second limit form) source = option_map (λ path. path.now) first
 file_of (Join snapshot feed only) Snapshot = option_map (λ path. path.now) snapshot
 file_of (Join snapshot feed only) source = option_map (λ path. path.now) feed
 
@@ -41,6 +43,7 @@ is_binary request = false
 -- a request over one file
 abbrev pub IsOverOne : Request → Type 0
 IsOverOne (Compare first second kind form) = ⊥
+IsOverOne (CompareFirst first second limit form) = ⊥
 IsOverOne (Join snapshot feed only) = ⊥
 IsOverOne request = ⊤
 
@@ -55,4 +58,5 @@ module _ {R W : Type 0} (remaining : R → Option (List ℕ)) (failed_reads : R 
   Performs (Canon file true) set old new = ChecksCanon remaining failed_reads contents failed_writes (FromBlocks old new)
   Performs (Book locate depth file kind form) set old new = ListsBook remaining failed_reads contents failed_writes form locate depth kind (FromBlocks old new)
   Performs (Compare first second kind form) set old new = λ out result written. ⊥
+  Performs (CompareFirst first second limit form) set old new = λ out result written. ⊥
   Performs (Join snapshot feed only) set old new = λ out result written. ⊥

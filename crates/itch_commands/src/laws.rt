@@ -1,7 +1,7 @@
 //! What is read with a set of locates, as `join` reads it.
 //!
 //! Each function here does nothing: its clauses are the laws.
-ghost use Rattle.std.specs.Prelude.{◌≡◌, ℕ, Bool, List, map};
+ghost use Rattle.std.specs.Prelude.{◌≡◌, ℕ, Bool, List, map, ⊥};
 ghost use Rattle.std.specs.List.{AllByRecursion};
 ghost use Rattle.itch_codec.specs.Fields.{AreBytes};
 ghost use Rattle.itch_codec.specs.Messages.{message_of};
@@ -14,7 +14,9 @@ ghost use Rattle.itch_market.specs.SameMarkets.{Same};
 ghost use Rattle.itch_snapshot.specs.TakenMessages.{closing_number};
 ghost use Rattle.itch_join.specs.Rules.{Rules, market_rules, rules_of, bad, run as run_by};
 ghost use Rattle.itch_commands.specs.AsRead.{as_read};
+ghost use Rattle.itch_commands.specs.FirstDifferences.{IsPlaceIn, IsSameIn};
 ghost use Rattle.itch_commands.specs.Joining.{from_number, joined_market};
+ghost use Rattle.itch_commands.specs.declared.limit.Limit.{Limit};
 
 /// Under the rules of markets, a payload as it is read with a set acts as the payload itself does under the rules of the set: it
 /// is refused for the same cause, has the same effect, takes memory if and only if that does, and ends a snapshot if and only if
@@ -39,4 +41,11 @@ pub fn restricted_reading()
         → NoCause m (from_number number ps) → NoCause n (from_number number (map (as_read wanted) ps)) }
     ensures joined { (wanted : ℕ → Bool) → (m n : Content) → (number : ℕ) → (ps : List (List ℕ)) → IsGood m → IsGood n → Same n (cut wanted m) → AllByRecursion AreBytes (from_number number ps)
         → NoCause m (from_number number ps) → Same (joined_market (n, number) (map (as_read wanted) ps)) (cut wanted (joined_market (m, number) ps)) }
+{}
+
+/// The markets of two day files, or of the same part of both, first differ after one number of messages, or never.
+#[tactic(auto, using(crate::proofs::OneFirstDifference::place_laws))]
+pub fn one_first_difference()
+    ensures place { (limit : Limit) → (one other : List ℕ) → (n k : ℕ) → IsPlaceIn limit one other n → IsPlaceIn limit one other k → n ≡ k }
+    ensures nowhere { (limit : Limit) → (one other : List ℕ) → (n : ℕ) → IsPlaceIn limit one other n → IsSameIn limit one other → ⊥ }
 {}

@@ -44,6 +44,8 @@ pub fn perform<R: CountedRead, B: Allocator, A: Allocator + Copy, W: CountedWrit
             form,
             ..
         } => book_blocks(alloc, locate, depth, reader, kind, form, out),
-        Request::Compare { .. } | Request::Join { .. } => unreachable!(),
+        Request::Compare { .. } | Request::CompareFirst { .. } | Request::Join { .. } => {
+            unreachable!()
+        }
     }
 }

@@ -18,9 +18,10 @@ pub enum Argument {
     Only,
     Json,
     Progress,
-    // The files of `compare`.
+    // The files of `compare`, and its flag.
     First,
     Second,
+    Earliest,
     // The file of `canon`, and its flag.
     Snapshot,
     Check,
@@ -63,6 +64,7 @@ impl Argument {
             Argument::Progress => progress(alloc),
             Argument::First => named(alloc, "A", "The first file; `-` for standard input"),
             Argument::Second => named(alloc, "B", "The second file, or `-`"),
+            Argument::Earliest => earliest(alloc),
             Argument::Snapshot => snapshot(alloc),
             Argument::Check => only_check(alloc),
             Argument::Recorded => recorded(alloc),
@@ -117,6 +119,13 @@ fn only_check<'a>(alloc: Global) -> Arg<'a> {
     Arg::new(alloc, "check")
         .long("check")
         .help("Only report whether the snapshot is in canonical form")
+        .action(ArgAction::SetTrue)
+}
+
+fn earliest<'a>(alloc: Global) -> Arg<'a> {
+    Arg::new(alloc, "first")
+        .long("first")
+        .help("Find after how many messages the markets first differ")
         .action(ArgAction::SetTrue)
 }
 
