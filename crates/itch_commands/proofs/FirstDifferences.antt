@@ -36,7 +36,7 @@ use Rattle.itch_commands.specs.declared.fault.ToolFault.TheVariants as tool
 use Rattle.itch_commands.specs.declared.limit.Limit.{Limit}
 use Rattle.itch_commands.proofs.Comparisons.{taken_good, taken_few}
 use Rattle.itch_commands.proofs.DayReadings.{is_part, day_fails}
-use Rattle.itch_commands.proofs.PartReadings.{SoFar, all_wanted, one_more, stops_there, stopped_so, stopped_counts, stopped_leaves, late_given, late_leaves, all_leaves}
+use Rattle.itch_commands.proofs.PartReadings.{SoFar, all_wanted, taken_more, stops_there, stopped_so, stopped_counts, stopped_leaves, late_given, late_leaves, all_leaves}
 
 count_by : (f fault : ToolFault) (count : ℕ) → count_of f ≡ Some count → ◌≡◌ {A = Result ℕ ToolFault} (Err f) (Err fault) → count_of fault ≡ Some count
 count_by f fault count counted is = let same : f ≡ fault = cc in subst (λ g. count_of g ≡ Some count) same counted
@@ -64,7 +64,7 @@ pub within_more : (wanted : Option ℕ) (count : ℕ) → IfSome wanted (λ most
 within_more None count before = tt
 within_more (Some most) count before = omega arith
 
-within_so_far : (wanted : Option ℕ) (count : ℕ) → IfSome wanted (λ most. count < most) → IfSome wanted (λ most. count ≤ most)
+pub within_so_far : (wanted : Option ℕ) (count : ℕ) → IfSome wanted (λ most. count < most) → IfSome wanted (λ most. count ≤ most)
 within_so_far None count before = tt
 within_so_far (Some most) count before = omega arith
 
@@ -167,10 +167,10 @@ module _ {R : Type 0} (remaining : R → Option (List ℕ)) (failures : R → Fa
       goes_on : (change : Message) → Goes old mid count p m → AppliesNext limit (count == 10 ^ 19 - 1) m (bytes_left remaining mid) (bytes_left remaining new) change n
           → failures new.reader ≡ failures mid.reader → LeavesReaderFirst mid 1 None new → StandsOn true old new count p n
       goes_on change stands (x, off, room, step, plainest) uncounted leaves =
-          let next = one_more limit empty (bytes_left remaining old) (bytes_left remaining mid) (bytes_left remaining new) count m n (so_far stands) (x, off, room, step) in
+          let next = taken_more limit empty (bytes_left remaining old) (bytes_left remaining mid) (bytes_left remaining new) count m n p x stands.takes stands.good off room step in
           record {
             payloads = p ++ x ∷ [];
-            stands = record { takes = next.takes; good = next.good; uncounted = uncounted ∙ stands.uncounted; standing = standing_on old mid new count stands.standing leaves };
+            stands = record { takes = next.0; good = next.1; uncounted = uncounted ∙ stands.uncounted; standing = standing_on old mid new count stands.standing leaves };
             front = λ k within. take-append-le k p (x ∷ []) (omega (arith, within, stands.takes.1));
           }
 
@@ -270,10 +270,10 @@ changed_so : {R : Type 0} (remaining : R → Option (List ℕ)) (failures : R �
     (change : Option Message) → Steps remaining failures file limit count goes m old new (Ok change) n → Changed m change n
 changed_so remaining failures file limit count false m n old new (Some change) (is, same, unread) = absurd (cc)
 changed_so remaining failures file limit count false m n old new None (is, same, unread) = same
-changed_so remaining failures file limit count true m n old new (Some change) ((payload, off, room, (early, (clean, fits, next)), plainest), rest) =
+changed_so remaining failures file limit count true m n old new (Some change) ((payload, off, room, (early, (clean, fits, next)), plainest), uncounted, leaves) =
     (message_of payload, fits, no_reason m payload clean, plainest, next)
-changed_so remaining failures file limit count true m n old new None (inl ((same, late), rest)) = same
-changed_so remaining failures file limit count true m n old new None (inr (whole, ((same, ends), rest))) = same
+changed_so remaining failures file limit count true m n old new None (inl ((same, late), uncounted, leaves)) = same
+changed_so remaining failures file limit count true m n old new None (inr (whole, ((same, ends), uncounted, leaves))) = same
 
 -- a message with a plainest one that changes nothing leaves the market as it was
 unchanged : (m n : Content) (change : Message) → IsGood m → Changed m (Some change) n → ((k : Content) → effect k change ≡ k) → n ≡ laid m
@@ -436,6 +436,9 @@ module _ {R S : Type 0} (remaining : R → Option (List ℕ)) (failures : R → 
     )
 
   -- or both are over
-  pub both_over : (b : Reading R) (d : Reading S) (count : ℕ) (m n : Content) → Paired b d count count false false m n
+  pub both_over : (b : Reading R) (d : Reading S) (count : ℕ) (goes too : Bool) (m n : Content) → goes ≡ false → too ≡ false → Paired b d count count goes too m n
       → FindsFirst remaining failures remaining_then failed_then limit a b c d (Ok None)
-  both_over b d count m n paired = (paired.p, paired.q, paired.one.read, paired.other.read, same_throughout b d count count false false m n paired refl)
+  both_over b d count true too m n over over_too paired = absurd (cc)
+  both_over b d count false true m n over over_too paired = absurd (cc)
+  both_over b d count false false m n over over_too paired =
+      (paired.p, paired.q, paired.one.read, paired.other.read, same_throughout b d count count false false m n paired refl)

@@ -91,7 +91,7 @@ no_longer limit bytes p q taken (left, whole, cut) front = elim (cases_lt (lengt
 
 -- one that has not as many as it may have is the part
 is_whole : (limit : Limit) (count k : ℕ) (bytes : List ℕ) (p : List (List ℕ)) → length p < k → k ≤ count → IsFront limit count bytes p → IsPart limit bytes p
-is_whole limit count k bytes p short within (taken, inl (counted, rest)) = absurd (omega (arith, short, within, counted))
+is_whole limit count k bytes p short within (taken, inl (counted, enough, part)) = absurd (omega (arith, short, within, counted))
 is_whole limit count k bytes p short within (taken, inr (fewer, part)) = part
 
 -- so the first payloads of a part are the same
@@ -152,5 +152,3 @@ no_place limit one other n (p, q, in_one, in_other, first) (r, s, taken, part, a
     first.there
     (same_at_both r s p q n (same_front limit one r p (length r + n + 1) n n (omega arith) (omega arith) (taken, inr (omega arith, part)) in_one)
     (same_front limit other s q (length s + n + 1) n n (omega arith) (omega arith) (also, inr (omega arith, rest)) in_other) (same n))
-
-pub ruleset place_laws = (one_place, no_place)

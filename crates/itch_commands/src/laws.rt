@@ -1,7 +1,7 @@
 //! What is read with a set of locates, as `join` reads it.
 //!
 //! Each function here does nothing: its clauses are the laws.
-ghost use Rattle.std.specs.Prelude.{◌≡◌, ℕ, Bool, List, map, ⊥};
+ghost use Rattle.std.specs.Prelude.{◌≡◌, ℕ, Bool, List, map};
 ghost use Rattle.std.specs.List.{AllByRecursion};
 ghost use Rattle.itch_codec.specs.Fields.{AreBytes};
 ghost use Rattle.itch_codec.specs.Messages.{message_of};
@@ -44,7 +44,6 @@ pub fn restricted_reading()
 {}
 
 /// The markets of two day files, or of the same part of both, first differ after one number of messages, or never.
-#[tactic(auto, using(crate::proofs::OneFirstDifference::place_laws))]
 pub fn one_first_difference()
     ensures place { (limit : Limit) → (one other : List ℕ) → (n k : ℕ) → IsPlaceIn limit one other n → IsPlaceIn limit one other k → n ≡ k }
     ensures nowhere { (limit : Limit) → (one other : List ℕ) → (n : ℕ) → IsPlaceIn limit one other n → IsSameIn limit one other → ⊥ }

@@ -204,10 +204,15 @@ fn still_same<B: OrderBook>(
 fn are_alike(one: &Option<Message<'_>>, other: &Option<Message<'_>>) -> bool
     ensures { IsTrue result → AreAlike one.now other.now }
 {
-    match (one, other) {
-        (None, None) => true,
-        (Some(one), Some(other)) => same_message(one, other),
-        (Some(change), None) | (None, Some(change)) => is_nothing(change),
+    match one {
+        Some(change) => match other {
+            Some(other) => same_message(change, other),
+            None => is_nothing(change),
+        },
+        None => match other {
+            Some(change) => is_nothing(change),
+            None => true,
+        },
     }
 }
 
