@@ -58,6 +58,8 @@ def counts_and_verdicts_as_json_are_read(program):
         (("check", "day.itch"), 0, {"messages": 2}),
         (("compare", "day.itch", "day.itch"), 0, {"same": True}),
         (("compare", "day.itch", "other.itch"), 1, {"same": False, "place": 2}),
+        (("compare", "--first", "day.itch", "day.itch"), 0, {"same": True}),
+        (("compare", "--first", "day.itch", "other.itch"), 1, {"same": False, "after": 2}),
     ]
     for words, wanted, value in cases:
         status, output, error = ended(program, *words, "--json", day=data, other=blocks()[AAPL])

@@ -5,6 +5,7 @@ RUNS has a function for each run, named for what it shows; it is given the progr
 import importlib
 import struct
 import sys
+import time
 from pathlib import Path
 
 import large
@@ -103,6 +104,7 @@ def the_longest_message_is_read(program):
     yield from differs("check", ended(program, "check", "day.itch", day=day), (0, b"ok 3 messages\n", b""))
     yield from differs("snap", ended(program, "snap", "day.itch", day=day), (0, snapshot, b""))
     yield from differs("compare", ended(program, "compare", "day.itch", "other.itch", day=day, other=entry), (0, b"same\n", b""))
+    yield from differs("compare --first", ended(program, "compare", "--first", "day.itch", "other.itch", day=day, other=longest + entry), (0, b"same\n", b""))
     yield from differs("canon", ended(program, "canon", "day.itch", day=longest + snapshot), (0, snapshot, b""))
     yield from differs("join", ended(program, "join", "snap.itch", "day.itch", snap=longest + large.closing(2), day=day), (0, snapshot, b""))
     status, output, error = ended(program, "show", "day.itch", day=day)
@@ -129,6 +131,48 @@ def the_longest_message_waits_in_a_joiner(_program):
     library.free(joiner)
 
 
+def small_orders(locate, count, first):
+    """`count` orders of one share, from this reference on."""
+    return [large.block(b"A", locate, struct.pack(">QcI8sI", first + it, b"B", 1, large.stock(locate), 1)) for it in range(count)]
+
+
+def effects(kinds, count, first):
+    """`count` messages, of these kinds by turns, each of which takes all of an order of one share, from this reference on."""
+    fields = {b"E": struct.pack(">IQ", 1, 7), b"X": struct.pack(">I", 1), b"D": b"", b"C": struct.pack(">IQcI", 1, 8, b"Y", 1)}
+    return [large.block(kind, 1, struct.pack(">Q", first + it) + fields[kind]) for it, kind in zip(range(count), kinds * count)]
+
+
+def without_effect(kinds, count):
+    """`count` messages, of these kinds by turns, that change nothing."""
+    blocks = {
+        b"P": large.block(b"P", 1, struct.pack(">QcI8sIQ", 0, b"B", 1, large.stock(1), 1, 0)),
+        b"B": large.block(b"B", 1, bytes(8)),
+        b"I": large.block(b"I", 1, bytes(39)),
+        b"E": large.block(b"E", 1, struct.pack(">QIQ", 1, 0, 9)),
+        b"R": large.entry(1),
+    }
+    return [blocks[kind] for _, kind in zip(range(count), kinds * count)]
+
+
+def different_messages_with_one_effect_take_no_time(program):
+    """Beside 100,000 live orders, so that a comparison of the markets at each of 200,000 pairs would take hours."""
+    count = 100_000
+    market, _ = large.orders(count, symbols=2)
+    fronts = market + b"".join(small_orders(1, count, count + 1))
+    one = [*without_effect([b"P", b"E", b"R"], count), *effects([b"E", b"D", b"C"], count, count + 1)]
+    other = [*without_effect([b"I", b"B", b"P"], count), *effects([b"D", b"X", b"E"], count, count + 1)]
+    tail = without_effect([b"P"], count)
+    day, second = fronts + b"".join(one), fronts + b"".join(other + tail)
+    began = time.monotonic()
+    yield from differs("same", ended(program, "compare", "--first", "day.itch", "other.itch", day=day, other=second), (0, b"same\n", b""))
+    last = fronts + b"".join([*other[:-1], *small_orders(1, 1, 3 * count)])
+    wanted = 1, b"different after %d\n" % (2 + 4 * count), b""
+    yield from differs("different", ended(program, "compare", "--first", "day.itch", "other.itch", day=day, other=last), wanted)
+    taken = time.monotonic() - began
+    if taken > 20:
+        yield f"{taken:.1f} seconds"
+
+
 RUNS = [
     a_list_of_1000_locates_is_read,
     a_list_of_1000_stocks_is_read,
@@ -137,5 +181,6 @@ RUNS = [
     words_that_are_no_utf_8_are_refused,
     a_word_of_100000_letters_is_refused,
     the_longest_message_is_read,
+    different_messages_with_one_effect_take_no_time,
     the_longest_message_waits_in_a_joiner,
 ]

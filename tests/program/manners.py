@@ -135,7 +135,8 @@ def progress_is_shown_every_64_mib(program):
                 (["snap", "--after", "1600000", file.name], b"", large.entry(1) + large.closing(1_600_001), once),
                 (["book", "1", file.name], b"", b"1 %s\n" % large.stock(1).strip(), twice),
                 (["compare", file.name, file.name], b"", b"same\n", twice * 2),
-                (["compare", file.name, "-"], day, b"same\n", unsized * 2)):
+                (["compare", file.name, "-"], day, b"same\n", unsized * 2),
+                (["compare", "--first", file.name, file.name], b"", b"same\n", twice * 2)):
             plain, done = (subprocess.run([program, *words, *flag], input=data, capture_output=True, timeout=120)
                            for flag in ([], ["--progress"]))
             for name, ran, error in (("without", plain, b""), ("with", done, shown)):
@@ -196,7 +197,7 @@ def the_rate_is_that_of_the_bytes_and_the_time(program):
 def no_progress_is_shown_of_a_small_file(program):
     written = SNAPSHOT.read_bytes()
     for words, output in ((["check", OPENING], b"ok 5 messages\n"), (["snap", OPENING], written), (["canon", SNAPSHOT], written),
-                          (["compare", OPENING, OPENING], b"same\n"), (["join", SNAPSHOT, OPENING], written)):
+                          (["compare", OPENING, OPENING], b"same\n"), (["compare", "--first", OPENING, OPENING], b"same\n"), (["join", SNAPSHOT, OPENING], written)):
         done = subprocess.run([program, *words, "--progress"], capture_output=True, timeout=60)
         if (done.returncode, done.stdout, done.stderr) != (0, output, b""):
             yield f"{words[0]}: {done}"

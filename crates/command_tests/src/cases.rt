@@ -5,7 +5,7 @@ use super::stocks::{booked_of_stocks, joined_of_stocks, snapped_of_stocks};
 use itch_commands::book::book;
 use itch_commands::canon::canon;
 use itch_commands::check::check;
-use itch_commands::compare::compare;
+use itch_commands::compare::{compare, compare_first};
 use itch_commands::join::join;
 use itch_commands::show::{show, show_blocks, show_snapshot};
 use itch_commands::snap::snap;
@@ -34,6 +34,7 @@ pub(super) enum Single {
 #[derive(Clone, Copy)]
 pub(super) enum Double {
     Compare,
+    CompareFirst,
     Join,
     JoinStocks,
 }
@@ -144,6 +145,15 @@ fn compared<R: CountedRead + Drop, S: CountedRead + Drop, W: CountedWrite>(
     compare(alloc, first, second, out)
 }
 
+fn compared_first<R: CountedRead + Drop, S: CountedRead + Drop, W: CountedWrite>(
+    alloc: Global,
+    first: R,
+    second: S,
+    out: &mut W,
+) -> Result<bool, ToolFault> {
+    compare_first(alloc, first, second, out)
+}
+
 fn joined<R: CountedRead + Drop, S: CountedRead + Drop, W: CountedWrite>(
     alloc: Global,
     snapshot: R,
@@ -184,6 +194,7 @@ pub(super) fn perform_double<R: CountedRead + Drop, S: CountedRead + Drop, W: Co
 ) -> Result<bool, ToolFault> {
     match command {
         Double::Compare => compared(alloc, first, second, out),
+        Double::CompareFirst => compared_first(alloc, first, second, out),
         Double::Join => joined(alloc, first, second, out),
         Double::JoinStocks => joined_of_stocks(alloc, first, second, out),
     }

@@ -79,6 +79,8 @@ fn writes_of_lines(rt: HostRuntime) -> Result<(), Fail> {
     let (day, other) = (file(alloc, &DAY)?, file(alloc, &[AAPL, BUY_1])?);
     let files = (day.as_slice(), other.as_slice());
     fail_double(&rt, alloc, Double::Compare, files, b"different at 2\n");
+    let after = b"different after 2\n";
+    fail_double(&rt, alloc, Double::CompareFirst, files, after);
     Ok(())
 }
 

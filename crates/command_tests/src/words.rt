@@ -126,6 +126,14 @@ fn requests_are_read(rt: HostRuntime) -> Result<(), Fail> {
             "Compare { first: Some(\"a.snap\"), second: None, kind: Snapshot, form: Json }",
         ),
         (
+            "compare --first a.itch day.itch",
+            "CompareFirst { first: Some(\"a.itch\"), second: Some(\"day.itch\"), limit: Limit { after: None, until: None }, form: Text }",
+        ),
+        (
+            "compare a.itch - --json --after 5 --until 7 --first",
+            "CompareFirst { first: Some(\"a.itch\"), second: None, limit: Limit { after: Some(5), until: Some(7) }, form: Json }",
+        ),
+        (
             "check --json",
             "Check { file: None, limit: Limit { after: None, until: None }, form: Json }",
         ),

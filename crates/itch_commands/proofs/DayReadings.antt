@@ -42,7 +42,7 @@ is_cut limit count rest None (inr (inl (before, (p, off, late)))) = absurd off.1
 is_cut limit count rest (Some more) (inr (inl (before, (p, off, late)))) = inr (inl (before, (p, more, off.1, off.0, late)))
 is_cut limit count rest new (inr (inr (whole, ends))) = inr (inr (whole, rest_ends rest new ends))
 
-is_part : (limit : Limit) (n : Content) (bytes mid new : Option (List ℕ)) (ps : List (List ℕ)) → Takes empty bytes mid ps n → IsEnough limit (length ps) mid new
+pub is_part : (limit : Limit) (n : Content) (bytes mid new : Option (List ℕ)) (ps : List (List ℕ)) → Takes empty bytes mid ps n → IsEnough limit (length ps) mid new
     → IfSome bytes (λ b. IsPart limit b ps)
 is_part limit n None mid new ps takes enough = tt
 is_part limit n (Some b) None new ps takes enough = absurd takes.bytes

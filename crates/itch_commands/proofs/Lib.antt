@@ -7,6 +7,8 @@ pub mod Snapshots
 pub mod CopiedSnapshots
 pub mod CanonicalBytes
 pub mod Comparisons
+pub mod FirstDifferences
+pub mod OneFirstDifference
 pub mod AsRead
 pub mod SetReadings
 pub mod SnapshotFaults

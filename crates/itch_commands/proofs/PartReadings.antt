@@ -9,7 +9,7 @@ use Rattle.itch_frame.specs.declared.tally.Failures.{Failures}
 use Rattle.itch_frame.proofs.BlockLemmas.{consumed_more, each-push}
 use Rattle.itch_market.specs.Content.{Content, laid}
 use Rattle.itch_market.specs.GoodMarkets.{IsGood}
-use Rattle.itch_market.specs.Replays.{Fits, Halts, Replays, Counts, LeavesReaderFirst}
+use Rattle.itch_market.specs.Replays.{Fits, Halts, Replays, Counts, LeavesReaderFirst, TakesOff}
 use Rattle.itch_market.specs.Runs.{after}
 use Rattle.itch_market.specs.declared.stop.Stop.{Stop}
 use Rattle.itch_market.specs.declared.stop.Stop.TheVariants.{End, Frame, Codec, Rule, TooManyMessages}
@@ -17,7 +17,7 @@ use Rattle.itch_market.proofs.Causes.{halts-laid, refuses-laid, none_more, after
 use Rattle.itch_market.proofs.ReplayProgress.{taken_on, not_full}
 use Rattle.itch_market.proofs.ReplayReaders.{Standing, standing_on, standing_stops, standing_short}
 use Rattle.itch_commands.specs.Limits.{IsEarly, IsBefore, is_late, most_of}
-use Rattle.itch_commands.specs.Readings.{TakesEarly, TakesPart, TakesNext, HaltsEarly, HaltsPart, ReadsMarket, CountsRead, LeavesDay, stopped}
+use Rattle.itch_commands.specs.Readings.{TakesEarly, TakesPart, TakesNext, TakesPayload, HaltsEarly, HaltsPart, ReadsMarket, CountsRead, LeavesDay, stopped}
 use Rattle.itch_commands.specs.declared.fault.Source.{Source}
 use Rattle.itch_commands.specs.declared.limit.Limit.{Limit}
 
@@ -59,29 +59,33 @@ module _ (limit : Limit) (m : Content) where
     good = good;
   }
 
+  -- one message more is taken
+  pub taken_more : (old mid new : Option (List ℕ)) (count : ℕ) (n k : Content) (ps : List (List ℕ)) (p : List ℕ) → TakesEarly limit m old mid count ps n → IsGood (after m (map message_of ps))
+      → TakesOff mid new p → (count == 10 ^ 19 - 1) ≡ false → TakesPayload limit n p (Ok true) k
+      → TakesEarly limit m old new (count + 1) (ps ++ p ∷ []) k × IsGood (after m (map message_of (ps ++ p ∷ [])))
+  taken_more old mid new count n k ps p (takes, counted, few, earlier) good off room (early, (clean, fits, next)) =
+      let (taken, after_it, still) = taken_on (after m (map message_of ps)) n k p good takes.left clean fits next in (
+        (
+          record {
+            bytes = consumed_more old mid new ps p takes.bytes off.1;
+            full = each-push IsFull ps p takes.full off.0;
+            none = none_more m ps p takes.none taken;
+            fits = each-push Fits ps p takes.fits fits;
+            left = after_it ∙ ap laid (sym (after_more m ps p));
+          },
+          length-append ps (p ∷ []) ∙ ap (λ c. c + 1) counted,
+          omega (arith, not_full count few room),
+          each-push (IsEarly limit) ps p earlier early,
+        ),
+        subst IsGood (sym (after_more m ps p)) still,
+      )
+
   module _ (old mid new : Option (List ℕ)) (count : ℕ) (n k : Content) (so_far : SoFar limit m old mid count n) where
     -- then one more
     pub one_more : TakesNext limit (count == 10 ^ 19 - 1) n mid new (Ok true) k → SoFar limit m old new (count + 1) k
-    one_more (p, off, room, early, (clean, fits, next)) =
-        let ps = so_far.payloads in
-        let (takes, counted, few, earlier) = so_far.takes in
-        let (taken, after_it, still) = taken_on (after m (map message_of ps)) n k p so_far.good takes.left clean fits next in
-        record {
-          payloads = ps ++ p ∷ [];
-          takes = (
-            record {
-              bytes = consumed_more old mid new ps p takes.bytes off.1;
-              full = each-push IsFull ps p takes.full off.0;
-              none = none_more m ps p takes.none taken;
-              fits = each-push Fits ps p takes.fits fits;
-              left = after_it ∙ ap laid (sym (after_more m ps p));
-            },
-            length-append ps (p ∷ []) ∙ ap (λ c. c + 1) counted,
-            omega (arith, not_full count few room),
-            each-push (IsEarly limit) ps p earlier early,
-          );
-          good = subst IsGood (sym (after_more m ps p)) still;
-        }
+    one_more (p, off, room, early, step) =
+        let more = taken_more old mid new count n k so_far.payloads p so_far.takes so_far.good off room (early, step) in
+        record { payloads = so_far.payloads ++ p ∷ []; takes = more.0; good = more.1 }
 
     laid_halts : (full : Bool) (x : Content) (stop : Stop) → IsGood x → HaltsEarly limit full (laid x) mid new stop → HaltsEarly limit full x mid new stop
     laid_halts full x (Rule why) good (p, off, room, refuses, early) = (p, off, room, refuses-laid x p why good refuses, early)

@@ -9,6 +9,7 @@ use Rattle.itch_commands.specs.Books.{ReadsListed, books_of, wanted_by}
 use Rattle.itch_commands.specs.Canons.{ChecksSnap, canonical_line}
 use Rattle.itch_commands.specs.Choices.{Chosen}
 use Rattle.itch_commands.specs.Comparing.{ReadsBoth, PartsAt}
+use Rattle.itch_commands.specs.FirstDifferences.{FindsFirst, first_line}
 use Rattle.itch_commands.specs.Forms.{count_line_of, verdict_line}
 use Rattle.itch_commands.specs.Joining.{Start, ReadsStart, ReadsFeed, HasRoom, joined, joined_market, joined_next}
 use Rattle.itch_commands.specs.Outputs.{Outputs, directory_after, snapshot_in, stocks_snapshot, closed_bytes}
@@ -68,6 +69,11 @@ module _ {R S W : Type 0} (remaining : R → Option (List ℕ)) (failed_reads : 
   Compares form kind first second =
       Outputs contents failed_writes (first (λ a b. second (λ c d.
       PartsAt (ReadsBoth (ReadsFile remaining failed_reads First kind a b) (d ≡ c) (ReadsFile remaining_then failed_then Second kind c d))))) (verdict_line form) is_none
+
+  -- `compare --first`: after how many messages of each the markets of two day files, or of the same part of both, first differ
+  abbrev pub ComparesFirst : Form → Limit → From R (Option ℕ) → From S (Option ℕ) → W → Result Bool ToolFault → W → Type 0
+  ComparesFirst form limit first second =
+      Outputs contents failed_writes (first (λ a b. second (λ c d. FindsFirst remaining failed_reads remaining_then failed_then limit a b c d))) (first_line form) is_none
 
   -- `join`: the snapshot after a snapshot and the feed that continues after it, with payloads read in this way
   abbrev pub Joins : (List ℕ → List ℕ) → From R (Start × List (List ℕ)) → From S (Start × List (List ℕ)) → W → Result Bool ToolFault → W → Type 0

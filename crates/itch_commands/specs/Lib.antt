@@ -8,6 +8,7 @@ pub mod Causes
 pub mod Choices
 pub mod Showing
 pub mod Comparing
+pub mod FirstDifferences
 pub mod Forms
 pub mod Books
 pub mod AsRead

@@ -7,7 +7,7 @@ use Rattle.itch_commands.specs.declared.fault.ToolFault.{ToolFault}
 use Rattle.itch_commands.specs.declared.fault.Source.{Source}
 use Rattle.itch_commands.specs.declared.fault.Source.TheVariants.{Second, Snapshot}
 use Rattle.itch_commands.specs.declared.request.Request.{Request}
-use Rattle.itch_commands.specs.declared.request.Request.TheVariants.{Snap, Check, Show, Canon, Compare, Book, Join}
+use Rattle.itch_commands.specs.declared.request.Request.TheVariants.{Snap, Check, Show, Canon, Compare, CompareFirst, Book, Join}
 use Rattle.itch_commands.specs.Choices.{chosen_by}
 use Rattle.itch_commands.specs.Commands.{Snaps, SnapsStocks, Checks, ShowsSnapshot, WritesCanon, ChecksCanon, ListsBooks, ListsStocks}
 use Rattle.itch_commands.specs.declared.form.BookForm.{BookForm}
@@ -29,6 +29,8 @@ file_of (Canon file check) source = option_map (λ path. path.now) file
 file_of (Book selection depth file kind form) source = option_map (λ path. path.now) file
 file_of (Compare first second kind form) Second = option_map (λ path. path.now) second
 file_of (Compare first second kind form) source = option_map (λ path. path.now) first
+file_of (CompareFirst first second limit form) Second = option_map (λ path. path.now) second
+file_of (CompareFirst first second limit form) source = option_map (λ path. path.now) first
 file_of (Join snapshot feed selection) Snapshot = option_map (λ path. path.now) snapshot
 file_of (Join snapshot feed selection) source = option_map (λ path. path.now) feed
 
@@ -56,6 +58,7 @@ is_binary request = false
 -- a request over one file
 abbrev pub IsOverOne : Request → Type 0
 IsOverOne (Compare first second kind form) = ⊥
+IsOverOne (CompareFirst first second limit form) = ⊥
 IsOverOne (Join snapshot feed selection) = ⊥
 IsOverOne request = ⊤
 
@@ -82,4 +85,5 @@ module _ {R W : Type 0} (remaining : R → Option (List ℕ)) (failed_reads : R 
   Performs (Canon file true) set old new = ChecksCanon remaining failed_reads contents failed_writes (FromBlocks old new)
   Performs (Book selection depth file kind form) set old new = PerformsBook form selection set depth kind old new
   Performs (Compare first second kind form) set old new = λ out result written. ⊥
+  Performs (CompareFirst first second limit form) set old new = λ out result written. ⊥
   Performs (Join snapshot feed selection) set old new = λ out result written. ⊥

@@ -9,6 +9,8 @@ ghost use Rattle.itch_commands.specs.Readings.{FromBlocks, FromReader};
 ghost use Rattle.itch_commands.specs.declared.form.Form.TheVariants.{Text, Json};
 ghost use Rattle.itch_commands.specs.declared.kind.FileKind.TheVariants.{Day};
 
+mod first;
+
 use crate::fault::{Source, ToolFault};
 use crate::form::Form;
 use crate::kind::{FileKind, file_market};
@@ -16,6 +18,7 @@ use crate::limit::Limit;
 use crate::line::Line;
 use crate::order_book::Book;
 use crate::writing::write_text;
+pub use first::{compare_first, compare_first_blocks};
 use itch_book::OrderBook;
 use itch_codec::Seq;
 use itch_frame::{BlockReader, CountedRead, CountedWrite};

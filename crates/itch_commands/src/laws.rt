@@ -16,8 +16,10 @@ ghost use Rattle.itch_snapshot.specs.TakenMessages.{closing_number};
 ghost use Rattle.itch_join.specs.Rules.{Rules, market_rules, rules_of, bad, run as run_by};
 ghost use Rattle.itch_commands.specs.AsRead.{as_read};
 ghost use Rattle.itch_commands.specs.Choices.{Chosen, everything, chosen_past, chosen_lines, lines_of};
+ghost use Rattle.itch_commands.specs.FirstDifferences.{IsPlaceIn, IsSameIn};
 ghost use Rattle.itch_commands.specs.Joining.{from_number, joined_market};
 ghost use Rattle.itch_commands.specs.declared.form.ShowForm.TheVariants.{Text};
+ghost use Rattle.itch_commands.specs.declared.limit.Limit.{Limit};
 
 /// Under the rules of markets, a payload as it is read with a set acts as the payload itself does under the rules of the set: it
 /// is refused for the same cause, has the same effect, takes memory if and only if that does, and ends a snapshot if and only if
@@ -48,4 +50,10 @@ pub fn restricted_reading()
 pub fn shown_lines()
     ensures whole { (number : ℕ) → (messages : List Message) → chosen_lines Text everything number messages ≡ lines_of number messages }
     ensures constant { (chosen : Chosen) → (messages : List Message) → Chosen.reference chosen ≡ None → chosen_past chosen messages ≡ chosen }
+{}
+
+/// The markets of two day files, or of the same part of both, first differ after one number of messages, or never.
+pub fn one_first_difference()
+    ensures place { (limit : Limit) → (one other : List ℕ) → (n k : ℕ) → IsPlaceIn limit one other n → IsPlaceIn limit one other k → n ≡ k }
+    ensures nowhere { (limit : Limit) → (one other : List ℕ) → (n : ℕ) → IsPlaceIn limit one other n → IsSameIn limit one other → ⊥ }
 {}

@@ -2,8 +2,8 @@
 //!
 //! A command has a module of its own, with two functions. One takes a reader of bytes and makes the reader of their blocks, which
 //! allocates memory; the other, with `_blocks` in its name, takes the readers of blocks. Both return true, except that `compare`
-//! returns false for two markets that differ, and `canon` for a file that is not canonical. A [`ToolFault`] says why a command
-//! failed; it has the line for standard error and the program's status.
+//! and `compare_first` return false for two markets that differ, and `canon` for a file that is not canonical. A [`ToolFault`] says
+//! why a command failed; it has the line for standard error and the program's status.
 //!
 //! ```
 //! let file = b"\0\x0cS\0\0\0\0\0\0\0\0\0\0O";

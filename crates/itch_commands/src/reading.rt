@@ -67,7 +67,12 @@ fn take<B: OrderBook>(market: &mut Market<B>, payload: &[u8], limit: Limit) -> R
 }
 
 // What a stop after this many messages returns: the end of the file is none, unless more messages are wanted.
-fn stopped(stop: Stop, wanted: Option<u64>, file: Source, count: u64) -> Result<u64, ToolFault>
+pub(crate) fn stopped(
+    stop: Stop,
+    wanted: Option<u64>,
+    file: Source,
+    count: u64,
+) -> Result<u64, ToolFault>
     ensures { result ≡ stopped stop wanted file count }
 {
     match (stop, wanted) {

@@ -43,6 +43,13 @@ pub enum Request<'a> {
         kind: FileKind,
         form: Form,
     },
+    /// Find the number of messages after which the markets of two day files first differ.
+    CompareFirst {
+        first: Option<&'a str>,
+        second: Option<&'a str>,
+        limit: Limit,
+        form: Form,
+    },
     /// Write the price levels of the locates that are selected, or the first ones of each side.
     Book {
         selection: Selection<'a>,
@@ -70,10 +77,13 @@ impl<'a> Request<'a> {
             | Request::Show { file, .. }
             | Request::Canon { file, .. }
             | Request::Book { file, .. } => file,
-            Request::Compare { first, second, .. } => match source {
-                Source::Second => second,
-                _ => first,
-            },
+            Request::Compare { first, second, .. } | Request::CompareFirst { first, second, .. } =>
+                {
+                    match source {
+                        Source::Second => second,
+                        _ => first,
+                    }
+                }
             Request::Join { snapshot, feed, .. } => match source {
                 Source::Snapshot => snapshot,
                 _ => feed,

@@ -63,6 +63,8 @@ fn words(job: &Job<'_>, source: Source) -> &'static str {
         (Request::Book { .. }, _) => "book ..",
         (Request::Compare { .. }, Source::Second) => "compare .. -",
         (Request::Compare { .. }, _) => "compare - ..",
+        (Request::CompareFirst { .. }, Source::Second) => "compare --first .. -",
+        (Request::CompareFirst { .. }, _) => "compare --first - ..",
         (Request::Join { .. }, Source::Snapshot) => "join - ..",
         (Request::Join { .. }, _) => "join .. -",
     }

@@ -3,10 +3,11 @@ ghost use Rattle.itch_commands.specs.Requests.{IsOverOne};
 
 use crate::opened::open;
 use crate::sockets::{run_fetch, run_serve};
-use itch_commands::compare::compare_blocks;
+use itch_commands::compare::{compare_blocks, compare_first_blocks};
 use itch_commands::join::{join_blocks, join_stocks};
 use itch_commands::{
-    FileKind, Form, Request, Selection, Source, ToolFault, perform, read_locates, system_fault,
+    FileKind, Form, Limit, Request, Selection, Source, ToolFault, perform, read_locates,
+    system_fault,
 };
 use itch_frame::{BlockReader, Buffered, Counted, CountedWrite};
 use itch_market::LocateSet;
@@ -94,6 +95,16 @@ fn answer<R: Files + Input + Eprint + AllocGlobal + Clock, W: CountedWrite>(
             let second = open(rt, second, Source::Second, progress)?;
             compare_over(alloc, first, second, kind, form, out)
         }
+        Request::CompareFirst {
+            first,
+            second,
+            limit,
+            form,
+        } => {
+            let first = open(rt, first, Source::First, progress)?;
+            let second = open(rt, second, Source::Second, progress)?;
+            compare_first_over(alloc, first, second, limit, form, out)
+        }
         Request::Join {
             snapshot,
             feed,
@@ -122,6 +133,20 @@ fn compare_over<A: Allocator + Copy, R: Read + Drop, W: CountedWrite>(
     let mut first = blocks(alloc, first)?;
     let mut second = blocks(alloc, second)?;
     compare_blocks(alloc, &mut first, &mut second, kind, form, out)
+}
+
+// Finds where two files first differ.
+fn compare_first_over<A: Allocator + Copy, R: Read + Drop, W: CountedWrite>(
+    alloc: A,
+    first: R,
+    second: R,
+    limit: Limit,
+    form: Form,
+    out: &mut W,
+) -> Result<bool, ToolFault> {
+    let mut first = blocks(alloc, first)?;
+    let mut second = blocks(alloc, second)?;
+    compare_first_blocks(alloc, &mut first, &mut second, limit, form, out)
 }
 
 // Joins a feed to a snapshot.

@@ -19,9 +19,10 @@ pub enum Argument {
     Stock,
     Json,
     Progress,
-    // The files of `compare`.
+    // The files of `compare`, and its flag.
     First,
     Second,
+    Earliest,
     // The file of `canon`, and its flag.
     Snapshot,
     Check,
@@ -75,6 +76,7 @@ impl Argument {
             Argument::Progress => progress(alloc),
             Argument::First => named(alloc, "A", "The first file; `-` for standard input"),
             Argument::Second => named(alloc, "B", "The second file, or `-`"),
+            Argument::Earliest => earliest(alloc),
             Argument::Snapshot => snapshot(alloc),
             Argument::Check => only_check(alloc),
             Argument::Recorded => recorded(alloc),
@@ -138,6 +140,13 @@ fn only_check<'a>(alloc: Global) -> Arg<'a> {
     Arg::new(alloc, "check")
         .long("check")
         .help("Only report whether the snapshot is in canonical form")
+        .action(ArgAction::SetTrue)
+}
+
+fn earliest<'a>(alloc: Global) -> Arg<'a> {
+    Arg::new(alloc, "first")
+        .long("first")
+        .help("Find after how many messages the markets first differ")
         .action(ArgAction::SetTrue)
 }
 

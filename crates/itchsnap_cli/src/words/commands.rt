@@ -52,6 +52,7 @@ const COMMANDS: [Entry; 10] = [
         takes: &[
             Argument::First,
             Argument::Second,
+            Argument::Earliest,
             Argument::After,
             Argument::Until,
             Argument::Recorded,

@@ -41,11 +41,27 @@ fn read_snap<'a>(alloc: Global, options: &ArgMatches<'a>) -> Result<Request<'a>,
 
 fn read_compare<'a>(alloc: Global, options: &ArgMatches<'a>) -> Result<Request<'a>, Error> {
     let (first, second) = read_two(alloc, options, "A", "B")?;
-    Ok(Request::Compare {
+    let kind = read_kind(alloc, options)?;
+    let form = read_form(options);
+    if !options.get_flag("first") {
+        return Ok(Request::Compare {
+            first,
+            second,
+            kind,
+            form,
+        });
+    }
+    let FileKind::Day(limit) = kind else {
+        return Err(usage_fault(
+            alloc,
+            "--first excludes --snapshot: the files are read message by message",
+        )?);
+    };
+    Ok(Request::CompareFirst {
         first,
         second,
-        kind: read_kind(alloc, options)?,
-        form: read_form(options),
+        limit,
+        form,
     })
 }
 

@@ -1,0 +1,154 @@
+-- The least number of messages after which the markets of two day files differ.
+use Rattle.std.specs.Prelude.{◌≡◌, ℕ, ◌+◌, ◌<◌, ◌≤◌, Bool, true, false, ◌-◌, ◌^◌, ◌==◌, ◌⊎◌, List, ◌++◌, map, take, length, codes, decimal, Option, None, Some, IfSome, Result, Ok, Err, ⊤}
+use Rattle.std.specs.Io.KnownBytes.{Consumes}
+use Rattle.itch_codec.specs.Messages.{message_of}
+use Rattle.itch_codec.specs.declared.message.Message.{Message}
+use Rattle.itch_frame.specs.Blocks.{blocks}
+use Rattle.itch_frame.specs.Reading.{Reading, bytes_left}
+use Rattle.itch_frame.specs.declared.tally.Failures.{Failures}
+use Rattle.itch_market.specs.Content.{Content}
+use Rattle.itch_market.specs.Effects.{effect}
+use Rattle.itch_market.specs.Plain.{plain}
+use Rattle.itch_market.specs.Replays.{Counts, LeavesReaderFirst, TakesOff}
+use Rattle.itch_market.specs.Runs.{run}
+use Rattle.itch_market.specs.SameMarkets.{Same}
+use Rattle.itch_market.specs.declared.stop.Stop.{Stop}
+use Rattle.itch_market.specs.declared.stop.Stop.TheVariants.{End}
+use Rattle.itch_commands.specs.Readings.{AreTaken, IsPart, ReadsDay, TakesNext, TakesPayload, stopped}
+use Rattle.itch_commands.specs.declared.fault.Source.{Source}
+use Rattle.itch_commands.specs.declared.fault.Source.TheVariants.{First, Second}
+use Rattle.itch_commands.specs.declared.fault.ToolFault.{ToolFault}
+use Rattle.itch_commands.specs.declared.fault.ToolFault.TheVariants as tool
+use Rattle.itch_commands.specs.declared.form.Form.{Form}
+use Rattle.itch_commands.specs.declared.form.Form.TheVariants as form
+use Rattle.itch_commands.specs.declared.limit.Limit.{Limit}
+
+-- the markets after k messages of each are the same; of fewer payloads all count
+abbrev pub IsSameAt : List (List ℕ) → List (List ℕ) → ℕ → Type 0
+IsSameAt p q k = Same (run (map message_of (take k p))) (run (map message_of (take k q)))
+
+-- the markets after n messages of each differ, and not after fewer
+pub record IsFirstDifference (p q : List (List ℕ)) (n : ℕ) : Type 0 where
+  pub before : (k : ℕ) → k < n → IsSameAt p q k
+  pub there : IsSameAt p q n → ⊥
+
+-- the same part of a file, but with this many messages
+abbrev pub limited_to : ℕ → Limit → Limit
+limited_to count limit = record { after = Some count; until = limit.until }
+
+-- no fewer messages than this are wanted, where a number is
+abbrev pub IsWithin : Limit → ℕ → Type 0
+IsWithin limit count = IfSome limit.after (λ most. count ≤ most)
+
+-- the first messages of the part of a file that is wanted, as many as this; or all of them, if there are fewer
+abbrev pub IsFront : Limit → ℕ → List ℕ → List (List ℕ) → Type 0
+IsFront limit count bytes payloads =
+    AreTaken limit payloads
+    × (((length payloads ≡ count) × IsWithin limit count × IsPart (limited_to count limit) bytes payloads) ⊎ ((length payloads < count) × IsPart limit bytes payloads))
+
+-- the number of messages after which the markets of two files first differ, if they do
+abbrev pub IsPlaceIn : Limit → List ℕ → List ℕ → ℕ → Type 0
+IsPlaceIn limit one other n = (p : List (List ℕ)) × (q : List (List ℕ)) × IsFront limit n one p × IsFront limit n other q × IsFirstDifference p q n
+
+-- the markets of two files are the same all along
+abbrev pub IsSameIn : Limit → List ℕ → List ℕ → Type 0
+IsSameIn limit one other =
+    (p : List (List ℕ)) × (q : List (List ℕ)) × AreTaken limit p × IsPart limit one p × AreTaken limit q × IsPart limit other q × ((k : ℕ) → IsSameAt p q k)
+
+-- the number of messages before a fault of a day file
+abbrev pub count_of : ToolFault → Option ℕ
+count_of (tool.Stopped at end) = Some end.count
+count_of (tool.Short at count) = Some count
+count_of fault = None
+
+-- what a message of a payload does, of which the plainest one with its effect is returned; or it is late, or the reading stops
+abbrev pub TakesChange : Limit → Content → List ℕ → Result (Option Message) Stop → Content → Type 0
+TakesChange limit m payload (Ok (Some change)) n = TakesPayload limit m payload (Ok true) n × (change ≡ plain m (message_of payload))
+TakesChange limit m payload (Ok None) n = TakesPayload limit m payload (Ok false) n
+TakesChange limit m payload (Err stop) n = TakesPayload limit m payload (Err stop) n
+
+-- the next message is applied, and this is the plainest one with its effect
+abbrev pub AppliesNext : Limit → Bool → Content → Option (List ℕ) → Option (List ℕ) → Message → Content → Type 0
+AppliesNext limit full m old new change n =
+    (payload : List ℕ) × TakesOff old new payload × (full ≡ false) × TakesPayload limit m payload (Ok true) n × (change ≡ plain m (message_of payload))
+
+-- what one block does
+abbrev pub ReadsChange : Limit → Bool → Content → Option (List ℕ) → Option (List ℕ) → Result (Option Message) Stop → Content → Type 0
+ReadsChange limit full m old new (Ok (Some change)) n = AppliesNext limit full m old new change n
+ReadsChange limit full m old new (Ok None) n = TakesNext limit full m old new (Ok false) n
+ReadsChange limit full m old new (Err stop) n = TakesNext limit full m old new (Err stop) n
+
+-- where the reader of blocks is left: after the message, whether it is applied or late, or where the reading stopped
+abbrev pub LeavesChange : {R : Type 0} → Result (Option Message) Stop → Reading R → Reading R → Type 0
+LeavesChange (Ok change) old new = LeavesReaderFirst old 1 None new
+LeavesChange (Err stop) old new = LeavesReaderFirst old 0 (Some stop) new
+
+-- Changes of two markets that are the same leave the same: the same plainest messages do, and one that changes nothing beside no message.
+abbrev pub AreAlike : Option Message → Option Message → Type 0
+AreAlike None None = ⊤
+AreAlike (Some one) (Some other) = one ≡ other
+AreAlike (Some one) None = (m : Content) → effect m one ≡ m
+AreAlike None (Some other) = (m : Content) → effect m other ≡ m
+
+module _ {R : Type 0} (remaining : R → Option (List ℕ)) (failures : R → Failures) where
+  -- What was read of a file after this many messages of each: as many, and nothing after them; or all that is wanted, if that is fewer.
+  abbrev pub ReadsUpTo : Source → Limit → ℕ → Reading R → Reading R → List (List ℕ) → Type 0
+  ReadsUpTo file limit count old new payloads =
+      ((length payloads ≡ count) × IsWithin limit count × ReadsDay remaining failures file (limited_to count limit) old new (Ok payloads))
+      ⊎ ((length payloads < count) × ReadsDay remaining failures file limit old new (Ok payloads))
+
+  -- a file is refused with this fault, after these messages
+  pub record IsRefusedAfter (file : Source) (limit : Limit) (old new : Reading R) (fault : ToolFault) (payloads : List (List ℕ)) : Type 0 where
+    pub refused : ReadsDay remaining failures file limit old new (Err fault)
+    pub counted : count_of fault ≡ Some (length payloads)
+    pub taken : AreTaken limit payloads
+    pub front : (mid : Option (List ℕ)) × Consumes (bytes_left remaining old) mid (blocks payloads)
+
+  -- the next message is not applied, and no other one is
+  abbrev pub StopsAt : Limit → ℕ → Content → Reading R → Reading R → Stop → Content → Type 0
+  StopsAt limit count m old new stop n =
+      TakesNext limit (count == 10 ^ 19 - 1) m (bytes_left remaining old) (bytes_left remaining new) (Err stop) n
+      × Counts stop (failures old.reader) (failures new.reader) × LeavesReaderFirst old 0 (Some stop) new
+
+  -- What a step of a file does after this many messages: nothing if no more of it is wanted; otherwise it applies the next one, and
+  -- returns the plainest one with its effect, or finds that there is none.
+  abbrev pub Steps : Source → Limit → ℕ → Bool → Content → Reading R → Reading R → Result (Option Message) ToolFault → Content → Type 0
+  Steps file limit count false m old new result n = (result ≡ Ok None) × (n ≡ m) × (new ≡ old)
+  Steps file limit count true m old new (Ok (Some change)) n =
+      AppliesNext limit (count == 10 ^ 19 - 1) m (bytes_left remaining old) (bytes_left remaining new) change n
+      × (failures new.reader ≡ failures old.reader) × LeavesReaderFirst old 1 None new
+  Steps file limit count true m old new (Ok None) n =
+      (TakesNext limit (count == 10 ^ 19 - 1) m (bytes_left remaining old) (bytes_left remaining new) (Ok false) n
+      × (failures new.reader ≡ failures old.reader) × LeavesReaderFirst old 1 None new)
+      ⊎ ((limit.after ≡ None) × StopsAt limit count m old new End n)
+  Steps file limit count true m old new (Err fault) n = (stop : Stop) × (stopped stop limit.after file count ≡ Err fault) × StopsAt limit count m old new stop n
+
+module _ {R S : Type 0} (remaining : R → Option (List ℕ)) (failures : R → Failures) (remaining_then : S → Option (List ℕ)) (failed_then : S → Failures) where
+  -- the first file is refused, and the markets before that were the same
+  abbrev pub RefusesFirst : Limit → Reading R → Reading R → Reading S → Reading S → ToolFault → Type 0
+  RefusesFirst limit a b c d fault =
+      (p : List (List ℕ)) × (q : List (List ℕ)) × IsRefusedAfter remaining failures First limit a b fault p
+      × ReadsUpTo remaining_then failed_then Second limit (length p) c d q × ((k : ℕ) → k ≤ length p → IsSameAt p q k)
+
+  -- the second file is, after the first one's message at that place was taken
+  abbrev pub RefusesSecond : Limit → Reading R → Reading R → Reading S → Reading S → ToolFault → Type 0
+  RefusesSecond limit a b c d fault =
+      (p : List (List ℕ)) × (q : List (List ℕ)) × ReadsUpTo remaining failures First limit (length q + 1) a b p
+      × IsRefusedAfter remaining_then failed_then Second limit c d fault q × ((k : ℕ) → k ≤ length q → IsSameAt p q k)
+
+  -- What is read of two files side by side, message by message, until their markets differ, and after how many messages that is.
+  abbrev pub FindsFirst : Limit → Reading R → Reading R → Reading S → Reading S → Result (Option ℕ) ToolFault → Type 0
+  FindsFirst limit a b c d (Ok None) =
+      (p : List (List ℕ)) × (q : List (List ℕ)) × ReadsDay remaining failures First limit a b (Ok p)
+      × ReadsDay remaining_then failed_then Second limit c d (Ok q) × ((k : ℕ) → IsSameAt p q k)
+  FindsFirst limit a b c d (Ok (Some n)) =
+      (p : List (List ℕ)) × (q : List (List ℕ)) × ReadsUpTo remaining failures First limit n a b p
+      × ReadsUpTo remaining_then failed_then Second limit n c d q × IsFirstDifference p q n
+  FindsFirst limit a b c d (Err fault) = RefusesFirst limit a b c d fault ⊎ RefusesSecond limit a b c d fault
+
+-- the line with this number, or the line that says that the markets are the same all along
+abbrev pub first_line : Form → Option ℕ → List ℕ
+first_line form.Text None = codes "same\n"
+first_line form.Text (Some count) = codes "different after " ++ decimal count ++ codes "\n"
+first_line form.Json None = codes "{\"same\":true}\n"
+first_line form.Json (Some count) = codes "{\"same\":false,\"after\":" ++ decimal count ++ codes "}\n"
