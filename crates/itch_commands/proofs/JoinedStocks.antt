@@ -66,7 +66,7 @@ module _ {W : Type 0} (contents : W → Option (List ℕ)) (failures : W → Fai
     (follows : Start → Result (List (List ℕ)) ToolFault → Type 0) (names : List (List ℕ)) (old new : W) (result : Result Bool ToolFault) where
   abbrev Joins : Type 0
   Joins =
-      Outputs contents failures (ReadsStocks (λ both. Content.securities (joined_market both.0 both.1)) names (HasRoom (Then starts untouched follows)))
+      Outputs contents failures (ReadsStocks (λ (both : Start × List (List ℕ)). Content.securities (joined_market both.0 both.1)) names (HasRoom (Then starts untouched follows)))
       (λ both. closed_bytes (only_stocks names (joined_market both.0 both.1), joined_next both.0 both.1)) (λ _. true) old result new
 
   -- the feed is refused

@@ -47,7 +47,7 @@ module _ {R W : Type 0} (remaining : R → Option (List ℕ)) (failed_reads : R 
   -- `book --stock`: the same of the locates that have one of these stocks, each of which the directory has
   abbrev pub ListsStocks : BookForm → List (List ℕ) → Option ℕ → FileKind → From R (Content × ℕ) → W → Result Bool ToolFault → W → Type 0
   ListsStocks form names depth kind from =
-      Outputs contents failed_writes (from (λ old new. ReadsStocks (λ done. Content.securities done.0) names (ReadsFile remaining failed_reads Only kind old new)))
+      Outputs contents failed_writes (from (λ old new. ReadsStocks (λ (done : Content × ℕ). Content.securities done.0) names (ReadsFile remaining failed_reads Only kind old new)))
       (λ done. books_of form depth (has_one_of (Content.securities done.0) names) done.0) (λ _. true)
 
   -- `show` of a snapshot file: the lines of its snapshot in canonical form, of what is chosen
@@ -85,5 +85,5 @@ module _ {R S W : Type 0} (remaining : R → Option (List ℕ)) (failed_reads : 
   abbrev pub JoinsStocks : (List ℕ → List ℕ) → List (List ℕ) → From R (Start × List (List ℕ)) → From S (Start × List (List ℕ)) → W → Result Bool ToolFault → W → Type 0
   JoinsStocks read names snapshot feed =
       Outputs contents failed_writes (snapshot (λ a b. feed (λ c d.
-      ReadsStocks (λ both. Content.securities (joined_market both.0 both.1)) names (HasRoom (Then (ReadsStart read remaining failed_reads a b) (d ≡ c) (ReadsFeed read remaining_then failed_then c d))))))
+      ReadsStocks (λ (both : Start × List (List ℕ)). Content.securities (joined_market both.0 both.1)) names (HasRoom (Then (ReadsStart read remaining failed_reads a b) (d ≡ c) (ReadsFeed read remaining_then failed_then c d))))))
       (λ both. closed_bytes (only_stocks names (joined_market both.0 both.1), joined_next both.0 both.1)) (λ _. true)

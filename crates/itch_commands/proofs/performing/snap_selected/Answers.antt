@@ -7,4 +7,4 @@ pub returns-in-All : goal.returns-in-All
 returns-in-All g c = rw c.in-All.is c.snap_blocks.ensures
 
 pub returns-in-Locates : goal.returns-in-Locates
-returns-in-Locates g c = rw c.in-Locates.is c.snap_blocks-2.ensures
+returns-in-Locates g c = rw c.in-Locates.is c.snap_blocks-in-Locates.ensures
