@@ -42,7 +42,7 @@ impl<'a, A: Allocator> Choice<'a, A> {
 
     /// What the words ask for, with the set that their list of locates is.
     pub fn new(only: Option<&'a LocateSet<A>>, filters: Filters<'a>) -> Self
-        ensures { result ≡ chosen_by (option_copied only.entry) filters }
+        ensures { result ≡ chosen_by (option_copied only.entry) filters.entry }
     {
         Choice {
             only,

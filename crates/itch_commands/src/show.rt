@@ -52,7 +52,7 @@ pub fn show_blocks<R: CountedRead, B: Allocator, A: Allocator, W: CountedWrite>(
     choice: Choice<'_, A>,
     out: &mut W,
 ) -> Result<bool, ToolFault>
-    ensures { Shows W.contents W.failures R.remaining R.failures limit form choice reader.old reader.new out.old result out.new }
+    ensures { Shows W.contents W.failures R.remaining R.failures limit form choice.entry reader.old reader.new out.old result out.new }
 {
     let mut choice = choice;
     let most = limit.most();

@@ -28,7 +28,7 @@ pub fn show_snapshot<R: CountedRead, B: Allocator, A: Allocator + Copy, W: Count
     choice: Choice<'_, A>,
     out: &mut W,
 ) -> Result<bool, ToolFault>
-    ensures { ShowsSnapshot R.remaining R.failures W.contents W.failures form choice (FromBlocks reader.old reader.new) out.old result out.new }
+    ensures { ShowsSnapshot R.remaining R.failures W.contents W.failures form choice.entry (FromBlocks reader.old reader.new) out.old result out.new }
 {
     show_over::<R, B, Book<A>, W>(alloc, reader, form, choice, out)
 }
@@ -41,7 +41,7 @@ fn show_over<R: CountedRead, A: Allocator, B: OrderBook, W: CountedWrite>(
     choice: Choice<'_, B::Alloc>,
     out: &mut W,
 ) -> Result<bool, ToolFault>
-    ensures { ShowsSnapshot R.remaining R.failures W.contents W.failures form choice (FromBlocks reader.old reader.new) out.old result out.new }
+    ensures { ShowsSnapshot R.remaining R.failures W.contents W.failures form choice.entry (FromBlocks reader.old reader.new) out.old result out.new }
 {
     let (market, next): (Market<B>, Seq) = snapshot_market(alloc, reader, Source::Only)?;
     write_lines(&market, next, form, choice, out)?;
@@ -56,7 +56,7 @@ fn write_lines<B: OrderBook, W: CountedWrite>(
     out: &mut W,
 ) -> Result<(), ToolFault>
     requires { length (snap market.now) < 10 ^ 19 }
-    ensures { WritesText W.contents W.failures (closed_lines form choice (market.now, next)) out.old result out.new }
+    ensures { WritesText W.contents W.failures (closed_lines form choice.entry (market.now, next)) out.old result out.new }
 {
     let mut choice = choice;
     let mut number = 1u64;

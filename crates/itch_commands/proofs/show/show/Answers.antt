@@ -8,5 +8,5 @@ returns-clause-shows g c = inr (
   c.in_ok-reader.ensures.0,
   c.in_ok-reader.ensures.1,
   c.in_ok-reader.ensures.2,
-  rw c.whole.ensures at c.show_blocks.ensures,
+  rw (c.whole.ensures, c.everything-choice.ensures) at c.show_blocks.ensures,
 )
