@@ -2,14 +2,16 @@
 use super::blocks::*;
 use super::files::file;
 use super::stocks::{booked_of_stocks, joined_of_stocks, snapped_of_stocks};
-use itch_commands::book::book;
+use itch_commands::book::{book, book_blocks};
 use itch_commands::canon::canon;
 use itch_commands::check::check;
 use itch_commands::compare::{compare, compare_first};
 use itch_commands::join::join;
 use itch_commands::show::{show, show_blocks, show_snapshot};
 use itch_commands::snap::snap;
-use itch_commands::{Choice, Filters, Limit, ShowForm, ToolFault, read_locates};
+use itch_commands::{
+    BookForm, Choice, FileKind, Filters, Limit, ShowForm, ToolFault, read_locates,
+};
 use itch_frame::{BlockReader, CountedRead, CountedWrite};
 use itch_market::LocateSet;
 use std::alloc::Global;
@@ -26,6 +28,7 @@ pub(super) enum Single {
     ShowChosen,
     ShowSnapshot,
     Book,
+    BookLocates,
     SnapStocks,
     BookStocks,
 }
@@ -131,9 +134,19 @@ fn booked<R: CountedRead + Drop, W: CountedWrite>(
     reader: R,
     out: &mut W,
 ) -> Result<bool, ToolFault> {
+    book(alloc, 1, reader, out)
+}
+
+fn booked_of_locates<R: CountedRead + Drop, W: CountedWrite>(
+    alloc: Global,
+    reader: R,
+    out: &mut W,
+) -> Result<bool, ToolFault> {
     let mut only = LocateSet::new(alloc);
     only.insert(1)?;
-    book(alloc, Some(&only), reader, out)
+    let mut reader = BlockReader::new(alloc, reader)?;
+    let kind = FileKind::Day(Limit::whole());
+    book_blocks(alloc, Some(&only), None, &mut reader, kind, BookForm::Csv, out)
 }
 
 fn compared<R: CountedRead + Drop, S: CountedRead + Drop, W: CountedWrite>(
@@ -179,6 +192,7 @@ pub(super) fn perform_single<R: CountedRead + Drop, W: CountedWrite>(
         Single::ShowChosen => shown_chosen(alloc, reader, out),
         Single::ShowSnapshot => shown_snapshot(alloc, reader, out),
         Single::Book => booked(alloc, reader, out),
+        Single::BookLocates => booked_of_locates(alloc, reader, out),
         Single::SnapStocks => snapped_of_stocks(alloc, reader, out),
         Single::BookStocks => booked_of_stocks(alloc, reader, out),
     }
@@ -209,7 +223,7 @@ pub(super) fn wanted(alloc: Global, command: Single) -> Result<Vec<u8>, Fail> {
         Single::ShowChosen => Ok(Vec::from_slice(alloc, CHOSEN_LINES)?),
         Single::ShowSnapshot => Ok(Vec::from_slice(alloc, SNAPSHOT_LINES)?),
         Single::Book => Ok(Vec::from_slice(alloc, b"1 AAPL\nB 150.0000 300 2\n")?),
-        Single::BookStocks => Ok(Vec::from_slice(alloc, AS_CSV)?),
+        Single::BookLocates | Single::BookStocks => Ok(Vec::from_slice(alloc, AS_CSV)?),
         Single::Snap | Single::SnapStocks | Single::Canon => file(alloc, &SNAPSHOT),
     }
 }

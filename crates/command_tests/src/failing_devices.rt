@@ -71,6 +71,7 @@ fn writes_of_lines(rt: HostRuntime) -> Result<(), Fail> {
         Single::ShowChosen,
         Single::ShowSnapshot,
         Single::Book,
+        Single::BookLocates,
         Single::BookStocks,
     ] {
         let bytes = bytes_of(alloc, command)?;

@@ -1,5 +1,5 @@
 -- The books of what a file leaves.
-use Rattle.std.proofs.Common.{◌≡◌, ℕ, Bool, true, List, [], ◌++◌, filter, flat_map, Option, None, Some, Result, Ok, refl, sym, ap, ap₂, ◌∙◌, subst}
+use Rattle.std.proofs.Common.{◌≡◌, ℕ, Bool, true, List, [], ◌++◌, filter, flat_map, Option, None, Some, IsSome, Result, Ok, refl, sym, ap, ap₂, ◌∙◌, subst}
 use Rattle.std.specs.FinMap as finite
 use Rattle.std.proofs.KnownBytes.{Appends-nil}
 use Rattle.itch_book.specs.declared.order.Order.{Order}
@@ -12,7 +12,7 @@ use Rattle.itch_frame.specs.declared.tally.Failures.{Failures}
 use Rattle.itch_market.specs.Content.{Content, Listing, Securities, laid}
 use Rattle.itch_market.specs.Wanted.{Wanted}
 use Rattle.itch_commands.specs.declared.fault.ToolFault.{ToolFault}
-use Rattle.itch_commands.specs.Books.{side_lines, book_lines, listed_lines, lines_at, books_of, AreListed, IsUnlisted, ReadsListed}
+use Rattle.itch_commands.specs.Books.{side_lines, book_lines, listed_lines, lines_at, books_of, AreListed, IsUnlisted, ReadsListed, ReadsEntry}
 use Rattle.itch_commands.specs.Forms.{head, title, row}
 use Rattle.itch_commands.specs.declared.form.BookForm.{BookForm}
 use Rattle.itch_commands.specs.Outputs.{WritesText}
@@ -63,6 +63,22 @@ module _ (m market : Content) (next : ℕ) (left : IsLaid m market) where
   -- or lacks one
   pub unlisted : (only : Option Wanted) → IsUnlisted only (Content.securities market) → IsUnlisted only (Content.securities m)
   unlisted only one = subst (IsUnlisted only) same_listings one
+
+  -- the directory has an entry at a locate
+  pub entry_read : (locate : ℕ) (reads : Result (Content × ℕ) ToolFault → Type 0) (s : Listing) → reads (Ok (m, next)) → Some s ≡ finite.get (Content.securities market) locate
+      → ReadsEntry locate reads (Ok (m, next))
+  entry_read locate reads s read there = (read, subst IsSome (there ∙ ap (λ (listings : Securities). finite.get listings locate) same_listings) tt)
+
+  -- or not
+  pub no_entry : (locate : ℕ) → None ≡ finite.get (Content.securities market) locate → finite.get (Content.securities m) locate ≡ None
+  no_entry locate none = sym (none ∙ ap (λ (listings : Securities). finite.get listings locate) same_listings)
+
+  pub lines_left : {W : Type 0} (contents : W → Option (List ℕ)) (failures : W → Failures) (form : BookForm) (depth : Option ℕ) (locate : ℕ) (old new : W) (result : Result (Unit {0}) ToolFault)
+      → WritesText contents failures (lines_at form depth market locate) old result new → WritesText contents failures (lines_at form depth m locate) old result new
+  lines_left contents failures form depth locate old new result wrote =
+      subst (λ text. WritesText contents failures text old result new)
+      (ap (λ (n : Content). lines_at form depth n locate) left.in_order
+      ∙ listed-laid form depth (Content.orders m) locate (finite.get (Content.securities m) locate) (live_fit (Content.orders m) left.good.live)) wrote
 
   pub books_left : {W : Type 0} (contents : W → Option (List ℕ)) (failures : W → Failures) (form : BookForm) (depth : Option ℕ) (wanted : ℕ → Bool) (old new : W) (result : Result (Unit {0}) ToolFault)
       → WritesText contents failures (books_of form depth wanted market) old result new → WritesText contents failures (books_of form depth wanted m) old result new

@@ -79,3 +79,10 @@ ReadsListed only reads (Ok done) = reads (Ok done) × AreListed only (Content.se
 ReadsListed only reads (Err fault) =
     reads (Err fault)
     ⊎ ((fault ≡ tool.UnknownLocate) × ((done : Content × ℕ) × reads (Ok done) × IsUnlisted only (Content.securities done.0)))
+
+-- a file is read, and the directory has an entry at this locate; or the file is refused, or the directory has none
+abbrev pub ReadsEntry : ℕ → (Result (Content × ℕ) ToolFault → Type 0) → Result (Content × ℕ) ToolFault → Type 0
+ReadsEntry locate reads (Ok done) = reads (Ok done) × IsSome (finite.get (Content.securities done.0) locate)
+ReadsEntry locate reads (Err fault) =
+    reads (Err fault)
+    ⊎ ((fault ≡ tool.UnknownLocate) × ((done : Content × ℕ) × reads (Ok done) × (finite.get (Content.securities done.0) locate ≡ None)))

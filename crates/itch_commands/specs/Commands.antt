@@ -1,11 +1,11 @@
 -- What each command reads, writes and returns, for a reader of bytes and for a reader of blocks alike.
-use Rattle.std.specs.Prelude.{◌≡◌, ℕ, Bool, true, List, Option, is_none, Result}
+use Rattle.std.specs.Prelude.{◌≡◌, ℕ, Bool, true, List, Option, None, is_none, Result}
 use Rattle.itch_frame.specs.declared.tally.Failures.{Failures}
 use Rattle.itch_market.specs.Content.{Content}
 use Rattle.itch_market.specs.Wanted.{Wanted}
 use Rattle.itch_commands.specs.declared.fault.Source.TheVariants.{Only, First, Second}
 use Rattle.itch_commands.specs.declared.fault.ToolFault.{ToolFault}
-use Rattle.itch_commands.specs.Books.{ReadsListed, books_of, wanted_by}
+use Rattle.itch_commands.specs.Books.{ReadsEntry, ReadsListed, books_of, lines_at, wanted_by}
 use Rattle.itch_commands.specs.Canons.{ChecksSnap, canonical_line}
 use Rattle.itch_commands.specs.Choices.{Chosen}
 use Rattle.itch_commands.specs.Comparing.{ReadsBoth, PartsAt}
@@ -18,6 +18,7 @@ use Rattle.itch_commands.specs.Showing.{closed_lines}
 use Rattle.itch_commands.specs.Stocks.{ReadsStocks, has_one_of, only_stocks}
 use Rattle.itch_commands.specs.Readings.{From, ReadsDay, ReadsSnap, Then}
 use Rattle.itch_commands.specs.declared.form.BookForm.{BookForm}
+use Rattle.itch_commands.specs.declared.form.BookForm.TheVariants.{Text}
 use Rattle.itch_commands.specs.declared.form.Form.{Form}
 use Rattle.itch_commands.specs.declared.form.ShowForm.{ShowForm}
 use Rattle.itch_commands.specs.declared.kind.FileKind.{FileKind}
@@ -36,6 +37,12 @@ module _ {R W : Type 0} (remaining : R → Option (List ℕ)) (failed_reads : R 
   abbrev pub SnapsStocks : Limit → List (List ℕ) → From R (List (List ℕ)) → W → Result Bool ToolFault → W → Type 0
   SnapsStocks limit names from =
       Outputs contents failed_writes (from (λ old new. ReadsStocks directory_after names (ReadsDay remaining failed_reads Only limit old new))) (stocks_snapshot names) (λ _. true)
+
+  -- `book`: the prices of a locate in the market that a file leaves
+  abbrev pub ListsBook : ℕ → FileKind → From R (Content × ℕ) → W → Result Bool ToolFault → W → Type 0
+  ListsBook locate kind from =
+      Outputs contents failed_writes (from (λ old new. ReadsEntry locate (ReadsFile remaining failed_reads Only kind old new)))
+      (λ done. lines_at Text None done.0 locate) (λ _. true)
 
   -- `book`: the prices of the locates of a set, or of the whole directory, in the market that a file leaves; as many of each side as
   -- are wanted

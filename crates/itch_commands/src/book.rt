@@ -1,17 +1,15 @@
 //! `book`: the prices of locates.
-ghost use Rattle.std.specs.Prelude.{◌≡◌, ◌≤◌, ◌-◌, None, length, option_map};
+ghost use Rattle.std.specs.Prelude.{◌≡◌, ◌≤◌, ◌-◌, length, option_map};
 ghost use Rattle.std.specs.Option.{option_copied};
 ghost use Rattle.itch_book.specs.Orders.{queue, next_price};
 ghost use Rattle.itch_commands.specs.Books.{next_wanted, side_lines, book_lines};
 ghost use Rattle.itch_commands.specs.Commands.{ListsBooks};
 ghost use Rattle.itch_commands.specs.Forms.{row};
-ghost use Rattle.itch_commands.specs.Limits.{counted};
 ghost use Rattle.itch_commands.specs.Outputs.{WritesText};
-ghost use Rattle.itch_commands.specs.Readings.{FromBlocks, FromReader};
-ghost use Rattle.itch_commands.specs.declared.form.BookForm.TheVariants.{Text};
-ghost use Rattle.itch_commands.specs.declared.kind.FileKind.TheVariants.{Day};
+ghost use Rattle.itch_commands.specs.Readings.{FromBlocks};
 
 mod listed;
+mod one;
 mod rows;
 mod stocks;
 
@@ -20,7 +18,6 @@ use crate::book::rows::Rows;
 use crate::fault::{Source, ToolFault};
 use crate::form::BookForm;
 use crate::kind::{FileKind, file_market};
-use crate::limit::Limit;
 use crate::order_book::Book;
 use crate::writing::write_text;
 use itch_book::OrderBook;
@@ -28,35 +25,14 @@ use itch_codec::{Seq, Side};
 use itch_frame::{BlockReader, CountedRead, CountedWrite};
 use itch_market::{LocateSet, Market};
 use std::alloc::Allocator;
+pub use one::book;
 pub use stocks::book_stocks;
 
-/// Writes the price levels of the locates of a set after a day file's messages, or of all locates of the directory: of each, in
-/// rising order, a line `LOCATE STOCK`, and then a line `SIDE PRICE SHARES ORDERS` for each price, bids before asks, the best price
-/// first. A price has four decimals.
+/// Writes the price levels of the locates of a set after a file of either kind, or of all locates of its directory, in any form: of
+/// each, in rising order, its title, and then a line for each price, bids before asks, the best price first; with `depth` prices of
+/// each side at most if that is given. The reader is left where the reading ended.
 ///
 /// `UnknownLocate` if the directory lacks a locate of the set: then nothing is written.
-pub fn book<R: CountedRead + Drop, A: Allocator + Copy, W: CountedWrite>(
-    alloc: A,
-    only: Option<&LocateSet<A>>,
-    reader: R,
-    out: &mut W,
-) -> Result<bool, ToolFault>
-    ensures { ListsBooks R.remaining R.failures W.contents W.failures Text (option_copied only.entry) None (Day (counted None)) (FromReader reader) out.old result out.new }
-{
-    let mut reader = BlockReader::new(alloc, reader)?;
-    book_blocks(
-        alloc,
-        only,
-        None,
-        &mut reader,
-        FileKind::Day(Limit::whole()),
-        BookForm::Text,
-        out,
-    )
-}
-
-/// The same over a reader of blocks, for a file of either kind, in any form, and with `depth` prices of each side at most if that is
-/// given. The reader is left where the reading ended.
 pub fn book_blocks<R: CountedRead, B: Allocator, A: Allocator + Copy, W: CountedWrite>(
     alloc: A,
     only: Option<&LocateSet<A>>,

@@ -68,8 +68,8 @@ fn is_wanted<A: Allocator>(only: Option<&LocateSet<A>>, locate: u16) -> bool
     }
 }
 
-// Writes the book of a locate of the directory.
-fn write_listed<B: OrderBook, W: CountedWrite>(
+/// Writes the book of a locate, if the directory has it.
+pub fn write_listed<B: OrderBook, W: CountedWrite>(
     market: &Market<B>,
     locate: u16,
     depth: Option<u64>,
