@@ -1,12 +1,15 @@
 //! A request over one file, performed.
 ghost use Rattle.std.specs.Option.{option_copied};
-ghost use Rattle.itch_commands.specs.Requests.{IsOverOne, Performs};
+ghost use Rattle.itch_commands.specs.Choices.{chosen_by};
+ghost use Rattle.itch_commands.specs.Requests.{IsOverOne, Performs, ShowsFile};
 
 use crate::book::book_blocks;
 use crate::canon::canon_blocks;
 use crate::check::check_blocks;
 use crate::choice::Choice;
 use crate::fault::ToolFault;
+use crate::filters::Filters;
+use crate::form::ShowForm;
 use crate::kind::FileKind;
 use crate::request::Request;
 use crate::show::{show_blocks, show_snapshot};
@@ -30,17 +33,11 @@ pub fn perform<R: CountedRead, B: Allocator, A: Allocator + Copy, W: CountedWrit
         Request::Snap { limit, .. } => snap_blocks(alloc, reader, limit, only, out),
         Request::Check { limit, form, .. } => check_blocks(alloc, reader, limit, form, out),
         Request::Show {
-            kind: FileKind::Day(limit),
+            kind,
             form,
             filters,
             ..
-        } => show_blocks(reader, limit, form, Choice::new(only, filters), out),
-        Request::Show {
-            kind: FileKind::Snapshot,
-            form,
-            filters,
-            ..
-        } => show_snapshot(alloc, reader, form, Choice::new(only, filters), out),
+        } => show_file(alloc, kind, form, filters, only, reader, out),
         Request::Canon { check, .. } => canon_blocks(alloc, reader, check, out),
         Request::Book {
             locate,
@@ -50,5 +47,24 @@ pub fn perform<R: CountedRead, B: Allocator, A: Allocator + Copy, W: CountedWrit
             ..
         } => book_blocks(alloc, locate, depth, reader, kind, form, out),
         Request::Compare { .. } | Request::Join { .. } => unreachable!(),
+    }
+}
+
+// Shows the messages of a file of this kind that the filters choose.
+fn show_file<R: CountedRead, B: Allocator, A: Allocator + Copy, W: CountedWrite>(
+    alloc: A,
+    kind: FileKind,
+    form: ShowForm,
+    filters: Filters<'_>,
+    only: Option<&LocateSet<A>>,
+    reader: &mut BlockReader<R, B>,
+    out: &mut W,
+) -> Result<bool, ToolFault>
+    ensures { ShowsFile R.remaining R.failures W.contents W.failures kind form (chosen_by (option_copied only.entry) filters.entry) reader.old reader.new out.old result out.new }
+{
+    let choice = Choice::new(only, filters);
+    match kind {
+        FileKind::Day(limit) => show_blocks(reader, limit, form, choice, out),
+        FileKind::Snapshot => show_snapshot(alloc, reader, form, choice, out),
     }
 }
