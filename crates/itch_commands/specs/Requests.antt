@@ -8,9 +8,10 @@ use Rattle.itch_commands.specs.declared.fault.Source.{Source}
 use Rattle.itch_commands.specs.declared.fault.Source.TheVariants.{Second, Snapshot}
 use Rattle.itch_commands.specs.declared.request.Request.{Request}
 use Rattle.itch_commands.specs.declared.request.Request.TheVariants.{Snap, Check, Show, Canon, Compare, CompareFirst, Book, Join}
-use Rattle.itch_commands.specs.Choices.{chosen_by}
+use Rattle.itch_commands.specs.Choices.{Chosen, chosen_by}
 use Rattle.itch_commands.specs.Commands.{Snaps, SnapsStocks, Checks, ShowsSnapshot, WritesCanon, ChecksCanon, ListsBooks, ListsStocks}
 use Rattle.itch_commands.specs.declared.form.BookForm.{BookForm}
+use Rattle.itch_commands.specs.declared.form.ShowForm.{ShowForm}
 use Rattle.itch_commands.specs.declared.kind.FileKind.{FileKind}
 use Rattle.itch_commands.specs.declared.kind.FileKind.TheVariants as kind
 use Rattle.itch_commands.specs.declared.limit.Limit.{Limit}
@@ -74,13 +75,16 @@ module _ {R W : Type 0} (remaining : R → Option (List ℕ)) (failed_reads : R 
       ListsStocks remaining failed_reads contents failed_writes form (names_of names.now) depth kind (FromBlocks old new)
   PerformsBook form selection set depth kind old new = ListsBooks remaining failed_reads contents failed_writes form set depth kind (FromBlocks old new)
 
+  -- what `show` of a file of a kind reads, writes and returns
+  abbrev pub ShowsFile : FileKind → ShowForm → Chosen → Reading R → Reading R → W → Result Bool ToolFault → W → Type 0
+  ShowsFile (kind.Day limit) form chosen old new = Shows contents failed_writes remaining failed_reads limit form chosen old new
+  ShowsFile kind.Snapshot form chosen old new = ShowsSnapshot remaining failed_reads contents failed_writes form chosen (FromBlocks old new)
+
   -- what a request over the blocks of one file reads, writes and returns, with the set of the locates that are wanted, if not all are
   abbrev pub Performs : Request → Option Wanted → Reading R → Reading R → W → Result Bool ToolFault → W → Type 0
   Performs (Snap file limit selection) set old new = PerformsSnap limit selection set old new
   Performs (Check file limit form) set old new = Checks remaining failed_reads contents failed_writes form limit (FromBlocks old new)
-  Performs (Show file (kind.Day limit) form filters) set old new = Shows contents failed_writes remaining failed_reads limit form (chosen_by set filters) old new
-  Performs (Show file kind.Snapshot form filters) set old new =
-      ShowsSnapshot remaining failed_reads contents failed_writes form (chosen_by set filters) (FromBlocks old new)
+  Performs (Show file kind form filters) set old new = ShowsFile kind form (chosen_by set filters) old new
   Performs (Canon file false) set old new = WritesCanon remaining failed_reads contents failed_writes (FromBlocks old new)
   Performs (Canon file true) set old new = ChecksCanon remaining failed_reads contents failed_writes (FromBlocks old new)
   Performs (Book selection depth file kind form) set old new = PerformsBook form selection set depth kind old new

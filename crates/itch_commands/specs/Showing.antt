@@ -4,7 +4,6 @@ use Rattle.std.specs.List.{AllByRecursion}
 use Rattle.std.specs.Io.KnownBytes.{Consumes, Appends}
 use Rattle.std.specs.declared.io.Error.{Error}
 use Rattle.itch_codec.specs.Messages.{fault, message_of}
-use Rattle.itch_codec.specs.declared.message.Message.{Message}
 use Rattle.itch_codec.specs.declared.message.Message.TheVariants as is
 use Rattle.itch_frame.specs.Blocks.{blocks, IsFull}
 use Rattle.itch_frame.specs.Counting.{failed}

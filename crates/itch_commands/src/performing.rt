@@ -1,13 +1,15 @@
 //! A request over one file, performed.
 ghost use Rattle.std.specs.Option.{option_copied};
-ghost use Rattle.itch_commands.specs.Requests.{IsOverOne, Performs, PerformsBook, PerformsSnap};
+ghost use Rattle.itch_commands.specs.Choices.{chosen_by};
+ghost use Rattle.itch_commands.specs.Requests.{IsOverOne, Performs, PerformsBook, PerformsSnap, ShowsFile};
 
 use crate::book::{book_blocks, book_stocks};
 use crate::canon::canon_blocks;
 use crate::check::check_blocks;
 use crate::choice::Choice;
 use crate::fault::ToolFault;
-use crate::form::BookForm;
+use crate::filters::Filters;
+use crate::form::{BookForm, ShowForm};
 use crate::kind::FileKind;
 use crate::limit::Limit;
 use crate::request::Request;
@@ -37,17 +39,11 @@ pub fn perform<R: CountedRead, B: Allocator, A: Allocator + Copy, W: CountedWrit
         } => snap_selected(alloc, limit, selection, only, reader, out),
         Request::Check { limit, form, .. } => check_blocks(alloc, reader, limit, form, out),
         Request::Show {
-            kind: FileKind::Day(limit),
+            kind,
             form,
             filters,
             ..
-        } => show_blocks(reader, limit, form, Choice::new(only, filters), out),
-        Request::Show {
-            kind: FileKind::Snapshot,
-            form,
-            filters,
-            ..
-        } => show_snapshot(alloc, reader, form, Choice::new(only, filters), out),
+        } => show_file(alloc, kind, form, filters, only, reader, out),
         Request::Canon { check, .. } => canon_blocks(alloc, reader, check, out),
         Request::Book {
             selection,
@@ -97,5 +93,24 @@ fn book_selected<R: CountedRead, B: Allocator, A: Allocator + Copy, W: CountedWr
         Selection::Stocks(names) => book_stocks(alloc, names, depth, reader, kind, form, out),
         Selection::All => book_blocks(alloc, only, depth, reader, kind, form, out),
         Selection::Locates(_) => book_blocks(alloc, only, depth, reader, kind, form, out),
+    }
+}
+
+// Shows the messages of a file of this kind that the filters choose.
+fn show_file<R: CountedRead, B: Allocator, A: Allocator + Copy, W: CountedWrite>(
+    alloc: A,
+    kind: FileKind,
+    form: ShowForm,
+    filters: Filters<'_>,
+    only: Option<&LocateSet<A>>,
+    reader: &mut BlockReader<R, B>,
+    out: &mut W,
+) -> Result<bool, ToolFault>
+    ensures { ShowsFile R.remaining R.failures W.contents W.failures kind form (chosen_by (option_copied only.entry) filters.entry) reader.old reader.new out.old result out.new }
+{
+    let choice = Choice::new(only, filters);
+    match kind {
+        FileKind::Day(limit) => show_blocks(reader, limit, form, choice, out),
+        FileKind::Snapshot => show_snapshot(alloc, reader, form, choice, out),
     }
 }

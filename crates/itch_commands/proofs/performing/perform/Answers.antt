@@ -9,6 +9,5 @@ returns-in-Check g c = rw c.in-Check.is c.check_blocks.ensures
 pub returns-in-Book : goal.returns-in-Book
 returns-in-Book g c = rw c.in-Book.is c.book_selected.ensures
 
-pub returns-in-Show-default-Snapshot-default-default : goal.returns-in-Show-default-Snapshot-default-default
-returns-in-Show-default-Snapshot-default-default g c =
-    rw c.in-Show-default-Snapshot-default-default.is (rw c.new-2.ensures at c.show_snapshot.ensures)
+pub returns-in-Show : goal.returns-in-Show
+returns-in-Show g c = rw c.in-Show.is c.show_file.ensures

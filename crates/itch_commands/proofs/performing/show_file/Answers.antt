@@ -1,0 +1,4 @@
+use Rattle.itch_commands.proofs.performing.show_file.Goals as goal
+
+pub returns-in-Snapshot : goal.returns-in-Snapshot
+returns-in-Snapshot g c = rw c.in-Snapshot.is (rw c.new-choice.ensures at c.show_snapshot.ensures)
