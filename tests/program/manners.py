@@ -197,7 +197,8 @@ def the_rate_is_that_of_the_bytes_and_the_time(program):
 def no_progress_is_shown_of_a_small_file(program):
     written = SNAPSHOT.read_bytes()
     for words, output in ((["check", OPENING], b"ok 5 messages\n"), (["snap", OPENING], written), (["canon", SNAPSHOT], written),
-                          (["compare", OPENING, OPENING], b"same\n"), (["compare", "--first", OPENING, OPENING], b"same\n"), (["join", SNAPSHOT, OPENING], written)):
+                          (["compare", OPENING, OPENING], b"same\n"), (["compare", "--first", OPENING, OPENING], b"same\n"),
+                          (["join", SNAPSHOT, OPENING], written)):
         done = subprocess.run([program, *words, "--progress"], capture_output=True, timeout=60)
         if (done.returncode, done.stdout, done.stderr) != (0, output, b""):
             yield f"{words[0]}: {done}"
