@@ -1,5 +1,5 @@
 -- The fetch of a rest step by step: what a client has received so far, and one packet more.
-use Rattle.std.proofs.Common.{◌≡◌, ℕ, ◌+◌, Bool, true, false, List, [], ◌∷◌, ◌++◌, length, Option, None, Some, Ok, Err, refl, sym, ap, subst, ◌∙◌}
+use Rattle.std.proofs.Common.{◌≡◌, ℕ, ◌+◌, true, false, List, [], ◌∷◌, ◌++◌, Option, None, Some, Ok, Err, refl, sym, ap, subst, ◌∙◌}
 use Rattle.std.specs.List.{AllByRecursion}
 use Rattle.std.specs.Option.{is_some}
 use Rattle.std.specs.Io.KnownBytes.{Consumes}
@@ -19,7 +19,7 @@ use Rattle.itch_soup.specs.Packets.{PacketSpells}
 use Rattle.itch_soup.specs.Clients.{Client, client_answer, client_after_packet}
 use Rattle.itch_soup.specs.NextPackets.{is_enough}
 use Rattle.itch_soup.specs.Fetching.{after_packets}
-use Rattle.itch_soup.specs.FetchingRest.{SpellsOther, SpellsRest, FetchedRest, KeepsMessage, KeepsAnswer, KeepsPacket, EndsRest, ReceivesRest}
+use Rattle.itch_soup.specs.FetchingRest.{SpellsOther, FetchedRest, KeepsAnswer, KeepsPacket, EndsRest, ReceivesRest}
 use Rattle.itch_soup.proofs.SessionSteps.{Came, came_first, came_by, heard_of, heard_by, GoesOn, only_data}
 
 -- packets came, and the blocks of their messages are kept, none of which is End of Snapshot

@@ -1,4 +1,4 @@
-use Rattle.std.proofs.Common.{◌≡◌, refl, ◌∙◌}
+use Rattle.std.proofs.Common.{refl, ◌∙◌}
 use Rattle.std.proofs.lemmas.Result.{err_from_is_err_and}
 use Rattle.itch_frame.specs.Reading.{bytes_left}
 use Rattle.itch_soup.proofs.RestSteps.{keeping_first, keeping_on, keeping_ends, keeping_closed}
