@@ -146,7 +146,15 @@ fn booked_of_locates<R: CountedRead + Drop, W: CountedWrite>(
     only.insert(1)?;
     let mut reader = BlockReader::new(alloc, reader)?;
     let kind = FileKind::Day(Limit::whole());
-    book_blocks(alloc, Some(&only), None, &mut reader, kind, BookForm::Csv, out)
+    book_blocks(
+        alloc,
+        Some(&only),
+        None,
+        &mut reader,
+        kind,
+        BookForm::Csv,
+        out,
+    )
 }
 
 fn compared<R: CountedRead + Drop, S: CountedRead + Drop, W: CountedWrite>(

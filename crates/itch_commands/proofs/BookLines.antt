@@ -67,7 +67,7 @@ module _ (m market : Content) (next : ℕ) (left : IsLaid m market) where
   -- the directory has an entry at a locate
   pub entry_read : (locate : ℕ) (reads : Result (Content × ℕ) ToolFault → Type 0) (s : Listing) → reads (Ok (m, next)) → Some s ≡ finite.get (Content.securities market) locate
       → ReadsEntry locate reads (Ok (m, next))
-  entry_read locate reads s read there = (read, subst IsSome (there ∙ ap (λ (listings : Securities). finite.get listings locate) same_listings) tt)
+  entry_read locate reads s read there = (read, subst IsSome (there ∙ ap (λ (listings : Securities). finite.get listings locate) same_listings) refl)
 
   -- or not
   pub no_entry : (locate : ℕ) → None ≡ finite.get (Content.securities market) locate → finite.get (Content.securities m) locate ≡ None

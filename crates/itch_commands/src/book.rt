@@ -24,8 +24,8 @@ use itch_book::OrderBook;
 use itch_codec::{Seq, Side};
 use itch_frame::{BlockReader, CountedRead, CountedWrite};
 use itch_market::{LocateSet, Market};
-use std::alloc::Allocator;
 pub use one::book;
+use std::alloc::Allocator;
 pub use stocks::book_stocks;
 
 /// Writes the price levels of the locates of a set after a file of either kind, or of all locates of its directory, in any form: of
