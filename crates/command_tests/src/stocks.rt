@@ -7,7 +7,9 @@ use itch_codec::Seq;
 use itch_commands::book::book_stocks;
 use itch_commands::join::join_stocks;
 use itch_commands::snap::snap_stocks;
-use itch_commands::{Book, BookForm, FileKind, Limit, Source, ToolFault, file_market, stock_locates};
+use itch_commands::{
+    Book, BookForm, FileKind, Limit, Source, ToolFault, file_market, stock_locates,
+};
 use itch_frame::testing::PieceReader;
 use itch_frame::{BlockReader, CountedRead, CountedWrite};
 use itch_market::{LocateSet, Market};
@@ -86,13 +88,30 @@ fn other_names_are_unknown(rt: HostRuntime) -> Result<(), Fail> {
     let alloc = rt.alloc();
     let day = file(alloc, &[AAPL, MSFT])?;
     for names in [
-        "", ",", "AAPL,", ",AAPL", "AAP", "AAPLE", "aapl", "AAPL ", "AAPL    ", "AAPL     ", "MSFT,GOOG", "GOOG,MSFT", "AAPL;MSFT",
+        "",
+        ",",
+        "AAPL,",
+        ",AAPL",
+        "AAP",
+        "AAPLE",
+        "aapl",
+        "AAPL ",
+        "AAPL    ",
+        "AAPL     ",
+        "MSFT,GOOG",
+        "GOOG,MSFT",
+        "AAPL;MSFT",
     ] {
         let fault = looked_up(alloc, day.as_slice(), names).err();
         let fault = fault.ok_or("a refusal")?;
         holds_in(&rt, names, matches!(fault, ToolFault::UnknownStock));
         same_in(&rt, names, fault.status(), 1);
-        same_in(&rt, names, format!(in alloc; "{fault}")?.as_str(), "itchsnap: unknown stock");
+        same_in(
+            &rt,
+            names,
+            format!(in alloc; "{fault}")?.as_str(),
+            "itchsnap: unknown stock",
+        );
     }
     Ok(())
 }
