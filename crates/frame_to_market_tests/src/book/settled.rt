@@ -1,4 +1,6 @@
 //! Settled books by the same rows as the others: one that is never settled, and one that is settled after each change.
+ghost use Rattle.std.specs.Prelude.{◌≡◌};
+
 use super::{add, check_calls, check_priority, first, order};
 use itch_book::{Order, OrderBook, SettledBook, Taken};
 use itch_codec::Side;
