@@ -135,14 +135,17 @@ def progress_is_shown_every_64_mib(program):
                 (["snap", "--after", "1600000", file.name], b"", large.entry(1) + large.closing(1_600_001), once),
                 (["book", "1", file.name], b"", b"1 %s\n" % large.stock(1).strip(), twice),
                 (["compare", file.name, file.name], b"", b"same\n", twice * 2),
-                (["compare", file.name, "-"], day, b"same\n", unsized * 2),
-                (["compare", "--first", file.name, file.name], b"", b"same\n", twice * 2)):
+                (["compare", file.name, "-"], day, b"same\n", unsized * 2)):
             plain, done = (subprocess.run([program, *words, *flag], input=data, capture_output=True, timeout=120)
                            for flag in ([], ["--progress"]))
             for name, ran, error in (("without", plain, b""), ("with", done, shown)):
                 if (ran.returncode, ran.stdout) != (0, output) or not re.fullmatch(error, ran.stderr):
                     yield f"{words[0]} {name}: status {ran.returncode}, {ran.stdout[:80]!r}, {ran.stderr!r}"
             yield from what_is_wrongly_shown(done.stderr, len(day))
+        # (of files that are read side by side the sum is shown, of which each may end within a message)
+        both = subprocess.run([program, "compare", "--first", "--progress", file.name, file.name], capture_output=True, timeout=120)
+        if (both.returncode, both.stdout) != (0, b"same\n") or not re.fullmatch(rb"(%s%s){4}\n" % (SHOWN, LEFT), both.stderr):
+            yield f"side by side: status {both.returncode}, {both.stdout[:80]!r}, {both.stderr!r}"
         with open("/dev/full", "wb") as full:
             unseen = subprocess.run([program, "check", "--progress", file.name], stdout=subprocess.PIPE, stderr=full, timeout=120)
         if (unseen.returncode, unseen.stdout) != (0, checked):
