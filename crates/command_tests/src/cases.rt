@@ -96,7 +96,7 @@ fn shown<R: CountedRead + Drop, W: CountedWrite>(
     show(alloc, reader, out)
 }
 
-// The messages of order 1, of some locates and types, with names.
+// The messages of order 1, of some locates, stocks and types, with names.
 fn shown_chosen<R: CountedRead + Drop, W: CountedWrite>(
     alloc: Global,
     reader: R,
@@ -105,10 +105,11 @@ fn shown_chosen<R: CountedRead + Drop, W: CountedWrite>(
     let set = read_locates(alloc, "1-3")?;
     let filters = Filters {
         only: Some("1-3"),
+        stocks: Some("AAPL"),
         types: Some("FU"),
         reference: Some(1),
     };
-    let choice = Choice::new(Some(&set), filters);
+    let choice = Choice::new(alloc, Some(&set), filters)?;
     let mut reader = BlockReader::new(alloc, reader)?;
     show_blocks(&mut reader, Limit::whole(), ShowForm::Named, choice, out)
 }
@@ -121,10 +122,11 @@ fn shown_snapshot<R: CountedRead + Drop, W: CountedWrite>(
 ) -> Result<bool, ToolFault> {
     let filters = Filters {
         only: None,
+        stocks: None,
         types: Some("AG"),
         reference: None,
     };
-    let choice = Choice::new(None, filters);
+    let choice = Choice::new(alloc, None, filters)?;
     let mut reader = BlockReader::new(alloc, reader)?;
     show_snapshot(alloc, &mut reader, ShowForm::Json, choice, out)
 }

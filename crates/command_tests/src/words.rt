@@ -65,19 +65,19 @@ fn requests_are_read(rt: HostRuntime) -> Result<(), Fail> {
         ),
         (
             "show day.itch",
-            "Show { file: Some(\"day.itch\"), kind: Day(Limit { after: None, until: None }), form: Text, filters: Filters { only: None, types: None, reference: None } }",
+            "Show { file: Some(\"day.itch\"), kind: Day(Limit { after: None, until: None }), form: Text, filters: Filters { only: None, stocks: None, types: None, reference: None } }",
         ),
         (
             "show --names --reference 18446744073709551615",
-            "Show { file: None, kind: Day(Limit { after: None, until: None }), form: Named, filters: Filters { only: None, types: None, reference: Some(18446744073709551615) } }",
+            "Show { file: None, kind: Day(Limit { after: None, until: None }), form: Named, filters: Filters { only: None, stocks: None, types: None, reference: Some(18446744073709551615) } }",
         ),
         (
             "show - --json --snapshot",
-            "Show { file: None, kind: Snapshot, form: Json, filters: Filters { only: None, types: None, reference: None } }",
+            "Show { file: None, kind: Snapshot, form: Json, filters: Filters { only: None, stocks: None, types: None, reference: None } }",
         ),
         (
-            "show --only 1-3 --types AEX --reference 007",
-            "Show { file: None, kind: Day(Limit { after: None, until: None }), form: Text, filters: Filters { only: Some(\"1-3\"), types: Some(\"AEX\"), reference: Some(7) } }",
+            "show --only 1-3 --stock MSFT,AAPL --types AEX --reference 007",
+            "Show { file: None, kind: Day(Limit { after: None, until: None }), form: Text, filters: Filters { only: Some(\"1-3\"), stocks: Some(\"MSFT,AAPL\"), types: Some(\"AEX\"), reference: Some(7) } }",
         ),
         ("canon", "Canon { file: None, check: false }"),
         (
@@ -119,7 +119,7 @@ fn requests_are_read(rt: HostRuntime) -> Result<(), Fail> {
         ),
         (
             "show --snapshot day.snap",
-            "Show { file: Some(\"day.snap\"), kind: Snapshot, form: Text, filters: Filters { only: None, types: None, reference: None } }",
+            "Show { file: Some(\"day.snap\"), kind: Snapshot, form: Text, filters: Filters { only: None, stocks: None, types: None, reference: None } }",
         ),
         (
             "compare a.snap - --snapshot --json",
@@ -204,7 +204,7 @@ fn times_are_read(rt: HostRuntime) -> Result<(), Fail> {
         let words = words(rt.alloc(), line.as_str())?;
         let wanted = format!(in rt.alloc();
             "Files {{ request: Show {{ file: Some(\"day.itch\"), kind: Day(Limit {{ after: Some(5), \
-             until: Some({nanoseconds}) }}), form: Text, filters: Filters {{ only: None, types: None, reference: None }} }}, \
+             until: Some({nanoseconds}) }}), form: Text, filters: Filters {{ only: None, stocks: None, types: None, reference: None }} }}, \
              progress: false }}"
         )?;
         let found = asked(rt.alloc(), words.as_slice())?;

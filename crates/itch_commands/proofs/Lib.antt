@@ -8,11 +8,14 @@ pub mod CopiedSnapshots
 pub mod CanonicalBytes
 pub mod Comparisons
 pub mod FirstDifferences
+pub mod FoundStocks
 pub mod OneFirstDifference
 pub mod AsRead
 pub mod SetReadings
 pub mod SnapshotFaults
 pub mod SnapshotStarts
+pub mod SoughtNames
+pub mod SoughtStocks
 pub mod JoinerSteps
 pub mod FeedsTaken
 pub mod FeedStops

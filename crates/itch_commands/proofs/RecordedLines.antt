@@ -1,5 +1,5 @@
 -- The lines of a market's snapshot, written one after another.
-use Rattle.std.proofs.Common.{◌≡◌, ℕ, ◌+◌, ◌<◌, ◌^◌, List, [], ◌∷◌, ◌++◌, length, Option, Result, Ok, Err, refl, sym, ap, subst, ◌∙◌, append_assoc, append-nil, length-append, arith}
+use Rattle.std.proofs.Common.{◌≡◌, ℕ, ◌+◌, ◌<◌, ◌^◌, List, [], ◌∷◌, ◌++◌, length, Option, Result, Ok, Err, OnOk, refl, sym, ap, subst, ◌∙◌, append_assoc, append-nil, length-append, arith}
 use Rattle.std.proofs.KnownBytes.{Appends-nil}
 use Rattle.std.specs.Io.KnownBytes.{Appends}
 use Rattle.itch_codec.specs.declared.message.Message.{Message}
@@ -14,6 +14,11 @@ use Rattle.itch_commands.specs.declared.fault.ToolFault.{ToolFault}
 use Rattle.itch_commands.specs.declared.form.ShowForm.{ShowForm}
 use Rattle.itch_commands.proofs.JoinedTexts.{text_then, text_fails}
 use Rattle.itch_commands.proofs.ShownLines.{lines-append, one_line, no_lines, last_line, past_none, past_push}
+
+-- what holds on either result
+pub on_ok : {X E : Type 0} (P : Type 0) (result : Result X E) → P → OnOk result P
+on_ok P (Ok x) p = p
+on_ok P (Err e) p = tt
 
 module _ {W : Type 0} (contents : W → Option (List ℕ)) (failures : W → Failures) (form : ShowForm) (chosen : Chosen) (m : Content) (next : ℕ) (old : W) where
   -- the lines of these messages were written, the others are still to come, and what chooses them is `now`
@@ -70,11 +75,20 @@ module _ {W : Type 0} (contents : W → Option (List ℕ)) (failures : W → Fai
         (text_then contents failures first (chosen_line form now number x ++ then) old mid new (Err fault) so_far.wrote
         (text_fails contents failures (chosen_line form now number x) then mid new fault line))
 
+    -- all of them were written
+    all_seen : left ≡ [] → snap m ≡ seen
+    all_seen none = so_far.messages ∙ ap (λ ms. seen ++ ms) none ∙ append-nil seen
+
+    -- what chooses messages after End of Snapshot
+    pub recorded_passes : (then : Chosen) → left ≡ [] → then ≡ chosen_after now (is.End next) → then ≡ chosen_past chosen (snap m ++ is.End next ∷ [])
+    recorded_passes then none passes =
+        passes ∙ ap (λ c. chosen_after c (is.End next)) so_far.passed ∙ past_push chosen seen (is.End next)
+        ∙ ap (λ ms. chosen_past chosen (ms ++ is.End next ∷ [])) (sym (all_seen none))
+
     -- after the last one comes End of Snapshot
     pub recorded_ends : (result : Result (Unit {0}) ToolFault) → left ≡ [] → WritesText contents failures (chosen_line form now number (is.End next)) mid result new
         → WritesText contents failures (closed_lines form chosen (m, next)) old result new
     recorded_ends result none line =
-        let all : snap m ≡ seen = so_far.messages ∙ ap (λ ms. seen ++ ms) none ∙ append-nil seen in
         subst (λ text. WritesText contents failures text old result new)
-        (next_line (is.End next) ∙ ap (λ ms. chosen_lines form chosen 1 (ms ++ is.End next ∷ [])) (sym all))
+        (next_line (is.End next) ∙ ap (λ ms. chosen_lines form chosen 1 (ms ++ is.End next ∷ [])) (sym (all_seen none)))
         (text_then contents failures (chosen_lines form chosen 1 seen) (chosen_line form now number (is.End next)) old mid new result so_far.wrote line)

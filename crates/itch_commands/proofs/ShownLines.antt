@@ -23,11 +23,12 @@ use Rattle.itch_commands.specs.declared.fault.ToolFault.{ToolFault}
 use Rattle.itch_commands.specs.declared.fault.ToolFault.TheVariants as tool
 use Rattle.itch_commands.specs.declared.form.ShowForm.{ShowForm}
 use Rattle.itch_commands.specs.declared.limit.Limit.{Limit}
-use Rattle.itch_commands.specs.Choices.{Chosen, chosen_after, chosen_past, chosen_line, chosen_lines}
+use Rattle.itch_commands.specs.Choices.{Chosen, chosen_after, chosen_past, chosen_line, chosen_lines, are_found_in}
 use Rattle.itch_commands.specs.Limits.{IsEarly, IsBefore}
+use Rattle.itch_commands.specs.Sought.{are_found}
 use Rattle.itch_commands.specs.Readings.{CountsRead}
 use Rattle.itch_commands.specs.Outputs.{Wrote}
-use Rattle.itch_commands.specs.Showing.{lines_from, line_after, IsClean, ReadsOff, ReadsNext, ShowsNext, ShowsPart, ShowsUntil, Shows, LeavesNext, finish_end, finish_at, finish}
+use Rattle.itch_commands.specs.Showing.{lines_from, line_after, IsClean, ReadsOff, ReadsNext, ShowsNext, ShowsAll, ShowsUntil, ShowsPart, LeavesNext, finish_end, finish_at, finish}
 use Rattle.itch_commands.proofs.PartReadings.{is_given, late_given}
 
 -- lines one after the other
@@ -124,6 +125,11 @@ module _ {R W : Type 0} (contents : W → Option (List ℕ)) (failures : W → F
       ap (λ c. chosen_line form c (count + 1) (message_of p)) passed
       ∙ ap (λ n. chosen_line form (chosen_past chosen (map message_of ps)) (n + 1) (message_of p)) (sym counted)
 
+  -- whether all stocks were found is the same by what chooses the next ones
+  found_is : (count : ℕ) (old new : Reading R) (now : Chosen) (out out' : W) (shown : Shown old count new now out out') (found : Bool) → found ≡ are_found now.stocks
+      → found ≡ are_found_in chosen (map message_of (Shown.payloads shown))
+  found_is count old new now out out' shown found is = is ∙ ap (λ c. are_found (Chosen.stocks c)) shown.passed
+
   pub shown_on : (old mid new : Reading R) (count : ℕ) (now then : Chosen) (out on out' : W) → Shown old count mid now out on
       → ShowsNext contents failures form limit count (bytes_left remaining mid) (bytes_left remaining new) now on (Ok true) then out'
       → failed_reads new.reader ≡ failed_reads mid.reader → LeavesReaderFirst mid 1 None new → Shown old (count + 1) new then out out'
@@ -146,9 +152,9 @@ module _ {R W : Type 0} (contents : W → Option (List ℕ)) (failures : W → F
       }
 
   -- as many lines as are wanted were written
-  pub shown_all : (old new : Reading R) (count : ℕ) (now : Chosen) (out out' : W) → Shown old count new now out out' → limit.after ≡ Some count
-      → ShowsPart contents failures remaining failed_reads limit form chosen old new out out'
-  shown_all old new count now out out' shown all =
+  pub shown_all : (old new : Reading R) (count : ℕ) (now : Chosen) (out out' : W) (found : Bool) → Shown old count new now out out' → found ≡ are_found now.stocks → limit.after ≡ Some count
+      → ShowsAll contents failures remaining failed_reads limit form chosen found old new out out'
+  shown_all old new count now out out' found shown is all =
       let ps = shown.payloads in
       let each : limit.after ≡ Some (length ps) = all ∙ ap Some (sym shown.counted) in (
         ps,
@@ -158,13 +164,14 @@ module _ {R W : Type 0} (contents : W → Option (List ℕ)) (failures : W → F
         shown.wrote,
         shown.uncounted,
         inl (is_given limit.after (length ps) each, standing_short old (length ps) new (subst (λ c. Standing old c new) (sym shown.counted) shown.standing)),
+        found_is count old new now out out' shown found is,
       )
 
   -- or the next message is late
-  pub shown_early : (old mid new : Reading R) (count : ℕ) (now then : Chosen) (out on out' : W) → Shown old count mid now out on → IsBefore limit count
+  pub shown_early : (old mid new : Reading R) (count : ℕ) (now then : Chosen) (out on out' : W) (found : Bool) → Shown old count mid now out on → found ≡ are_found then.stocks → IsBefore limit count
       → ShowsNext contents failures form limit count (bytes_left remaining mid) (bytes_left remaining new) now on (Ok false) then out'
-      → failed_reads new.reader ≡ failed_reads mid.reader → LeavesReaderFirst mid 1 None new → ShowsPart contents failures remaining failed_reads limit form chosen old new out out'
-  shown_early old mid new count now then out on out' shown before (unwritten, (p, off, late)) same leaves =
+      → failed_reads new.reader ≡ failed_reads mid.reader → LeavesReaderFirst mid 1 None new → ShowsAll contents failures remaining failed_reads limit form chosen found old new out out'
+  shown_early old mid new count now then out on out' found shown is before (unwritten, (p, off, late), unpassed) same leaves =
       let ps = shown.payloads in (
         ps,
         bytes_left remaining mid,
@@ -176,63 +183,68 @@ module _ {R W : Type 0} (contents : W → Option (List ℕ)) (failures : W → F
           late_given limit.until (message_of p) late.1,
           standing_short old (length ps + 1) new (standing_on old mid new (length ps) (subst (λ c. Standing old c mid) (sym shown.counted) shown.standing) leaves),
         )),
+        found_is count old mid now out on shown found (is ∙ ap (λ c. are_found (Chosen.stocks c)) unpassed),
       )
+
+  -- the lines of the first messages were written, and then this stop came; whether all stocks were found in these messages is this
+  abbrev Stopped : Bool → ℕ → Stop → Reading R → Reading R → W → W → Type 0
+  Stopped found count why old new out out' =
+      (until : ShowsUntil contents failures remaining failed_reads limit form chosen count why old new out out') × (found ≡ are_found_in chosen (map message_of until.1))
 
   -- the file ended, or has fewer messages than are wanted
-  at_end : (wanted : Option ℕ) → limit.after ≡ wanted → (old new : Reading R) (count : ℕ) (out out' : W) → ShowsUntil contents failures remaining failed_reads limit form chosen count stop.End old new out out'
-      → Shows contents failures remaining failed_reads limit form chosen old new out (finish_end wanted Only count) out'
-  at_end None is old new count out out' (before, ps, mid, reads, counted, withholds, wrote, counts, leaves) = (
-    refl,
-    (
-      ps,
-      mid,
-      reads,
-      inr (inr (is, withholds.1)),
-      wrote,
-      counts,
-      inr (inr (is, subst (λ c. LeavesReaderFirst old c (Some stop.End) new) (sym counted) leaves)),
-    ),
+  at_end : (wanted : Option ℕ) → limit.after ≡ wanted → (old new : Reading R) (count : ℕ) (out out' : W) (found : Bool) → Stopped found count stop.End old new out out'
+      → ShowsPart contents failures remaining failed_reads limit form chosen old new out (finish_end wanted found Only count) out'
+  at_end None is old new count out out' found ((before, ps, mid, reads, counted, withholds, wrote, counts, leaves), all) = (
+    ps,
+    mid,
+    reads,
+    inr (inr (is, withholds.1)),
+    wrote,
+    counts,
+    inr (inr (is, subst (λ c. LeavesReaderFirst old c (Some stop.End) new) (sym counted) leaves)),
+    all,
   )
-  at_end (Some most) is old new count out out' until = (refl, (is_given limit.after most is, until.0), until)
+  at_end (Some most) is old new count out out' found (until, all) = (refl, (is_given limit.after most is, until.0), until)
 
   -- a stop that is a fault
-  refused : (old new : Reading R) (count : ℕ) (out out' : W) (file : Source) (end : ReplayEnd) → file ≡ Only → end.count ≡ count → end.stop ≢ stop.End
-      → ShowsUntil contents failures remaining failed_reads limit form chosen count end.stop old new out out'
-      → Shows contents failures remaining failed_reads limit form chosen old new out (Err (tool.Stopped file end)) out'
-  refused old new count out out' file end only counted fault until =
+  refused : (old new : Reading R) (count : ℕ) (out out' : W) (found : Bool) (file : Source) (end : ReplayEnd) → file ≡ Only → end.count ≡ count → end.stop ≢ stop.End
+      → Stopped found count end.stop old new out out' → ShowsPart contents failures remaining failed_reads limit form chosen old new out (Err (tool.Stopped file end)) out'
+  refused old new count out out' found file end only counted fault (until, all) =
       (only, fault, subst (λ c. ShowsUntil contents failures remaining failed_reads limit form chosen c end.stop old new out out') (sym counted) until)
 
-  stops : (old new : Reading R) (count : ℕ) (out out' : W) (file : Source) (end : ReplayEnd) (why : Stop) → end.stop ≡ why → file ≡ Only → end.count ≡ count
-      → ShowsUntil contents failures remaining failed_reads limit form chosen count end.stop old new out out'
-      → Shows contents failures remaining failed_reads limit form chosen old new out (finish_at why limit.after file end.count (tool.Stopped file end)) out'
-  stops old new count out out' file end stop.End is only counted until =
-      subst (λ f. Shows contents failures remaining failed_reads limit form chosen old new out (finish_end limit.after f end.count) out') (sym only)
-      (at_end limit.after refl old new end.count out out'
-      (subst (λ c. ShowsUntil contents failures remaining failed_reads limit form chosen c stop.End old new out out') (sym counted)
-      (subst (λ w. ShowsUntil contents failures remaining failed_reads limit form chosen count w old new out out') is until)))
-  stops old new count out out' file end (stop.Frame f) is only counted until = refused old new count out out' file end only counted (λ e. absurd (cc)) until
-  stops old new count out out' file end (stop.Codec f) is only counted until = refused old new count out out' file end only counted (λ e. absurd (cc)) until
-  stops old new count out out' file end (stop.Rule f) is only counted until = refused old new count out out' file end only counted (λ e. absurd (cc)) until
-  stops old new count out out' file end stop.TooManyMessages is only counted until = refused old new count out out' file end only counted (λ e. absurd (cc)) until
+  stops : (old new : Reading R) (count : ℕ) (out out' : W) (found : Bool) (file : Source) (end : ReplayEnd) (why : Stop) → end.stop ≡ why → file ≡ Only → end.count ≡ count
+      → Stopped found count end.stop old new out out'
+      → ShowsPart contents failures remaining failed_reads limit form chosen old new out (finish_at why limit.after found file end.count (tool.Stopped file end)) out'
+  stops old new count out out' found file end stop.End is only counted stopped =
+      subst (λ f. ShowsPart contents failures remaining failed_reads limit form chosen old new out (finish_end limit.after found f end.count) out') (sym only)
+      (at_end limit.after refl old new end.count out out' found
+      (subst (λ c. Stopped found c stop.End old new out out') (sym counted) (subst (λ w. Stopped found count w old new out out') is stopped)))
+  stops old new count out out' found file end (stop.Frame f) is only counted stopped = refused old new count out out' found file end only counted (λ e. absurd (cc)) stopped
+  stops old new count out out' found file end (stop.Codec f) is only counted stopped = refused old new count out out' found file end only counted (λ e. absurd (cc)) stopped
+  stops old new count out out' found file end (stop.Rule f) is only counted stopped = refused old new count out out' found file end only counted (λ e. absurd (cc)) stopped
+  stops old new count out out' found file end stop.TooManyMessages is only counted stopped = refused old new count out out' found file end only counted (λ e. absurd (cc)) stopped
 
   -- and there it ends
-  pub shown_ends : (old mid new : Reading R) (count : ℕ) (now then : Chosen) (out on out' : W) (fault : ToolFault) → Shown old count mid now out on → IsBefore limit count
+  pub shown_ends : (old mid new : Reading R) (count : ℕ) (now then : Chosen) (out on out' : W) (found : Bool) (fault : ToolFault) → Shown old count mid now out on → found ≡ are_found then.stocks → IsBefore limit count
       → ShowsNext contents failures form limit count (bytes_left remaining mid) (bytes_left remaining new) now on (Err fault) then out'
       → CountsRead {X = Bool} (Err fault) (failed_reads mid.reader) (failed_reads new.reader) → LeavesNext (Err fault) mid new
-      → Shows contents failures remaining failed_reads limit form chosen old new out (finish limit.after fault) out'
-  shown_ends old mid new count now then out on out' (tool.Stopped file end) shown before (only, counted, withholds, same) counts leaves =
-      stops old new count out out' file end end.stop refl only counted (
-        before,
-        shown.payloads,
-        bytes_left remaining mid,
-        shown.reads,
-        shown.counted,
-        withholds,
-        subst (Wrote contents failures (lines_from form chosen shown.payloads) out) (sym same) shown.wrote,
-        subst (λ f. Counts end.stop f (failed_reads new.reader)) shown.uncounted counts,
-        standing_stops old mid new count end.stop shown.standing leaves,
+      → ShowsPart contents failures remaining failed_reads limit form chosen old new out (finish limit.after found fault) out'
+  shown_ends old mid new count now then out on out' found (tool.Stopped file end) shown is before (only, counted, withholds, same, unpassed) counts leaves =
+      stops old new count out out' found file end end.stop refl only counted (
+        (
+          before,
+          shown.payloads,
+          bytes_left remaining mid,
+          shown.reads,
+          shown.counted,
+          withholds,
+          subst (Wrote contents failures (lines_from form chosen shown.payloads) out) (sym same) shown.wrote,
+          subst (λ f. Counts end.stop f (failed_reads new.reader)) shown.uncounted counts,
+          standing_stops old mid new count end.stop shown.standing leaves,
+        ),
+        found_is count old mid now out on shown found (is ∙ ap (λ c. are_found (Chosen.stocks c)) unpassed),
       )
-  shown_ends old mid new count now then out on out' (tool.Write error) shown before (p, next, (sent, within, part, unfailed)) same leaves =
+  shown_ends old mid new count now then out on out' found (tool.Write error) shown found_all before (p, next, (sent, within, part, unfailed)) same leaves =
       let ps = shown.payloads in
       let number : count + 1 ≡ length ps + 1 = ap (λ c. c + 1) (sym shown.counted) in
       let is : chosen_line form now (count + 1) (message_of p) ≡ line_after form chosen ps p = line_is ps p count now shown.counted shown.passed in (
@@ -250,15 +262,15 @@ module _ {R W : Type 0} (contents : W → Option (List ℕ)) (failures : W → F
         same ∙ shown.uncounted,
         subst (λ n. LeavesReaderFirst old n None new) number (standing_short old (count + 1) new (standing_on old mid new count shown.standing leaves)),
       )
-  shown_ends old mid new count now then out on out' (tool.Short at k) shown before (p, next, none) counts leaves = absurd none
-  shown_ends old mid new count now then out on out' tool.OutOfMemory shown before (p, next, none) counts leaves = absurd none
-  shown_ends old mid new count now then out on out' (tool.Open file error) shown before (p, next, none) counts leaves = absurd none
-  shown_ends old mid new count now then out on out' tool.BadUser shown before (p, next, none) counts leaves = absurd none
-  shown_ends old mid new count now then out on out' tool.BadPassword shown before (p, next, none) counts leaves = absurd none
-  shown_ends old mid new count now then out on out' tool.BadLocates shown before (p, next, none) counts leaves = absurd none
-  shown_ends old mid new count now then out on out' tool.TooMany shown before (p, next, none) counts leaves = absurd none
-  shown_ends old mid new count now then out on out' (tool.Soup f) shown before (p, next, none) counts leaves = absurd none
-  shown_ends old mid new count now then out on out' (tool.Socket error) shown before (p, next, none) counts leaves = absurd none
-  shown_ends old mid new count now then out on out' (tool.Snap file f) shown before (p, next, none) counts leaves = absurd none
-  shown_ends old mid new count now then out on out' tool.UnknownLocate shown before (p, next, none) counts leaves = absurd none
-  shown_ends old mid new count now then out on out' tool.UnknownStock shown before (p, next, none) counts leaves = absurd none
+  shown_ends old mid new count now then out on out' found (tool.Short at k) shown is before (p, next, none) counts leaves = absurd none
+  shown_ends old mid new count now then out on out' found tool.OutOfMemory shown is before (p, next, none) counts leaves = absurd none
+  shown_ends old mid new count now then out on out' found (tool.Open file error) shown is before (p, next, none) counts leaves = absurd none
+  shown_ends old mid new count now then out on out' found tool.BadUser shown is before (p, next, none) counts leaves = absurd none
+  shown_ends old mid new count now then out on out' found tool.BadPassword shown is before (p, next, none) counts leaves = absurd none
+  shown_ends old mid new count now then out on out' found tool.BadLocates shown is before (p, next, none) counts leaves = absurd none
+  shown_ends old mid new count now then out on out' found tool.TooMany shown is before (p, next, none) counts leaves = absurd none
+  shown_ends old mid new count now then out on out' found (tool.Soup f) shown is before (p, next, none) counts leaves = absurd none
+  shown_ends old mid new count now then out on out' found (tool.Socket error) shown is before (p, next, none) counts leaves = absurd none
+  shown_ends old mid new count now then out on out' found (tool.Snap file f) shown is before (p, next, none) counts leaves = absurd none
+  shown_ends old mid new count now then out on out' found tool.UnknownLocate shown is before (p, next, none) counts leaves = absurd none
+  shown_ends old mid new count now then out on out' found tool.UnknownStock shown is before (p, next, none) counts leaves = absurd none

@@ -12,20 +12,28 @@ use Rattle.itch_market.specs.Wanted.{Wanted, has}
 use Rattle.itch_commands.specs.declared.filters.Filters.{Filters}
 use Rattle.itch_commands.specs.declared.form.ShowForm.{ShowForm}
 use Rattle.itch_commands.specs.declared.form.ShowForm.TheVariants as form
+use Rattle.itch_commands.specs.Sought.{Sought, sought, sought_after, is_sought, are_found}
+use Rattle.itch_commands.specs.Stocks.{names_of}
 
--- What chooses a message, where it is given: the locates, the types, and the reference number that an order has by now.
+-- What chooses a message, where it is given: the locates, the stocks, the types, and the reference number that an order has by now.
 pub record Chosen : Type 0 where
   pub only : Option Wanted
+  pub stocks : Option Sought
   pub types : Option (List ℕ)
   pub reference : Option ℕ
 
 -- every message
 abbrev pub everything : Chosen
-everything = record { only = None; types = None; reference = None }
+everything = record { only = None; stocks = None; types = None; reference = None }
 
 -- what the words ask for, with the set that their list of locates is
 abbrev pub chosen_by : Option Wanted → Filters → Chosen
-chosen_by set filters = record { only = set; types = option_map (λ types. types.now) filters.types; reference = filters.reference }
+chosen_by set filters = record {
+  only = set;
+  stocks = option_map (λ names. sought (names_of names.now)) filters.stocks;
+  types = option_map (λ types. types.now) filters.types;
+  reference = filters.reference;
+}
 
 -- a header has a locate of a set; none has one
 abbrev pub is_at : Wanted → Option Header → Bool
@@ -54,7 +62,8 @@ is_about (Some reference) message = is_named reference (reference_of message)
 
 -- a message is shown if all that is given chooses it
 abbrev pub is_chosen : Chosen → Message → Bool
-is_chosen chosen message = is_located chosen.only message && is_typed chosen.types message && is_about chosen.reference message
+is_chosen chosen message =
+    is_located chosen.only message && is_sought chosen.stocks message && is_typed chosen.types message && is_about chosen.reference message
 
 -- the reference number of an order after a message: a replace gives its original order another one
 abbrev pub renamed : Message → ℕ → ℕ
@@ -63,12 +72,21 @@ renamed message reference = reference
 
 -- what chooses the messages after this one
 abbrev pub chosen_after : Chosen → Message → Chosen
-chosen_after chosen message = record { only = chosen.only; types = chosen.types; reference = option_map (renamed message) chosen.reference }
+chosen_after chosen message = record {
+  only = chosen.only;
+  stocks = option_map (sought_after message) chosen.stocks;
+  types = chosen.types;
+  reference = option_map (renamed message) chosen.reference;
+}
 
 -- what chooses the messages after these
 unfoldable pub chosen_past : Chosen → List Message → Chosen
 chosen_past chosen [] = chosen
 chosen_past chosen (message ∷ messages) = chosen_past (chosen_after chosen message) messages
+
+-- each of the stocks that are looked for has come after these messages
+abbrev pub are_found_in : Chosen → List Message → Bool
+are_found_in chosen messages = are_found (Chosen.stocks (chosen_past chosen messages))
 
 -- the line of a message in a form
 abbrev pub line_in : ShowForm → ℕ → Message → List ℕ

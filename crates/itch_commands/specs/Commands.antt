@@ -14,7 +14,7 @@ use Rattle.itch_commands.specs.Forms.{count_line_of, verdict_line}
 use Rattle.itch_commands.specs.Joining.{Start, ReadsStart, ReadsFeed, HasRoom, joined, joined_market, joined_next}
 use Rattle.itch_commands.specs.Outputs.{Outputs, directory_after, snapshot_in, stocks_snapshot, closed_bytes}
 use Rattle.itch_commands.specs.Files.{ReadsFile}
-use Rattle.itch_commands.specs.Showing.{closed_lines}
+use Rattle.itch_commands.specs.Showing.{IfFound, closed_lines, closed_found}
 use Rattle.itch_commands.specs.Stocks.{ReadsStocks, has_one_of, only_stocks}
 use Rattle.itch_commands.specs.Readings.{From, ReadsDay, ReadsSnap, Then}
 use Rattle.itch_commands.specs.declared.form.BookForm.{BookForm}
@@ -57,9 +57,11 @@ module _ {R W : Type 0} (remaining : R → Option (List ℕ)) (failed_reads : R 
       Outputs contents failed_writes (from (λ old new. ReadsStocks (λ (done : Content × ℕ). Content.securities done.0) names (ReadsFile remaining failed_reads Only kind old new)))
       (λ done. books_of form depth (has_one_of (Content.securities done.0) names) done.0) (λ _. true)
 
-  -- `show` of a snapshot file: the lines of its snapshot in canonical form, of what is chosen
+  -- `show` of a snapshot file: the lines of its snapshot in canonical form, of what is chosen; and each of the stocks that are looked
+  -- for was found
   abbrev pub ShowsSnapshot : ShowForm → Chosen → From R (Content × ℕ) → W → Result Bool ToolFault → W → Type 0
-  ShowsSnapshot form chosen from = Outputs contents failed_writes (from (ReadsSnap remaining failed_reads Only)) (closed_lines form chosen) (λ _. true)
+  ShowsSnapshot form chosen from out result out' =
+      IfFound (λ found. Outputs contents failed_writes (from (ReadsSnap remaining failed_reads Only)) (closed_lines form chosen) (closed_found chosen) out found out') result
 
   -- `canon`: a snapshot in canonical form
   abbrev pub WritesCanon : From R (Content × ℕ) → W → Result Bool ToolFault → W → Type 0

@@ -7,6 +7,7 @@ pub mod Canons
 pub mod Causes
 pub mod Choices
 pub mod Showing
+pub mod Sought
 pub mod Comparing
 pub mod FirstDifferences
 pub mod Forms

@@ -1,9 +1,11 @@
 -- What the program is asked to do over files, and what it does for each request over one file.
-use Rattle.std.specs.Prelude.{ℕ, Bool, true, false, List, Option, Some, None, option_map, Result, ⊤}
+use Rattle.std.specs.Prelude.{◌≡◌, ◌⊎◌, ℕ, Bool, true, false, List, Option, Some, None, IsSome, option_map, Result, Err, ⊤}
 use Rattle.itch_frame.specs.Reading.{Reading}
 use Rattle.itch_frame.specs.declared.tally.Failures.{Failures}
 use Rattle.itch_market.specs.Wanted.{Wanted}
 use Rattle.itch_commands.specs.declared.fault.ToolFault.{ToolFault}
+use Rattle.itch_commands.specs.declared.fault.ToolFault.TheVariants.{OutOfMemory}
+use Rattle.itch_commands.specs.declared.filters.Filters.{Filters}
 use Rattle.itch_commands.specs.declared.fault.Source.{Source}
 use Rattle.itch_commands.specs.declared.fault.Source.TheVariants.{Second, Snapshot}
 use Rattle.itch_commands.specs.declared.request.Request.{Request}
@@ -76,15 +78,20 @@ module _ {R W : Type 0} (remaining : R → Option (List ℕ)) (failed_reads : R 
   PerformsBook form selection set depth kind old new = ListsBooks remaining failed_reads contents failed_writes form set depth kind (FromBlocks old new)
 
   -- what `show` of a file of a kind reads, writes and returns
-  abbrev pub ShowsFile : FileKind → ShowForm → Chosen → Reading R → Reading R → W → Result Bool ToolFault → W → Type 0
-  ShowsFile (kind.Day limit) form chosen old new = Shows contents failed_writes remaining failed_reads limit form chosen old new
-  ShowsFile kind.Snapshot form chosen old new = ShowsSnapshot remaining failed_reads contents failed_writes form chosen (FromBlocks old new)
+  abbrev pub ShowsKind : FileKind → ShowForm → Chosen → Reading R → Reading R → W → Result Bool ToolFault → W → Type 0
+  ShowsKind (kind.Day limit) form chosen old new = Shows contents failed_writes remaining failed_reads limit form chosen old new
+  ShowsKind kind.Snapshot form chosen old new = ShowsSnapshot remaining failed_reads contents failed_writes form chosen (FromBlocks old new)
+
+  -- the same of the messages that the filters choose, unless memory for the names of stocks is refused, before anything is read
+  abbrev pub ShowsFile : FileKind → ShowForm → Option Wanted → Filters → Reading R → Reading R → W → Result Bool ToolFault → W → Type 0
+  ShowsFile kind form set filters old new out result out' =
+      (IsSome filters.stocks × (result ≡ Err OutOfMemory) × (new ≡ old) × (out' ≡ out)) ⊎ ShowsKind kind form (chosen_by set filters) old new out result out'
 
   -- what a request over the blocks of one file reads, writes and returns, with the set of the locates that are wanted, if not all are
   abbrev pub Performs : Request → Option Wanted → Reading R → Reading R → W → Result Bool ToolFault → W → Type 0
   Performs (Snap file limit selection) set old new = PerformsSnap limit selection set old new
   Performs (Check file limit form) set old new = Checks remaining failed_reads contents failed_writes form limit (FromBlocks old new)
-  Performs (Show file kind form filters) set old new = ShowsFile kind form (chosen_by set filters) old new
+  Performs (Show file kind form filters) set old new = ShowsFile kind form set filters old new
   Performs (Canon file false) set old new = WritesCanon remaining failed_reads contents failed_writes (FromBlocks old new)
   Performs (Canon file true) set old new = ChecksCanon remaining failed_reads contents failed_writes (FromBlocks old new)
   Performs (Book selection depth file kind form) set old new = PerformsBook form selection set depth kind old new

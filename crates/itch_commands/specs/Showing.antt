@@ -14,7 +14,7 @@ use Rattle.itch_market.specs.Replays.{TakesOff, Halts, Counts, LeavesReaderFirst
 use Rattle.itch_market.specs.declared.stop.Stop.{Stop}
 use Rattle.itch_market.specs.declared.stop.Stop.TheVariants as stop
 use Rattle.itch_snapshot.specs.Snapshot.{snap}
-use Rattle.itch_commands.specs.Choices.{Chosen, chosen_after, chosen_past, chosen_line, chosen_lines}
+use Rattle.itch_commands.specs.Choices.{Chosen, chosen_after, chosen_past, chosen_line, chosen_lines, are_found_in}
 use Rattle.itch_commands.specs.Limits.{IsEarly, IsLate, IsBefore}
 use Rattle.itch_commands.specs.Outputs.{Wrote, WritesText}
 use Rattle.itch_commands.specs.Readings.{LateNext, IsEnough, IsShort, LeavesDay}
@@ -36,6 +36,10 @@ line_after form chosen payloads payload = chosen_line form (chosen_past chosen (
 -- the lines of the snapshot of a market, and of its End of Snapshot with this number, of what is chosen
 abbrev pub closed_lines : ShowForm → Chosen → Content × ℕ → List ℕ
 closed_lines form chosen done = chosen_lines form chosen 1 (snap done.0 ++ is.End done.1 ∷ [])
+
+-- whether all stocks were found in these
+abbrev pub closed_found : Chosen → Content × ℕ → Bool
+closed_found chosen done = are_found_in chosen (snap done.0 ++ is.End done.1 ∷ [])
 
 -- the payload spells a message
 abbrev pub IsClean : List ℕ → Type 0
@@ -70,19 +74,25 @@ abbrev pub IsFaultOf : List ℕ → Stop → Type 0
 IsFaultOf payload (stop.Codec found) = fault payload ≡ Some found
 IsFaultOf payload why = ⊥
 
--- what `show` returns at the end of the file, which is no fault where no number is wanted
-abbrev pub finish_end : Option ℕ → Source → ℕ → Result Bool ToolFault
-finish_end None file count = Ok true
-finish_end (Some most) file count = Err (tool.Short file count)
+-- what a part that is shown returns at the end of the file, which is no fault where no number is wanted: whether all stocks were found
+abbrev pub finish_end : Option ℕ → Bool → Source → ℕ → Result Bool ToolFault
+finish_end None found file count = Ok found
+finish_end (Some most) found file count = Err (tool.Short file count)
 
--- what `show` returns at a stop
-abbrev pub finish_at : Stop → Option ℕ → Source → ℕ → ToolFault → Result Bool ToolFault
-finish_at stop.End wanted file count fault = finish_end wanted file count
-finish_at why wanted file count fault = Err fault
+-- what it returns at a stop
+abbrev pub finish_at : Stop → Option ℕ → Bool → Source → ℕ → ToolFault → Result Bool ToolFault
+finish_at stop.End wanted found file count fault = finish_end wanted found file count
+finish_at why wanted found file count fault = Err fault
 
-abbrev pub finish : Option ℕ → ToolFault → Result Bool ToolFault
-finish wanted (tool.Stopped file end) = finish_at end.stop wanted file end.count (tool.Stopped file end)
-finish wanted fault = Err fault
+abbrev pub finish : Option ℕ → Bool → ToolFault → Result Bool ToolFault
+finish wanted found (tool.Stopped file end) = finish_at end.stop wanted found file end.count (tool.Stopped file end)
+finish wanted found fault = Err fault
+
+-- What is returned where whether all stocks were found is known: one that was not is a fault.
+abbrev pub IfFound : (Result Bool ToolFault → Type 0) → Result Bool ToolFault → Type 0
+IfFound shows (Ok answer) = (answer ≡ true) × shows (Ok true)
+IfFound shows (Err tool.UnknownStock) = shows (Ok false)
+IfFound shows (Err fault) = shows (Err fault)
 
 -- how the next block leaves the reader of blocks
 abbrev pub LeavesNext : {R : Type 0} → Result Bool ToolFault → Reading R → Reading R → Type 0
@@ -104,9 +114,9 @@ module _ {W : Type 0} (contents : W → Option (List ℕ)) (failures : W → Fai
   abbrev pub ShowsPayload : ShowForm → Limit → ℕ → List ℕ → Chosen → W → Result Bool ToolFault → Chosen → W → Type 0
   ShowsPayload form limit count payload chosen out (Ok true) chosen' out' =
       IsClean payload × IsEarly limit payload × WritesLine form chosen count payload out (Ok tt) out' × (chosen' ≡ chosen_after chosen (message_of payload))
-  ShowsPayload form limit count payload chosen out (Ok false) chosen' out' = (out' ≡ out) × IsLate limit payload
+  ShowsPayload form limit count payload chosen out (Ok false) chosen' out' = (out' ≡ out) × IsLate limit payload × (chosen' ≡ chosen)
   ShowsPayload form limit count payload chosen out (Err (tool.Stopped file end)) chosen' out' =
-      (file ≡ Only) × (end.count ≡ count) × IsFaultOf payload end.stop × (out' ≡ out)
+      (file ≡ Only) × (end.count ≡ count) × IsFaultOf payload end.stop × (out' ≡ out) × (chosen' ≡ chosen)
   ShowsPayload form limit count payload chosen out (Err fault) chosen' out' =
       IsClean payload × IsEarly limit payload × WritesLine form chosen count payload out (Err fault) out'
 
@@ -114,19 +124,20 @@ module _ {W : Type 0} (contents : W → Option (List ℕ)) (failures : W → Fai
   abbrev pub ShowsNext : ShowForm → Limit → ℕ → Option (List ℕ) → Option (List ℕ) → Chosen → W → Result Bool ToolFault → Chosen → W → Type 0
   ShowsNext form limit count old new chosen out (Ok true) chosen' out' =
       (payload : List ℕ) × ReadsNext limit count old new payload × WritesLine form chosen count payload out (Ok tt) out' × (chosen' ≡ chosen_after chosen (message_of payload))
-  ShowsNext form limit count old new chosen out (Ok false) chosen' out' = (out' ≡ out) × LateNext limit old new
+  ShowsNext form limit count old new chosen out (Ok false) chosen' out' = (out' ≡ out) × LateNext limit old new × (chosen' ≡ chosen)
   ShowsNext form limit count old new chosen out (Err (tool.Stopped file end)) chosen' out' =
-      (file ≡ Only) × (end.count ≡ count) × Withholds count old new end.stop × (out' ≡ out)
+      (file ≡ Only) × (end.count ≡ count) × Withholds count old new end.stop × (out' ≡ out) × (chosen' ≡ chosen)
   ShowsNext form limit count old new chosen out (Err fault) chosen' out' =
       (payload : List ℕ) × ReadsNext limit count old new payload × WritesLine form chosen count payload out (Err fault) out'
 
   module _ {R : Type 0} (remaining : R → Option (List ℕ)) (failed_reads : R → Failures) (limit : Limit) (form : ShowForm) (chosen : Chosen) where
-    -- the lines of the messages that are wanted and chosen are written
-    abbrev pub ShowsPart : Reading R → Reading R → W → W → Type 0
-    ShowsPart old new out out' =
+    -- the lines of the messages that are wanted and chosen are written, and whether all stocks were found in these messages is this
+    abbrev pub ShowsAll : Bool → Reading R → Reading R → W → W → Type 0
+    ShowsAll found old new out out' =
         (payloads : List (List ℕ)) × (mid : Option (List ℕ)) × ReadsOff limit (bytes_left remaining old) mid payloads
         × IsEnough limit (length payloads) mid (bytes_left remaining new) × Wrote contents failures (lines_from form chosen payloads) out out'
         × (failed_reads new.reader ≡ failed_reads old.reader) × LeavesDay (Ok (length payloads)) limit old new
+        × (found ≡ are_found_in chosen (map message_of payloads))
 
     -- the lines of the first messages are written, of those that are chosen, and then this stop comes: fewer come than are wanted
     abbrev pub ShowsUntil : ℕ → Stop → Reading R → Reading R → W → W → Type 0
@@ -144,9 +155,13 @@ module _ {W : Type 0} (contents : W → Option (List ℕ)) (failures : W → Fai
 
     -- The lines of all messages that are wanted and chosen are written; or those before the block that is refused, or before the end of a file
     -- that has fewer; or a write failed.
+    abbrev pub ShowsPart : Reading R → Reading R → W → Result Bool ToolFault → W → Type 0
+    ShowsPart old new out (Ok found) out' = ShowsAll found old new out out'
+    ShowsPart old new out (Err (tool.Stopped file end)) out' = (file ≡ Only) × (end.stop ≢ stop.End) × ShowsUntil end.count end.stop old new out out'
+    ShowsPart old new out (Err (tool.Short file count)) out' = (file ≡ Only) × IsShort limit count × ShowsUntil count stop.End old new out out'
+    ShowsPart old new out (Err (tool.Write error)) out' = ShowsFirst error old new out out'
+    ShowsPart old new out (Err fault) out' = ⊥
+
+    -- the same, and each of the stocks that are looked for was found
     abbrev pub Shows : Reading R → Reading R → W → Result Bool ToolFault → W → Type 0
-    Shows old new out (Ok answer) out' = (answer ≡ true) × ShowsPart old new out out'
-    Shows old new out (Err (tool.Stopped file end)) out' = (file ≡ Only) × (end.stop ≢ stop.End) × ShowsUntil end.count end.stop old new out out'
-    Shows old new out (Err (tool.Short file count)) out' = (file ≡ Only) × IsShort limit count × ShowsUntil count stop.End old new out out'
-    Shows old new out (Err (tool.Write error)) out' = ShowsFirst error old new out out'
-    Shows old new out (Err fault) out' = ⊥
+    Shows old new out result out' = IfFound (λ found. ShowsPart old new out found out') result

@@ -1,18 +1,24 @@
 //! Which messages are shown.
-ghost use Rattle.std.specs.Prelude.{◌≡◌, option_map};
+ghost use Rattle.std.specs.Prelude.{◌≡◌, IsSome, MatchResult, option_map};
 ghost use Rattle.std.specs.Option.{option_copied};
 ghost use Rattle.itch_commands.specs.Choices.{everything, chosen_by, is_located, is_typed, is_about, is_chosen, renamed, chosen_after};
+ghost use Rattle.itch_commands.specs.Sought.{are_found, is_sought, sought};
+ghost use Rattle.itch_commands.specs.Stocks.{names_of};
 
+use crate::fault::ToolFault;
 use crate::filters::Filters;
+use crate::sought::SoughtStocks;
 use itch_codec::Message;
 use itch_market::LocateSet;
 use std::alloc::Allocator;
 use std::marker::Model;
 
-/// Which messages are shown: those that all that is given chooses. An order is followed through its replacements.
+/// Which messages are shown: those that all that is given chooses. An order is followed through its replacements, and stocks are
+/// looked up in the Stock Directory messages up to the message.
 #[derive(Drop)]
 pub struct Choice<'a, A: Allocator> {
     only: Option<&'a LocateSet<A>>,
+    stocks: Option<SoughtStocks<'a, A>>,
     types: Option<&'a str>,
     // What the reference number of the order is by now.
     reference: Option<u64>,
@@ -25,7 +31,7 @@ impl<'a, A: Allocator> Model for Choice<'a, A> {
 
     ghost Value = { Chosen };
 
-    ghost view = { λ c. record { only = option_copied c.only; types = option_map (λ types. types.now) c.types; reference = c.reference } };
+    ghost view = { λ c. record { only = option_copied c.only; stocks = c.stocks; types = option_map (λ types. types.now) c.types; reference = c.reference } };
 }
 
 impl<'a, A: Allocator> Choice<'a, A> {
@@ -35,20 +41,32 @@ impl<'a, A: Allocator> Choice<'a, A> {
     {
         Choice {
             only: None,
+            stocks: None,
             types: None,
             reference: None,
         }
     }
 
-    /// What the words ask for, with the set that their list of locates is.
-    pub fn new(only: Option<&'a LocateSet<A>>, filters: Filters<'a>) -> Self
-        ensures { result ≡ chosen_by (option_copied only.entry) filters.entry }
+    /// What the words ask for, with the set that their list of locates is. Only the names of stocks take memory.
+    ///
+    /// # Faults
+    ///
+    /// `OutOfMemory` if memory is refused.
+    pub fn new(
+        alloc: A,
+        only: Option<&'a LocateSet<A>>,
+        filters: Filters<'a>,
+    ) -> Result<Self, ToolFault>
+    where
+        A: Copy,
+        ensures { MatchResult result (λ choice. choice ≡ chosen_by (option_copied only.entry) filters.entry) (λ fault. (fault ≡ ToolFault.OutOfMemory) × IsSome filters.entry.stocks) }
     {
-        Choice {
+        Ok(Choice {
             only,
+            stocks: look_for(alloc, filters.stocks)?,
             types: filters.types,
             reference: filters.reference,
-        }
+        })
     }
 
     /// Whether a message is shown.
@@ -56,17 +74,44 @@ impl<'a, A: Allocator> Choice<'a, A> {
         ensures { result ≡ is_chosen self.now message.now }
     {
         is_located(self.only, message)
+            && is_sought(self.stocks.as_ref(), message)
             && is_typed(self.types, message)
             && is_about(self.reference, message)
     }
 
-    /// Passes a message, after which the order that is followed may have another reference number.
+    /// Passes a message, after which the order that is followed may have another reference number, and a locate another stock.
     pub fn follow(&mut self, message: &Message<'_>)
         ensures { self.new ≡ chosen_after self.old message.now }
     {
+        if let Some(stocks) = &mut self.stocks {
+            stocks.pass(message);
+        }
         if let Some(reference) = self.reference {
             self.reference = Some(renamed(message, reference));
         }
+    }
+
+    /// Whether each of the stocks that are looked for has come in a Stock Directory message.
+    pub fn has_found_all(&self) -> bool
+        ensures { result ≡ are_found self.now.stocks }
+    {
+        match &self.stocks {
+            Some(stocks) => stocks.are_found(),
+            None => true,
+        }
+    }
+}
+
+// The stocks of these names, before any message.
+fn look_for<'a, A: Allocator + Copy>(
+    alloc: A,
+    names: Option<&'a str>,
+) -> Result<Option<SoughtStocks<'a, A>>, ToolFault>
+    ensures { MatchResult result (λ stocks. stocks ≡ option_map (λ names. sought (names_of names.now)) names.entry) (λ fault. (fault ≡ ToolFault.OutOfMemory) × IsSome names.entry) }
+{
+    match names {
+        Some(names) => Ok(Some(SoughtStocks::new(alloc, names)?)),
+        None => Ok(None),
     }
 }
 
@@ -80,6 +125,16 @@ fn is_located<A: Allocator>(only: Option<&LocateSet<A>>, message: &Message<'_>) 
             Some(header) => set.contains(header.locate),
             None => false,
         },
+    }
+}
+
+// Whether a message is about one of the stocks that are looked for, if any are.
+fn is_sought<A: Allocator>(stocks: Option<&SoughtStocks<'_, A>>, message: &Message<'_>) -> bool
+    ensures { result ≡ is_sought (option_copied stocks.entry) message.now }
+{
+    match stocks {
+        Some(stocks) => stocks.is_about_one(message),
+        None => true,
     }
 }
 

@@ -6,6 +6,8 @@ ghost use Rattle.std.specs.Prelude.{◌≡◌, None};
 pub struct Filters<'a> {
     /// A list of locates: messages whose header has one of them.
     pub only: Option<&'a str>,
+    /// Names of stocks, separated by commas: messages whose locate has one of them, by the Stock Directory messages so far.
+    pub stocks: Option<&'a str>,
     /// Letters of message types: messages of these types.
     pub types: Option<&'a str>,
     /// The reference number of an order: messages about it.
@@ -15,10 +17,11 @@ pub struct Filters<'a> {
 impl Filters<'_> {
     /// Nothing is given, and every message is shown.
     pub fn none() -> Self
-        ensures { result ≡ record { only = None; types = None; reference = None } }
+        ensures { result ≡ record { only = None; stocks = None; types = None; reference = None } }
     {
         Filters {
             only: None,
+            stocks: None,
             types: None,
             reference: None,
         }

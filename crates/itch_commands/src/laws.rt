@@ -1,8 +1,8 @@
 //! What is read with a set of locates, as `join` reads it, and what is shown without filters and with them.
 //!
 //! Each function here does nothing: its clauses are the laws.
-ghost use Rattle.std.specs.Prelude.{◌≡◌, ℕ, Bool, List, None, map};
-ghost use Rattle.std.specs.List.{AllByRecursion};
+ghost use Rattle.std.specs.Prelude.{◌≡◌, ◌<◌, ℕ, Bool, List, None, Some, map};
+ghost use Rattle.std.specs.List.{AllByRecursion, list_all, list_any};
 ghost use Rattle.itch_codec.specs.Fields.{AreBytes};
 ghost use Rattle.itch_codec.specs.Messages.{message_of};
 ghost use Rattle.itch_codec.specs.declared.message.Message.{Message};
@@ -15,8 +15,9 @@ ghost use Rattle.itch_market.specs.SameMarkets.{Same};
 ghost use Rattle.itch_snapshot.specs.TakenMessages.{closing_number};
 ghost use Rattle.itch_join.specs.Rules.{Rules, market_rules, rules_of, bad, run as run_by};
 ghost use Rattle.itch_commands.specs.AsRead.{as_read};
-ghost use Rattle.itch_commands.specs.Choices.{Chosen, everything, chosen_past, chosen_lines, lines_of};
+ghost use Rattle.itch_commands.specs.Choices.{Chosen, everything, chosen_past, are_found_in, chosen_lines, lines_of};
 ghost use Rattle.itch_commands.specs.FirstDifferences.{IsPlaceIn, IsSameIn};
+ghost use Rattle.itch_commands.specs.Sought.{sought, found_at, has_name, is_of_one, stock_past};
 ghost use Rattle.itch_commands.specs.Joining.{from_number, joined_market};
 ghost use Rattle.itch_commands.specs.declared.form.ShowForm.TheVariants.{Text};
 ghost use Rattle.itch_commands.specs.declared.limit.Limit.{Limit};
@@ -46,10 +47,20 @@ pub fn restricted_reading()
         → NoCause m (from_number number ps) → Same (joined_market (n, number) (map (as_read wanted) ps)) (cut wanted (joined_market (m, number) ps)) }
 {}
 
-/// Without filters each message is shown, as a line. Where no order is followed, what chooses the messages stays the same.
+/// Without filters each message is shown, as a line. Where no order is followed and no stock is looked for, what chooses the messages
+/// stays the same.
 pub fn shown_lines()
     ensures whole { (number : ℕ) → (messages : List Message) → chosen_lines Text everything number messages ≡ lines_of number messages }
-    ensures constant { (chosen : Chosen) → (messages : List Message) → Chosen.reference chosen ≡ None → chosen_past chosen messages ≡ chosen }
+    ensures constant { (chosen : Chosen) → (messages : List Message) → Chosen.reference chosen ≡ None → Chosen.stocks chosen ≡ None → chosen_past chosen messages ≡ chosen }
+{}
+
+/// Of stocks that are looked for by their names: after any messages, a locate has one of them exactly if its last Stock Directory
+/// message has one of the names; and all have come exactly if each name is in a Stock Directory message.
+pub fn sought_stocks()
+    ensures located { (chosen : Chosen) → (names : List (List ℕ)) → (messages : List Message) → (locate : ℕ) → Chosen.stocks chosen ≡ Some (sought names) → locate < 65536
+        → found_at (Chosen.stocks (chosen_past chosen messages)) locate ≡ is_of_one names (stock_past locate messages None) }
+    ensures known { (chosen : Chosen) → (names : List (List ℕ)) → (messages : List Message) → Chosen.stocks chosen ≡ Some (sought names)
+        → are_found_in chosen messages ≡ list_all (λ name. list_any (has_name name) messages) names }
 {}
 
 /// The markets of two day files, or of the same part of both, first differ after one number of messages, or never.

@@ -36,6 +36,7 @@ mod request;
 mod selection;
 pub mod show;
 pub mod snap;
+mod sought;
 mod stocks;
 mod writing;
 

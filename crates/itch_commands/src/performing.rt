@@ -1,6 +1,5 @@
 //! A request over one file, performed.
 ghost use Rattle.std.specs.Option.{option_copied};
-ghost use Rattle.itch_commands.specs.Choices.{chosen_by};
 ghost use Rattle.itch_commands.specs.Requests.{IsOverOne, Performs, PerformsBook, PerformsSnap, ShowsFile};
 
 use crate::book::{book_blocks, book_stocks};
@@ -106,9 +105,9 @@ fn show_file<R: CountedRead, B: Allocator, A: Allocator + Copy, W: CountedWrite>
     reader: &mut BlockReader<R, B>,
     out: &mut W,
 ) -> Result<bool, ToolFault>
-    ensures { ShowsFile R.remaining R.failures W.contents W.failures kind form (chosen_by (option_copied only.entry) filters.entry) reader.old reader.new out.old result out.new }
+    ensures { ShowsFile R.remaining R.failures W.contents W.failures kind form (option_copied only.entry) filters.entry reader.old reader.new out.old result out.new }
 {
-    let choice = Choice::new(only, filters);
+    let choice = Choice::new(alloc, only, filters)?;
     match kind {
         FileKind::Day(limit) => show_blocks(reader, limit, form, choice, out),
         FileKind::Snapshot => show_snapshot(alloc, reader, form, choice, out),

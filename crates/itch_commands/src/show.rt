@@ -1,14 +1,15 @@
 //! `show`: the messages of a file as lines of text.
-ghost use Rattle.std.specs.Prelude.{◌≡◌, ◌^◌, ◌<◌, None, Err};
+ghost use Rattle.std.specs.Prelude.{◌≡◌, ◌^◌, ◌<◌, Bool, None, Err};
 ghost use Rattle.itch_frame.specs.Reading.{bytes_left};
 ghost use Rattle.itch_commands.specs.Choices.{everything};
 ghost use Rattle.itch_commands.specs.Limits.{counted};
 ghost use Rattle.itch_commands.specs.Readings.{CountsRead, FromReader};
-ghost use Rattle.itch_commands.specs.Showing.{Shows, ShowsNext, ShowsPayload, LeavesNext, finish};
+ghost use Rattle.itch_commands.specs.Showing.{Shows, ShowsPart, ShowsNext, ShowsPayload, LeavesNext, finish};
 ghost use Rattle.itch_commands.specs.declared.fault.Source.TheVariants.{Only};
 ghost use Rattle.itch_commands.specs.declared.fault.ToolFault.TheVariants.{Stopped, OutOfMemory};
 ghost use Rattle.itch_commands.specs.declared.form.ShowForm.TheVariants.{Text};
 
+mod found;
 mod lines;
 mod recorded;
 
@@ -16,6 +17,7 @@ use crate::choice::Choice;
 use crate::fault::{Source, ToolFault};
 use crate::form::ShowForm;
 use crate::limit::Limit;
+use found::if_found;
 use itch_codec::{MOST_MESSAGES, decode};
 use itch_frame::{BlockReader, CountedRead, CountedWrite};
 use itch_market::{ReplayEnd, Stop, next_message};
@@ -44,7 +46,8 @@ pub fn show<R: CountedRead + Drop, A: Allocator, W: CountedWrite>(
 ///
 /// No order rule is applied, and an End of Snapshot is shown as any other message. The file is never held: each line is written
 /// as its message is read. If a block spells no message, or the file has fewer messages than are wanted (`Short`), the lines before
-/// that have been written.
+/// that have been written. If the part that is wanted has no Stock Directory message of a stock that is looked for (`UnknownStock`),
+/// all lines have been written.
 pub fn show_blocks<R: CountedRead, B: Allocator, A: Allocator, W: CountedWrite>(
     reader: &mut BlockReader<R, B>,
     limit: Limit,
@@ -55,20 +58,34 @@ pub fn show_blocks<R: CountedRead, B: Allocator, A: Allocator, W: CountedWrite>(
     ensures { Shows W.contents W.failures R.remaining R.failures limit form choice.entry reader.old reader.new out.old result out.new }
 {
     let mut choice = choice;
+    let found = show_part(reader, limit, form, &mut choice, out)?;
+    if_found(found)
+}
+
+// The same, which passes the messages to what chooses them. Returns whether each of the stocks that are looked for has come.
+fn show_part<R: CountedRead, B: Allocator, A: Allocator, W: CountedWrite>(
+    reader: &mut BlockReader<R, B>,
+    limit: Limit,
+    form: ShowForm,
+    choice: &mut Choice<'_, A>,
+    out: &mut W,
+) -> Result<bool, ToolFault>
+    ensures { ShowsPart W.contents W.failures R.remaining R.failures limit form choice.old reader.old reader.new out.old result out.new }
+{
     let most = limit.most();
     for count in 0..most {
-        match show_next(reader, count, limit, form, &mut choice, out) {
+        match show_next(reader, count, limit, form, choice, out) {
             Ok(true) => {}
-            Ok(false) => return Ok(true),
-            Err(fault) => return finished(fault, limit.after),
+            Ok(false) => return Ok(choice.has_found_all()),
+            Err(fault) => return finished(fault, limit.after, choice.has_found_all()),
         }
     }
-    Ok(true)
+    Ok(choice.has_found_all())
 }
 
 // The end of the file is no fault, unless more messages are wanted.
-fn finished(fault: ToolFault, wanted: Option<u64>) -> Result<bool, ToolFault>
-    ensures { result ≡ finish wanted fault }
+fn finished(fault: ToolFault, wanted: Option<u64>, found: bool) -> Result<bool, ToolFault>
+    ensures { result ≡ finish wanted found fault }
 {
     match fault {
         ToolFault::Stopped {
@@ -78,7 +95,7 @@ fn finished(fault: ToolFault, wanted: Option<u64>) -> Result<bool, ToolFault>
                 stop: Stop::End,
             },
         } => match wanted {
-            None => Ok(true),
+            None => Ok(found),
             Some(_) => Err(ToolFault::Short { file, count }),
         },
         _ => Err(fault),

@@ -31,6 +31,7 @@ pub fn write_chosen<A: Allocator, W: CountedWrite>(
     }
 }
 
+// The line of a message in a form.
 fn write_line<W: CountedWrite>(
     form: ShowForm,
     number: u64,

@@ -30,6 +30,7 @@ pub enum Argument {
     Recorded,
     // Which messages `show` prints, and how.
     ShownOnly,
+    ShownStock,
     Types,
     Reference,
     Names,
@@ -81,6 +82,10 @@ impl Argument {
             Argument::Check => only_check(alloc),
             Argument::Recorded => recorded(alloc),
             Argument::ShownOnly => shown_only(alloc),
+            Argument::ShownStock => stock(
+                alloc,
+                "Print only messages of these stocks, such as AAPL,MSFT",
+            ),
             Argument::Types => types(alloc),
             Argument::Reference => reference(alloc),
             Argument::Names => names(alloc),

@@ -88,6 +88,7 @@ const COMMANDS: [Entry; 10] = [
             Argument::Until,
             Argument::Recorded,
             Argument::ShownOnly,
+            Argument::ShownStock,
             Argument::Types,
             Argument::Reference,
             Argument::Names,

@@ -96,6 +96,7 @@ fn read_show_form<'a>(alloc: Global, options: &ArgMatches<'a>) -> Result<ShowFor
 fn read_filters<'a>(alloc: Global, options: &ArgMatches<'a>) -> Result<Filters<'a>, Error> {
     Ok(Filters {
         only: options.get_str("only"),
+        stocks: read_stocks(alloc, options)?,
         types: read_types(alloc, options)?,
         reference: read_count(
             alloc,

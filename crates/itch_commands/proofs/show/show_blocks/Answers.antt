@@ -1,26 +1,17 @@
-use Rattle.std.proofs.Common.{sym, subst}
-use Rattle.itch_commands.specs.Showing.{Shows}
-use Rattle.itch_commands.proofs.PartReadings.{before_most}
-use Rattle.itch_commands.proofs.ShownLines.{shown_first, shown_on, shown_ends}
+use Rattle.std.proofs.Common.{Bool, Result, sym, subst}
+use Rattle.std.proofs.lemmas.Result.{err_from_is_err_and}
+use Rattle.itch_commands.specs.Showing.{IfFound, ShowsPart}
+use Rattle.itch_commands.specs.declared.fault.ToolFault.{ToolFault}
+use Rattle.itch_commands.proofs.FoundStocks.{found_fails, found_ends}
 use Rattle.itch_commands.proofs.show.show_blocks.Goals as goal
 
-pub loop-count-init : goal.loop-count-init
-loop-count-init g c =
-    shown_first g.W.CountedWrite.contents g.W.CountedWrite.failures g.R.CountedRead.remaining g.R.CountedRead.failures c.args.limit c.args.form c.args.choice c.args.reader.now c.args.out.now
+pub returns-in_err-found : goal.returns-in_err-found
+returns-in_err-found g c =
+    let p = err_from_is_err_and c.from_residual.result c.from_residual.ensures.1 in
+    let shows : Result Bool ToolFault → Type 0 = λ found. ShowsPart g.W.CountedWrite.contents g.W.CountedWrite.failures g.R.CountedRead.remaining g.R.CountedRead.failures c.args.limit c.args.form c.args.choice c.args.reader.now c.show_part.new.reader c.args.out.now found c.show_part.new.out in
+    rw (p.1, p.2) (found_fails shows _ (λ never. never) c.in_err-found.ensures)
 
-pub returns-in-Err : goal.returns-in-Err
-returns-in-Err g c =
-    let contents = g.W.CountedWrite.contents in
-    let failures = g.W.CountedWrite.failures in
-    let remaining = g.R.CountedRead.remaining in
-    let failed_reads = g.R.CountedRead.failures in
-    let limit = c.args.limit in
-    subst (λ r. Shows contents failures remaining failed_reads limit c.args.form c.args.choice c.args.reader.now c.show_next.new.reader c.args.out.now r c.show_next.new.out) (sym c.finished.ensures)
-    (shown_ends contents failures remaining failed_reads limit c.args.form c.args.choice _ _ _ _ _ _ _ _ _ c.in-Err.fault c.loop-count.invariant
-    (before_most limit.after _ (rw c.most-most.ensures at c.loop-count-test.true))
-    c.in-Err.ensures.shows c.in-Err.ensures.failures c.in-Err.ensures.reader)
-
-pub loop-count-preserved : goal.loop-count-preserved
-loop-count-preserved g c =
-    shown_on g.W.CountedWrite.contents g.W.CountedWrite.failures g.R.CountedRead.remaining g.R.CountedRead.failures c.args.limit c.args.form c.args.choice
-    _ _ _ _ _ _ _ _ _ c.loop-count.invariant (rw c.in-Ok-true.field-0-test at c.in-Ok-true.ensures.shows) c.in-Ok-true.ensures.failures c.in-Ok-true.ensures.reader
+pub returns : goal.returns
+returns g c =
+    let shows : Result Bool ToolFault → Type 0 = λ found. ShowsPart g.W.CountedWrite.contents g.W.CountedWrite.failures g.R.CountedRead.remaining g.R.CountedRead.failures c.args.limit c.args.form c.args.choice c.args.reader.now c.show_part.new.reader c.args.out.now found c.show_part.new.out in
+    subst (IfFound shows) (sym c.if_found.ensures) (found_ends shows c.in_ok-found.found c.in_ok-found.ensures)

@@ -1,5 +1,7 @@
-use Rattle.std.proofs.Common.{refl, inl, inr}
+use Rattle.std.proofs.Common.{refl, ap, inl, inr, ◌∙◌}
 use Rattle.std.proofs.lemmas.Result.{err_from_is_err_and}
+use Rattle.itch_commands.specs.Choices.{Chosen}
+use Rattle.itch_commands.specs.Sought.{are_found}
 use Rattle.itch_commands.proofs.show.recorded.show_over.Goals as goal
 
 pub returns-in_err-market : goal.returns-in_err-market
@@ -10,7 +12,7 @@ returns-in_err-market g c =
 pub returns-in_err-write_lines : goal.returns-in_err-write_lines
 returns-in_err-write_lines g c =
     let p = err_from_is_err_and c.from_residual-in_err-write_lines.result c.from_residual-in_err-write_lines.ensures.1 in
-    rw (p.1, p.2) (inr ((c.in_ok-market.market, c.in_ok-market.next), c.in_ok-market.ensures.reads, c.in_err-write_lines.ensures))
+    rw (p.1, p.2) (inr ((c.in_ok-market.market, c.in_ok-market.next), c.in_ok-market.ensures.reads, c.in_err-write_lines.ensures.lines))
 
 pub returns : goal.returns
-returns g c = inr ((c.in_ok-market.market, c.in_ok-market.next), c.in_ok-market.ensures.reads, (refl, c.in_ok-write_lines.ensures))
+returns g c = inr ((c.in_ok-market.market, c.in_ok-market.next), c.in_ok-market.ensures.reads, (c.has_found_all.ensures ∙ ap (λ chosen. are_found (Chosen.stocks chosen)) c.in_ok-write_lines.ensures.passed, c.in_ok-write_lines.ensures.lines))
