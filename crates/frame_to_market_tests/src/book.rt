@@ -1,6 +1,6 @@
 //! Books by what their calls return. The helpers take any book.
 use crate::equal::{same, same_in};
-use itch_book::{IndexedBook, ListBook, Order, OrderBook, Taken};
+use itch_book::{IndexedBook, ListBook, Order, OrderBook, Placed, Taken};
 use itch_codec::Side;
 use std::alloc::AllocError;
 use std::process::Abort;
@@ -67,13 +67,48 @@ pub(super) fn live<B: OrderBook>(book: &B, reference: u64) -> Option<Order> {
 
 // The first order of a locate.
 pub(super) fn first<B: OrderBook>(book: &B, locate: u16) -> Option<Order> {
-    book.first(locate).copied()
+    unplaced(book.first(locate))
+}
+
+// The order alone.
+fn unplaced(placed: Option<Placed<'_>>) -> Option<Order> {
+    let placed = placed?;
+    Some(*placed.order)
+}
+
+// The next order of the same locate, from a place that the book may not have given.
+fn after_at<'a, B: OrderBook>(
+    rt: &impl Abort,
+    book: &'a B,
+    reference: u64,
+    place: usize,
+) -> Option<Placed<'a>> {
+    assert!(rt; book.get(reference).is_some());
+    book.after(reference, place)
 }
 
 // The next order of the same locate.
 pub(super) fn after<B: OrderBook>(rt: &impl Abort, book: &B, reference: u64) -> Option<Order> {
-    assert!(rt; book.get(reference).is_some());
-    book.after(reference).copied()
+    unplaced(after_at(rt, book, reference, 0))
+}
+
+// Checks that these are the orders of a locate, each from the place of the one before.
+fn check_walk<B: OrderBook>(rt: &impl Abort, book: &B, locate: u16, want: &[u64]) {
+    let mut next = book.first(locate);
+    for number in want {
+        same(rt, reference(unplaced(next).as_ref()), *number);
+        let Some(placed) = next else { return };
+        next = after_at(rt, book, *number, placed.place);
+    }
+    assert!(rt; next.is_none());
+}
+
+// Checks that the next order is the same from whichever place.
+fn check_places<B: OrderBook>(rt: &impl Abort, book: &B, number: u64, want: u64) {
+    for place in [0, 1, 2, 3, 4, 5, 6, 7, usize::MAX] {
+        let next = unplaced(after_at(rt, book, number, place));
+        same_in(rt, (number, place), reference(next.as_ref()), want);
+    }
 }
 
 // The reference of the next order of the same locate, or 0.
@@ -125,7 +160,7 @@ fn fill<B: OrderBook>(rt: &impl Abort, book: &mut B) -> Result<(), AllocError> {
 
 // Checks the order of the orders.
 fn check_order<B: OrderBook>(rt: &impl Abort, book: &B) {
-    same(rt, reference(book.first(1)), 2);
+    same(rt, reference(first(book, 1).as_ref()), 2);
     for (number, want) in [
         (2, 4),
         (4, 1),
@@ -135,9 +170,11 @@ fn check_order<B: OrderBook>(rt: &impl Abort, book: &B) {
         (5, 0),
         (u64::MAX, 0),
     ] {
-        same_in(rt, ("after", number), next(rt, book, number), want);
+        check_places(rt, book, number, want);
     }
-    same(rt, reference(book.first(2)), 0);
+    check_walk(rt, book, 1, &[2, 4, 1, 3, 6, 5]);
+    check_walk(rt, book, 2, &[]);
+    check_walk(rt, book, u16::MAX, &[u64::MAX]);
     same(rt, reference(book.front(1, Side::Buy)), 2);
     same(rt, reference(book.front(1, Side::Sell)), 6);
     same(rt, reference(book.front(u16::MAX, Side::Buy)), 0);

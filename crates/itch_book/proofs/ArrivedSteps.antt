@@ -1,11 +1,12 @@
 -- What each change leaves of the orders by arrival.
-use Rattle.std.proofs.Common.{◌≡◌, ℕ, ◌≤◌, ◌<◌, ◌+◌, ◌-◌, ◌==◌, nat_lt, Bool, true, false, cond, not, eqb, List, [], ◌∷◌, map, length, filter, find, Option, Some, None, IsSome, IsSomeAnd, option_map, refl, sym, ap, ◌∙◌, subst, arith}
+use Rattle.std.proofs.Common.{◌≡◌, ℕ, ◌≤◌, ◌<◌, ◌+◌, ◌-◌, ◌==◌, true, false, not, eqb, List, [], ◌∷◌, map, length, filter, Option, Some, None, IsSome, IsSomeAnd, option_map, refl, sym, ap, ◌∙◌, subst, arith}
 use Rattle.std.specs.List.{AllByRecursion}
 use Rattle.std.specs.List.Sorted.{IsPermutation}
 use Rattle.std.specs.Map.{lookup, values_of, set_value, remove_entry}
+use Rattle.std.proofs.lemmas.Bool.{eqb-true}
 use Rattle.std.proofs.lemmas.Bool.Decides.{nat_tests}
 use Rattle.std.proofs.lemmas.List.{length-map}
-use Rattle.std.proofs.lemmas.List.Sorted.{IsPermutation-map, length_permutation}
+use Rattle.std.proofs.lemmas.List.Sorted.{IsPermutation-map}
 use Rattle.std.proofs.ByRecursion.{all_shuffled}
 use Rattle.itch_book.specs.declared.order.Order.{Order}
 use Rattle.itch_book.specs.declared.arrived.Arrived.{Arrived}
@@ -13,9 +14,9 @@ use Rattle.itch_book.specs.StableLists.{in_order}
 use Rattle.itch_book.specs.Orders.{get, lay, added, taken, without, less, has_shares, has_reference, IsLive, IsDistinct, IsBook}
 use Rattle.itch_book.specs.Settled.{comes_before, its_order, settled, came_at, IsApart, IsArrived, Held}
 use Rattle.itch_book.proofs.Lists.{by_test, All-weaker_rec, All-filter_rec, All-map_rec, filter_none, filter_all, filter-map}
-use Rattle.itch_book.proofs.StableLemmas.{length-in_order}
+use Rattle.itch_book.proofs.StableLemmas.{length-in_order, in_order-twice}
 use Rattle.itch_book.proofs.BookLemmas.{IsBook-added, IsBook-taken, IsBook-without, added-book, without-book, taken-book}
-use Rattle.itch_book.proofs.SettledLemmas.{found_settled, put_view, shuffled_apart, filter_apart, holds, cut_values, cut_keyed, cut_view, came_distinct, lessen, lessened, Keyed, written_values, written_keyed, less_view}
+use Rattle.itch_book.proofs.SettledLemmas.{arrival_order, found_settled, put_view, shuffled_apart, filter_apart, holds, cut_values, cut_keyed, cut_view, came_distinct, lessen, lessened, Keyed, written_values, written_keyed, less_view}
 use Rattle.itch_book.proofs.Distinct.{own_reference, head_distinct, tail_distinct}
 use Rattle.itch_book.proofs.PlaceLemmas.{taken_all, without_there}
 
@@ -55,6 +56,15 @@ fresh_there r next es os is view none = by (lookup (eqb r) es) refl
     by : (o : Option Arrived) → lookup (eqb r) es ≡ o → o ≡ None
     by None e = refl
     by (Some x) e = absurd (let no : None ≡ Some x.order = sym none ∙ found_there r next es os x is view e in let no_one : ⊥ = cc in no_one)
+
+-- it stands under its own reference
+pub own_there : (r : ℕ) (es : List (ℕ × Arrived)) (x : Arrived) → AllByRecursion (λ (e : ℕ × Arrived). e.0 ≡ e.1.order.reference) es → lookup (eqb r) es ≡ Some x → x.order.reference ≡ r
+own_there r [] x k h = absurd (let no_one : ⊥ = cc in no_one)
+own_there r (e ∷ es) x k h =
+    by_test (eqb r e.0)
+    (λ t. let here : Some e.1 ≡ Some x = simp t at h in let this : e.1 ≡ x = cc in
+    subst (λ (y : Arrived). y.order.reference ≡ r) this (sym k.0 ∙ sym (eqb-true r e.0 t)))
+    (λ t. own_there r es x k.1 (simp t at h))
 
 abbrev pub arrived_as : Order → ℕ → Arrived
 arrived_as x next = record { order = x; arrival = next }
@@ -158,6 +168,24 @@ module _ (r n next : ℕ) (es fs : List (ℕ × Arrived)) (x : Arrived) (is : Is
         let b = length-map (filter (came_at m) (values_of es)) (lessen r n) in
         let c = is.apart m in omega arith);
   }
+
+-- orders that were put in snapshot order
+module _ (next : ℕ) (es fs : List (ℕ × Arrived)) (is : IsArrived es next) (sorted : values_of fs ≡ in_order comes_before (values_of es)) where
+  pub settled_is : settled (values_of fs) ≡ settled (values_of es)
+  settled_is = ap settled sorted ∙ ap (map its_order) (in_order-twice comes_before arrival_order (values_of es))
+
+  pub settled_stands : values_of fs ≡ in_order comes_before (values_of fs)
+  settled_stands = sorted ∙ sym (in_order-twice comes_before arrival_order (values_of es)) ∙ ap (in_order comes_before) (sym sorted)
+
+  pub settled_arrived : IsPermutation es fs → IsArrived fs next
+  settled_arrived s =
+      let moved = IsPermutation-map (λ (e : ℕ × Arrived). e.1) es fs s in
+      record {
+        book = subst IsBook (sym settled_is) is.book;
+        keyed = all_shuffled (λ (e : ℕ × Arrived). e.0 ≡ e.1.order.reference) es fs s is.keyed;
+        earlier = all_shuffled (λ (y : Arrived). y.arrival < next) (values_of es) (values_of fs) moved is.earlier;
+        apart = shuffled_apart (values_of es) (values_of fs) moved is.apart;
+      }
 
 pub some_there : (o : Option Order) (n : ℕ) → IsSomeAnd o (λ x. n ≤ x.shares) → IsSome o
 some_there None n h = absurd h

@@ -1,10 +1,9 @@
 -- The first order that is looked for, found by going over all in whatever order.
-use Rattle.std.proofs.Common.{◌≡◌, ℕ, ◌≤◌, Bool, true, false, cond, eqb, ◌&&◌, List, [], ◌∷◌, ◌++◌, map, length, filter, find, Option, Some, None, option_map, Bor, refl, sym, ap, ◌∙◌, subst, arith}
+use Rattle.std.proofs.Common.{◌≡◌, ℕ, ◌≤◌, Bool, true, false, cond, eqb, List, [], ◌∷◌, ◌++◌, map, length, filter, find, Option, Some, None, option_map, refl, sym, ap, ◌∙◌, subst, arith}
 use Rattle.std.specs.List.{AllByRecursion}
 use Rattle.std.specs.Map.{lookup, values_of}
 use Rattle.std.proofs.lemmas.Bool.{false≢true}
 use Rattle.std.proofs.lemmas.Bool.Decides.{nat_tests}
-use Rattle.std.proofs.lemmas.List.{append-nil, map-append}
 use Rattle.itch_codec.specs.declared.orders.Side.{Side}
 use Rattle.itch_book.specs.declared.order.Order.{Order}
 use Rattle.itch_book.specs.declared.arrived.Arrived.{Arrived}
@@ -19,10 +18,6 @@ use Rattle.itch_book.proofs.Levels.{ties}
 use Rattle.itch_book.proofs.SettledLemmas.{arrival_order, arrival_ties, first_of, find_push, no_elements, holds, holds_length, Keyed, at_key_is}
 use Rattle.itch_book.proofs.ArrivedSteps.{found_there}
 
--- what is behind a reference
-abbrev pub shown : Bor Arrived → Arrived
-shown b = b.now
-
 -- the first in snapshot order that is looked for
 abbrev pub least_of : Wanted → List Arrived → Option Arrived
 least_of w xs = find (wants w) (in_order comes_before xs)
@@ -31,29 +26,18 @@ sooner_is : (p : Arrived → Bool) (x : Arrived) (o : Option Arrived) → first_
 sooner_is p x None = refl
 sooner_is p x (Some y) = refl
 
-pub least_more : (w : Wanted) (bs : List (Bor Arrived)) (b : Bor Arrived) (o : Option Arrived) → o ≡ least_of w (map shown bs) → wants w b.now ≡ true → sooner b.now o ≡ least_of w (map shown (bs ++ b ∷ []))
-least_more w bs b o h t =
-    ap (sooner b.now) h ∙ sym (ap (least_of w) (map-append shown bs (b ∷ [])) ∙ find_push comes_before arrival_order (wants w) (map shown bs) b.now
-    ∙ ap (λ q. cond q (first_of comes_before arrival_order (wants w) b.now (least_of w (map shown bs))) (least_of w (map shown bs))) t
-    ∙ sooner_is (wants w) b.now (least_of w (map shown bs)))
+pub least_more : (w : Wanted) (xs : List Arrived) (x : Arrived) (o : Option Arrived) → o ≡ least_of w xs → wants w x ≡ true → sooner x o ≡ least_of w (xs ++ x ∷ [])
+least_more w xs x o h t =
+    ap (sooner x) h ∙ sym (find_push comes_before arrival_order (wants w) xs x
+    ∙ ap (λ q. cond q (first_of comes_before arrival_order (wants w) x (least_of w xs)) (least_of w xs)) t
+    ∙ sooner_is (wants w) x (least_of w xs))
 
-pub least_same : (w : Wanted) (bs : List (Bor Arrived)) (b : Bor Arrived) (o : Option Arrived) → o ≡ least_of w (map shown bs) → wants w b.now ≡ false → o ≡ least_of w (map shown (bs ++ b ∷ []))
-least_same w bs b o h t =
-    h ∙ sym (ap (least_of w) (map-append shown bs (b ∷ [])) ∙ find_push comes_before arrival_order (wants w) (map shown bs) b.now
-    ∙ ap (λ q. cond q (first_of comes_before arrival_order (wants w) b.now (least_of w (map shown bs))) (least_of w (map shown bs))) t)
+pub least_same : (w : Wanted) (xs : List Arrived) (x : Arrived) (o : Option Arrived) → o ≡ least_of w xs → wants w x ≡ false → o ≡ least_of w (xs ++ x ∷ [])
+least_same w xs x o h t =
+    h ∙ sym (find_push comes_before arrival_order (wants w) xs x
+    ∙ ap (λ q. cond q (first_of comes_before arrival_order (wants w) x (least_of w xs)) (least_of w xs)) t)
 
--- what was gone over, and what is left, are all
-pub rest_more : (bs : List (Bor Arrived)) (b : Bor Arrived) (left rest all : List Arrived) → map shown bs ++ left ≡ all → left ≡ b.now ∷ rest → map shown (bs ++ b ∷ []) ++ rest ≡ all
-rest_more bs b left rest all h e = moved bs ∙ ap (λ t. map shown bs ++ t) (sym e) ∙ h
-  where
-    moved : (cs : List (Bor Arrived)) → map shown (cs ++ b ∷ []) ++ rest ≡ map shown cs ++ (b.now ∷ rest)
-    moved [] = refl
-    moved (a ∷ cs) = ap (λ t. a.now ∷ t) (moved cs)
-
-pub rest_none : (bs : List (Bor Arrived)) (left all : List Arrived) → map shown bs ++ left ≡ all → left ≡ [] → map shown bs ≡ all
-rest_none bs left all h e = sym (ap (λ t. map shown bs ++ t) e ∙ append-nil (map shown bs)) ∙ h
-
-find_shown : (p : Order → Bool) (q : Arrived → Bool) → ((x : Arrived) → q x ≡ p x.order) → (xs : List Arrived) → option_map its_order (find q xs) ≡ find p (map its_order xs)
+pub find_shown : (p : Order → Bool) (q : Arrived → Bool) → ((x : Arrived) → q x ≡ p x.order) → (xs : List Arrived) → option_map its_order (find q xs) ≡ find p (map its_order xs)
 find_shown p q same [] = refl
 find_shown p q same (x ∷ xs) =
     by_test (p x.order) (λ e. let f = same x ∙ e in simp (e, f) refl) (λ e. let f = same x ∙ e in simp (e, f) (find_shown p q same xs))
@@ -65,13 +49,9 @@ least_order p w same xs = find_shown p (wants w) same (in_order comes_before xs)
 pub any_price : (l : ℕ) (s : Side) (x : Arrived) → wants (Next l s None) x ≡ is_of l s x.order
 any_price l s x = by_test (is_of l s x.order) (λ e. simp e refl) (λ e. simp e refl)
 
-priced : (o : Option Arrived) → option_map (λ (x : Arrived). x.order.price) o ≡ option_map (λ (x : Order). x.price) (option_map its_order o)
-priced None = refl
-priced (Some x) = refl
-
 -- the next price is that of the order that is looked for
-pub least_price : (l : ℕ) (s : Side) (last : Option ℕ) (xs : List Arrived) → option_map (λ (x : Arrived). x.order.price) (least_of (Next l s last) xs) ≡ next_price (settled xs) l s last
-least_price l s last xs = priced (least_of (Next l s last) xs) ∙ ap (option_map (λ (x : Order). x.price)) (least_order (is_next l s last) (Next l s last) (λ x. refl) xs)
+pub least_price : (l : ℕ) (s : Side) (last : Option ℕ) (xs : List Arrived) → option_map (λ (x : Order). x.price) (option_map its_order (least_of (Next l s last) xs)) ≡ next_price (settled xs) l s last
+least_price l s last xs = ap (option_map (λ (x : Order). x.price)) (least_order (is_next l s last) (Next l s last) (λ x. refl) xs)
 
 find_shown_all : (p : Order → Bool) (q : Arrived → Bool) (xs : List Arrived) → AllByRecursion (λ x. q x ≡ p x.order) xs → option_map its_order (find q xs) ≡ find p (map its_order xs)
 find_shown_all p q [] all = refl
@@ -166,7 +146,7 @@ after_is r next es t is found =
     ∙ ap (λ (o : Option Order). next_in o r (settled xs)) (sym (found_there r next es (settled xs) t is refl found))
 
 -- the line, where there is one, is in order
-pub line_in_order : (xs : List Arrived) (laid : Option (List Arrived)) (line seen : List Arrived) → IsLineOr xs laid → laid ≡ Some line → seen ≡ line → IsInOrder comes_before seen
-line_in_order xs laid line seen is e f =
+pub line_in_order : (xs : List Arrived) (laid : Option (List Arrived)) (line : List Arrived) → IsLineOr xs laid → laid ≡ Some line → IsInOrder comes_before line
+line_in_order xs laid line is e =
     let here : IsLineOr xs (Some line) = subst (IsLineOr xs) e is in
-    subst (IsInOrder comes_before) (sym (f ∙ here)) (IsInOrder-in_order comes_before arrival_order xs)
+    subst (IsInOrder comes_before) (sym here) (IsInOrder-in_order comes_before arrival_order xs)

@@ -32,7 +32,10 @@ pub mod CloseLemmas
 mod PlaceLemmas
 pub mod SettledLemmas
 pub mod ArrivedSteps
+pub mod ReferredLemmas
+pub mod PlacedLemmas
 pub mod LeastLemmas
 pub mod TotalLemmas
 pub mod LineLemmas
 pub mod BetweenLemmas
+pub mod NextLemmas

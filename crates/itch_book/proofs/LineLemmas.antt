@@ -1,5 +1,5 @@
 -- What is looked for in a line in order stands where a search ends, or nowhere.
-use Rattle.std.proofs.Common.{◌≡◌, ℕ, ◌≤◌, ◌<◌, ◌+◌, ◌==◌, nat_lt, ltb, Bool, true, false, not, cond, ◌&&◌, ◌||◌, List, [], ◌∷◌, length, find, get_or, slice_get, Option, Some, None, refl, sym, ap, ◌∙◌, subst, arith, inl, inr}
+use Rattle.std.proofs.Common.{◌≡◌, ℕ, ◌≤◌, ◌<◌, ◌==◌, nat_lt, ltb, Bool, true, false, not, cond, ◌&&◌, ◌||◌, List, [], ◌∷◌, length, find, get_or, slice_get, Option, Some, None, refl, sym, ap, ◌∙◌, arith, inl, inr}
 use Rattle.std.specs.List.{AllByRecursion, position_or_len}
 use Rattle.std.specs.List.Sorted.{IsPartitionedBy, IsPartitionPoint}
 use Rattle.std.proofs.lemmas.Bool.{false≢true, cases_eq, not-true, not-false, not_from_false}
@@ -15,14 +15,14 @@ use Rattle.itch_book.specs.declared.arrived.Wanted.TheVariants.{In, Next, After}
 use Rattle.itch_book.specs.StableLists.{IsInOrder}
 use Rattle.itch_book.specs.Orders.{is_in, same_side, is_worse, place_before, stands_before}
 use Rattle.itch_book.specs.Settled.{comes_before, wants, begins}
-use Rattle.itch_book.proofs.Lists.{by_test, All-weaker_rec, found_passes}
+use Rattle.itch_book.proofs.Lists.{by_test, All-weaker_rec}
 use Rattle.itch_book.proofs.OrderLemmas.{lower_stands}
 use Rattle.itch_book.proofs.PlaceLemmas.{in_order_places}
 use Rattle.itch_book.proofs.StableLemmas.{before_chain}
 use Rattle.itch_book.proofs.SettledLemmas.{arrival_order}
 
 -- what was found, if it passes
-abbrev kept : (Arrived → Bool) → Option Arrived → Option Arrived
+abbrev pub kept : (Arrived → Bool) → Option Arrived → Option Arrived
 kept q None = None
 kept q (Some x) = cond (q x) (Some x) None
 
@@ -32,7 +32,7 @@ find_none q (x ∷ xs) h = simp (h.0) (find_none q xs h.1)
 
 module _ (q b : Arrived → Bool) (early : (y : Arrived) → b y ≡ false → q y ≡ false) (late : (y z : Arrived) → b y ≡ true → q y ≡ false → comes_before z y ≡ false → q z ≡ false) where
   -- what passes q begins where b does
-  found_from : (line : List Arrived) → IsInOrder comes_before line → find q line ≡ kept q (find b line)
+  pub found_from : (line : List Arrived) → IsInOrder comes_before line → find q line ≡ kept q (find b line)
   found_from [] h = refl
   found_from (y ∷ ys) h =
       by_test (b y)
@@ -65,7 +65,7 @@ not_standing y z k =
     (λ e. let no : true ≡ false = simp e at k in absurd (false≢true (sym no)))
     (λ e. e)
 
-not_lower : (y z : Arrived) → comes_before z y ≡ false → nat_lt z.order.locate y.order.locate ≡ false
+pub not_lower : (y z : Arrived) → comes_before z y ≡ false → nat_lt z.order.locate y.order.locate ≡ false
 not_lower y z k =
     by_test (nat_lt z.order.locate y.order.locate)
     (λ e. let lower : z.order.locate < y.order.locate = grind (arith, nat_tests) in
@@ -148,13 +148,13 @@ after_late t y z h k f =
     let apart : is_in t.order.locate z.order ≡ false = grind (arith, nat_tests) in simp apart refl
 
 -- nothing that is looked for stands before the place where it may begin
-early : (w : Wanted) (y : Arrived) → begins w y ≡ false → wants w y ≡ false
+pub early : (w : Wanted) (y : Arrived) → begins w y ≡ false → wants w y ≡ false
 early (In l) y h = grind (arith, nat_tests)
 early (Next l s last) y h = next_early s y.order.side last l y.order.locate y.order.price h
 early (After t) y h = after_early t y h
 
 -- nor does any stand behind the first that is not looked for
-late : (w : Wanted) (y z : Arrived) → begins w y ≡ true → wants w y ≡ false → comes_before z y ≡ false → wants w z ≡ false
+pub late : (w : Wanted) (y z : Arrived) → begins w y ≡ true → wants w y ≡ false → comes_before z y ≡ false → wants w z ≡ false
 late (In l) y z h k f = in_late l y z h k f
 late (Next l s last) y z h k f = next_late s y.order.side z.order.side last l y.order.locate y.order.price z.order.locate z.order.price h k (not_standing y z f)
 late (After t) y z h k f = after_late t y z h k f

@@ -1,6 +1,6 @@
 -- The orders by arrival in snapshot order, and what each change does to that list.
 use Rattle.std.proofs.Common.{◌≡◌, ℕ, suc, ◌≤◌, ◌<◌, ◌+◌, ◌==◌, nat_lt, Bool, true, false, cond, not, eqb, ◌&&◌, ◌||◌, List, [], ◌∷◌, ◌++◌, map, length, filter, find, get_or, Option, Some, None, option_map, refl, sym, ap, ap₂, ◌∙◌, ◌-◌, subst, arith}
-use Rattle.std.specs.List.{AllByRecursion, sum_by}
+use Rattle.std.specs.List.{AllByRecursion}
 use Rattle.std.specs.List.Sorted.{IsPermutation, IsSortedBy}
 use Rattle.std.specs.Map.{lookup, values_of, set_value, remove_entry}
 use Rattle.std.specs.Cmp.{IsStrictWeakOrder}
@@ -11,7 +11,6 @@ use Rattle.std.proofs.lemmas.List.Sums.{length-filter}
 use Rattle.std.proofs.lemmas.List.Sorted.{sum_by-IsPermutation, sorted_far}
 use Rattle.std.proofs.ByRecursion.{all_shuffled, All-from_get_or}
 use Rattle.itch_book.proofs.BookLemmas.{less_stands}
-use Rattle.itch_book.specs.declared.order.Order.{Order}
 use Rattle.itch_book.specs.declared.arrived.Arrived.{Arrived}
 use Rattle.itch_book.specs.StableLists.{earlier_in, in_order, IsInOrder}
 use Rattle.itch_book.specs.Orders.{stands_before, has_reference, get, first, less, without, IsDistinct}

@@ -8,3 +8,4 @@ pub mod Links
 pub mod Queued
 pub mod Indexed
 pub mod Settled
+pub mod Referred

@@ -1,5 +1,5 @@
 -- Orders with the numbers of their arrivals, and the one list in snapshot order that they make.
-use Rattle.std.specs.Prelude.{◌≡◌, ℕ, ◌≤◌, ◌<◌, ◌==◌, nat_lt, Bool, not, ◌&&◌, ◌||◌, List, map, length, Option, Some, None, is_some, cond}
+use Rattle.std.specs.Prelude.{◌≡◌, ℕ, ◌≤◌, ◌<◌, ◌==◌, nat_lt, Bool, true, false, not, ◌&&◌, ◌||◌, List, map, length, Option, Some, None, cond}
 use Rattle.std.specs.List.{filter, AllByRecursion}
 use Rattle.std.specs.Map.{values_of}
 use Rattle.itch_codec.specs.declared.orders.Side.{Side}
@@ -43,19 +43,20 @@ abbrev pub IsLineOr : List Arrived → Option (List Arrived) → Type 0
 IsLineOr xs None = Unit {0}
 IsLineOr xs (Some line) = line ≡ in_order comes_before xs
 
--- the orders, with a line or without
-pub record IsHeld (es : List (ℕ × Arrived)) (next : ℕ) (laid : Option (List Arrived)) : Type 0 where
-  pub arrived : IsArrived es next
-  pub line : IsLineOr (values_of es) laid
+-- the orders as a line, if they are settled
+abbrev pub line_if : Bool → List Arrived → Option (List Arrived)
+line_if true line = Some line
+line_if false line = None
 
--- what is seen of the orders: the list in snapshot order, and whether it is there as a line
+-- orders under their references, which stand in snapshot order if they are settled
+pub record IsHeld (es : List (ℕ × Arrived)) (next : ℕ) (is_settled : Bool) : Type 0 where
+  pub arrived : IsArrived es next
+  pub line : IsLineOr (values_of es) (line_if is_settled (values_of es))
+
+-- what is seen of the orders: the list in snapshot order, and whether they stand so
 pub record Held : Type 0 where
   pub orders : List Order
   pub is_settled : Bool
-
--- what is seen of orders that have this line, or none
-abbrev pub held : List Arrived → Option (List Arrived) → Held
-held xs laid = record { orders = settled xs; is_settled = is_some laid }
 
 -- the order is looked for
 abbrev pub wants : Wanted → Arrived → Bool

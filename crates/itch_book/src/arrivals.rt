@@ -1,42 +1,39 @@
-//! Orders as they came, with or without the line of them in snapshot order.
+//! Orders in whatever order, or in snapshot order from one `settle` to the next change.
 ghost use Rattle.std.specs.Prelude.{◌≡◌, ◌<◌, ◌≤◌, ◌-◌, [], length, None, Some, OnOk, OnErr, IsSome, IsSomeAnd, IfSome, find, true, false, option_map};
 ghost use Rattle.std.specs.Map.{values_of};
 ghost use Rattle.std.specs.Option.{option_copied};
 ghost use Rattle.itch_book.specs.StableLists.{in_order};
 ghost use Rattle.itch_book.specs.Orders.{get, is_in, is_of, after, next_price, level_total, lay, added, taken, without, replaced, IsBook};
-ghost use Rattle.itch_book.specs.Settled.{comes_before, settled, wants, IsApart, IsLineOr};
+ghost use Rattle.itch_book.specs.Settled.{comes_before, its_order, settled, wants, IsLineOr};
 ghost use Rattle.itch_book.specs.TakenShares.{IsLeft};
 
-use crate::arrived::{Arrived, Wanted, order_of};
-use crate::line::{first_in_line, level_in_line};
-use crate::order::{Order, Taken};
-use crate::references::{References, cut, known, laid, least, put, total_of, write};
+use crate::arrived::{Arrived, Wanted, its_order};
+use crate::line::{first_in_line, level_in_line, next_in_line, stands_at};
+use crate::order::{Order, Placed, Taken, order_of, unplaced};
+use crate::references::{References, cut, known, least, put, total_of, write};
 use itch_codec::Side;
 use std::alloc::{AllocError, Allocator, Global};
-use std::collections::HashMap;
 use std::marker::Model;
 
-/// The live orders, seen as the list in snapshot order, and whether it is there as a line.
+/// The live orders, seen as the list in snapshot order, and whether they stand so.
 #[derive(Drop)]
 pub(crate) struct Arrivals<A: Allocator = Global> {
     references: References<A>,
     // The arrival of the next order.
     next: u64,
-    // The orders in snapshot order, unless there was a change since they were laid.
-    line: Option<Vec<Arrived, A>>,
-    alloc: A,
+    // Whether the orders stand in snapshot order.
+    is_settled: bool,
 }
 
 impl<A: Allocator> Model for Arrivals<A> {
-    ghost use Rattle.std.specs.Prelude.{option_map};
     ghost use Rattle.std.specs.Map.{values_of};
-    ghost use Rattle.itch_book.specs.Settled.{Held, held, IsHeld};
+    ghost use Rattle.itch_book.specs.Settled.{Held, settled, IsHeld};
 
     ghost Value = { Held };
 
-    ghost view = { λ b. held (values_of b.references.entries) (option_map (λ v. v.items) b.line) };
+    ghost view = { λ b. record { orders = settled (values_of b.references.entries); is_settled = b.is_settled } };
 
-    ghost invariant = { λ b. IsHeld b.references.entries b.next (option_map (λ v. v.items) b.line) };
+    ghost invariant = { λ b. IsHeld b.references.entries b.next b.is_settled };
 }
 
 impl<A: Allocator + Copy> Arrivals<A> {
@@ -46,32 +43,29 @@ impl<A: Allocator + Copy> Arrivals<A> {
         ensures settled { result.is_settled ≡ false }
     {
         Arrivals {
-            references: HashMap::new(alloc),
+            references: References::new(alloc),
             next: 0,
-            line: None,
-            alloc,
+            is_settled: false,
         }
     }
 
-    /// Whether there is a line, so that orders are found by search.
+    /// Whether the orders stand in snapshot order, so that they are found by search.
     pub(crate) fn is_settled(&self) -> bool
         ensures { result ≡ self.now.is_settled }
     {
-        self.line.is_some()
+        self.is_settled
     }
 
-    /// Lays the orders in snapshot order, so that until the next change they are found by search.
-    /// If an allocation fails, nothing changes.
-    pub(crate) fn settle(&mut self) -> Result<(), AllocError>
+    /// Puts the orders in snapshot order, so that until the next change they are found by search.
+    pub(crate) fn settle(&mut self)
         ensures orders { self.new.orders ≡ self.old.orders }
-        ensures ok { OnOk result (self.new.is_settled ≡ true) }
-        ensures err { OnErr result (self.new ≡ self.old) }
+        ensures settled { self.new.is_settled ≡ true }
     {
-        if self.line.is_none() {
-            let line = laid(&self.references, self.alloc)?;
-            self.line = Some(line);
+        if self.is_settled {
+            return;
         }
-        Ok(())
+        self.references.settle();
+        self.is_settled = true;
     }
 
     /// The number of orders.
@@ -86,48 +80,55 @@ impl<A: Allocator + Copy> Arrivals<A> {
         ensures order { option_copied result ≡ get self.now.orders reference }
         ensures book { IsBook self.now.orders }
     {
-        let arrived = self.references.get(&reference)?;
+        let arrived = self.references.get(reference)?;
         Some(&arrived.order)
     }
 
     /// The first order of a locate.
-    pub(crate) fn first(&self, locate: u16) -> Option<&Order>
-        ensures { option_copied result ≡ find (is_in locate) self.now.orders }
+    pub(crate) fn first(&self, locate: u16) -> Option<Placed<'_>>
+        ensures { option_map (λ p. p.order.now) result ≡ find (is_in locate) self.now.orders }
     {
-        order_of(sought(&self.references, &self.line, Wanted::In(locate)))
+        let line = self.references.line_if(self.is_settled);
+        sought(&self.references, line, Wanted::In(locate))
     }
 
     /// The order of a locate and side that has priority over all others there.
     pub(crate) fn front(&self, locate: u16, side: Side) -> Option<&Order>
         ensures { option_copied result ≡ find (is_of locate side) self.now.orders }
     {
-        let wanted = Wanted::Next(locate, side, None);
-        order_of(sought(&self.references, &self.line, wanted))
+        let line = self.references.line_if(self.is_settled);
+        order_of(sought(&self.references, line, Wanted::Next(locate, side, None)))
     }
 
     /// The best price of a side, or the best one worse than the last.
     pub(crate) fn next_price(&self, locate: u16, side: Side, last: Option<u32>) -> Option<u32>
         ensures { result ≡ next_price self.now.orders locate side last }
     {
-        let wanted = Wanted::Next(locate, side, last);
-        let arrived = sought(&self.references, &self.line, wanted)?;
-        Some(arrived.order.price)
+        let line = self.references.line_if(self.is_settled);
+        let placed = sought(&self.references, line, Wanted::Next(locate, side, last))?;
+        Some(placed.order.price)
     }
 
-    /// The order of the same locate after that of a reference.
-    pub(crate) fn after(&self, reference: u64) -> Option<&Order>
+    /// The order of the same locate after that of a reference: the next in the line, if the order stands at this place in it.
+    pub(crate) fn after(&self, reference: u64, place: usize) -> Option<Placed<'_>>
         requires { IsSome (get self.now.orders reference) }
-        ensures { option_copied result ≡ after self.now.orders reference }
+        ensures { option_map (λ p. p.order.now) result ≡ after self.now.orders reference }
     {
+        let line = self.references.line_if(self.is_settled);
+        if let Some(line) = line {
+            if stands_at(line, reference, place) {
+                return next_in_line(line, place);
+            }
+        }
         let this = known(&self.references, reference);
-        order_of(sought(&self.references, &self.line, Wanted::After(this)))
+        sought(&self.references, line, Wanted::After(this))
     }
 
     /// The shares at a price, and the number of orders.
     pub(crate) fn level_total(&self, locate: u16, side: Side, price: u32) -> (u128, u64)
         ensures { result ≡ level_total self.now.orders locate side price }
     {
-        match &self.line {
+        match self.references.line_if(self.is_settled) {
             Some(line) => level_in_line(line, locate, side, price),
             None => total_of(&self.references, locate, side, price),
         }
@@ -145,7 +146,7 @@ impl<A: Allocator + Copy> Arrivals<A> {
         if arrival == u64::MAX {
             return Err(AllocError);
         }
-        self.line = None;
+        self.is_settled = false;
         put(&mut self.references, Arrived { order, arrival })?;
         self.next = arrival + 1;
         Ok(())
@@ -159,7 +160,7 @@ impl<A: Allocator + Copy> Arrivals<A> {
     {
         let arrived = known(&self.references, reference);
         let left = arrived.order.shares - shares;
-        self.line = None;
+        self.is_settled = false;
         if left == 0 {
             cut(&mut self.references, reference);
             return Taken::Gone;
@@ -168,11 +169,7 @@ impl<A: Allocator + Copy> Arrivals<A> {
             shares: left,
             ..arrived.order
         };
-        write(
-            &mut self.references,
-            reference,
-            Arrived { order, ..arrived },
-        );
+        write(&mut self.references, Arrived { order, ..arrived });
         Taken::Left(left)
     }
 
@@ -182,7 +179,7 @@ impl<A: Allocator + Copy> Arrivals<A> {
         ensures orders { self.new.orders ≡ lay (without reference self.old.orders) }
         ensures order { get self.old.orders reference ≡ Some result }
     {
-        self.line = None;
+        self.is_settled = false;
         cut(&mut self.references, reference).order
     }
 
@@ -217,14 +214,14 @@ impl<A: Allocator + Copy> Arrivals<A> {
 // The first in snapshot order that is looked for: by search in the line, or where there is none by going over all orders.
 fn sought<'a, A: Allocator>(
     references: &'a References<A>,
-    line: &'a Option<Vec<Arrived, A>>,
+    line: Option<&'a [Arrived]>,
     wanted: Wanted,
-) -> Option<&'a Arrived>
-    requires { IsLineOr (values_of references.now.entries) (option_map (λ v. v.items) line.now) }
-    ensures { option_copied result ≡ find (wants wanted) (in_order comes_before (values_of references.now.entries)) }
+) -> Option<Placed<'a>>
+    requires { IsLineOr (values_of references.now.entries) (option_copied line) }
+    ensures { option_map (λ p. p.order.now) result ≡ option_map its_order (find (wants wanted) (in_order comes_before (values_of references.now.entries))) }
 {
     match line {
         Some(line) => first_in_line(line, wanted),
-        None => least(references, wanted),
+        None => unplaced(its_order(least(references, wanted))),
     }
 }

@@ -85,7 +85,7 @@ pub(crate) fn sooner<'a>(one: &'a Arrived, other: Option<&'a Arrived>) -> Option
 }
 
 // The order alone.
-pub(crate) fn order_of(arrived: Option<&Arrived>) -> Option<&Order>
+pub(crate) fn its_order(arrived: Option<&Arrived>) -> Option<&Order>
     ensures { option_copied result ≡ option_map its_order (option_copied arrived.entry) }
 {
     let arrived = arrived?;

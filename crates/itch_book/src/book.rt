@@ -1,11 +1,11 @@
 //! What every order book does.
-ghost use Rattle.std.specs.Prelude.{◌≡◌, ◌-◌, ◌<◌, ◌≤◌, List, [], length, Option, Some, None, IsSome, IsSomeAnd, IfSome, OnOk, OnErr, find};
+ghost use Rattle.std.specs.Prelude.{◌≡◌, ◌-◌, ◌<◌, ◌≤◌, List, [], length, Option, Some, None, IsSome, IsSomeAnd, IfSome, OnOk, OnErr, find, option_map};
 ghost use Rattle.std.specs.Option.{option_copied};
 ghost use Rattle.itch_book.specs.declared.order.Order.{Order};
 ghost use Rattle.itch_book.specs.Orders.{IsBook, get, is_in, is_of, after, next_price, level_total, lay, added, taken, without, replaced};
 ghost use Rattle.itch_book.specs.TakenShares.{IsLeft};
 
-use crate::order::{Order, Taken};
+use crate::order::{Order, Placed, Taken};
 use itch_codec::Side;
 use std::alloc::{AllocError, Allocator};
 
@@ -31,13 +31,15 @@ pub trait OrderBook: Drop {
         ensures { option_copied result ≡ get (orders self.now) reference };
 
     /// The first order of a locate.
-    fn first(&self, locate: u16) -> Option<&Order>
-        ensures { option_copied result ≡ find (is_in locate) (orders self.now) };
+    fn first(&self, locate: u16) -> Option<Placed<'_>>
+        ensures { option_map (λ p. p.order.now) result ≡ find (is_in locate) (orders self.now) };
 
     /// The order of the same locate after that of a reference.
-    fn after(&self, reference: u64) -> Option<&Order>
+    ///
+    /// The place is the one that came with that order. With another number the answer is the same, and may take longer.
+    fn after(&self, reference: u64, place: usize) -> Option<Placed<'_>>
         requires { IsSome (get (orders self.now) reference) }
-        ensures { option_copied result ≡ after (orders self.now) reference };
+        ensures { option_map (λ p. p.order.now) result ≡ after (orders self.now) reference };
 
     /// The order of a locate and side that has priority over all others there.
     fn front(&self, locate: u16, side: Side) -> Option<&Order>
@@ -87,6 +89,10 @@ pub trait OrderBook: Drop {
         requires new_reference { get (orders self.old) reference ≡ None }
         ensures ok { OnOk result (orders self.new ≡ lay (replaced original reference shares price (orders self.old))) }
         ensures err { OnErr result (orders self.new ≡ orders self.old) };
+
+    /// Tells the book that look-ups follow, so that it may make them fast. No order changes, and no memory is taken.
+    fn settle(&mut self)
+        ensures { orders self.new ≡ orders self.old };
 
     // The list is in snapshot order, each order has a reference of its own, shares, and a locate.
     ghost is_book: { (b : Self) → IsBook (orders b) };

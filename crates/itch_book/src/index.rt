@@ -1,5 +1,5 @@
 //! An index of orders: hashed references, and queues under ordered prices.
-ghost use Rattle.std.specs.Prelude.{◌≡◌, ℕ, ◌<◌, ◌≤◌, ◌-◌, List, [], length, Some, None, eqb, true, find, OnOk, OnErr, IfOk, IsSome, IsSomeAnd, IfSome};
+ghost use Rattle.std.specs.Prelude.{◌≡◌, ℕ, ◌<◌, ◌≤◌, ◌-◌, List, [], length, Some, None, eqb, true, find, OnOk, OnErr, IfOk, IsSome, IsSomeAnd, IfSome, Option, option_map};
 ghost use Rattle.std.specs.HashMap.{spare};
 ghost use Rattle.std.specs.List.{list_any};
 ghost use Rattle.itch_codec.specs.declared.orders.Side.{Side};
@@ -10,7 +10,7 @@ ghost use Rattle.itch_book.specs.Orders.{get, is_in, is_of, first, after, next_p
 ghost use Rattle.itch_book.specs.TakenShares.{IsLeft};
 ghost use Rattle.itch_book.specs.Indexed.{node_of, queue_of_side, Place, indexed, IsIndexed, IsBusy, IsBusyBut, IsWhole};
 
-use crate::order::{Order, Taken};
+use crate::order::{Order, Placed, Taken, order_of};
 use crate::prices::Prices;
 use crate::queues::Queues;
 use itch_codec::Side;
@@ -150,14 +150,17 @@ impl<A: Allocator + Copy> Index<A> {
         Ok(())
     }
 
-    /// The order of the same locate after that of a reference.
-    pub(crate) fn after(&self, reference: u64) -> Option<&Order>
+    /// The order of the same locate after that of a reference, which is not looked for if it is at this node.
+    pub(crate) fn after(&self, reference: u64, node: usize) -> Option<Placed<'_>>
         requires { IsSome (get self.now reference) }
-        ensures { option_copied result ≡ after self.now reference }
+        ensures { option_map (λ p. p.order.now) result ≡ after self.now reference }
     {
-        let key = known_node(&self.references, reference);
+        let key = node_from(&self.references, &self.queues, reference, node);
         if let Some(next) = self.queues.next(key) {
-            return Some(self.queues.order(next));
+            return Some(Placed {
+                order: self.queues.order(next),
+                place: next,
+            });
         }
         let order = self.queues.order(key);
         let level = self
@@ -167,24 +170,31 @@ impl<A: Allocator + Copy> Index<A> {
             return head_of(&self.queues, queue);
         }
         match order.side {
-            Side::Buy => self.front(order.locate, Side::Sell),
+            Side::Buy => self.best(order.locate, Side::Sell),
             Side::Sell => None,
         }
     }
 
     /// The first order of a locate.
-    pub(crate) fn first(&self, locate: u16) -> Option<&Order>
-        ensures { option_copied result ≡ find (is_in locate) self.now }
+    pub(crate) fn first(&self, locate: u16) -> Option<Placed<'_>>
+        ensures { option_map (λ p. p.order.now) result ≡ find (is_in locate) self.now }
     {
-        match self.front(locate, Side::Buy) {
-            Some(order) => Some(order),
-            None => self.front(locate, Side::Sell),
+        match self.best(locate, Side::Buy) {
+            Some(placed) => Some(placed),
+            None => self.best(locate, Side::Sell),
         }
     }
 
     /// The order of a locate and side that has priority over all others there.
     pub(crate) fn front(&self, locate: u16, side: Side) -> Option<&Order>
-        ensures front { option_copied result ≡ find (is_of locate side) self.now }
+        ensures { option_copied result ≡ find (is_of locate side) self.now }
+    {
+        order_of(self.best(locate, side))
+    }
+
+    // The same, with its node.
+    fn best(&self, locate: u16, side: Side) -> Option<Placed<'_>>
+        ensures front { option_map (λ p. p.order.now) result ≡ find (is_of locate side) self.now }
         ensures book { IsBook self.now }
     {
         let (_price, queue) = self.prices.next_level(locate, side, None)?;
@@ -225,6 +235,23 @@ fn known_node<A: Allocator>(references: &References<A>, reference: u64) -> usize
     ensures { node_of references.now.entries reference ≡ Some result }
 {
     node_at(references, reference).unwrap()
+}
+
+// The node of a reference that has one: this node, if the order is there.
+fn node_from<A: Allocator>(
+    references: &References<A>,
+    queues: &Queues<A>,
+    reference: u64,
+    node: usize,
+) -> usize
+    requires there { IsSome (node_of references.now.entries reference) }
+    requires named { (k : ℕ) → (x : Order) → order_at queues.now k ≡ Some x → node_of references.now.entries x.reference ≡ Some k }
+    ensures { node_of references.now.entries reference ≡ Some result }
+{
+    if queues.has_at(node, reference) {
+        return node;
+    }
+    known_node(references, reference)
 }
 
 // The queue at a price of a side, opened if there is none. If an allocation fails, nothing changes.
@@ -286,13 +313,16 @@ fn take_out<A: Allocator + Copy>(
 }
 
 // The first order of a queue.
-fn head_of<A: Allocator>(queues: &Queues<A>, queue: usize) -> Option<&Order>
+fn head_of<A: Allocator>(queues: &Queues<A>, queue: usize) -> Option<Placed<'_>>
     requires there { IsSome (keys_at queues.now queue) }
     requires live { (ks : List ℕ) → (k : ℕ) → keys_at queues.now queue ≡ Some ks → list_any (eqb k) ks ≡ true → IsSome (order_at queues.now k) }
-    ensures { (ks : List ℕ) → keys_at queues.now queue ≡ Some ks → option_copied result ≡ first (found (order_at queues.now) ks) }
+    ensures { (ks : List ℕ) → keys_at queues.now queue ≡ Some ks → option_map (λ p. p.order.now) result ≡ first (found (order_at queues.now) ks) }
 {
     let key = queues.first(queue)?;
-    Some(queues.order(key))
+    Some(Placed {
+        order: queues.order(key),
+        place: key,
+    })
 }
 
 // Puts an order last in the queue of its price, under its reference. There is room for both.

@@ -4,7 +4,7 @@ ghost use Rattle.itch_book.specs.BookLists.{IsBook-prop};
 
 use crate::book::OrderBook;
 use crate::index::Index;
-use crate::order::{Order, Taken};
+use crate::order::{Order, Placed, Taken};
 use itch_codec::Side;
 use std::alloc::{AllocError, Allocator, Global};
 
@@ -36,12 +36,12 @@ impl<A: Allocator + Copy> OrderBook for IndexedBook<A> {
         self.index.get(reference)
     }
 
-    fn first(&self, locate: u16) -> Option<&Order> {
+    fn first(&self, locate: u16) -> Option<Placed<'_>> {
         self.index.first(locate)
     }
 
-    fn after(&self, reference: u64) -> Option<&Order> {
-        self.index.after(reference)
+    fn after(&self, reference: u64, place: usize) -> Option<Placed<'_>> {
+        self.index.after(reference, place)
     }
 
     fn front(&self, locate: u16, side: Side) -> Option<&Order> {
@@ -77,6 +77,9 @@ impl<A: Allocator + Copy> OrderBook for IndexedBook<A> {
     ) -> Result<(), AllocError> {
         self.index.replace(original, reference, shares, price)
     }
+
+    // The index is kept with each change.
+    fn settle(&mut self) {}
 
     ghost is_book = { λ b. b.is_kept };
 }

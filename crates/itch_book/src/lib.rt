@@ -2,8 +2,8 @@
 //!
 //! An [`OrderBook`] adds, takes, deletes and replaces orders, and gives the best of a side, the next price and the total of a
 //! price level. Its contracts speak only of the list of live orders, so every book meets the same ones: [`ListBook`]
-//! is that list, [`IndexedBook`] is the one to use, and [`SettledBook`] serves where only the last state is looked at. Only adding,
-//! replacing and settling allocate; if that fails, the book is left as it was. `laws` states what holds of every book.
+//! is that list, [`IndexedBook`] is the one to use, and [`SettledBook`] serves where only the last state is looked at. Only adding
+//! and replacing allocate; if that fails, the book is left as it was. `laws` states what holds of every book.
 //!
 //! ```
 //! let mut book = IndexedBook::new(alloc);
@@ -33,5 +33,5 @@ mod settled_book;
 pub use book::OrderBook;
 pub use indexed_book::IndexedBook;
 pub use list_book::ListBook;
-pub use order::{Order, Taken};
+pub use order::{Order, Placed, Taken};
 pub use settled_book::SettledBook;

@@ -1,23 +1,59 @@
-//! A line: orders in snapshot order, in which they are found by search.
-ghost use Rattle.std.specs.Prelude.{◌≡◌, map, find};
-ghost use Rattle.std.specs.Option.{option_copied};
+//! A line: orders in snapshot order, in which they are found by search, or from one to the next.
+ghost use Rattle.std.specs.Prelude.{◌≡◌, ◌+◌, ◌<◌, ◌↔◌, IsTrue, IsSomeAnd, IfSome, length, drop, map, find, option_map, slice_get};
 ghost use Rattle.itch_book.specs.StableLists.{IsInOrder};
-ghost use Rattle.itch_book.specs.Orders.{level_total};
+ghost use Rattle.itch_book.specs.Orders.{is_in, level_total};
 ghost use Rattle.itch_book.specs.Settled.{comes_before, its_order, wants};
 
 use crate::arrived::{Arrived, Wanted, begins, wants};
-use crate::order::Order;
+use crate::order::{Order, Placed};
 use crate::priority::{is_level, stands_before};
 use itch_codec::Side;
 
 // The first that is looked for.
-pub(crate) fn first_in_line(line: &[Arrived], wanted: Wanted) -> Option<&Arrived>
+pub(crate) fn first_in_line(line: &[Arrived], wanted: Wanted) -> Option<Placed<'_>>
     requires { IsInOrder comes_before line.now }
-    ensures { option_copied result ≡ find (wants wanted) line.now }
+    ensures { option_map (λ p. p.order.now) result ≡ option_map its_order (find (wants wanted) line.now) }
 {
     let place = line.partition_point(|one| !begins(&wanted, one));
     let one = line.get(place)?;
-    if wants(&wanted, one) { Some(one) } else { None }
+    if wants(&wanted, one) {
+        Some(Placed {
+            order: &one.order,
+            place,
+        })
+    } else {
+        None
+    }
+}
+
+// Whether the order of a reference stands at a place.
+pub(crate) fn stands_at(line: &[Arrived], reference: u64, place: usize) -> bool
+    ensures { IsTrue result ↔ IsSomeAnd (slice_get line.now place) (λ x. x.order.reference ≡ reference) }
+{
+    match line.get(place) {
+        Some(one) => one.order.reference == reference,
+        None => false,
+    }
+}
+
+// The next order of the locate of the one at a place.
+pub(crate) fn next_in_line(line: &[Arrived], place: usize) -> Option<Placed<'_>>
+    requires order { IsInOrder comes_before line.now }
+    requires within { place < length line.now }
+    ensures { IfSome (slice_get line.now place) (λ x. option_map (λ p. p.order.now) result ≡ find (is_in x.order.locate) (map its_order (drop (place + 1) line.now))) }
+{
+    let here = &line[place];
+    let place = place + 1;
+    // The orders of a locate stand side by side.
+    let next = line.get(place)?;
+    if next.order.locate == here.order.locate {
+        Some(Placed {
+            order: &next.order,
+            place,
+        })
+    } else {
+        None
+    }
 }
 
 // The shares at a price, and the number of orders.
@@ -40,7 +76,7 @@ pub(crate) fn level_in_line(line: &[Arrived], locate: u16, side: Side, price: u3
 }
 
 // The shares at a price, and the number of orders, by going over all of these orders.
-fn total_in(orders: &[Arrived], locate: u16, side: Side, price: u32) -> (u128, u64)
+pub(crate) fn total_in(orders: &[Arrived], locate: u16, side: Side, price: u32) -> (u128, u64)
     ensures { result ≡ level_total (map its_order orders.now) locate side price }
 {
     let mut shares = 0u128;

@@ -5,7 +5,7 @@ ghost use Rattle.itch_book.specs.BookLists.{IsBook-prop};
 
 use crate::book::OrderBook;
 use crate::changes::{exchange, put_in, take_from, take_out};
-use crate::order::{Order, Taken};
+use crate::order::{Order, Placed, Taken, unplaced};
 use crate::priority::{first_in, first_of, next_of, price_after, total_at};
 use itch_codec::Side;
 use std::alloc::{AllocError, Allocator, Global};
@@ -40,12 +40,12 @@ impl<A: Allocator + Copy> OrderBook for ListBook<A> {
             .find(|order| order.reference == reference)
     }
 
-    fn first(&self, locate: u16) -> Option<&Order> {
-        first_in(&self.orders, locate)
+    fn first(&self, locate: u16) -> Option<Placed<'_>> {
+        unplaced(first_in(&self.orders, locate))
     }
 
-    fn after(&self, reference: u64) -> Option<&Order> {
-        next_of(&self.orders, reference)
+    fn after(&self, reference: u64, _place: usize) -> Option<Placed<'_>> {
+        unplaced(next_of(&self.orders, reference))
     }
 
     fn front(&self, locate: u16, side: Side) -> Option<&Order> {
@@ -95,6 +95,9 @@ impl<A: Allocator + Copy> OrderBook for ListBook<A> {
         exchange(&mut self.orders, original, reference, shares, price);
         Ok(())
     }
+
+    // The list is always in snapshot order.
+    fn settle(&mut self) {}
 
     ghost is_book = { λ b. b.is_kept };
 }

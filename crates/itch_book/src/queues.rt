@@ -1,5 +1,5 @@
 //! Queues of orders: nodes linked both ways, and for each queue its ends and totals.
-ghost use Rattle.std.specs.Prelude.{◌≡◌, ℕ, ◌+◌, ◌-◌, ◌<◌, ◌≤◌, ◌^◌, List, [], ◌∷◌, ◌++◌, IsSome, Some, None, Option, option_map, OnOk, eqb, true, IsSomeAnd};
+ghost use Rattle.std.specs.Prelude.{◌≡◌, ℕ, ◌+◌, ◌-◌, ◌<◌, ◌≤◌, ◌^◌, List, [], ◌∷◌, ◌++◌, IsSome, Some, None, Option, option_map, OnOk, eqb, true, IsTrue, ◌↔◌, IsSomeAnd};
 ghost use Rattle.std.specs.List.{list_any};
 ghost use Rattle.slab.specs.Slab.{get, slab_len, ContainsKey};
 ghost use Rattle.itch_book.specs.Links.{at_key, with_after, with_before, unlinked_head, pushed_head, cond_none, first_or};
@@ -168,6 +168,16 @@ impl<A: Allocator> Queues<A> {
         set_node(&mut self.nodes, key, node);
         let head = head_changed(self.heads[queue], had, shares);
         set_head(&mut self.heads, queue, head);
+    }
+
+    /// Whether the order of a reference is at a node.
+    pub(crate) fn has_at(&self, key: usize, reference: u64) -> bool
+        ensures { IsTrue result ↔ IsSomeAnd (order_at self.now key) (λ x. x.reference ≡ reference) }
+    {
+        match self.nodes.get(key) {
+            Some(node) => node.order.reference == reference,
+            None => false,
+        }
     }
 
     /// The order of a node.

@@ -1,32 +1,107 @@
-//! Orders under their references, in no order.
-ghost use Rattle.std.specs.Prelude.{◌≡◌, ◌∷◌, eqb, None, Some, OnOk, OnErr, IsSome, IfOk, IsPermutation, find};
+//! Orders under their references, which stand as they came or in snapshot order.
+ghost use Rattle.std.specs.Prelude.{◌≡◌, ◌<◌, ◌^◌, ◌∷◌, [], eqb, length, None, Some, OnOk, OnErr, IsSome, IsPermutation, find};
 ghost use Rattle.std.specs.Map.{lookup, values_of, set_value, remove_entry};
 ghost use Rattle.std.specs.Option.{option_copied};
 ghost use Rattle.std.specs.Ordering.{is_lt};
 ghost use Rattle.itch_book.specs.StableLists.{in_order};
 ghost use Rattle.itch_book.specs.Orders.{level_total};
-ghost use Rattle.itch_book.specs.Settled.{comes_before, settled, wants, IsApart};
+ghost use Rattle.itch_book.specs.Settled.{comes_before, settled, wants, line_if, IsApart};
+ghost use Rattle.itch_book.specs.Referred.{references_of, IsKnown, IsPlaced};
+ghost use Rattle.itch_table.specs.Table.{at};
 
 use crate::arrived::{Arrived, Wanted, comes_before, sooner, wants};
-use crate::priority::is_level;
+use crate::line::total_in;
 use itch_codec::Side;
-use std::alloc::{AllocError, Allocator};
+use itch_table::Table;
+use std::alloc::{AllocError, Allocator, Global};
 use std::cmp::Ordering;
-use std::collections::HashMap;
-use std::hash::{BuildHasherDefault, FoldHasher};
+use std::marker::Model;
+use std::mem::size_of;
+
+// Two orders to a cache line of 64 bytes.
+const _: () = prove!(size_of::<Arrived>() == 32);
 
 /// The orders under their references.
-pub(crate) type References<A> = HashMap<u64, Arrived, BuildHasherDefault<FoldHasher>, A>;
+///
+/// They stand side by side, and a table has the place of each. So a look-up reads an entry of the table and the order, and
+/// to go over all of them reads nothing else.
+#[derive(Drop)]
+pub(crate) struct References<A: Allocator = Global> {
+    places: Table<A>,
+    orders: Vec<Arrived, A>,
+}
+
+impl<A: Allocator> Model for References<A> {
+    ghost use Rattle.itch_book.specs.Referred.{Referred, under_references, IsReferred};
+
+    ghost Value = { Referred };
+
+    ghost view = { λ r. record { entries = under_references r.orders.items } };
+
+    ghost invariant = { λ r. IsReferred r.places r.orders.items };
+}
+
+impl<A: Allocator> References<A> {
+    /// No orders.
+    pub(crate) fn new(alloc: A) -> Self
+    where
+        A: Copy,
+        ensures { result.entries ≡ [] }
+    {
+        References {
+            places: Table::new(alloc),
+            orders: Vec::new(alloc),
+        }
+    }
+
+    /// The number of orders.
+    pub(crate) fn len(&self) -> usize
+        ensures { result ≡ length self.now.entries }
+    {
+        self.orders.len()
+    }
+
+    /// The order of a reference.
+    pub(crate) fn get(&self, reference: u64) -> Option<&Arrived>
+        ensures { option_copied result ≡ lookup (eqb reference) self.now.entries }
+    {
+        match self.places.get(reference) {
+            Some(place) => Some(&self.orders[place as usize]),
+            None => None,
+        }
+    }
+
+    /// The orders as a line, if they are settled.
+    pub(crate) fn line_if(&self, is_settled: bool) -> Option<&[Arrived]>
+        ensures { option_copied result ≡ line_if is_settled (values_of self.now.entries) }
+    {
+        if is_settled {
+            Some(self.orders.as_slice())
+        } else {
+            None
+        }
+    }
+
+    /// Puts the orders in snapshot order where they stand.
+    pub(crate) fn settle(&mut self)
+        requires { IsApart (values_of self.old.entries) }
+        ensures line { values_of self.new.entries ≡ in_order comes_before (values_of self.old.entries) }
+        ensures entries { IsPermutation self.old.entries self.new.entries }
+    {
+        sort(&mut self.orders);
+        write_places(&mut self.places, &self.orders);
+    }
+}
 
 // The order of a reference that has one.
 pub(crate) fn known<A: Allocator>(references: &References<A>, reference: u64) -> Arrived
     requires { IsSome (lookup (eqb reference) references.now.entries) }
     ensures { lookup (eqb reference) references.now.entries ≡ Some result }
 {
-    *references.get(&reference).unwrap()
+    *references.get(reference).unwrap()
 }
 
-// Puts an order under its reference. If an allocation fails, nothing changes.
+// Puts an order under its reference. If an allocation fails, or if there are 2^32 - 1 orders, nothing changes.
 pub(crate) fn put<A: Allocator + Copy>(
     references: &mut References<A>,
     arrived: Arrived,
@@ -35,39 +110,49 @@ pub(crate) fn put<A: Allocator + Copy>(
     ensures ok { OnOk result (IsPermutation ((arrived.order.reference, arrived) ∷ references.old.entries) references.new.entries) }
     ensures err { OnErr result (references.new.entries ≡ references.old.entries) }
 {
-    match references.insert(arrived.order.reference, arrived) {
-        Ok(_) => Ok(()),
-        Err(_) => Err(AllocError),
+    let place = references.orders.len();
+    if place >= u32::MAX as usize {
+        return Err(AllocError);
     }
+    references.orders.reserve(1)?;
+    references
+        .places
+        .insert(arrived.order.reference, place as u32)?;
+    references.orders.push(arrived).unwrap();
+    Ok(())
 }
 
-// Takes out the order of a reference.
+// Takes out the order of a reference. The last one comes into its place.
 pub(crate) fn cut<A: Allocator>(references: &mut References<A>, reference: u64) -> Arrived
     requires { IsSome (lookup (eqb reference) references.old.entries) }
     ensures found { lookup (eqb reference) references.old.entries ≡ Some result }
     ensures entries { IsPermutation (remove_entry (eqb reference) references.old.entries) references.new.entries }
 {
-    references.remove(&reference).unwrap()
+    let place = references.places.remove(reference);
+    let arrived = references.orders.swap_remove(place as usize);
+    if (place as usize) < references.orders.len() {
+        let moved = references.orders[place as usize].order.reference;
+        references.places.set(moved, place);
+    }
+    arrived
 }
 
-// Writes another order in place of that of a reference.
-pub(crate) fn write<A: Allocator>(references: &mut References<A>, reference: u64, arrived: Arrived)
-    requires { IsSome (lookup (eqb reference) references.old.entries) }
-    ensures { references.new.entries ≡ set_value (eqb reference) references.old.entries arrived }
+// Writes an order in place of that of the same reference.
+pub(crate) fn write<A: Allocator>(references: &mut References<A>, arrived: Arrived)
+    requires { IsSome (lookup (eqb arrived.order.reference) references.old.entries) }
+    ensures { references.new.entries ≡ set_value (eqb arrived.order.reference) references.old.entries arrived }
 {
-    *references.get_mut(&reference).unwrap() = arrived;
+    let place = references.places.get(arrived.order.reference).unwrap();
+    references.orders[place as usize] = arrived;
 }
 
-// The orders as a line. Arrivals differ, so whichever way they are sorted there is one line.
-pub(crate) fn laid<A: Allocator + Copy>(
-    references: &References<A>,
-    alloc: A,
-) -> Result<Vec<Arrived, A>, AllocError>
-    requires { IsApart (values_of references.now.entries) }
-    ensures { IfOk result (λ v. v.items ≡ in_order comes_before (values_of references.now.entries)) }
+// Puts the orders in snapshot order. Arrivals differ, so whichever way they are sorted there is one line.
+fn sort<A: Allocator>(orders: &mut Vec<Arrived, A>)
+    requires { IsApart orders.old.items }
+    ensures line { orders.new.items ≡ in_order comes_before orders.old.items }
+    ensures moved { IsPermutation orders.old.items orders.new.items }
 {
-    let mut line: Vec<Arrived, A> = references.values().copied().collect(alloc)?;
-    line.sort_unstable_by(
+    orders.sort_unstable_by(
         |one: &Arrived, other: &Arrived| -> Ordering
             ensures { is_lt result ≡ comes_before one.now other.now }
         {
@@ -78,7 +163,17 @@ pub(crate) fn laid<A: Allocator + Copy>(
             }
         },
     );
-    Ok(line)
+}
+
+// Writes where each order stands now. The table knows their references, so no memory is taken.
+fn write_places<A: Allocator>(places: &mut Table<A>, orders: &[Arrived])
+    requires few { length orders.now < 2 ^ 32 }
+    requires known { IsKnown (at places.old) (references_of orders.now) }
+    ensures { IsPlaced (at places.new) (references_of orders.now) }
+{
+    for (place, arrived) in orders.iter().enumerate() {
+        places.set(arrived.order.reference, place as u32);
+    }
 }
 
 // The first in snapshot order that is looked for, by going over all orders.
@@ -86,7 +181,7 @@ pub(crate) fn least<A: Allocator>(references: &References<A>, wanted: Wanted) ->
     ensures { option_copied result ≡ find (wants wanted) (in_order comes_before (values_of references.now.entries)) }
 {
     let mut least: Option<&Arrived> = None;
-    for arrived in references.values() {
+    for arrived in &references.orders {
         if wants(&wanted, arrived) {
             least = sooner(arrived, least);
         }
@@ -103,13 +198,5 @@ pub(crate) fn total_of<A: Allocator>(
 ) -> (u128, u64)
     ensures { result ≡ level_total (settled (values_of references.now.entries)) locate side price }
 {
-    let mut shares = 0u128;
-    let mut count = 0u64;
-    for arrived in references.values() {
-        if is_level(&arrived.order, locate, side, price) {
-            shares += u128::from(arrived.order.shares);
-            count += 1;
-        }
-    }
-    (shares, count)
+    total_in(&references.orders, locate, side, price)
 }

@@ -1,11 +1,11 @@
-//! A book that keeps orders as they came, and lays them in snapshot order when it is told to.
-ghost use Rattle.std.specs.Prelude.{◌≡◌, true, OnOk, OnErr};
+//! A book that keeps orders as they came, and puts them in snapshot order when it is told to.
+ghost use Rattle.std.specs.Prelude.{◌≡◌, true};
 ghost use Rattle.itch_book.specs.Orders.{IsBook};
 ghost use Rattle.itch_book.specs.BookLists.{IsBook-prop};
 
 use crate::arrivals::Arrivals;
 use crate::book::OrderBook;
-use crate::order::{Order, Taken};
+use crate::order::{Order, Placed, Taken};
 use itch_codec::Side;
 use std::alloc::{AllocError, Allocator, Global};
 
@@ -38,12 +38,12 @@ impl<A: Allocator + Copy> OrderBook for SettledBook<A> {
         self.arrivals.get(reference)
     }
 
-    fn first(&self, locate: u16) -> Option<&Order> {
+    fn first(&self, locate: u16) -> Option<Placed<'_>> {
         self.arrivals.first(locate)
     }
 
-    fn after(&self, reference: u64) -> Option<&Order> {
-        self.arrivals.after(reference)
+    fn after(&self, reference: u64, place: usize) -> Option<Placed<'_>> {
+        self.arrivals.after(reference, place)
     }
 
     fn front(&self, locate: u16, side: Side) -> Option<&Order> {
@@ -82,23 +82,18 @@ impl<A: Allocator + Copy> OrderBook for SettledBook<A> {
         self.arrivals.replace(original, reference, shares, price)
     }
 
-    ghost is_book = { λ b. b.is_kept };
-}
-
-impl<A: Allocator + Copy> SettledBook<A> {
-    /// Lays the orders in snapshot order, so that until the next change they are found by search.
-    ///
-    /// # Errors
-    ///
-    /// If an allocation fails, the book is left as it was.
-    pub fn settle(&mut self) -> Result<(), AllocError>
+    // Puts the orders in snapshot order.
+    fn settle(&mut self)
         ensures orders { self.new.arrivals.orders ≡ self.old.arrivals.orders }
-        ensures ok { OnOk result (self.new.arrivals.is_settled ≡ true) }
-        ensures err { OnErr result (self.new.arrivals ≡ self.old.arrivals) }
+        ensures settled { self.new.arrivals.is_settled ≡ true }
     {
         self.arrivals.settle()
     }
 
+    ghost is_book = { λ b. b.is_kept };
+}
+
+impl<A: Allocator + Copy> SettledBook<A> {
     /// Whether the book is settled, so that orders are found by search.
     pub fn is_settled(&self) -> bool
         ensures { result ≡ self.now.arrivals.is_settled }

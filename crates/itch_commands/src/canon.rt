@@ -91,6 +91,7 @@ fn is_canonical<R: CountedRead, A: Allocator, B: OrderBook>(
     if !read_end(reader)? {
         return Ok(false);
     }
+    loader.settle_market();
     Ok(is_closed(copy.as_slice(), loader.market(), next))
 }
 

@@ -1,5 +1,5 @@
 //! A file of either kind, and the market that it leaves.
-ghost use Rattle.std.specs.Prelude.{◌<◌, ◌^◌, length, IfOk};
+ghost use Rattle.std.specs.Prelude.{◌≡◌, ◌<◌, ◌^◌, length, IfOk};
 ghost use Rattle.itch_snapshot.specs.Snapshot.{snap};
 ghost use Rattle.itch_commands.specs.Files.{LeavesFile, ReadsFile};
 ghost use Rattle.itch_commands.specs.Readings.{ReadsSnap};
@@ -7,7 +7,7 @@ ghost use Rattle.itch_commands.specs.declared.kind.FileKind.TheVariants.{Day, Sn
 
 use crate::fault::{Source, ToolFault};
 use crate::limit::Limit;
-use crate::reading::read_market;
+use crate::reading::read_settled;
 use itch_book::OrderBook;
 use itch_codec::Seq;
 use itch_frame::{BlockReader, CountedRead};
@@ -26,7 +26,7 @@ pub enum FileKind {
 
 /// The market that a file leaves, and the number of the first message that is not in it.
 ///
-/// A day file is refused as [`read_market`] says, and a snapshot file as `canon` refuses it.
+/// A day file is refused as [`read_market`](crate::read_market) says, and a snapshot file as `canon` refuses it.
 pub fn file_market<R: CountedRead, A: Allocator, B: OrderBook>(
     alloc: B::Alloc,
     reader: &mut BlockReader<R, A>,
@@ -50,7 +50,7 @@ fn day_market<R: CountedRead, A: Allocator, B: OrderBook>(
     ensures { LeavesFile (ReadsFile R.remaining R.failures file (Day limit) reader.old reader.new) result }
 {
     let mut market = Market::new(alloc);
-    let count = read_market(reader, &mut market, limit, file)?;
+    let count = read_settled(reader, &mut market, limit, file)?;
     let next = Seq::new(count + 1).unwrap();
     Ok((market, next))
 }
@@ -77,7 +77,15 @@ pub fn snapshot_market<R: CountedRead, A: Allocator, B: OrderBook>(
     ensures few { IfOk result (λ done. length (snap done.0) < 10 ^ 19) }
 {
     match read_snapshot(alloc, reader) {
-        Ok(done) => Ok(done),
+        Ok((market, next)) => Ok((settled(market), next)),
         Err(fault) => Err(ToolFault::Snap { file, fault }),
     }
+}
+
+// A market that is only looked at from here on.
+fn settled<B: OrderBook>(mut market: Market<B>) -> Market<B>
+    ensures { result ≡ market }
+{
+    market.settle();
+    market
 }

@@ -1,6 +1,9 @@
-//! The book of orders that every command uses.
+//! The books of orders that the commands use.
 
-use itch_book::IndexedBook;
+use itch_book::{IndexedBook, SettledBook};
 
-/// The one that every command uses.
-pub type Book<A> = IndexedBook<A>;
+/// The one for a market that is looked at once all messages are read. It is settled first.
+pub type Book<A> = SettledBook<A>;
+
+/// The one for a market that is looked at between messages.
+pub(crate) type LiveBook<A> = IndexedBook<A>;

@@ -38,6 +38,22 @@ pub fn read_market<R: CountedRead, A: Allocator, B: OrderBook>(
     Ok(most)
 }
 
+/// The same, for a market that is only looked at from then on: it is settled.
+pub(crate) fn read_settled<R: CountedRead, A: Allocator, B: OrderBook>(
+    reader: &mut BlockReader<R, A>,
+    market: &mut Market<B>,
+    limit: Limit,
+    file: Source,
+) -> Result<u64, ToolFault>
+    ensures reads { ReadsMarket file limit market.old (bytes_left R.remaining reader.old) (bytes_left R.remaining reader.new) result market.new }
+    ensures failures { CountsRead result (R.failures reader.old.reader) (R.failures reader.new.reader) }
+    ensures reader { LeavesDay result limit reader.old reader.new }
+{
+    let read = read_market(reader, market, limit, file);
+    market.settle();
+    read
+}
+
 // Applies the next message, unless there were as many as may be (`is_full`), and returns true; or returns false if it is late.
 fn read_next<R: CountedRead, A: Allocator, B: OrderBook>(
     reader: &mut BlockReader<R, A>,

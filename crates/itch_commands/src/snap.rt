@@ -9,7 +9,7 @@ mod stocks;
 use crate::fault::{Source, ToolFault};
 use crate::limit::Limit;
 use crate::order_book::Book;
-use crate::reading::read_market;
+use crate::reading::read_settled;
 use crate::writing::write_closed_of;
 use itch_book::OrderBook;
 use itch_codec::Seq;
@@ -61,7 +61,7 @@ fn snap_over<R: CountedRead, A: Allocator, B: OrderBook, W: CountedWrite>(
     ensures { Snaps R.remaining R.failures W.contents W.failures limit (option_copied only.entry) (FromBlocks reader.old reader.new) out.old result out.new }
 {
     let mut market: Market<B> = Market::new(alloc);
-    let count = read_market(reader, &mut market, limit, Source::Only)?;
+    let count = read_settled(reader, &mut market, limit, Source::Only)?;
     let next = Seq::new(count + 1).unwrap();
     write_closed_of(&market, only, next, out)
 }

@@ -148,6 +148,16 @@ impl<B: OrderBook> Joiner<B> {
         Some(&position.market)
     }
 
+    /// Tells the market that look-ups follow, as [`Market::settle`] does. Nothing changes, and no memory is taken.
+    pub fn settle_market(&mut self)
+        ensures { self.new ≡ self.old }
+    {
+        if let Some(mut position) = self.joined.take() {
+            position.market.settle();
+            self.joined = Some(position);
+        }
+    }
+
     /// The number of messages that wait.
     pub fn waiting(&self) -> usize
         ensures { result ≡ map.len self.now.state.wait }

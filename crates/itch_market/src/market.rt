@@ -102,6 +102,13 @@ impl<B: OrderBook> Market<B> {
         Ok(())
     }
 
+    /// Tells the market's book that look-ups follow, so that it may make them fast. Nothing changes, and no memory is taken.
+    pub fn settle(&mut self)
+        ensures { self.new ≡ self.old }
+    {
+        self.book.settle();
+    }
+
     /// The live orders.
     pub fn book(&self) -> &B
         ensures orders { B.orders result.now ≡ self.now.orders }

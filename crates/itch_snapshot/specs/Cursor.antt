@@ -5,6 +5,7 @@ use Rattle.std.specs.List.{flat_map, AllByRecursion}
 use Rattle.std.specs.FinMap as finite
 use Rattle.itch_codec.specs.declared.message.Message.{Message}
 use Rattle.itch_book.specs.declared.order.Order.{Order}
+use Rattle.itch_book.specs.declared.order.Placed.{Placed}
 use Rattle.itch_book.specs.Orders as book
 use Rattle.itch_market.specs.Content.{Content, Listing}
 use Rattle.itch_market.specs.Partial.{only}
@@ -18,9 +19,9 @@ abbrev pub listed : Option (List Message) → List Message
 listed None = []
 listed (Some messages) = messages
 
--- the order with the stock of its locate
-abbrev pub named : List ℕ → Option Order → Option NamedOrder
-named stock order = option_map (λ x. record { stock = stock; order = x }) order
+-- the order with the stock of its locate, and its place
+abbrev pub named : List ℕ → Option Placed → Option NamedOrder
+named stock placed = option_map (λ p. record { stock = stock; order = p.order.now; place = p.place }) placed
 
 -- an order, and the orders of its locate after it
 abbrev pub order_parts : List Order → Option NamedOrder → List Message

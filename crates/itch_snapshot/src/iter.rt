@@ -117,7 +117,7 @@ impl<'a, B: OrderBook> Iterator for SnapshotIter<'a, B> {
         }
         let book = self.market.book();
         if let Some(next) = self.order {
-            self.order = named(next.stock, book.after(next.order.reference));
+            self.order = named(next.stock, book.after(next.order.reference, next.place));
             return Some(order_message(next));
         }
         let locate = next_wanted(&mut self.locates, self.set)?;

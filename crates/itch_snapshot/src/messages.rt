@@ -1,13 +1,12 @@
 //! The messages that make up a snapshot.
 ghost use Rattle.std.specs.Prelude.{◌≡◌};
-ghost use Rattle.std.specs.Option.{option_copied};
 ghost use Rattle.itch_book.specs.declared.order.Order.{Order};
 ghost use Rattle.itch_snapshot.specs.declared.named_order.NamedOrder.{NamedOrder};
 ghost use Rattle.itch_snapshot.specs.Snapshot.{header_at, order_part};
 ghost use Rattle.itch_snapshot.specs.Cursor.{named};
 
 use crate::named_order::NamedOrder;
-use itch_book::Order;
+use itch_book::Placed;
 use itch_codec::{AddOrder, Alpha, AttributedAddOrder, Header, Message, Stamp};
 
 // The header of a snapshot's message.
@@ -22,11 +21,15 @@ pub(crate) fn header_at(locate: u16) -> Header
 }
 
 // The order with the stock of its locate.
-pub(crate) fn named(stock: Alpha<8>, order: Option<&Order>) -> Option<NamedOrder>
-    ensures { result ≡ named stock (option_copied order.entry) }
+pub(crate) fn named(stock: Alpha<8>, placed: Option<Placed<'_>>) -> Option<NamedOrder>
+    ensures { result ≡ named stock placed.entry }
 {
-    let order = *order?;
-    Some(NamedOrder { stock, order })
+    let placed = placed?;
+    Some(NamedOrder {
+        stock,
+        order: *placed.order,
+        place: placed.place,
+    })
 }
 
 // The message of a live order.

@@ -138,6 +138,13 @@ impl<B: OrderBook> SnapshotReader<B> {
         &self.market
     }
 
+    /// Tells the market that look-ups follow, as [`Market::settle`] does. Nothing changes, and no memory is taken.
+    pub fn settle_market(&mut self)
+        ensures { self.new ≡ self.old }
+    {
+        self.market.settle();
+    }
+
     /// The market and the number of the first message that it does not contain, after the End of Snapshot. Before it the
     /// reader itself is returned.
     pub fn finish(self) -> Result<(Market<B>, Seq), SnapshotReader<B>>

@@ -56,7 +56,7 @@ fn settled_book_of_many_orders(rt: HostRuntime) -> Result<(), Fail> {
     fill(&rt, &mut book)?;
     replace_first(&rt, &mut book)?;
     check_changed(&rt, &book);
-    book.settle()?;
+    book.settle();
     assert!(rt; book.is_settled());
     check_changed(&rt, &book);
     Ok(())

@@ -1,8 +1,6 @@
 //! Settled books by the same rows as the others: one that is never settled, and one that is settled after each change.
-ghost use Rattle.std.specs.Prelude.{◌≡◌};
-
 use super::{add, check_calls, check_priority, first, order};
-use itch_book::{Order, OrderBook, SettledBook, Taken};
+use itch_book::{Order, OrderBook, Placed, SettledBook, Taken};
 use itch_codec::Side;
 use std::alloc::{AllocError, Allocator, Global};
 use std::test::Fail;
@@ -11,15 +9,6 @@ use std::test::Fail;
 #[derive(Drop)]
 pub(super) struct Settling<A: Allocator = Global> {
     book: SettledBook<A>,
-}
-
-impl<A: Allocator + Copy> Settling<A> {
-    // Without memory the book is not settled, which no look-up shows.
-    fn settle(&mut self)
-        ensures { self.new.book.arrivals.orders ≡ self.old.book.arrivals.orders }
-    {
-        let _refused = self.book.settle();
-    }
 }
 
 impl<A: Allocator + Copy> OrderBook for Settling<A> {
@@ -41,12 +30,12 @@ impl<A: Allocator + Copy> OrderBook for Settling<A> {
         self.book.get(reference)
     }
 
-    fn first(&self, locate: u16) -> Option<&Order> {
+    fn first(&self, locate: u16) -> Option<Placed<'_>> {
         self.book.first(locate)
     }
 
-    fn after(&self, reference: u64) -> Option<&Order> {
-        self.book.after(reference)
+    fn after(&self, reference: u64, place: usize) -> Option<Placed<'_>> {
+        self.book.after(reference, place)
     }
 
     fn front(&self, locate: u16, side: Side) -> Option<&Order> {
@@ -63,19 +52,19 @@ impl<A: Allocator + Copy> OrderBook for Settling<A> {
 
     fn add(&mut self, order: Order) -> Result<(), AllocError> {
         self.book.add(order)?;
-        self.settle();
+        self.book.settle();
         Ok(())
     }
 
     fn take(&mut self, reference: u64, shares: u32) -> Taken {
         let left = self.book.take(reference, shares);
-        self.settle();
+        self.book.settle();
         left
     }
 
     fn delete(&mut self, reference: u64) -> Order {
         let order = self.book.delete(reference);
-        self.settle();
+        self.book.settle();
         order
     }
 
@@ -87,8 +76,12 @@ impl<A: Allocator + Copy> OrderBook for Settling<A> {
         price: u32,
     ) -> Result<(), AllocError> {
         self.book.replace(original, reference, shares, price)?;
-        self.settle();
+        self.book.settle();
         Ok(())
+    }
+
+    fn settle(&mut self) {
+        self.book.settle();
     }
 
     ghost is_book = { λ b. b.book.is_kept };
@@ -113,11 +106,11 @@ fn settled_book_keeps_priority(rt: HostRuntime) -> Result<(), Fail> {
 fn settled_until_a_change(rt: HostRuntime) -> Result<(), Fail> {
     let mut book: SettledBook = SettledBook::new(rt.alloc());
     assert!(rt; !book.is_settled());
-    book.settle()?;
+    book.settle();
     assert!(rt; book.is_settled());
     add(&rt, &mut book, order(1, Side::Buy, 10, 1500000))?;
     assert!(rt; !book.is_settled());
-    book.settle()?;
+    book.settle();
     assert!(rt; book.is_settled());
     assert!(rt; first(&book, 1).is_some());
     Ok(())

@@ -1,6 +1,6 @@
 //! Two books side by side: random calls return the same, and leave the same orders.
 use super::settled::Settling;
-use super::{add, after, delete, first, live, order, replace, take};
+use super::{add, after, after_at, delete, first, live, order, replace, take, unplaced};
 use crate::equal::same;
 use itch_book::{IndexedBook, ListBook, Order, OrderBook, SettledBook};
 use itch_codec::Side;
@@ -104,24 +104,20 @@ fn check_live<B: OrderBook, C: OrderBook>(
     same(rt, &live(other, reference), want);
 }
 
-// Checks that both books have the same order after that of a reference.
-fn check_after<B: OrderBook, C: OrderBook>(rt: &impl Abort, one: &B, other: &C, reference: u64) {
-    let next = after(rt, one, reference);
-    same(rt, after(rt, other, reference), next);
-}
-
-// Checks that both books have the same orders of a locate, in the same order.
+// Checks that both books have the same orders of a locate, in the same order: those of the other book from place to place.
 fn check_orders<B: OrderBook, C: OrderBook>(rt: &impl Abort, one: &B, other: &C, locate: u16) {
     let mut next = first(one, locate);
-    same(rt, &first(other, locate), &next);
+    let mut beside = other.first(locate);
     for _ in 0..one.len() {
-        let Some(Order { reference, .. }) = next else {
+        same(rt, &unplaced(beside), &next);
+        let (Some(Order { reference, .. }), Some(placed)) = (next, beside) else {
             break;
         };
         check_live(rt, one, other, reference, &next);
-        check_after(rt, one, other, reference);
         next = after(rt, one, reference);
+        beside = after_at(rt, other, reference, placed.place);
     }
+    same(rt, &unplaced(beside), &next);
 }
 
 // Checks that both books have the same first order, prices and totals of a side.

@@ -1,5 +1,5 @@
 //! What a market holds, by its calls.
-use crate::book::{after, has_len};
+use crate::book::{after, first, has_len};
 use itch_book::{Order, OrderBook};
 use itch_codec::{Alpha, Directory};
 use itch_market::{Action, Market, Security};
@@ -48,7 +48,7 @@ fn push_orders<B: OrderBook>(
     locate: u16,
     orders: &mut Vec<Order>,
 ) -> Result<(), AllocError> {
-    let mut next = book.first(locate).copied();
+    let mut next = first(book, locate);
     for _ in 0..book.len() {
         let Some(order) = next else { return Ok(()) };
         let reference = order.reference;

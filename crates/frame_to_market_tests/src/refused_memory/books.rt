@@ -1,5 +1,5 @@
 //! Orders added and replaced.
-use crate::book::{after, has_len, live, next_price, take, total};
+use crate::book::{after, first, has_len, live, next_price, total};
 use crate::equal::same;
 use itch_book::{IndexedBook, ListBook, Order, OrderBook, SettledBook};
 use itch_codec::Side;
@@ -50,7 +50,7 @@ fn listed<B: OrderBook>(
     book: &B,
 ) -> Result<Vec<Order>, AllocError> {
     let mut orders = Vec::new(alloc);
-    let mut next = book.first(1).copied();
+    let mut next = first(book, 1);
     for _ in 0..book.len() {
         let Some(order) = next else { break };
         let reference = order.reference;
@@ -218,35 +218,17 @@ fn a_settled_book_stays_as_it_was(rt: HostRuntime) -> Result<(), Fail> {
     Ok(())
 }
 
-// Settles a book with each allocation refused in turn, and then with memory. Returns how many were refused.
-fn refuse_to_settle(
-    rt: &impl Abort,
-    alloc: Global,
-    refusing: &Refusing<Global>,
-    book: &mut SettledBook<&Refusing<Global>>,
-) -> Result<u64, AllocError> {
-    let orders = listed(rt, alloc, book)?;
-    for nth in 0..16 {
-        // Even a change of no shares leaves the book unsettled.
-        take(rt, book, 1, 0);
-        refusing.arm(nth);
-        let settled = book.settle().is_ok();
-        assert!(rt; settled || refusing.has_refused());
-        assert!(rt; settled == book.is_settled());
-        has_orders(rt, alloc, book, &orders)?;
-        if !refusing.has_refused() {
-            return Ok(nth);
-        }
-    }
-    panic!(rt; "more than 16 allocations")
-}
-
+// Orders are sorted where they stand.
 #[test]
-fn a_book_that_is_not_settled_stays_as_it_was(rt: HostRuntime) -> Result<(), Fail> {
+fn a_book_is_settled_without_memory(rt: HostRuntime) -> Result<(), Fail> {
     let refusing = Refusing::new(rt.alloc(), 0);
     let mut book: SettledBook<&Refusing<Global>> = SettledBook::new(&refusing);
     grow(&rt, rt.alloc(), &refusing, &mut book, 100, 3)?;
-    let refused = refuse_to_settle(&rt, rt.alloc(), &refusing, &mut book)?;
-    assert!(rt; refused > 0);
+    let orders = listed(&rt, rt.alloc(), &book)?;
+    refusing.arm(0);
+    book.settle();
+    assert!(rt; !refusing.has_refused());
+    assert!(rt; book.is_settled());
+    has_orders(&rt, rt.alloc(), &book, &orders)?;
     Ok(())
 }

@@ -17,7 +17,7 @@ use crate::fault::{Source, ToolFault};
 use crate::form::Form;
 use crate::limit::Limit;
 use crate::line::Line;
-use crate::order_book::Book;
+use crate::order_book::LiveBook;
 use crate::reading::stopped;
 use crate::writing::write_text;
 use itch_book::OrderBook;
@@ -71,7 +71,7 @@ pub fn compare_first_blocks<
     ensures { ComparesFirst R.remaining R.failures S.remaining S.failures W.contents W.failures form limit (FromBlocks first.old first.new) (FromBlocks second.old second.new)
         out.old result out.new }
 {
-    compare_first_over::<R, S, B, C, Book<A>, W>(alloc, first, second, limit, form, out)
+    compare_first_over::<R, S, B, C, LiveBook<A>, W>(alloc, first, second, limit, form, out)
 }
 
 // The same with any book of orders.

@@ -75,6 +75,7 @@ fn join_with<
 {
     read_start(snapshot, joiner)?;
     read_feed(feed, joiner)?;
+    joiner.settle_market();
     write_stocks(alloc, joiner, names, out)
 }
 

@@ -6,7 +6,7 @@ ghost use Rattle.itch_commands.specs.Stocks.{names_of};
 use crate::fault::{Source, ToolFault};
 use crate::limit::Limit;
 use crate::order_book::Book;
-use crate::reading::read_market;
+use crate::reading::read_settled;
 use crate::stocks::stock_locates;
 use crate::writing::write_closed_of;
 use itch_book::OrderBook;
@@ -42,7 +42,7 @@ fn stocks_over<R: CountedRead, A: Allocator, B: OrderBook, W: CountedWrite>(
     ensures { SnapsStocks R.remaining R.failures W.contents W.failures limit (names_of names.now) (FromBlocks reader.old reader.new) out.old result out.new }
 {
     let mut market: Market<B> = Market::new(alloc);
-    let count = read_market(reader, &mut market, limit, Source::Only)?;
+    let count = read_settled(reader, &mut market, limit, Source::Only)?;
     let next = Seq::new(count + 1).unwrap();
     let set = stock_locates(alloc, &market, names)?;
     write_closed_of(&market, Some(&set), next, out)

@@ -48,7 +48,10 @@ fn fetch_over<R: CountedRead, A: Allocator, B: OrderBook, V: CountedWrite, W: Co
         credentials,
     );
     match fetched {
-        Ok((market, next)) => write_closed(&market, next, out),
+        Ok((mut market, next)) => {
+            market.settle();
+            write_closed(&market, next, out)
+        }
         Err(fault) => Err(ToolFault::Soup(fault)),
     }
 }

@@ -1,6 +1,6 @@
-use Rattle.std.proofs.Common.{◌≡◌, ℕ, List, [], ◌∷◌, Option, Some, None, refl, sym, ap, ◌∙◌}
-use Rattle.std.specs.Option.{option_copied}
+use Rattle.std.proofs.Common.{◌≡◌, ℕ, List, [], ◌∷◌, Option, Some, None, option_map, refl, sym, ap, ◌∙◌}
 use Rattle.itch_book.specs.declared.order.Order.{Order}
+use Rattle.itch_book.specs.declared.order.Placed.{Placed}
 use Rattle.itch_book.specs.Links.{first_or}
 use Rattle.itch_book.specs.Orders.{first}
 use Rattle.itch_book.specs.Queued.{keys_at, order_at, shown, found}
@@ -25,4 +25,4 @@ pub returns : goal.returns
 returns g c ks keys = first_found (order_at c.args.queues.now) c.in_ok-key.key c.order.result.now ks (sym (c.in_ok-key.ensures ks keys)) c.order.ensures
 
 pub returns-in_err-key : goal.returns-in_err-key
-returns-in_err-key g c ks keys = ap option_copied c.from_residual.ensures ∙ none_found (order_at c.args.queues.now) ks (sym (c.in_err-key.ensures ks keys))
+returns-in_err-key g c ks keys = ap (option_map (λ (p : Placed). p.order.now)) c.from_residual.ensures ∙ none_found (order_at c.args.queues.now) ks (sym (c.in_err-key.ensures ks keys))

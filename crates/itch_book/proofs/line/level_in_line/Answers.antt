@@ -1,4 +1,4 @@
-use Rattle.std.proofs.Common.{◌≡◌, not, true, false, rules, sym, ◌∙◌}
+use Rattle.std.proofs.Common.{◌≡◌, true, false, rules, ◌∙◌}
 use Rattle.std.specs.List.Sorted.{IsPartitionPoint}
 use Rattle.std.proofs.lemmas.List.Sorted.{IsPartitionPoint-from_clause}
 use Rattle.itch_book.specs.declared.arrived.Arrived.{Arrived}

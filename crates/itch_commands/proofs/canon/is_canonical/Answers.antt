@@ -12,7 +12,7 @@ pub returns : goal.returns
 returns g c =
     checked_alone g.R.CountedRead.remaining g.R.CountedRead.failures c.args.reader.now c.copy_snapshot.new.reader c.read_end.new.reader c.copy_snapshot.new.loader.market c.in_ok-next.next
     c.copy_snapshot.new.copy.items c.in_ok-next.ensures.steps c.in_ok-next.ensures.failures c.is_closed.result (rw c.if-not-branch.false at c.in_ok-read_end.ensures.step) c.in_ok-read_end.ensures.failures
-    (rw (c.as_slice.ensures.value, c.market.ensures) at c.is_closed.ensures)
+    (rw (c.as_slice.ensures.value, c.market.ensures, c.settle_market.ensures) at c.is_closed.ensures)
 
 pub returns-then-not-branch : goal.returns-then-not-branch
 returns-then-not-branch g c =

@@ -21,7 +21,7 @@ returns g c =
     let fed = c.in_ok-read_feed.ensures in
     joins g.W.CountedWrite.contents g.W.CountedWrite.failures starts (c.read_feed.new.reader ≡ c.args.feed.now) follows c.args.out.now c.write_joined.new.out c.write_joined.result
     start fed.0 c.read_feed.new.joiner.state read.0
-    (feeds_along g.S.CountedRead.remaining g.S.CountedRead.failures _ _ c.args.feed.now c.read_feed.new.reader start (Ok fed.0) c.read_start.ensures.set fed.1) fed.2 c.write_joined.ensures
+    (feeds_along g.S.CountedRead.remaining g.S.CountedRead.failures _ _ c.args.feed.now c.read_feed.new.reader start (Ok fed.0) c.read_start.ensures.set fed.1) fed.2 (rw c.settle_market.ensures at c.write_joined.ensures)
 
 pub returns-in_err-read_feed : goal.returns-in_err-read_feed
 returns-in_err-read_feed g c =

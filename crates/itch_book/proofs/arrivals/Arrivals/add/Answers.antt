@@ -1,4 +1,4 @@
-use Rattle.std.proofs.Common.{◌≡◌, true, List, None, rules, ap, ◌∙◌}
+use Rattle.std.proofs.Common.{◌≡◌, true, List, rules, ap, ◌∙◌}
 use Rattle.itch_book.specs.declared.order.Order.{Order}
 use Rattle.itch_book.specs.Orders.{get, lay, added, fits, IsLive}
 use Rattle.itch_book.proofs.ArrivedSteps.{fresh_there, put_is, put_arrived, orders_of}

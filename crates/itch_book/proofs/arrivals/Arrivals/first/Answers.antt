@@ -1,16 +1,14 @@
-use Rattle.std.proofs.Common.{List, Option, find, option_map, refl, ap, ◌∙◌}
+use Rattle.std.proofs.Common.{List, find, refl, ap, ◌∙◌}
 use Rattle.std.specs.Map.{values_of}
 use Rattle.itch_book.specs.declared.order.Order.{Order}
-use Rattle.itch_book.specs.declared.arrived.Arrived.{Arrived}
 use Rattle.itch_book.specs.declared.arrived.Wanted.TheVariants.{In}
 use Rattle.itch_book.specs.Orders.{is_in}
-use Rattle.itch_book.specs.Settled.{its_order}
 use Rattle.itch_book.proofs.LeastLemmas.{least_order}
 use Rattle.itch_book.proofs.ArrivedSteps.{orders_of}
 use Rattle.itch_book.proofs.arrivals.Arrivals.first.Goals as goal
 
 pub returns : goal.returns
 returns g c =
-    c.order_of.ensures ∙ ap (λ (o : Option Arrived). option_map its_order o) c.sought.ensures
+    c.sought.ensures
     ∙ least_order (is_in c.args.locate) (In c.args.locate) (λ x. refl) (values_of c.self.inside.references.entries)
     ∙ ap (λ (os : List Order). find (is_in c.args.locate) os) (ap orders_of c.self.view_is)

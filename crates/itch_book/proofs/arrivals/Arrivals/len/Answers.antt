@@ -4,4 +4,4 @@ use Rattle.itch_book.proofs.ArrivedSteps.{as_many, orders_of}
 use Rattle.itch_book.proofs.arrivals.Arrivals.len.Goals as goal
 
 pub returns : goal.returns
-returns g c = c.len.ensures.len ∙ as_many c.self.inside.references.entries ∙ ap (λ (os : List Order). length os) (ap orders_of c.self.view_is)
+returns g c = c.len.ensures ∙ as_many c.self.inside.references.entries ∙ ap (λ (os : List Order). length os) (ap orders_of c.self.view_is)

@@ -1,7 +1,9 @@
-use Rattle.std.proofs.Common.{◌≡◌, ◌≤◌, ◌<◌, ◌-◌, List, Some, refl, ap, ◌∙◌, arith}
+use Rattle.std.proofs.Common.{◌≡◌, ℕ, ◌<◌, ◌-◌, eqb, List, Some, IsSome, refl, sym, ap, ◌∙◌, subst, arith}
+use Rattle.std.specs.Map.{lookup, set_value}
 use Rattle.itch_book.specs.declared.order.Order.{Order}
 use Rattle.itch_book.specs.Orders.{get, lay, taken}
-use Rattle.itch_book.proofs.ArrivedSteps.{there, some_there, found_there, enough_there, cut_taken, cut_arrived, written_is, written_arrived, orders_of}
+use Rattle.itch_book.proofs.ArrivedSteps.{there, own_there, some_there, found_there, enough_there, cut_taken, cut_arrived, written_is, written_arrived, orders_of}
+use Rattle.itch_book.proofs.SettledLemmas.{lessened}
 use Rattle.itch_book.proofs.arrivals.Arrivals.take.Goals as goal
 
 pub known-arrived-requires : goal.known-arrived-requires
@@ -24,15 +26,26 @@ returns-then-left-eq0-clause-left g c =
     let found : get c.args.self.now.orders c.args.reference ≡ Some c.known-arrived.result.order = found_there c.args.reference _ _ _ c.known-arrived.result c.self.invariant.arrived (ap orders_of c.self.view_is) c.known-arrived.ensures in
     rw found c.if-left-eq0.true
 
+pub write-requires : goal.write-requires
+write-requires g c =
+    let own = own_there c.args.reference c.self.inside.references.entries c.known-arrived.result c.self.invariant.arrived.keyed c.known-arrived.ensures in
+    subst (λ (k : ℕ). IsSome (lookup (eqb k) c.self.inside.references.entries)) (sym own) (there c.args.reference _ _ _ c.self.invariant.arrived (ap orders_of c.self.view_is) (some_there _ _ c.requires))
+
 pub invariant_of-self-2 : goal.invariant_of-self-2
 invariant_of-self-2 g c =
     let some : 0 < c.known-arrived.result.order.shares - c.args.shares = omega (arith, c.if-left-eq0.false) in
-    record { arrived = written_arrived c.args.reference c.args.shares _ _ _ c.known-arrived.result c.self.invariant.arrived c.known-arrived.ensures c.write.ensures some; line = tt }
+    let own = own_there c.args.reference c.self.inside.references.entries c.known-arrived.result c.self.invariant.arrived.keyed c.known-arrived.ensures in
+    let now : c.write.new.references.entries ≡ set_value (eqb c.args.reference) c.self.inside.references.entries (lessened c.args.shares c.known-arrived.result) =
+    c.write.ensures ∙ ap (λ (k : ℕ). set_value (eqb k) c.self.inside.references.entries (lessened c.args.shares c.known-arrived.result)) own in
+    record { arrived = written_arrived c.args.reference c.args.shares _ _ _ c.known-arrived.result c.self.invariant.arrived c.known-arrived.ensures now some; line = tt }
 
 pub returns-clause-orders : goal.returns-clause-orders
 returns-clause-orders g c =
     let some : 0 < c.known-arrived.result.order.shares - c.args.shares = omega (arith, c.if-left-eq0.false) in
-    written_is c.args.reference c.args.shares _ _ _ c.known-arrived.result c.self.invariant.arrived c.known-arrived.ensures c.write.ensures some
+    let own = own_there c.args.reference c.self.inside.references.entries c.known-arrived.result c.self.invariant.arrived.keyed c.known-arrived.ensures in
+    let now : c.write.new.references.entries ≡ set_value (eqb c.args.reference) c.self.inside.references.entries (lessened c.args.shares c.known-arrived.result) =
+    c.write.ensures ∙ ap (λ (k : ℕ). set_value (eqb k) c.self.inside.references.entries (lessened c.args.shares c.known-arrived.result)) own in
+    written_is c.args.reference c.args.shares _ _ _ c.known-arrived.result c.self.invariant.arrived c.known-arrived.ensures now some
     ∙ ap (λ (os : List Order). lay (taken c.args.reference c.args.shares os)) (ap orders_of c.self.view_is)
 
 pub returns-clause-left : goal.returns-clause-left

@@ -85,26 +85,26 @@ first_some : (w : Seen) (q : ℕ) (ks : List ℕ) → ((k : ℕ) → list_any (e
 first_some w q [] full has = absurd (false≢true has)
 first_some w q (k ∷ ks) full has = let x = order_some (w.orders k) (full k (in_head k ks)) in subst IsSome (sym (head_found w.orders k ks x.0 x.1)) refl
 
-pub known_node-key-requires : goal.known_node-key-requires
-known_node-key-requires g c =
+pub node_from-key-requires-clause-there : goal.node_from-key-requires-clause-there
+node_from-key-requires-clause-there g c =
     some_node _ _ (live_node _ _ _ _ c.self.invariant.index c.args.reference (subst (λ (os : List Order). IsSome (get os c.args.reference)) (sym c.self.view_is) c.requires))
 
 pub next-requires : goal.next-requires
 next-requires g c =
-    at_node _ _ c.known_node-key.result c.known_node-key.ensures (live_node _ _ _ _ c.self.invariant.index c.args.reference (subst (λ (os : List Order). IsSome (get os c.args.reference)) (sym c.self.view_is) c.requires))
+    at_node _ _ c.node_from-key.result c.node_from-key.ensures (live_node _ _ _ _ c.self.invariant.index c.args.reference (subst (λ (os : List Order). IsSome (get os c.args.reference)) (sym c.self.view_is) c.requires))
 
 pub order-order-requires : goal.order-order-requires
 order-order-requires g c =
-    at_node _ _ c.known_node-key.result c.known_node-key.ensures (live_node _ _ _ _ c.self.invariant.index c.args.reference (subst (λ (os : List Order). IsSome (get os c.args.reference)) (sym c.self.view_is) c.requires))
+    at_node _ _ c.node_from-key.result c.node_from-key.ensures (live_node _ _ _ _ c.self.invariant.index c.args.reference (subst (λ (os : List Order). IsSome (get os c.args.reference)) (sym c.self.view_is) c.requires))
 
 pub order-requires : goal.order-requires
-order-requires g c = next_some _ _ _ (seen c.self.inside.queues) c.self.invariant.index c.args.reference c.known_node-key.result c.known_node-key.ensures (Some c.in-Some.next) c.in-Some.ensures c.in-Some.next refl
+order-requires g c = next_some _ _ _ (seen c.self.inside.queues) c.self.invariant.index c.args.reference c.node_from-key.result c.node_from-key.ensures (Some c.in-Some.next) c.in-Some.ensures c.in-Some.next refl
 
 pub returns-in-Some : goal.returns-in-Some
 returns-in-Some g c =
-    let x = order_some (order_at c.self.inside.queues c.known_node-key.result)
-    (at_node _ _ c.known_node-key.result c.known_node-key.ensures (live_node _ _ _ _ c.self.invariant.index c.args.reference (subst (λ (os : List Order). IsSome (get os c.args.reference)) (sym c.self.view_is) c.requires))) in
-    sym (next_after _ _ _ (seen c.self.inside.queues) c.self.invariant.index c.args.reference c.known_node-key.result c.known_node-key.ensures (Some c.in-Some.next) c.in-Some.ensures x.0 x.1 c.in-Some.next c.order.result.now refl c.order.ensures)
+    let x = order_some (order_at c.self.inside.queues c.node_from-key.result)
+    (at_node _ _ c.node_from-key.result c.node_from-key.ensures (live_node _ _ _ _ c.self.invariant.index c.args.reference (subst (λ (os : List Order). IsSome (get os c.args.reference)) (sym c.self.view_is) c.requires))) in
+    sym (next_after _ _ _ (seen c.self.inside.queues) c.self.invariant.index c.args.reference c.node_from-key.result c.node_from-key.ensures (Some c.in-Some.next) c.in-Some.ensures x.0 x.1 c.in-Some.next c.order.result.now refl c.order.ensures)
     ∙ ap (λ (os : List Order). after os c.args.reference) c.self.view_is
 
 pub returns-in-Some-level : goal.returns-in-Some-level
@@ -117,7 +117,7 @@ returns-in-Some-level g c =
     let there = next_level_some _ _ _ _ c.self.invariant.index x.locate x.side (Some x.price) (c.in-Some-level.field-0-0, q) keys.0 next keys.1 has in
     let some = first_some w q keys.0 (λ k i. c.self.invariant.index.full q keys.0 k keys.1 i) has in
     c.head_of.ensures keys.0 keys.1
-    ∙ sym (price_after _ _ _ w c.self.invariant.index c.args.reference c.known_node-key.result c.known_node-key.ensures c.next.result c.next.ensures x c.order-order.ensures none (first (found w.orders keys.0)) some there.0)
+    ∙ sym (price_after _ _ _ w c.self.invariant.index c.args.reference c.node_from-key.result c.node_from-key.ensures c.next.result c.next.ensures x c.order-order.ensures none (first (found w.orders keys.0)) some there.0)
     ∙ ap (λ (os : List Order). after os c.args.reference) c.self.view_is
 
 pub returns-in-Buy : goal.returns-in-Buy
@@ -125,10 +125,10 @@ returns-in-Buy g c =
     let w : Seen = seen c.self.inside.queues in
     let x = c.order-order.result.now in
     let none : c.next.result ≡ None = c.in_default.is in
-    let level = none_level _ _ _ w c.self.invariant.index c.args.reference c.known_node-key.result c.known_node-key.ensures c.next.result c.next.ensures x c.order-order.ensures none in
+    let level = none_level _ _ _ w c.self.invariant.index c.args.reference c.node_from-key.result c.node_from-key.ensures c.next.result c.next.ensures x c.order-order.ensures none in
     let last = next_level_none _ _ _ _ c.self.invariant.index x.locate x.side (Some x.price) c.in_default-level.ensures in
-    let live = live_is _ _ _ w c.self.invariant.index c.args.reference c.known_node-key.result x c.known_node-key.ensures c.order-order.ensures in
-    c.front.ensures.front
+    let live = live_is _ _ _ w c.self.invariant.index c.args.reference c.node_from-key.result x c.node_from-key.ensures c.order-order.ensures in
+    c.best.ensures.front
     ∙ ap (λ (os : List Order). find (is_of x.locate Sell) os) (sym c.self.view_is)
     ∙ sym (after_tail _ c.self.invariant.index.book c.args.reference x live ∙ last_bid _ c.self.invariant.index.book c.args.reference x live c.in-Buy.is level last)
     ∙ ap (λ (os : List Order). after os c.args.reference) c.self.view_is
@@ -138,8 +138,8 @@ returns-in-Sell g c =
     let w : Seen = seen c.self.inside.queues in
     let x = c.order-order.result.now in
     let none : c.next.result ≡ None = c.in_default.is in
-    let level = none_level _ _ _ w c.self.invariant.index c.args.reference c.known_node-key.result c.known_node-key.ensures c.next.result c.next.ensures x c.order-order.ensures none in
+    let level = none_level _ _ _ w c.self.invariant.index c.args.reference c.node_from-key.result c.node_from-key.ensures c.next.result c.next.ensures x c.order-order.ensures none in
     let last = next_level_none _ _ _ _ c.self.invariant.index x.locate x.side (Some x.price) c.in_default-level.ensures in
-    let live = live_is _ _ _ w c.self.invariant.index c.args.reference c.known_node-key.result x c.known_node-key.ensures c.order-order.ensures in
+    let live = live_is _ _ _ w c.self.invariant.index c.args.reference c.node_from-key.result x c.node_from-key.ensures c.order-order.ensures in
     sym (after_tail _ c.self.invariant.index.book c.args.reference x live ∙ last_ask _ c.self.invariant.index.book c.args.reference x live c.in-Sell.is level last)
     ∙ ap (λ (os : List Order). after os c.args.reference) c.self.view_is

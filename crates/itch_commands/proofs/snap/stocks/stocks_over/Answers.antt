@@ -19,7 +19,7 @@ returns-in_err-count g c =
     rw (p.1, p.2) (inl (
       _,
       refl,
-      inl (day_fails g.R.CountedRead.remaining g.R.CountedRead.failures Only c.args.limit c.args.reader.now c.read_market.new.reader _ c.new-market.result c.read_market.new.market
+      inl (day_fails g.R.CountedRead.remaining g.R.CountedRead.failures Only c.args.limit c.args.reader.now c.read_settled.new.reader _ c.new-market.result c.read_settled.new.market
           c.new-market.ensures c.in_err-count.ensures.reads c.in_err-count.ensures.failures c.in_err-count.ensures.reader),
       refl,
     ))
@@ -28,17 +28,17 @@ pub returns-in_err-set : goal.returns-in_err-set
 returns-in_err-set g c =
     let p = err_from_is_err_and c.from_residual-in_err-set.result c.from_residual-in_err-set.ensures.1 in
     let old = c.args.reader.now in
-    let new = c.read_market.new.reader in
+    let new = c.read_settled.new.reader in
     let from = bytes_left g.R.CountedRead.remaining old in
     let to = bytes_left g.R.CountedRead.remaining new in
-    let applied = read_done Only c.args.limit from to c.new-market.result c.in_ok-count.count c.read_market.new.market c.new-market.ensures c.in_ok-count.ensures.reads in
+    let applied = read_done Only c.args.limit from to c.new-market.result c.in_ok-count.count c.read_settled.new.market c.new-market.ensures c.in_ok-count.ensures.reads in
     rw (p.1, p.2) (inl (
       _,
       refl,
       inr (
         applied.payloads,
-        day_done g.R.CountedRead.remaining g.R.CountedRead.failures Only c.args.limit old new c.in_ok-count.count c.read_market.new.market applied c.in_ok-count.ensures.failures c.in_ok-count.ensures.reader,
-        unknown_after c.args.limit from to c.in_ok-count.count c.read_market.new.market applied (names_of c.args.names.now) _ c.in_err-set.ensures,
+        day_done g.R.CountedRead.remaining g.R.CountedRead.failures Only c.args.limit old new c.in_ok-count.count c.read_settled.new.market applied c.in_ok-count.ensures.failures c.in_ok-count.ensures.reader,
+        unknown_after c.args.limit from to c.in_ok-count.count c.read_settled.new.market applied (names_of c.args.names.now) _ c.in_err-set.ensures,
       ),
       refl,
     ))
@@ -46,24 +46,24 @@ returns-in_err-set g c =
 pub write_closed_of-requires : goal.write_closed_of-requires
 write_closed_of-requires g c =
     let old = bytes_left g.R.CountedRead.remaining c.args.reader.now in
-    let new = bytes_left g.R.CountedRead.remaining c.read_market.new.reader in
-    let applied = read_done Only c.args.limit old new c.new-market.result c.in_ok-count.count c.read_market.new.market c.new-market.ensures c.in_ok-count.ensures.reads in
-    omega (arith, applied.few, applied_short c.args.limit old new c.in_ok-count.count c.read_market.new.market applied, only_short (has c.in_ok-set.set) c.read_market.new.market)
+    let new = bytes_left g.R.CountedRead.remaining c.read_settled.new.reader in
+    let applied = read_done Only c.args.limit old new c.new-market.result c.in_ok-count.count c.read_settled.new.market c.new-market.ensures c.in_ok-count.ensures.reads in
+    omega (arith, applied.few, applied_short c.args.limit old new c.in_ok-count.count c.read_settled.new.market applied, only_short (has c.in_ok-set.set) c.read_settled.new.market)
 
 pub returns : goal.returns
 returns g c =
     let old = c.args.reader.now in
-    let new = c.read_market.new.reader in
+    let new = c.read_settled.new.reader in
     let names = names_of c.args.names.now in
     let from = bytes_left g.R.CountedRead.remaining old in
     let to = bytes_left g.R.CountedRead.remaining new in
     let reads = ReadsDay g.R.CountedRead.remaining g.R.CountedRead.failures Only c.args.limit old new in
-    let applied = read_done Only c.args.limit from to c.new-market.result c.in_ok-count.count c.read_market.new.market c.new-market.ensures c.in_ok-count.ensures.reads in
+    let applied = read_done Only c.args.limit from to c.new-market.result c.in_ok-count.count c.read_settled.new.market c.new-market.ensures c.in_ok-count.ensures.reads in
     read_writes g.W.CountedWrite.contents g.W.CountedWrite.failures (ReadsStocks directory_after names reads) (stocks_snapshot names) (λ _. true)
     applied.payloads _ c.args.out.now c.write_closed_of.new.out c.write_closed_of.result (
-      day_done g.R.CountedRead.remaining g.R.CountedRead.failures Only c.args.limit old new c.in_ok-count.count c.read_market.new.market applied c.in_ok-count.ensures.failures c.in_ok-count.ensures.reader,
-      stocks_after c.args.limit from to c.in_ok-count.count c.read_market.new.market applied names c.in_ok-set.ensures.0,
+      day_done g.R.CountedRead.remaining g.R.CountedRead.failures Only c.args.limit old new c.in_ok-count.count c.read_settled.new.market applied c.in_ok-count.ensures.failures c.in_ok-count.ensures.reader,
+      stocks_after c.args.limit from to c.in_ok-count.count c.read_settled.new.market applied names c.in_ok-set.ensures.0,
     )
-    (ap (λ k. canon (only (has c.in_ok-set.set) c.read_market.new.market) ++ closing k) (rw c.unwrap-next.ensures at c.new.ensures.number)
-    ∙ stocks_written c.args.limit from to c.in_ok-count.count c.read_market.new.market applied c.in_ok-set.set names c.in_ok-set.ensures.1)
+    (ap (λ k. canon (only (has c.in_ok-set.set) c.read_settled.new.market) ++ closing k) (rw c.unwrap-next.ensures at c.new.ensures.number)
+    ∙ stocks_written c.args.limit from to c.in_ok-count.count c.read_settled.new.market applied c.in_ok-set.set names c.in_ok-set.ensures.1)
     c.write_closed_of.ensures

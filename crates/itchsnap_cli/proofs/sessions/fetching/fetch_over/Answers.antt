@@ -4,8 +4,8 @@ use Rattle.itchsnap_cli.proofs.sessions.fetching.fetch_over.Goals as goal
 
 pub write_closed-requires : goal.write_closed-requires
 write_closed-requires g c =
-    fetched_short g.R.CountedRead.remaining g.R.CountedRead.failures g.V.CountedWrite.contents g.V.CountedWrite.failures c.args.credentials.now
-    c.args.reader.now c.fetch_one-fetched.new.reader c.args.writer.now c.fetch_one-fetched.new.writer _ c.in-Ok.ensures
+    rw c.settle.ensures (fetched_short g.R.CountedRead.remaining g.R.CountedRead.failures g.V.CountedWrite.contents g.V.CountedWrite.failures c.args.credentials.now
+    c.args.reader.now c.fetch_one-fetched.new.reader c.args.writer.now c.fetch_one-fetched.new.writer _ c.in-Ok.ensures)
 
 pub returns-in-Ok : goal.returns-in-Ok
-returns-in-Ok g c = inr (_, c.in-Ok.ensures, c.write_closed.ensures)
+returns-in-Ok g c = inr (_, c.in-Ok.ensures, rw c.settle.ensures at c.write_closed.ensures)

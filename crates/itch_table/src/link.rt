@@ -1,0 +1,49 @@
+//! Links of half a word each.
+ghost use Rattle.std.specs.Prelude.{◌≡◌, ℕ, ◌<◌, Option, Some, None};
+ghost use Rattle.itch_table.specs.Link.{place_of, word_of, word_of-place_of};
+
+use std::marker::Model;
+
+/// A place, or none.
+#[derive(Clone, Copy)]
+pub(crate) struct Link {
+    // The greatest number stands for none: every place is below it.
+    word: u32,
+}
+
+impl Model for Link {
+    ghost Value = { Option ℕ };
+
+    ghost view = { λ link. place_of link.word };
+
+    ghost inverse = { λ place. record { word = word_of place } };
+
+    ghost inverse_ok = { λ link h i. record { word = word_of-place_of link.word i } };
+}
+
+impl Link {
+    /// A link to no place.
+    pub(crate) fn none() -> Link
+        ensures { result ≡ None }
+    {
+        Link { word: u32::MAX }
+    }
+
+    /// A link to a place.
+    pub(crate) fn to(place: u32) -> Link
+        requires { place < 4294967295 }
+        ensures { result ≡ Some place }
+    {
+        Link { word: place }
+    }
+
+    /// The place.
+    pub(crate) fn place(self) -> Option<u32>
+        ensures { result ≡ self }
+    {
+        if self.word == u32::MAX {
+            return None;
+        }
+        Some(self.word)
+    }
+}

@@ -1,0 +1,121 @@
+//! Keys chosen to take as much memory as they can, and the memory that they take.
+use crate::calls::{has, put, take};
+use itch_table::Table;
+use linked_list_allocator::LocalHeap;
+use std::alloc::AllocError;
+use std::process::Abort;
+use std::test::Fail;
+
+// The directory at the least bound for keys, and what a heap needs for itself.
+const START: usize = 2_200_000;
+// Twice a page, and twice a key's share of the directory: vectors double as they grow.
+const FOR_KEY: usize = 416;
+
+// Puts in so many keys, so far apart, and checks the memory that they take.
+fn fill(
+    rt: &impl Abort,
+    heap: &LocalHeap,
+    table: &mut Table<&LocalHeap>,
+    step: u64,
+    count: u32,
+) -> Result<(), AllocError> {
+    for number in 0..count {
+        put(rt, table, u64::from(number).wrapping_mul(step), number)?;
+    }
+    for number in 0..count {
+        has(
+            rt,
+            table,
+            u64::from(number).wrapping_mul(step),
+            Some(number),
+        );
+    }
+    let bound = START.saturating_add(FOR_KEY.saturating_mul(count as usize));
+    assert!(rt; heap.used() <= bound, "{count} keys {step} apart");
+    Ok(())
+}
+
+// Takes out all of them.
+fn empty(rt: &impl Abort, table: &mut Table<&LocalHeap>, step: u64, count: u32) {
+    for number in 0..count {
+        let key = u64::from(number).wrapping_mul(step);
+        assert!(rt; take(rt, table, key) == number);
+        has(rt, table, key, None);
+    }
+}
+
+// A page for each key; so far apart that the directory ends among them; and spread over all numbers.
+#[test]
+fn sparse_keys_take_bounded_memory(rt: HostRuntime) -> Result<(), Fail> {
+    for step in [32, 33, 10_000, 1_000_000_007, 0x0000_1234_5678_9abd] {
+        let heap = LocalHeap::new(rt.alloc(), 64 << 20)?;
+        let mut table: Table<&LocalHeap> = Table::new(&heap);
+        fill(&rt, &heap, &mut table, step, 20_000)?;
+        let used = heap.used();
+        empty(&rt, &mut table, step, 20_000);
+        fill(&rt, &heap, &mut table, step, 20_000)?;
+        assert!(rt; heap.used() <= used, "keys {step} apart, again");
+    }
+    Ok(())
+}
+
+// The greatest keys, and those at the ends of pages.
+#[test]
+fn keys_at_the_ends(rt: HostRuntime) -> Result<(), Fail> {
+    let heap = LocalHeap::new(rt.alloc(), 1 << 20)?;
+    let mut table: Table<&LocalHeap> = Table::new(&heap);
+    let keys = [
+        0,
+        31,
+        32,
+        63,
+        64,
+        u64::MAX,
+        u64::MAX - 31,
+        u64::MAX - 32,
+        1 << 32,
+        1 << 63,
+    ];
+    for (key, link) in keys.iter().zip(1..) {
+        put(&rt, &mut table, *key, link)?;
+    }
+    for (key, link) in keys.iter().zip(1..) {
+        has(&rt, &table, *key, Some(link));
+        has(&rt, &table, *key ^ 7, None);
+    }
+    Ok(())
+}
+
+// A key that comes and goes a million times takes memory once.
+#[test]
+fn a_key_used_again(rt: HostRuntime) -> Result<(), Fail> {
+    let heap = LocalHeap::new(rt.alloc(), 1 << 20)?;
+    let mut table: Table<&LocalHeap> = Table::new(&heap);
+    for key in [7, u64::MAX] {
+        put(&rt, &mut table, key, 1)?;
+        let used = heap.used();
+        for _ in 0..500_000 {
+            assert!(rt; take(&rt, &mut table, key) == 1);
+            put(&rt, &mut table, key, 1)?;
+        }
+        assert!(rt; heap.used() == used);
+    }
+    Ok(())
+}
+
+// Of a million rising keys a hundred are known at a time: a few pages serve them, and the directory has a word for each page.
+#[test]
+fn rising_keys_use_pages_again(rt: HostRuntime) -> Result<(), Fail> {
+    let heap = LocalHeap::new(rt.alloc(), 4 << 20)?;
+    let mut table: Table<&LocalHeap> = Table::new(&heap);
+    for key in 0..1_000_000u64 {
+        put(&rt, &mut table, key, 1)?;
+        if key >= 100 {
+            assert!(rt; take(&rt, &mut table, key - 100) == 1);
+        }
+    }
+    assert!(rt; heap.used() <= 300_000);
+    has(&rt, &table, 999_900, Some(1));
+    has(&rt, &table, 999_899, None);
+    Ok(())
+}
