@@ -49,3 +49,36 @@ def orders(count, symbols=8000, seed=1):
         for side in "BS":
             snapshot += [added for _, _, added in sorted(queues.get((locate, side), []))]
     return b"".join(day), b"".join(snapshot) + closing(symbols + count + 1)
+
+
+def added(reference, price, side=b"B"):
+    """An order of 100 shares at locate 1."""
+    return block(b"A", 1, struct.pack(">Q1sI8sI", reference, side, 100, stock(1), price))
+
+
+def deleted(reference):
+    return block(b"D", 1, struct.pack(">Q", reference))
+
+
+def ladder(count):
+    """One side with `count` prices, which come in rising order; then all but the last thousand go, the worst in the middle first."""
+    day = [added(price, price) for price in range(1, count + 1)]
+    gone = count - 1000
+    middle = gone // 2
+    day += [deleted(reference) for reference in [*range(middle, 0, -1), *range(middle + 1, gone + 1)]]
+    left = [added(price, price) for price in range(count, gone, -1)]
+    return entry(1) + b"".join(day), entry(1) + b"".join(left) + closing(2 + count + gone)
+
+
+def far_references(count):
+    """`count` orders whose references are as far apart as numbers of 64 bits allow, and their snapshot."""
+    step = (2**64 - 1) // count
+    day = [added(step * place, 500) for place in range(1, count + 1)]
+    return entry(1) + b"".join(day), entry(1) + b"".join(day) + closing(2 + count)
+
+
+def used_again(count):
+    """One reference that is used `count` times: each time its order is deleted, but for the last time."""
+    again = [added(7, price) + deleted(7) for price in range(1, count)]
+    last = added(7, count)
+    return entry(1) + b"".join(again) + last, entry(1) + last + closing(2 + 2 * count - 1)
