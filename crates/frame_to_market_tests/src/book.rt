@@ -28,22 +28,64 @@ pub(super) fn add<B: OrderBook>(
     book.add(order)
 }
 
-pub(super) fn take<B: OrderBook>(
+// The place of an order, or 0.
+fn place_of<B: OrderBook>(book: &B, reference: u64) -> usize {
+    match book.find(reference) {
+        Some(found) => found.place,
+        None => 0,
+    }
+}
+
+// Takes shares from an order, by a place that may not be its own.
+fn take_at<B: OrderBook>(
     rt: &impl Abort,
     book: &mut B,
     reference: u64,
+    place: usize,
     shares: u32,
 ) -> Taken {
     let Some(order) = book.get(reference).copied() else {
         panic!(rt; "{reference} is not live");
     };
     assert!(rt; shares <= order.shares);
-    book.take(reference, shares)
+    book.take(reference, place, shares)
+}
+
+pub(super) fn take<B: OrderBook>(
+    rt: &impl Abort,
+    book: &mut B,
+    reference: u64,
+    shares: u32,
+) -> Taken {
+    let place = place_of(book, reference);
+    take_at(rt, book, reference, place, shares)
+}
+
+// Deletes an order, by a place that may not be its own.
+fn delete_at<B: OrderBook>(rt: &impl Abort, book: &mut B, reference: u64, place: usize) -> Order {
+    assert!(rt; book.get(reference).is_some());
+    book.delete(reference, place)
 }
 
 pub(super) fn delete<B: OrderBook>(rt: &impl Abort, book: &mut B, reference: u64) -> Order {
-    assert!(rt; book.get(reference).is_some());
-    book.delete(reference)
+    let place = place_of(book, reference);
+    delete_at(rt, book, reference, place)
+}
+
+// Replaces an order, by a place that may not be its own.
+fn replace_at<B: OrderBook>(
+    rt: &impl Abort,
+    book: &mut B,
+    original: u64,
+    place: usize,
+    reference: u64,
+    shares: u32,
+    price: u32,
+) -> Result<(), AllocError> {
+    assert!(rt; book.get(original).is_some());
+    assert!(rt; shares > 0);
+    assert!(rt; book.get(reference).is_none());
+    book.replace(original, place, reference, shares, price)
 }
 
 pub(super) fn replace<B: OrderBook>(
@@ -54,10 +96,8 @@ pub(super) fn replace<B: OrderBook>(
     shares: u32,
     price: u32,
 ) -> Result<(), AllocError> {
-    assert!(rt; book.get(original).is_some());
-    assert!(rt; shares > 0);
-    assert!(rt; book.get(reference).is_none());
-    book.replace(original, reference, shares, price)
+    let place = place_of(book, original);
+    replace_at(rt, book, original, place, reference, shares, price)
 }
 
 // The order of a reference.
@@ -233,6 +273,36 @@ fn check_replace<B: OrderBook>(rt: &impl Abort, book: &mut B) -> Result<(), Allo
     Ok(())
 }
 
+// Changes a filled book by a place that is given, or by that of each order, and checks what is left.
+fn check_changes<B: OrderBook>(
+    rt: &impl Abort,
+    memory: B::Alloc,
+    given: Option<usize>,
+) -> Result<(), AllocError> {
+    let mut book = B::new(memory);
+    fill(rt, &mut book)?;
+    let place = given.unwrap_or(place_of(&book, 3));
+    same(rt, take_at(rt, &mut book, 3, place, 100), Taken::Left(200));
+    let place = given.unwrap_or(place_of(&book, 5));
+    same(rt, take_at(rt, &mut book, 5, place, 500), Taken::Gone);
+    let place = given.unwrap_or(place_of(&book, 4));
+    same(rt, delete_at(rt, &mut book, 4, place).reference, 4);
+    let place = given.unwrap_or(place_of(&book, 2));
+    replace_at(rt, &mut book, 2, place, 8, 50, 1500000)?;
+    check_walk(rt, &book, 1, &[1, 3, 8, 6]);
+    same(rt, total(&book, 1, Side::Buy, 1500000), (350, 3));
+    Ok(())
+}
+
+// Checks that changes are the same by whichever place.
+fn check_given<B: OrderBook>(rt: &impl Abort, memory: B::Alloc) -> Result<(), AllocError> {
+    check_changes::<B>(rt, memory, None)?;
+    for place in [0, 1, 2, 3, 4, 5, 6, 7, usize::MAX] {
+        check_changes::<B>(rt, memory, Some(place))?;
+    }
+    Ok(())
+}
+
 // Checks each call of a book that is empty.
 fn check_each_call<B: OrderBook>(rt: &impl Abort, book: &mut B) -> Result<(), AllocError> {
     fill(rt, book)?;
@@ -244,10 +314,11 @@ fn check_each_call<B: OrderBook>(rt: &impl Abort, book: &mut B) -> Result<(), Al
     check_replace(rt, book)
 }
 
-// The same of a new book over this memory.
+// Checks each call of a new book over this memory.
 fn check_calls<B: OrderBook>(rt: &impl Abort, memory: B::Alloc) -> Result<(), AllocError> {
     let mut book = B::new(memory);
-    check_each_call(rt, &mut book)
+    check_each_call(rt, &mut book)?;
+    check_given::<B>(rt, memory)
 }
 
 // Adds a level of a thousand orders.
@@ -307,6 +378,7 @@ fn indexed_book_keeps_priority(rt: HostRuntime) -> Result<(), Fail> {
     Ok(())
 }
 
+mod ladders;
 mod many;
 mod settled;
 mod side_by_side;

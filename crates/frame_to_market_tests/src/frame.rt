@@ -11,6 +11,7 @@ use std::io::BufReader;
 use std::process::Abort;
 use std::test::Fail;
 
+mod at_hand;
 mod devices;
 mod memory;
 

@@ -8,7 +8,7 @@ use Rattle.itch_book.specs.declared.order.Order.{Order}
 use Rattle.itch_book.specs.StableLists.{IsInOrder}
 use Rattle.itch_book.specs.Orders.{is_level, is_of, is_in, is_worse, is_next, same_side, first, stands_before, has_reference, get, following, next_in, after, IsBook}
 use Rattle.itch_book.specs.Queued.{Seen, found, shown}
-use Rattle.itch_book.specs.Indexed.{Place, orders_in, indexed, node_of, IsIndexed}
+use Rattle.itch_book.specs.Indexed.{Place, orders_in, indexed, IsIndexed}
 use Rattle.itch_book.proofs.Lists.{by_test, All-weaker_rec, All-both_rec, All-found_rec, found_passes}
 use Rattle.itch_book.proofs.Distinct.{own_reference, find_first}
 use Rattle.itch_book.proofs.StableLemmas.{not_itself}
@@ -166,8 +166,8 @@ module _ (xs : List Order) (book : IsBook xs) (r : ℕ) (x : Order) (live : get 
       none_of : (z : Order) → is_in x.locate z ≡ false → is_of x.locate Sell z ≡ false
       none_of z i = simp i refl
 
-module _ (references : List (ℕ × ℕ)) (bids asks : List (Place × ℕ)) (w : Seen) (is : IsIndexed references bids asks w)
-    (r k : ℕ) (x : Order) (node : node_of references r ≡ Some k) (here : w.orders k ≡ Some x) where
+module _ (references : ℕ → Option ℕ) (bids asks : List (Place × ℕ)) (w : Seen) (is : IsIndexed references bids asks w)
+    (r k : ℕ) (x : Order) (node : references r ≡ Some k) (here : w.orders k ≡ Some x) where
   pub live_is : get (indexed w bids asks) r ≡ Some x
   live_is = get_some references bids asks w is r k x node here
 
@@ -181,7 +181,7 @@ module _ (references : List (ℕ × ℕ)) (bids asks : List (Place × ℕ)) (w :
       by_order : (o : Option Order) → w.orders j ≡ o → following r (found w.orders (js ++ k ∷ ks)) ≡ found w.orders ks → following r (shown (w.orders j) (found w.orders (js ++ k ∷ ks))) ≡ found w.orders ks
       by_order None h rest = ap (λ o. following r (shown o (found w.orders (js ++ k ∷ ks)))) h ∙ rest
       by_order (Some y) h rest = ap (λ o. following r (shown o (found w.orders (js ++ k ∷ ks)))) h ∙ by_test (has_reference r y)
-          (λ e. let same : j ≡ k = same_some (is.named j y h) (ap (node_of references) (own_reference r y e) ∙ node) in
+          (λ e. let same : j ≡ k = same_some (is.named j y h) (ap references (own_reference r y e) ∙ node) in
           absurd (false≢true (sym (not_in_head k j js n) ∙ subst (λ t. eqb k t ≡ true) (sym same) (eqb_itself k))))
           (λ e. simp e rest)
 

@@ -47,8 +47,8 @@ there r next es os is view some = by (lookup (eqb r) es) refl
 pub found_there : (r next : ℕ) (es : List (ℕ × Arrived)) (os : List Order) (x : Arrived) → IsArrived es next → settled (values_of es) ≡ os → lookup (eqb r) es ≡ Some x → get os r ≡ Some x.order
 found_there r next es os x is view e = ap (λ t. get t r) (sym view) ∙ sym (found_settled r next es is) ∙ ap (option_map its_order) e
 
-pub absent_there : (r next : ℕ) (es : List (ℕ × Arrived)) (os : List Order) → IsArrived es next → settled (values_of es) ≡ os → lookup (eqb r) es ≡ None → get os r ≡ None
-absent_there r next es os is view e = ap (λ t. get t r) (sym view) ∙ sym (found_settled r next es is) ∙ ap (option_map its_order) e
+pub found_as : (r next : ℕ) (es : List (ℕ × Arrived)) (os : List Order) → IsArrived es next → settled (values_of es) ≡ os → option_map its_order (lookup (eqb r) es) ≡ get os r
+found_as r next es os is view = found_settled r next es is ∙ ap (λ (t : List Order). get t r) view
 
 pub fresh_there : (r next : ℕ) (es : List (ℕ × Arrived)) (os : List Order) → IsArrived es next → settled (values_of es) ≡ os → get os r ≡ None → lookup (eqb r) es ≡ None
 fresh_there r next es os is view none = by (lookup (eqb r) es) refl

@@ -1,6 +1,6 @@
 -- Shares taken from an order that keeps some.
-use Rattle.std.proofs.Common.{◌≡◌, ℕ, ◌-◌, ◌^◌, ◌<◌, true, false, eqb, List, [], ◌∷◌, ◌++◌, map, length, filter, Option, Some, None, IsSome, option_map, refl, sym, ap, ◌∙◌, subst, arith, length-set}
-use Rattle.std.specs.List.{AllByRecursion, position_or_len}
+use Rattle.std.proofs.Common.{◌≡◌, ℕ, ◌-◌, ◌^◌, ◌<◌, true, false, eqb, List, [], ◌∷◌, ◌++◌, map, filter, Option, Some, None, IsSome, option_map, refl, sym, ap, ◌∙◌, subst, arith}
+use Rattle.std.specs.List.{AllByRecursion}
 use Rattle.std.proofs.lemmas.Bool.{false≢true, cond_both}
 use Rattle.std.proofs.lemmas.Bool.Decides.{nat_tests}
 use Rattle.itch_codec.specs.declared.orders.Side.{Side}
@@ -8,20 +8,19 @@ use Rattle.itch_book.specs.declared.order.Order.{Order}
 use Rattle.itch_book.specs.Orders.{is_level, level, lay, less, taken, has_shares, has_reference, IsLive, IsBook}
 use Rattle.itch_book.specs.Links.{at_key}
 use Rattle.itch_book.specs.Queued.{Seen, found, shown, left_with}
-use Rattle.itch_book.specs.Indexed.{Place, orders_in, line, joined, indexed, queue_of_side, node_of, IsIndexed}
+use Rattle.itch_book.specs.Indexed.{Place, orders_in, line, joined, indexed, queue_of_side, IsIndexed}
 use Rattle.itch_book.proofs.Lists.{by_test, All-map_rec, All-weaker_rec, filter_swap, filter_all, filter-map}
 use Rattle.itch_book.proofs.Distinct.{own_reference, has_own}
 use Rattle.itch_book.proofs.OrderLemmas.{lay_same_levels}
-use Rattle.itch_book.proofs.BookLemmas.{IsBook-taken, taken-book}
-use Rattle.itch_book.proofs.PlaceLemmas.{taken_part}
+use Rattle.itch_book.proofs.BookLemmas.{IsBook-taken}
 use Rattle.itch_book.proofs.LinkLemmas.{eqb_itself, eqb_is}
 use Rattle.itch_book.proofs.QueueSteps.{same_some}
 use Rattle.itch_book.proofs.SoundSteps.{at_apart, at_same}
 use Rattle.itch_book.proofs.IndexLemmas.{line_at, level_both}
-use Rattle.itch_book.proofs.IndexSteps.{level_is, get_some, All-found}
+use Rattle.itch_book.proofs.IndexSteps.{level_is, All-found}
 
-module _ (references : List (ℕ × ℕ)) (bids asks : List (Place × ℕ)) (w : Seen) (is : IsIndexed references bids asks w)
-    (r k n m : ℕ) (x : Order) (node : node_of references r ≡ Some k) (here : w.orders k ≡ Some x) (rest : x.shares - n ≡ m) (some : 0 < m) where
+module _ (references : ℕ → Option ℕ) (bids asks : List (Place × ℕ)) (w : Seen) (is : IsIndexed references bids asks w)
+    (r k n m : ℕ) (x : Order) (node : references r ≡ Some k) (here : w.orders k ≡ Some x) (rest : x.shares - n ≡ m) (some : 0 < m) where
   -- what is seen then
   abbrev pub changed : Seen
   changed = record { keys = w.keys; orders = at_key k (Some (left_with m x)) w.orders }
@@ -33,7 +32,7 @@ module _ (references : List (ℕ × ℕ)) (bids asks : List (Place × ℕ)) (w :
   has = subst (λ t. has_reference t x ≡ true) own (has_own x)
 
   only : (j : ℕ) (y : Order) → w.orders j ≡ Some y → has_reference r y ≡ true → j ≡ k
-  only j y h e = same_some (is.named j y h) (ap (node_of references) (own_reference r y e) ∙ node)
+  only j y h e = same_some (is.named j y h) (ap references (own_reference r y e) ∙ node)
 
   less_own : less r n x ≡ left_with m x
   less_own = simp has (ap (λ t. left_with t x) rest)
@@ -102,7 +101,7 @@ module _ (references : List (ℕ × ℕ)) (bids asks : List (Place × ℕ)) (w :
 
   level_changed : (l : ℕ) (s : Side) (p : ℕ) → level (joined changed bids ++ joined changed asks) l s p ≡ level (taken r n (indexed w bids asks)) l s p
   level_changed l s p =
-      level_both changed l s p bids asks is.bids_sorted is.asks_sorted changed_levels
+      level_both changed l s p bids asks is.bids_apart is.asks_apart changed_levels
       ∙ sym (filter_all has_shares (line_at changed (queue_of_side s bids asks l p)) (live_line (queue_of_side s bids asks l p)))
       ∙ ap (filter has_shares) (line_at_changed (queue_of_side s bids asks l p) ∙ ap (map (less r n)) (sym (level_is references bids asks w is l s p))
       ∙ sym (filter-map (is_level l s p) (is_level l s p) (less r n) (less_level l s p) (indexed w bids asks)))
@@ -116,14 +115,14 @@ module _ (references : List (ℕ × ℕ)) (bids asks : List (Place × ℕ)) (w :
     book = subst IsBook (sym change_view) (IsBook-taken r n (indexed w bids asks) is.book);
     live = changed_live;
     priced = λ j y h. by_node j y h (λ e same. subst (λ (z : Order). z.price < 2 ^ 32) same (is.priced k x here)) (λ e was. is.priced j y was);
-    bids_sorted = is.bids_sorted;
-    asks_sorted = is.asks_sorted;
+    bids_apart = is.bids_apart;
+    asks_apart = is.asks_apart;
     levels = changed_levels;
     there = is.there;
     placed = is.placed;
     apart = is.apart;
     named = λ j y h. by_node j y h
-        (λ e same. subst (λ (z : Order). node_of references z.reference ≡ Some j) same (is.named k x here ∙ ap Some (eqb_is k j e)))
+        (λ e same. subst (λ (z : Order). references z.reference ≡ Some j) same (is.named k x here ∙ ap Some (eqb_is k j e)))
         (λ e was. is.named j y was);
     known = λ t j h. let was = is.known t j h in
         by_test (eqb k j)
@@ -147,12 +146,4 @@ module _ (references : List (ℕ × ℕ)) (bids asks : List (Place × ℕ)) (w :
     full = λ q js j h i. by_test (eqb k j)
         (λ e. subst IsSome (sym (at_same k (Some (left_with m x)) w.orders j e)) refl)
         (λ e. subst IsSome (sym (at_apart k (Some (left_with m x)) w.orders j e)) (is.full q js j h i));
-    count = len_is;
   }
-    where
-      len_is : length references ≡ length (indexed changed bids asks)
-      len_is =
-          let a = ap length (change_view ∙ taken-book r n (indexed w bids asks) is.book
-          ∙ taken_part r n (indexed w bids asks) x is.book.distinct is.book.live (get_some references bids asks w is r k x node here) (subst (λ t. 0 < t) (sym rest) some)) in
-          let b = length-set (indexed w bids asks) (position_or_len (has_reference r) (indexed w bids asks)) (record x { shares = x.shares - n }) in
-          is.count ∙ sym (a ∙ b)

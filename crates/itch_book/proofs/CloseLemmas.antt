@@ -1,14 +1,12 @@
 -- An empty queue taken from its price.
-use Rattle.std.proofs.Common.{◌≡◌, ℕ, true, false, cond, eqb, List, [], ◌++◌, length, Option, Some, None, IsSome, refl, sym, ap, ◌∙◌, subst}
+use Rattle.std.proofs.Common.{◌≡◌, ℕ, true, false, cond, eqb, List, [], ◌++◌, Option, Some, None, IsSome, refl, sym, ap, ◌∙◌, subst}
 use Rattle.std.specs.List.{AllByRecursion, list_any}
-use Rattle.std.specs.Map.{keys_of}
-use Rattle.std.specs.List.Sorted.{IsStrictlySortedBy}
 use Rattle.std.proofs.lemmas.Bool.{false≢true}
 use Rattle.itch_codec.specs.declared.orders.Side.{Side}
 use Rattle.itch_book.specs.Orders.{is_level, level, IsBook}
 use Rattle.itch_book.specs.Links.{at_key}
 use Rattle.itch_book.specs.Queued.{Seen}
-use Rattle.itch_book.specs.Indexed.{Place, place_cmp, orders_in, line, joined, indexed, queue_of_side, is_there, has_keys, IsPlace, IsIndexed, IsBusy, IsBusyBut}
+use Rattle.itch_book.specs.Indexed.{Place, AreApart, orders_in, line, joined, indexed, queue_of_side, is_there, has_keys, IsPlace, IsIndexed, IsBusy, IsBusyBut}
 use Rattle.itch_book.proofs.Lists.{by_test}
 use Rattle.itch_book.proofs.OrderLemmas.{lay_same_levels}
 use Rattle.itch_book.proofs.LinkLemmas.{eqb_itself, eqb_is}
@@ -21,8 +19,8 @@ there_at : (s0 : Side) (l0 p0 : ℕ) (s : Side) (l p : ℕ) → IsPlace s0 l0 p0
 there_at s0 l0 p0 s l p is =
     subst (λ t. is_there s0 l0 p0 t l p ≡ true) is.0 (subst (λ m. is_there s0 l0 p0 s0 m p ≡ true) is.1 (subst (λ n. is_there s0 l0 p0 s0 l0 n ≡ true) is.2 (is_there_self s0 l0 p0)))
 
-module _ (references : List (ℕ × ℕ)) (bids asks bids' asks' : List (Place × ℕ)) (w : Seen) (is : IsIndexed references bids asks w) (s0 : Side) (l0 p0 q : ℕ)
-    (bids_sorted : IsStrictlySortedBy place_cmp (keys_of bids')) (asks_sorted : IsStrictlySortedBy place_cmp (keys_of asks'))
+module _ (references : ℕ → Option ℕ) (bids asks bids' asks' : List (Place × ℕ)) (w : Seen) (is : IsIndexed references bids asks w) (s0 : Side) (l0 p0 q : ℕ)
+    (bids_apart : AreApart bids') (asks_apart : AreApart asks')
     (empty : w.keys q ≡ Some []) (at : queue_of_side s0 bids asks l0 p0 ≡ Some q)
     (placed : (s : Side) (l p : ℕ) → queue_of_side s bids' asks' l p ≡ cond (is_there s0 l0 p0 s l p) None (queue_of_side s bids asks l p)) where
   -- what is seen then
@@ -69,11 +67,11 @@ module _ (references : List (ℕ × ℕ)) (bids asks bids' asks' : List (Place �
 
   level_close : (l : ℕ) (s : Side) (p : ℕ) → level (joined closed bids' ++ joined closed asks') l s p ≡ level (joined w bids ++ joined w asks) l s p
   level_close l s p =
-      level_both closed l s p bids' asks' bids_sorted asks_sorted close_levels
+      level_both closed l s p bids' asks' bids_apart asks_apart close_levels
       ∙ by_test (is_there s0 l0 p0 s l p)
       (λ e. ap (line_at closed) (placed_here s l p e) ∙ sym (ap (line_at w) (at_there s l p e) ∙ line_gone))
       (λ e. ap (line_at closed) (placed_else s l p e) ∙ by_queue e (queue_of_side s bids asks l p) refl)
-      ∙ sym (level_both w l s p bids asks is.bids_sorted is.asks_sorted is.levels)
+      ∙ sym (level_both w l s p bids asks is.bids_apart is.asks_apart is.levels)
     where
       by_queue : is_there s0 l0 p0 s l p ≡ false → (o : Option ℕ) → queue_of_side s bids asks l p ≡ o → line_at closed o ≡ line_at w o
       by_queue e None h = refl
@@ -87,8 +85,8 @@ module _ (references : List (ℕ × ℕ)) (bids asks bids' asks' : List (Place �
     book = subst IsBook (sym close_view) is.book;
     live = is.live;
     priced = is.priced;
-    bids_sorted = bids_sorted;
-    asks_sorted = asks_sorted;
+    bids_apart = bids_apart;
+    asks_apart = asks_apart;
     levels = close_levels;
     there = λ s l p q0 h. by_place s l p q0 h (λ was e. subst IsSome (sym (at_apart q None w.keys q0 e)) (is.there s l p q0 was));
     placed = λ q0 h. by_test (eqb q q0)
@@ -113,7 +111,6 @@ module _ (references : List (ℕ × ℕ)) (bids asks bids' asks' : List (Place �
     full = λ q0 js j h i. by_test (eqb q q0)
         (λ e. none_some (at_same q None w.keys q0 e) h)
         (λ e. is.full q0 js j (sym (at_apart q None w.keys q0 e) ∙ h) i);
-    count = is.count ∙ sym (ap length close_view);
   }
 
   pub close_busy : IsBusyBut w bids asks q → IsBusy closed bids' asks'

@@ -1,23 +1,22 @@
 -- An order taken out of its queue.
-use Rattle.std.proofs.Common.{◌≡◌, ℕ, ◌+◌, true, false, eqb, not, List, [], ◌∷◌, ◌++◌, length, Option, Some, None, IsSome, option_map, refl, sym, ap, ◌∙◌, subst, arith}
+use Rattle.std.proofs.Common.{◌≡◌, ℕ, true, false, eqb, not, List, [], ◌∷◌, ◌++◌, Option, Some, None, IsSome, option_map, refl, sym, ap, ◌∙◌, subst}
 use Rattle.std.specs.List.{AllByRecursion, list_any}
 use Rattle.std.proofs.lemmas.Bool.{false≢true}
 use Rattle.itch_codec.specs.declared.orders.Side.{Side}
 use Rattle.itch_book.specs.declared.order.Order.{Order}
-use Rattle.itch_book.specs.Orders.{is_level, level, lay, without, has_reference, get, IsDistinct, IsBook}
+use Rattle.itch_book.specs.Orders.{is_level, level, lay, without, has_reference, IsBook}
 use Rattle.itch_book.specs.Links.{at_key}
 use Rattle.itch_book.specs.Queued.{Seen, found, shown, without_key}
-use Rattle.itch_book.specs.Indexed.{Place, orders_in, line, joined, indexed, queue_of_side, node_of, has_keys, IsIndexed, IsBusy, IsBusyBut}
+use Rattle.itch_book.specs.Indexed.{Place, orders_in, line, joined, indexed, queue_of_side, has_keys, IsIndexed, IsBusy, IsBusyBut}
 use Rattle.itch_book.proofs.Lists.{by_test, All-filter_rec, filter_swap}
-use Rattle.itch_book.proofs.Distinct.{own_reference, has_own, head_distinct, tail_distinct}
+use Rattle.itch_book.proofs.Distinct.{own_reference, has_own}
 use Rattle.itch_book.proofs.OrderLemmas.{lay_same_levels}
-use Rattle.itch_book.proofs.BookLemmas.{IsBook-without, without-book}
-use Rattle.itch_book.proofs.PlaceLemmas.{without_absent}
+use Rattle.itch_book.proofs.BookLemmas.{IsBook-without}
 use Rattle.itch_book.proofs.LinkLemmas.{In, NotIn, eqb_itself, eqb_is, in_head, in_tail, in_cases}
 use Rattle.itch_book.proofs.QueueSteps.{none_some, same_some, inj}
 use Rattle.itch_book.proofs.SoundSteps.{at_apart, at_same, without_none}
 use Rattle.itch_book.proofs.IndexLemmas.{line_at, level_both}
-use Rattle.itch_book.proofs.IndexSteps.{level_is, get_some}
+use Rattle.itch_book.proofs.IndexSteps.{level_is}
 use Rattle.itch_book.proofs.PutLemmas.{level_says}
 
 in_kept : (k j : ℕ) (ks : List ℕ) → eqb k j ≡ false → In j ks → In j (without_key k ks)
@@ -50,18 +49,9 @@ found_member P orders k x (j ∷ js) all i here =
     rest None h = h
     rest (Some y) h = h.1
 
-pub length_without : (r : ℕ) (xs : List Order) (x : Order) → IsDistinct xs → get xs r ≡ Some x → length (without r xs) + 1 ≡ length xs
-length_without r [] x d h = absurd (let no_one : ⊥ = cc in no_one)
-length_without r (y ∷ ys) x d h =
-    by_test (has_reference r y)
-    (λ e. let none : get ys r ≡ None = subst (λ q. get ys q ≡ None) (own_reference r y e) (head_distinct y ys d) in
-    let same = ap length (without_absent r ys none) in simp e (omega (arith, same)))
-    (λ e. let it : get ys r ≡ Some x = simp e at h in
-    let rest = length_without r ys x (tail_distinct y ys d) it in simp e (omega (arith, rest)))
-
-module _ (references references' : List (ℕ × ℕ)) (bids asks : List (Place × ℕ)) (w : Seen) (is : IsIndexed references bids asks w)
-    (r k : ℕ) (x : Order) (node : node_of references r ≡ Some k) (here : w.orders k ≡ Some x)
-    (names : (j : ℕ) → node_of references' j ≡ at_key r None (node_of references) j) (len : length references' + 1 ≡ length references) where
+module _ (references references' : ℕ → Option ℕ) (bids asks : List (Place × ℕ)) (w : Seen) (is : IsIndexed references bids asks w)
+    (r k : ℕ) (x : Order) (node : references r ≡ Some k) (here : w.orders k ≡ Some x)
+    (names : (j : ℕ) → references' j ≡ at_key r None references j) where
   -- what is seen then
   abbrev pub cut : Seen
   cut = record { keys = λ q. option_map (without_key k) (w.keys q); orders = at_key k None w.orders }
@@ -74,7 +64,7 @@ module _ (references references' : List (ℕ × ℕ)) (bids asks : List (Place �
 
   -- no other node has the reference
   only : (j : ℕ) (y : Order) → w.orders j ≡ Some y → has_reference r y ≡ true → j ≡ k
-  only j y h e = same_some (is.named j y h) (ap (node_of references) (own_reference r y e) ∙ node)
+  only j y h e = same_some (is.named j y h) (ap references (own_reference r y e) ∙ node)
 
   found_cut : (ks : List ℕ) → found cut.orders (without_key k ks) ≡ without r (found w.orders ks)
   found_cut [] = refl
@@ -108,7 +98,7 @@ module _ (references references' : List (ℕ × ℕ)) (bids asks : List (Place �
 
   level_cut : (l : ℕ) (s : Side) (p : ℕ) → level (joined cut bids ++ joined cut asks) l s p ≡ level (without r (indexed w bids asks)) l s p
   level_cut l s p =
-      level_both cut l s p bids asks is.bids_sorted is.asks_sorted cut_levels
+      level_both cut l s p bids asks is.bids_apart is.asks_apart cut_levels
       ∙ line_at_cut (queue_of_side s bids asks l p)
       ∙ ap (without r) (sym (level_is references bids asks w is l s p))
       ∙ filter_swap (λ y. not (has_reference r y)) (is_level l s p) (indexed w bids asks)
@@ -124,8 +114,8 @@ module _ (references references' : List (ℕ × ℕ)) (bids asks : List (Place �
     book = subst IsBook (sym cut_view) (IsBook-without r (indexed w bids asks) is.book);
     live = λ j y h. is.live j y (kept j y h).0;
     priced = λ j y h. is.priced j y (kept j y h).0;
-    bids_sorted = is.bids_sorted;
-    asks_sorted = is.asks_sorted;
+    bids_apart = is.bids_apart;
+    asks_apart = is.asks_apart;
     levels = cut_levels;
     there = λ s l p q h. some_mapped (w.keys q) (is.there s l p q h);
     placed = λ q h. is.placed q (some_was (w.keys q) h);
@@ -133,11 +123,11 @@ module _ (references references' : List (ℕ × ℕ)) (bids asks : List (Place �
     named = λ j y h. let was = kept j y h in
         let name = is.named j y was.0 in
         names y.reference ∙ by_test (eqb r y.reference)
-        (λ e. absurd (false≢true (sym was.1 ∙ subst (λ t. eqb k t ≡ true) (same_some node (ap (node_of references) (eqb_is r y.reference e) ∙ name)) (eqb_itself k))))
-        (λ e. at_apart r None (node_of references) y.reference e ∙ name);
+        (λ e. absurd (false≢true (sym was.1 ∙ subst (λ t. eqb k t ≡ true) (same_some node (ap references (eqb_is r y.reference e) ∙ name)) (eqb_itself k))))
+        (λ e. at_apart r None references y.reference e ∙ name);
     known = λ t j h. by_test (eqb r t)
-        (λ e. none_some (names t ∙ at_same r None (node_of references) t e) h)
-        (λ e. let was = is.known t j (sym (names t ∙ at_apart r None (node_of references) t e) ∙ h) in
+        (λ e. none_some (names t ∙ at_same r None references t e) h)
+        (λ e. let was = is.known t j (sym (names t ∙ at_apart r None references t e) ∙ h) in
         record {
           order = was.order;
           there = by_test (eqb k j)
@@ -156,7 +146,6 @@ module _ (references references' : List (ℕ × ℕ)) (bids asks : List (Place �
           member = in_kept k j was.keys before.1 was.member;
         };
     full = λ q js j h i. by_keys q js j (w.keys q) refl h i;
-    count = len_is;
   }
     where
       some_mapped : (o : Option (List ℕ)) → IsSome o → IsSome (option_map (without_key k) o)
@@ -172,12 +161,6 @@ module _ (references references' : List (ℕ × ℕ)) (bids asks : List (Place �
       by_keys q js j (Some ks) e h i =
           let was = in_was k j ks (subst (In j) (sym (inj h)) i) in
           subst IsSome (sym (at_apart k None w.orders j was.1)) (is.full q ks j e was.0)
-
-      len_is : length references' ≡ length (indexed cut bids asks)
-      len_is =
-          let a = ap length (cut_view ∙ without-book r (indexed w bids asks) is.book) in
-          let b = length_without r (indexed w bids asks) x is.book.distinct (get_some references bids asks w is r k x node here) in
-          omega (arith, len, is.count, a, b)
 
   -- the other queues keep their nodes
   pub cut_busy : (q : ℕ) → queue_of_side x.side bids asks x.locate x.price ≡ Some q → IsBusy w bids asks → IsBusyBut cut bids asks q

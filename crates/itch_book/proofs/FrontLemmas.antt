@@ -64,7 +64,7 @@ after_level l s p x y h k n best =
     other Buy e b = grind (arith, nat_tests)
     other Sell e b = grind (arith, nat_tests)
 
-module _ (references : List (ℕ × ℕ)) (bids asks : List (Place × ℕ)) (v : Seen) (is : IsIndexed references bids asks v) where
+module _ (references : ℕ → Option ℕ) (bids asks : List (Place × ℕ)) (v : Seen) (is : IsIndexed references bids asks v) where
   abbrev IsPlaced : Order → Type 0
   IsPlaced x = IsSome (queue_of_side x.side bids asks x.locate x.price) × (x.price < 2 ^ 32)
 

@@ -4,20 +4,17 @@ use Rattle.std.specs.declared.cmp.Ordering.{Ordering}
 use Rattle.std.specs.Ordering.{nat_cmp, ordering_then, is_eq}
 use Rattle.std.specs.declared.cmp.Ordering.TheVariants.{Less, Equal, Greater}
 use Rattle.std.specs.List.{AllByRecursion}
-use Rattle.std.specs.Map.{lookup, keys_of}
 use Rattle.std.specs.BTreeMap.{is_at}
-use Rattle.std.specs.List.Sorted.{IsStrictlySortedBy}
 use Rattle.std.proofs.lemmas.Bool.{false≢true}
 use Rattle.std.proofs.lemmas.Bool.Decides.{nat_tests}
 use Rattle.std.proofs.lemmas.Map.Lookups.{exact_unsigned, exact_pairs}
-use Rattle.std.proofs.lemmas.Map.Keys.{sorted_head, sorted_tail}
 use Rattle.std.proofs.lemmas.List.Elements.{filter-append}
 use Rattle.itch_codec.specs.declared.orders.Side.{Side}
 use Rattle.itch_codec.specs.declared.orders.Side.TheVariants.{Buy, Sell}
 use Rattle.itch_book.specs.declared.order.Order.{Order}
 use Rattle.itch_book.specs.Orders.{is_level, same_side, level}
 use Rattle.itch_book.specs.Queued.{Seen}
-use Rattle.itch_book.specs.Indexed.{Place, place_cmp, queue_at, line, joined, queue_of_side}
+use Rattle.itch_book.specs.Indexed.{Place, place_cmp, queue_at, AreApart, line, joined, queue_of_side}
 use Rattle.itch_book.proofs.Lists.{by_test, filter_none, filter_all, All-weaker_rec}
 use Rattle.itch_book.proofs.OrderLemmas.{same_side_is}
 
@@ -38,9 +35,6 @@ place_is a b h = exact_pairs nat_cmp nat_cmp exact_unsigned exact_unsigned a b (
     equal Less h = absurd (false≢true h)
     equal Equal h = refl
     equal Greater h = absurd (false≢true h)
-
-pub less_apart : (a b : Place) → place_cmp a b ≡ Less → is_at (place_cmp a) b ≡ false
-less_apart a b h = ap is_eq h
 
 -- what an order at a place says of its place
 pub level_place : (l : ℕ) (s : Side) (p m : ℕ) (q : ℕ) (x : Order) → is_level l s p x ≡ true → is_level m s q x ≡ true → ◌≡◌ {A = ℕ × ℕ} (l, p) (m, q)
@@ -70,11 +64,6 @@ other_side l s t p m q x apart h k = by_sides s t apart x.side (side_of l s p x 
         let e = same_side_is u s a in let f = same_side_is u t b in
         false≢true (sym apart ∙ subst (λ v. same_side v t ≡ true) e b)
 
--- nothing is found past what is greater
-past_none : (a : Place) (es : List (Place × ℕ)) → AllByRecursion (λ (k : Place). place_cmp a k ≡ Less) (keys_of es) → lookup (is_at (place_cmp a)) es ≡ None
-past_none a [] h = refl
-past_none a (e ∷ es) h = let f = less_apart a e.0 h.0 in simp f (past_none a es h.1)
-
 module _ (v : Seen) where
   -- the orders of another level than the queue's
   none_here : (l : ℕ) (s : Side) (p : ℕ) (e : Place × ℕ) → is_at (place_cmp (l, p)) e.0 ≡ false → IsAt v s e → filter (is_level l s p) (line v e.1) ≡ []
@@ -83,24 +72,26 @@ module _ (v : Seen) where
       (λ k. absurd (false≢true (sym apart ∙ subst (λ (a : Place). is_at (place_cmp (l, p)) a ≡ true) (level_place l s p e.0.0 e.0.1 x k h) (place_self (l, p)))))
       (λ n. n)) (line v e.1) at)
 
-  none_left : (l : ℕ) (s : Side) (p : ℕ) (es : List (Place × ℕ)) → AllByRecursion (λ (k : Place). place_cmp (l, p) k ≡ Less) (keys_of es) → AllByRecursion (IsAt v s) es → filter (is_level l s p) (joined v es) ≡ []
-  none_left l s p [] less at = refl
-  none_left l s p (e ∷ es) less at =
+  none_left : (l : ℕ) (s : Side) (p : ℕ) (es : List (Place × ℕ)) → queue_at es l p ≡ None → AllByRecursion (IsAt v s) es → filter (is_level l s p) (joined v es) ≡ []
+  none_left l s p [] none at = refl
+  none_left l s p (e ∷ es) none at = by_test (is_at (place_cmp (l, p)) e.0)
+      (λ h. let no : Some e.1 ≡ None = simp h at none in absurd (let no_one : ⊥ = cc in no_one))
+      (λ h. let later : queue_at es l p ≡ None = simp h at none in
       filter-append (is_level l s p) (line v e.1) (joined v es)
-      ∙ ap (λ t. t ++ filter (is_level l s p) (joined v es)) (none_here l s p e (less_apart (l, p) e.0 less.0) at.0)
-      ∙ none_left l s p es less.1 at.1
+      ∙ ap (λ t. t ++ filter (is_level l s p) (joined v es)) (none_here l s p e h at.0)
+      ∙ none_left l s p es later at.1)
 
   -- the orders at a price of a side are those of the queue there
-  pub level_joined : (l : ℕ) (s : Side) (p : ℕ) (es : List (Place × ℕ)) → IsStrictlySortedBy place_cmp (keys_of es) → AllByRecursion (IsAt v s) es → filter (is_level l s p) (joined v es) ≡ line_at v (queue_at es l p)
-  level_joined l s p [] sorted at = refl
-  level_joined l s p (e ∷ es) sorted at =
+  pub level_joined : (l : ℕ) (s : Side) (p : ℕ) (es : List (Place × ℕ)) → AreApart es → AllByRecursion (IsAt v s) es → filter (is_level l s p) (joined v es) ≡ line_at v (queue_at es l p)
+  level_joined l s p [] apart at = refl
+  level_joined l s p (e ∷ es) apart at =
       filter-append (is_level l s p) (line v e.1) (joined v es) ∙
       by_test (is_at (place_cmp (l, p)) e.0)
       (λ h. let is : e.0 ≡ (l, p) = sym (place_is (l, p) e.0 h) in
       let all : AllByRecursion (λ x. is_level l s p x ≡ true) (line v e.1) = subst (λ (a : Place). AllByRecursion (λ x. is_level a.0 s a.1 x ≡ true) (line v e.1)) is at.0 in
-      let rest = none_left l s p es (subst (λ (a : Place). AllByRecursion (λ (k : Place). place_cmp a k ≡ Less) (keys_of es)) is (sorted_head place_cmp e.0 (keys_of es) sorted)) at.1 in
+      let rest = none_left l s p es (subst (λ (a : Place). queue_at es a.0 a.1 ≡ None) is apart.0) at.1 in
       simp h (ap (λ t. filter (is_level l s p) (line v e.1) ++ t) rest ∙ append-nil (filter (is_level l s p) (line v e.1)) ∙ filter_all (is_level l s p) (line v e.1) all))
-      (λ h. simp h (ap (λ t. t ++ filter (is_level l s p) (joined v es)) (none_here l s p e h at.0) ∙ level_joined l s p es (sorted_tail place_cmp e.0 (keys_of es) sorted) at.1))
+      (λ h. simp h (ap (λ t. t ++ filter (is_level l s p) (joined v es)) (none_here l s p e h at.0) ∙ level_joined l s p es apart.1 at.1))
 
   -- and none of them is on the other side
   pub level_other : (l : ℕ) (s t : Side) (p : ℕ) (es : List (Place × ℕ)) → same_side s t ≡ false → AllByRecursion (IsAt v t) es → filter (is_level l s p) (joined v es) ≡ []
@@ -112,23 +103,23 @@ module _ (v : Seen) where
       ∙ level_other l s t p es apart at.1
 
   -- a fact of each place that is found is one of each entry
-  by_entries : (P : Place × ℕ → Type 0) (es : List (Place × ℕ)) → IsStrictlySortedBy place_cmp (keys_of es) → ((l p q : ℕ) → queue_at es l p ≡ Some q → P ((l, p), q)) → AllByRecursion P es
-  by_entries P [] sorted h = tt
-  by_entries P (e ∷ es) sorted h = (
+  by_entries : (P : Place × ℕ → Type 0) (es : List (Place × ℕ)) → AreApart es → ((l p q : ℕ) → queue_at es l p ≡ Some q → P ((l, p), q)) → AllByRecursion P es
+  by_entries P [] apart h = tt
+  by_entries P (e ∷ es) apart h = (
     h e.0.0 e.0.1 e.1 (let own = place_self e.0 in simp own refl),
-    by_entries P es (sorted_tail place_cmp e.0 (keys_of es) sorted) (λ l p q it. h l p q (later l p q it)),
+    by_entries P es apart.1 (λ l p q it. h l p q (later l p q it)),
   )
     where
       later : (l p q : ℕ) → queue_at es l p ≡ Some q → queue_at (e ∷ es) l p ≡ Some q
       later l p q it =
           by_test (is_at (place_cmp (l, p)) e.0)
           (λ f. let is : (l, p) ≡ e.0 = place_is (l, p) e.0 f in
-          let none : queue_at es l p ≡ None = subst (λ (a : Place). lookup (is_at (place_cmp a)) es ≡ None) (sym is) (past_none e.0 es (sorted_head place_cmp e.0 (keys_of es) sorted)) in
+          let none : queue_at es l p ≡ None = subst (λ (a : Place). queue_at es a.0 a.1 ≡ None) (sym is) apart.0 in
           let no : Some q ≡ None = sym it ∙ none in absurd (let no_one : ⊥ = cc in no_one))
           (λ f. simp f it)
 
   -- over both sides
-  pub level_both : (l : ℕ) (s : Side) (p : ℕ) (bids asks : List (Place × ℕ)) → IsStrictlySortedBy place_cmp (keys_of bids) → IsStrictlySortedBy place_cmp (keys_of asks)
+  pub level_both : (l : ℕ) (s : Side) (p : ℕ) (bids asks : List (Place × ℕ)) → AreApart bids → AreApart asks
       → ((t : Side) (m n q : ℕ) → queue_of_side t bids asks m n ≡ Some q → AllByRecursion (λ x. is_level m t n x ≡ true) (line v q))
       → level (joined v bids ++ joined v asks) l s p ≡ line_at v (queue_of_side s bids asks l p)
   level_both l Buy p bids asks b a at =

@@ -1,7 +1,6 @@
 -- What is read off an index.
-use Rattle.std.proofs.Common.{◌≡◌, ℕ, ◌&&◌, Bool, true, false, not, List, [], ◌∷◌, ◌++◌, length, filter, find, get_or, Option, Some, None, IsSome, refl, sym, ap, ◌∙◌, subst, arith}
+use Rattle.std.proofs.Common.{◌≡◌, ℕ, ◌&&◌, Bool, true, false, not, List, [], ◌∷◌, ◌++◌, filter, find, get_or, Option, Some, None, IsSome, refl, sym, ap, ◌∙◌, subst, arith}
 use Rattle.std.specs.List.{AllByRecursion}
-use Rattle.std.specs.List.Sorted.{IsStrictlySortedBy}
 use Rattle.itch_book.proofs.BookLemmas.{IsBook-lay}
 use Rattle.std.proofs.lemmas.Bool.{false≢true}
 use Rattle.std.proofs.lemmas.Bool.Decides.{nat_tests}
@@ -10,7 +9,7 @@ use Rattle.itch_codec.specs.declared.orders.Side.TheVariants.{Buy, Sell}
 use Rattle.itch_book.specs.declared.order.Order.{Order}
 use Rattle.itch_book.specs.Orders.{is_level, same_side, level, level_total, fits, AllFit, has_reference, get, stands_before, IsDistinct}
 use Rattle.itch_book.specs.Queued.{Seen, found, shown, totals_of}
-use Rattle.itch_book.specs.Indexed.{Place, orders_in, line, joined, indexed, queue_of_side, node_of, IsIndexed, IsBusy}
+use Rattle.itch_book.specs.Indexed.{Place, orders_in, line, joined, indexed, queue_of_side, IsIndexed, IsBusy}
 use Rattle.itch_book.proofs.Lists.{by_test, All-append_rec, found_passes, absent_in_filter}
 use Rattle.itch_book.proofs.Distinct.{has_own, own_reference, head_distinct, tail_distinct}
 use Rattle.itch_book.proofs.OrderLemmas.{stands_order, lay_fit, same_side_self, same_side_is, ties_level}
@@ -53,7 +52,7 @@ level_ties l s p x y h k =
 pub level_own : (x : Order) → is_level x.locate x.side x.price x ≡ true
 level_own x = let s = same_side_self x.side in let a = eqb_itself x.locate in let b = eqb_itself x.price in simp (s, a, b) refl
 
-module _ (references : List (ℕ × ℕ)) (bids asks : List (Place × ℕ)) (v : Seen) (is : IsIndexed references bids asks v) where
+module _ (references : ℕ → Option ℕ) (bids asks : List (Place × ℕ)) (v : Seen) (is : IsIndexed references bids asks v) where
   pub all_fit : AllFit (joined v bids ++ joined v asks)
   all_fit = All-append_rec (λ x. fits x ≡ true) (joined v bids) (joined v asks) (All-joined (λ x. fits x ≡ true) v (λ k x h. (is.live k x h).1) bids) (All-joined (λ x. fits x ≡ true) v (λ k x h. (is.live k x h).1) asks)
 
@@ -62,7 +61,7 @@ module _ (references : List (ℕ × ℕ)) (bids asks : List (Place × ℕ)) (v :
   level_is l s p =
       ap (filter (is_level l s p)) (lay_fit (joined v bids ++ joined v asks) all_fit)
       ∙ in_order-tied stands_before stands_order (is_level l s p) (λ x y h k. level_ties l s p x y h k) (joined v bids ++ joined v asks)
-      ∙ level_both v l s p bids asks is.bids_sorted is.asks_sorted is.levels
+      ∙ level_both v l s p bids asks is.bids_apart is.asks_apart is.levels
 
   pub level_none : (l : ℕ) (s : Side) (p : ℕ) → queue_of_side s bids asks l p ≡ None → level_total (indexed v bids asks) l s p ≡ (0, 0)
   level_none l s p none = ap totals_of (level_is l s p ∙ ap (line_at v) none)
@@ -124,8 +123,8 @@ find_found orders r k x (j ∷ js) i here has one =
         let it : y ≡ x = same_some e (ap orders same ∙ here) in simp f (ap Some it))
         (λ f. simp f rest)
 
-module _ (references : List (ℕ × ℕ)) (bids asks : List (Place × ℕ)) (v : Seen) (is : IsIndexed references bids asks v) where
-  pub get_some : (r k : ℕ) (x : Order) → node_of references r ≡ Some k → v.orders k ≡ Some x → get (indexed v bids asks) r ≡ Some x
+module _ (references : ℕ → Option ℕ) (bids asks : List (Place × ℕ)) (v : Seen) (is : IsIndexed references bids asks v) where
+  pub get_some : (r k : ℕ) (x : Order) → references r ≡ Some k → v.orders k ≡ Some x → get (indexed v bids asks) r ≡ Some x
   get_some r k x node here =
       let known = is.known r k node in
       let reference : x.reference ≡ r = ap (λ (o : Order). o.reference) (same_some here known.there) ∙ known.reference in
@@ -134,10 +133,10 @@ module _ (references : List (ℕ × ℕ)) (bids asks : List (Place × ℕ)) (v :
       let level_here : level (indexed v bids asks) x.locate x.side x.price ≡ found (v.orders) place.keys =
       level_is references bids asks v is x.locate x.side x.price ∙ ap (line_at v) place.at_price ∙ ap (orders_in (v.orders)) place.keys_are in
       let it = find_found (v.orders) r k x place.keys place.member here has
-      (λ j y there h. same_some (is.named j y there) (ap (node_of references) (own_reference r y h) ∙ node)) in
+      (λ j y there h. same_some (is.named j y there) (ap references (own_reference r y h) ∙ node)) in
       find_whole r (is_level x.locate x.side x.price) (indexed v bids asks) x is.book.distinct (ap (find (has_reference r)) level_here ∙ it)
 
-  pub get_none : (r : ℕ) → node_of references r ≡ None → get (indexed v bids asks) r ≡ None
+  pub get_none : (r : ℕ) → references r ≡ None → get (indexed v bids asks) r ≡ None
   get_none r none = by_order (get (indexed v bids asks) r) refl
     where
       here : (x : Order) → (q : Option ℕ) → find (has_reference r) (line_at v q) ≡ Some x → (k : ℕ) × (v.orders k ≡ Some x)
@@ -155,26 +154,24 @@ module _ (references : List (ℕ × ℕ)) (bids asks : List (Place × ℕ)) (v :
           let part = find_part r (is_level x.locate x.side x.price) (indexed v bids asks) x e own in
           let node = here x (queue_of_side x.side bids asks x.locate x.price) (sym (ap (find (has_reference r)) (level_is references bids asks v is x.locate x.side x.price)) ∙ part) in
           let has = found_passes (has_reference r) (indexed v bids asks) x e in
-          none_some none (ap (node_of references) (sym (own_reference r x has)) ∙ is.named node.0 x node.1)
+          none_some none (ap references (sym (own_reference r x has)) ∙ is.named node.0 x node.1)
 
 -- the index of no orders
-pub empty_index : (v : Seen) → ((k : ℕ) → v.orders k ≡ None) → ((q : ℕ) → v.keys q ≡ None) → IsIndexed [] [] [] v
-unfolding IsStrictlySortedBy
-empty_index v vacant none = record {
+pub empty_index : (references : ℕ → Option ℕ) (v : Seen) → ((r : ℕ) → references r ≡ None) → ((k : ℕ) → v.orders k ≡ None) → ((q : ℕ) → v.keys q ≡ None) → IsIndexed references [] [] v
+empty_index references v new vacant none = record {
   book = IsBook-lay [] (λ r. omega arith) tt;
   live = λ k x h. none_some (vacant k) h;
   priced = λ k x h. none_some (vacant k) h;
-  bids_sorted = tt;
-  asks_sorted = tt;
+  bids_apart = tt;
+  asks_apart = tt;
   levels = λ s l p q h. no_queue s l p q h;
   there = λ s l p q h. no_queue s l p q h;
   placed = λ q h. absurd (false≢true (subst IsSome (none q) h));
   apart = λ s t l p m n q h k. no_queue s l p q h;
   named = λ k x h. none_some (vacant k) h;
-  known = λ r k h. absurd (let no_one : ⊥ = cc in no_one);
+  known = λ r k h. none_some (new r) h;
   listed = λ k x h. none_some (vacant k) h;
   full = λ q keys k h i. none_some (none q) h;
-  count = sym (ap length (lay_fit [] tt));
 }
   where
     no_queue : {P : Type 0} (s : Side) (l p q : ℕ) → queue_of_side s [] [] l p ≡ Some q → P

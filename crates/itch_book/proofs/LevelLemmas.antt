@@ -1,12 +1,10 @@
 -- The queue at a price, found or opened.
 use Rattle.std.proofs.Common.{◌≡◌, ℕ, cond, List, [], Option, Some, None, refl, sym, ap, ◌∙◌, subst}
 use Rattle.std.specs.Prelude.{Result, Ok, Err, OnErr, IfOk}
-use Rattle.std.specs.Map.{keys_of}
-use Rattle.std.specs.List.Sorted.{IsStrictlySortedBy}
 use Rattle.itch_codec.specs.declared.orders.Side.{Side}
 use Rattle.itch_book.specs.Links.{at_key}
 use Rattle.itch_book.specs.Queued.{Queued, Seen, Opens, seen}
-use Rattle.itch_book.specs.Indexed.{Place, place_cmp, indexed, queue_of_side, is_there, IsIndexed, IsBusy, IsBusyBut}
+use Rattle.itch_book.specs.Indexed.{Place, AreApart, indexed, queue_of_side, is_there, IsIndexed, IsBusy, IsBusyBut}
 use Rattle.itch_book.proofs.OpenLemmas.{open_view, open_index, open_busy, seen_same, same_orders}
 
 -- what holds of each success
@@ -18,8 +16,8 @@ module _ {E : Type 0} (bids asks bids' asks' : List (Place × ℕ)) (v v' : Queu
     (known : (q : ℕ) → queue_of_side s0 bids asks l0 p0 ≡ Some q → (r ≡ Ok q) × (bids' ≡ bids) × (asks' ≡ asks) × (v' ≡ v))
     (opens : queue_of_side s0 bids asks l0 p0 ≡ None → IfOk r (λ q. Opens q v v'))
     (placed : queue_of_side s0 bids asks l0 p0 ≡ None → IfOk r (λ q. (s : Side) → (l p : ℕ) → queue_of_side s bids' asks' l p ≡ cond (is_there s0 l0 p0 s l p) (Some q) (queue_of_side s bids asks l p)))
-    (bids_sorted : IsStrictlySortedBy place_cmp (keys_of bids) → IsStrictlySortedBy place_cmp (keys_of bids'))
-    (asks_sorted : IsStrictlySortedBy place_cmp (keys_of asks) → IsStrictlySortedBy place_cmp (keys_of asks'))
+    (bids_apart : AreApart bids')
+    (asks_apart : AreApart asks')
     (kept : OnErr r ((bids' ≡ bids) × (asks' ≡ asks) × (v' ≡ v))) where
   -- nothing changed, or a queue was opened
   by_level : {P : Type 0} → ((bids' ≡ bids) × (asks' ≡ asks) × (v' ≡ v) → P)
@@ -46,21 +44,21 @@ module _ {E : Type 0} (bids asks bids' asks' : List (Place × ℕ)) (v v' : Queu
   seen_opened : (q : ℕ) → Opens q v v' → seen v' ≡ record { keys = at_key q (Some []) (seen v).keys; orders = (seen v).orders }
   seen_opened q o = seen_same _ (seen v') o.keys (same_orders v v' o.orders)
 
-  pub level_index : (references : List (ℕ × ℕ)) → IsIndexed references bids asks (seen v) → IsIndexed references bids' asks' (seen v')
+  pub level_index : (references : ℕ → Option ℕ) → IsIndexed references bids asks (seen v) → IsIndexed references bids' asks' (seen v')
   level_index references is =
       by_level
       (λ same. moved (λ b a u. IsIndexed references b a (seen u)) same is)
       (λ q _ absent o p. subst (IsIndexed references bids' asks') (sym (seen_opened q o))
-      (open_index references bids asks bids' asks' (seen v) is s0 l0 p0 q (bids_sorted is.bids_sorted) (asks_sorted is.asks_sorted) o.vacant absent p))
+      (open_index references bids asks bids' asks' (seen v) is s0 l0 p0 q bids_apart asks_apart o.vacant absent p))
 
-  pub level_view : (references : List (ℕ × ℕ)) → IsIndexed references bids asks (seen v) → indexed (seen v') bids' asks' ≡ indexed (seen v) bids asks
+  pub level_view : (references : ℕ → Option ℕ) → IsIndexed references bids asks (seen v) → indexed (seen v') bids' asks' ≡ indexed (seen v) bids asks
   level_view references is =
       by_level
       (λ same. moved (λ b a u. indexed (seen u) b a ≡ indexed (seen v) bids asks) same refl)
       (λ q _ absent o p. ap (λ (u : Seen). indexed u bids' asks') (seen_opened q o)
-      ∙ open_view references bids asks bids' asks' (seen v) is s0 l0 p0 q (bids_sorted is.bids_sorted) (asks_sorted is.asks_sorted) o.vacant absent p)
+      ∙ open_view references bids asks bids' asks' (seen v) is s0 l0 p0 q bids_apart asks_apart o.vacant absent p)
 
-  pub level_busy : (q : ℕ) → r ≡ Ok q → (references : List (ℕ × ℕ)) → IsIndexed references bids asks (seen v) → IsBusy (seen v) bids asks → IsBusyBut (seen v') bids' asks' q
+  pub level_busy : (q : ℕ) → r ≡ Ok q → (references : ℕ → Option ℕ) → IsIndexed references bids asks (seen v) → IsBusy (seen v) bids asks → IsBusyBut (seen v') bids' asks' q
   level_busy q was references is busy =
       by_level
       (λ same. moved (λ b a u. IsBusyBut (seen u) b a q) same (λ s l p q0 h n. busy s l p q0 h))
@@ -68,4 +66,4 @@ module _ {E : Type 0} (bids asks bids' asks' : List (Place × ℕ)) (v v' : Queu
       let one : q1 ≡ q = cc in
       subst (IsBusyBut (seen v') bids' asks') one
       (subst (λ (u : Seen). IsBusyBut u bids' asks' q1) (sym (seen_opened q1 o))
-      (open_busy references bids asks bids' asks' (seen v) is s0 l0 p0 q1 (bids_sorted is.bids_sorted) (asks_sorted is.asks_sorted) o.vacant absent p busy)))
+      (open_busy references bids asks bids' asks' (seen v) is s0 l0 p0 q1 bids_apart asks_apart o.vacant absent p busy)))

@@ -17,6 +17,10 @@ pub mod ViewLemmas
 pub mod ReadLemmas
 pub mod IndexLemmas
 pub mod IndexSteps
+pub mod RisingLemmas
+pub mod NearLemmas
+pub mod SideLemmas
+pub mod CountLemmas
 pub mod PutLemmas
 pub mod OpenLemmas
 pub mod LevelLemmas
@@ -31,6 +35,7 @@ pub mod CutLemmas
 pub mod CloseLemmas
 mod PlaceLemmas
 pub mod SettledLemmas
+pub mod RankLemmas
 pub mod ArrivedSteps
 pub mod ReferredLemmas
 pub mod PlacedLemmas

@@ -1,9 +1,7 @@
 -- An empty queue put at a price that had none.
-use Rattle.std.proofs.Common.{◌≡◌, ℕ, true, false, cond, eqb, List, [], ◌++◌, length, Option, Some, None, IsSome, refl, sym, ap, ◌∙◌, subst}
+use Rattle.std.proofs.Common.{◌≡◌, ℕ, true, false, cond, eqb, List, [], ◌++◌, Option, Some, None, IsSome, refl, sym, ap, ◌∙◌, subst}
 use Rattle.std.specs.List.{AllByRecursion, list_any}
-use Rattle.std.specs.Map.{keys_of}
 use Rattle.std.specs.BTreeMap.{is_at}
-use Rattle.std.specs.List.Sorted.{IsStrictlySortedBy}
 use Rattle.std.proofs.lemmas.Bool.{false≢true}
 use Rattle.itch_codec.specs.declared.orders.Side.{Side}
 use Rattle.itch_book.specs.declared.order.Order.{Order}
@@ -12,7 +10,7 @@ use Rattle.itch_book.specs.Links.{at_key}
 use Rattle.std.specs.Prelude.{Result, Ok, Err, OnErr}
 use Rattle.std.proofs.Common.{get_or}
 use Rattle.itch_book.specs.Queued.{Queued, Seen, seen}
-use Rattle.itch_book.specs.Indexed.{Place, place_cmp, orders_in, line, joined, indexed, queue_of_side, is_there, node_of, has_keys, IsPlace, IsIndexed, IsBusy, IsBusyBut}
+use Rattle.itch_book.specs.Indexed.{Place, place_cmp, AreApart, orders_in, line, joined, indexed, queue_of_side, is_there, has_keys, IsPlace, IsIndexed, IsBusy, IsBusyBut}
 use Rattle.itch_book.proofs.Lists.{by_test}
 use Rattle.itch_book.proofs.OrderLemmas.{lay_same_levels, same_side_self, same_side_is}
 use Rattle.itch_book.proofs.LinkLemmas.{eqb_itself, eqb_is}
@@ -31,8 +29,8 @@ there_is s0 l0 p0 s l p h =
 pub is_there_self : (s : Side) (l p : ℕ) → is_there s l p s l p ≡ true
 is_there_self s l p = let a = same_side_self s in let b = place_self (l, p) in simp (a, b) refl
 
-module _ (references : List (ℕ × ℕ)) (bids asks bids' asks' : List (Place × ℕ)) (w : Seen) (is : IsIndexed references bids asks w) (s0 : Side) (l0 p0 q : ℕ)
-    (bids_sorted : IsStrictlySortedBy place_cmp (keys_of bids')) (asks_sorted : IsStrictlySortedBy place_cmp (keys_of asks'))
+module _ (references : ℕ → Option ℕ) (bids asks bids' asks' : List (Place × ℕ)) (w : Seen) (is : IsIndexed references bids asks w) (s0 : Side) (l0 p0 q : ℕ)
+    (bids_apart : AreApart bids') (asks_apart : AreApart asks')
     (vacant : w.keys q ≡ None) (absent : queue_of_side s0 bids asks l0 p0 ≡ None)
     (placed : (s : Side) (l p : ℕ) → queue_of_side s bids' asks' l p ≡ cond (is_there s0 l0 p0 s l p) (Some q) (queue_of_side s bids asks l p)) where
   -- what is seen then
@@ -78,11 +76,11 @@ module _ (references : List (ℕ × ℕ)) (bids asks bids' asks' : List (Place �
 
   level_open : (l : ℕ) (s : Side) (p : ℕ) → level (joined opened bids' ++ joined opened asks') l s p ≡ level (joined w bids ++ joined w asks) l s p
   level_open l s p =
-      level_both opened l s p bids' asks' bids_sorted asks_sorted open_levels
+      level_both opened l s p bids' asks' bids_apart asks_apart open_levels
       ∙ by_test (is_there s0 l0 p0 s l p)
       (λ e. ap (line_at opened) (placed_here s l p e) ∙ line_new ∙ sym (ap (line_at w) (none_there s l p e)))
       (λ e. ap (line_at opened) (placed_else s l p e) ∙ by_queue (queue_of_side s bids asks l p) refl)
-      ∙ sym (level_both w l s p bids asks is.bids_sorted is.asks_sorted is.levels)
+      ∙ sym (level_both w l s p bids asks is.bids_apart is.asks_apart is.levels)
     where
       by_queue : (o : Option ℕ) → queue_of_side s bids asks l p ≡ o → line_at opened o ≡ line_at w o
       by_queue None h = refl
@@ -96,8 +94,8 @@ module _ (references : List (ℕ × ℕ)) (bids asks bids' asks' : List (Place �
     book = subst IsBook (sym open_view) is.book;
     live = is.live;
     priced = is.priced;
-    bids_sorted = bids_sorted;
-    asks_sorted = asks_sorted;
+    bids_apart = bids_apart;
+    asks_apart = asks_apart;
     levels = open_levels;
     there = λ s l p q0 h. by_place s l p q0 h
         (λ same e. subst IsSome (sym (at_same q (Some []) w.keys q0 (subst (λ t. eqb q t ≡ true) same (eqb_itself q)))) refl)
@@ -127,7 +125,6 @@ module _ (references : List (ℕ × ℕ)) (bids asks bids' asks' : List (Place �
     full = λ q0 js j h i. by_test (eqb q q0)
         (λ e. let none : [] ≡ js = same_some (at_same q (Some []) w.keys q0 e) h in absurd (false≢true (subst (λ t. list_any (eqb j) t ≡ true) (sym none) i)))
         (λ e. is.full q0 js j (sym (at_apart q (Some []) w.keys q0 e) ∙ h) i);
-    count = is.count ∙ sym (ap length open_view);
   }
     where
       clash_at : {P : Type 0} (q0 : ℕ) → q ≡ q0 → IsSome (w.keys q0) → P
@@ -143,25 +140,10 @@ module _ (references : List (ℕ × ℕ)) (bids asks bids' asks' : List (Place �
 pub seen_same : (v v' : Seen) → ((q : ℕ) → v'.keys q ≡ v.keys q) → ((k : ℕ) → v'.orders k ≡ v.orders k) → v' ≡ v
 seen_same v v' keys orders = λ i. record { keys = λ q. keys q i; orders = λ k. orders k i }
 
--- references in another order
-pub reordered : (references references' : List (ℕ × ℕ)) (bids asks : List (Place × ℕ)) (w : Seen) → ((r : ℕ) → node_of references' r ≡ node_of references r) → length references' ≡ length references
+-- references that lead to the same nodes
+pub renamed : (references references' : ℕ → Option ℕ) (bids asks : List (Place × ℕ)) (w : Seen) → ((r : ℕ) → references' r ≡ references r)
     → IsIndexed references bids asks w → IsIndexed references' bids asks w
-reordered references references' bids asks w same len is = record {
-  book = is.book;
-  live = is.live;
-  priced = is.priced;
-  bids_sorted = is.bids_sorted;
-  asks_sorted = is.asks_sorted;
-  levels = is.levels;
-  there = is.there;
-  placed = is.placed;
-  apart = is.apart;
-  named = λ k x h. same x.reference ∙ is.named k x h;
-  known = λ r k h. is.known r k (sym (same r) ∙ h);
-  listed = is.listed;
-  full = is.full;
-  count = len ∙ is.count;
-}
+renamed references references' bids asks w same is = subst (λ (f : ℕ → Option ℕ). IsIndexed f bids asks w) (λ i r. sym (same r) i) is
 
 pub seen_slots : (v v' : Queued) → v'.queues ≡ v.queues → v'.orders ≡ v.orders → seen v' ≡ seen v
 seen_slots v v' queues orders = λ i. record { keys = λ q. get_or (queues i) q None; orders = λ k. get_or (orders i) k None }

@@ -1,19 +1,17 @@
 -- An order put last in the queue of its price.
-use Rattle.std.proofs.Common.{◌≡◌, ℕ, ◌+◌, ◌^◌, ◌<◌, true, false, eqb, List, [], ◌∷◌, ◌++◌, length, filter, Option, Some, None, IsSome, refl, sym, ap, ◌∙◌, subst, arith, length-append, append-nil}
+use Rattle.std.proofs.Common.{◌≡◌, ℕ, ◌^◌, ◌<◌, true, false, eqb, List, [], ◌∷◌, ◌++◌, filter, Option, Some, None, IsSome, refl, sym, ap, ◌∙◌, subst, arith, append-nil}
 use Rattle.std.specs.List.{AllByRecursion, list_any}
 use Rattle.std.proofs.lemmas.Bool.{false≢true}
 use Rattle.std.proofs.lemmas.Bool.Decides.{nat_tests}
 use Rattle.std.proofs.lemmas.List.Elements.{filter-append}
 use Rattle.itch_codec.specs.declared.orders.Side.{Side}
 use Rattle.itch_book.specs.declared.order.Order.{Order}
-use Rattle.itch_book.specs.Orders.{is_level, same_side, lay, level, added, fits, AllFit, get, stands_before, IsLive, IsBook}
+use Rattle.itch_book.specs.Orders.{is_level, same_side, lay, level, added, get, IsLive, IsBook}
 use Rattle.itch_book.specs.Links.{at_key}
 use Rattle.itch_book.specs.Queued.{Seen, found, shown}
-use Rattle.itch_book.specs.Indexed.{Place, orders_in, line, joined, indexed, queue_of_side, node_of, has_keys, IsBusy, IsBusyBut, IsPlace, IsIndexed}
+use Rattle.itch_book.specs.Indexed.{Place, orders_in, line, joined, indexed, queue_of_side, has_keys, IsBusy, IsBusyBut, IsPlace, IsIndexed}
 use Rattle.itch_book.proofs.Lists.{by_test, All-append_rec}
-use Rattle.itch_book.proofs.Distinct.{live_fit}
-use Rattle.itch_book.proofs.StableLemmas.{length-in_order}
-use Rattle.itch_book.proofs.OrderLemmas.{lay_fit, lay_same_levels, same_side_is}
+use Rattle.itch_book.proofs.OrderLemmas.{lay_same_levels, same_side_is}
 use Rattle.itch_book.proofs.BookLemmas.{IsBook-added}
 use Rattle.itch_book.proofs.LinkLemmas.{In, NotIn, eqb_itself, eqb_is, in_head, in_cases, not_in_head, not_in_tail}
 use Rattle.itch_book.proofs.UnlinkLemmas.{in_left, in_right, in_parts}
@@ -49,10 +47,9 @@ at_place : (s : Side) (l p : ℕ) (x : Order) → IsPlace s l p x.side x.locate 
 at_place s l p x is =
     subst (λ t. is_level t s p x ≡ true) (sym is.1) (subst (λ t. is_level x.locate t p x ≡ true) (sym is.0) (subst (λ t. is_level x.locate x.side t x ≡ true) (sym is.2) (level_own x)))
 
-module _ (references references' : List (ℕ × ℕ)) (bids asks : List (Place × ℕ)) (w : Seen) (is : IsIndexed references bids asks w)
+module _ (references references' : ℕ → Option ℕ) (bids asks : List (Place × ℕ)) (w : Seen) (is : IsIndexed references bids asks w)
     (x : Order) (k q : ℕ) (ks : List ℕ) (at : queue_of_side x.side bids asks x.locate x.price ≡ Some q) (keys : w.keys q ≡ Some ks) (vacant : w.orders k ≡ None)
-    (live : IsLive x) (price : x.price < 2 ^ 32) (fresh : get (indexed w bids asks) x.reference ≡ None) (names : (r : ℕ) → node_of references' r ≡ at_key x.reference (Some k) (node_of references) r)
-    (len : length references' ≡ length references + 1) where
+    (live : IsLive x) (price : x.price < 2 ^ 32) (fresh : get (indexed w bids asks) x.reference ≡ None) (names : (r : ℕ) → references' r ≡ at_key x.reference (Some k) references r) where
   -- what is seen then
   abbrev pub put : Seen
   put = record { keys = at_key q (Some (ks ++ k ∷ [])) w.keys; orders = at_key k (Some x) w.orders }
@@ -90,7 +87,7 @@ module _ (references references' : List (ℕ × ℕ)) (bids asks : List (Place �
   -- level by level
   level_put : (l : ℕ) (s : Side) (p : ℕ) → level (joined put bids ++ joined put asks) l s p ≡ level (added x (indexed w bids asks)) l s p
   level_put l s p =
-      level_both put l s p bids asks is.bids_sorted is.asks_sorted put_levels
+      level_both put l s p bids asks is.bids_apart is.asks_apart put_levels
       ∙ by_queue (queue_of_side s bids asks l p) refl
       ∙ ap (λ t. t ++ filter (is_level l s p) (x ∷ [])) (sym (level_is references bids asks w is l s p))
       ∙ sym (filter-append (is_level l s p) (indexed w bids asks) (x ∷ []))
@@ -125,8 +122,8 @@ module _ (references references' : List (ℕ × ℕ)) (bids asks : List (Place �
     priced = λ j y h. by_test (eqb k j)
         (λ e. subst (λ (z : Order). z.price < 2 ^ 32) (same_some (at_same k (Some x) w.orders j e) h) price)
         (λ e. is.priced j y (sym (at_apart k (Some x) w.orders j e) ∙ h));
-    bids_sorted = is.bids_sorted;
-    asks_sorted = is.asks_sorted;
+    bids_apart = is.bids_apart;
+    asks_apart = is.asks_apart;
     levels = put_levels;
     there = λ s l p q0 h. by_test (eqb q q0)
         (λ e. subst IsSome (sym (at_same q (Some (ks ++ k ∷ [])) w.keys q0 e)) refl)
@@ -137,16 +134,16 @@ module _ (references references' : List (ℕ × ℕ)) (bids asks : List (Place �
     apart = is.apart;
     named = λ j y h. by_test (eqb k j)
         (λ e. let one : x ≡ y = same_some (at_same k (Some x) w.orders j e) h in
-        names y.reference ∙ at_same x.reference (Some k) (node_of references) y.reference (subst (λ (z : Order). eqb x.reference z.reference ≡ true) one (eqb_itself x.reference)) ∙ ap Some (eqb_is k j e))
+        names y.reference ∙ at_same x.reference (Some k) references y.reference (subst (λ (z : Order). eqb x.reference z.reference ≡ true) one (eqb_itself x.reference)) ∙ ap Some (eqb_is k j e))
         (λ e. let there : w.orders j ≡ Some y = sym (at_apart k (Some x) w.orders j e) ∙ h in
         let node = is.named j y there in
         names y.reference ∙ by_test (eqb x.reference y.reference)
         (λ f. none_some fresh (ap (get (indexed w bids asks)) (eqb_is x.reference y.reference f) ∙ get_some references bids asks w is y.reference j y node there))
-        (λ f. at_apart x.reference (Some k) (node_of references) y.reference f ∙ node));
+        (λ f. at_apart x.reference (Some k) references y.reference f ∙ node));
     known = λ r j h. by_test (eqb x.reference r)
-        (λ e. let same : k ≡ j = same_some (names r ∙ at_same x.reference (Some k) (node_of references) r e) h in
+        (λ e. let same : k ≡ j = same_some (names r ∙ at_same x.reference (Some k) references r e) h in
         record { order = x; there = ap put.orders (sym same) ∙ new_order; reference = eqb_is x.reference r e })
-        (λ e. let was = is.known r j (sym (names r ∙ at_apart x.reference (Some k) (node_of references) r e) ∙ h) in
+        (λ e. let was = is.known r j (sym (names r ∙ at_apart x.reference (Some k) references r e) ∙ h) in
         record { order = was.order; there = kept j was.order was.there; reference = was.reference });
     listed = λ j y h. by_test (eqb k j)
         (λ e. let one : x ≡ y = same_some (at_same k (Some x) w.orders j e) h in
@@ -173,7 +170,6 @@ module _ (references references' : List (ℕ × ℕ)) (bids asks : List (Place �
         in_parts j ks (k ∷ []) (subst (In j) (sym same) i) (λ m. some_kept j (is.full q ks j keys m))
         (λ m. in_cases j k [] m (λ f. subst IsSome (sym (ap put.orders f ∙ new_order)) refl) (λ n. absurd (false≢true n))))
         (λ e. some_kept j (is.full q0 js j (sym (at_apart q (Some (ks ++ k ∷ [])) w.keys q0 e) ∙ h) i));
-    count = len_is;
   }
     where
       book : IsBook (indexed put bids asks)
@@ -184,15 +180,6 @@ module _ (references references' : List (ℕ × ℕ)) (bids asks : List (Place �
 
       some_kept : (j : ℕ) → IsSome (w.orders j) → IsSome (put.orders j)
       some_kept j h = by_test (eqb k j) (λ e. subst IsSome (sym (at_same k (Some x) w.orders j e)) refl) (λ e. subst IsSome (sym (at_apart k (Some x) w.orders j e)) h)
-
-      len_is : length references' ≡ length (indexed put bids asks)
-      len_is =
-          let fit : AllFit (added x (indexed w bids asks)) = All-append_rec (λ y. fits y ≡ true) (indexed w bids asks) (x ∷ []) (live_fit (indexed w bids asks) is.book.live) (live.1, tt) in
-          let a = ap length put_view in
-          let b = ap length (lay_fit (added x (indexed w bids asks)) fit) in
-          let c = length-in_order stands_before (added x (indexed w bids asks)) in
-          let d = length-append (indexed w bids asks) (x ∷ []) in
-          omega (arith, len, is.count, a, b, c, d)
 
 -- each queue has nodes then
 pub put_keys_busy : (bids asks : List (Place × ℕ)) (w w' : Seen) (k q : ℕ) (ks : List ℕ) → ((p : ℕ) → w'.keys p ≡ at_key q (Some (ks ++ k ∷ [])) w.keys p) → IsBusyBut w bids asks q → IsBusy w' bids asks
@@ -205,9 +192,9 @@ put_keys_busy bids asks w w' k q ks keys busy s l p q0 h = ap has_keys (keys q0)
     some_key (j ∷ js) = refl
 
 -- a reference that no order has leads to no node
-pub unnamed : (references : List (ℕ × ℕ)) (bids asks : List (Place × ℕ)) (w : Seen) → IsIndexed references bids asks w → (r : ℕ) → get (indexed w bids asks) r ≡ None → node_of references r ≡ None
-unnamed references bids asks w is r fresh = by_node (node_of references r) refl
+pub unnamed : (references : ℕ → Option ℕ) (bids asks : List (Place × ℕ)) (w : Seen) → IsIndexed references bids asks w → (r : ℕ) → get (indexed w bids asks) r ≡ None → references r ≡ None
+unnamed references bids asks w is r fresh = by_node (references r) refl
   where
-    by_node : (o : Option ℕ) → node_of references r ≡ o → o ≡ None
+    by_node : (o : Option ℕ) → references r ≡ o → o ≡ None
     by_node None e = refl
     by_node (Some k) e = let known = is.known r k e in none_some fresh (get_some references bids asks w is r k known.order e known.there)

@@ -1,15 +1,16 @@
 -- What a table of places finds, and what it leads to after an order was put, taken out or written.
-use Rattle.std.proofs.Common.{◌≡◌, ◌≢◌, ℕ, zero, suc, ◌<◌, ◌+◌, ◌-◌, ◌^◌, true, false, cond, eqb, List, [], ◌∷◌, ◌++◌, length, take, set, get_or, Option, Some, None, IsSome, refl, sym, ap, ◌∙◌, subst, arith, inl, inr}
+use Rattle.std.proofs.Common.{◌≡◌, ◌≢◌, ℕ, zero, suc, ◌<◌, ◌+◌, ◌-◌, ◌^◌, true, false, cond, eqb, List, [], ◌∷◌, ◌++◌, length, take, set, get_or, slice_get, Option, Some, None, IsSome, IsSomeAnd, refl, sym, ap, ◌∙◌, subst, arith, inl, inr}
 use Rattle.std.specs.List.{swap_remove}
 use Rattle.std.specs.List.Sorted.{IsPermutation}
-use Rattle.std.specs.Map.{lookup, values_of, set_value, remove_entry}
+use Rattle.std.specs.Map.{lookup, values_of, keys_of, set_value, remove_entry}
 use Rattle.std.proofs.lemmas.Bool.{false≢true, cases_lt}
 use Rattle.std.proofs.lemmas.Bool.Decides.{nat_tests}
 use Rattle.std.proofs.lemmas.List.{take_more, take_all, get_or-map, length-map, get_or_append_left, map-append, length-set, length-append}
+use Rattle.std.proofs.lemmas.Option.{slice_get-get_or, get_or_from_slice_get, slice_get_within}
 use Rattle.std.proofs.lemmas.List.Sorted.{IsPermutation-refl, IsPermutation-sym, IsPermutation-cons, IsPermutation-map, IsPermutation-to_front}
 use Rattle.itch_table.specs.Table.{Links, at}
 use Rattle.itch_book.specs.declared.arrived.Arrived.{Arrived}
-use Rattle.itch_book.specs.Referred.{reference_of, under_references, references_of, IsPlaced, IsReferred}
+use Rattle.itch_book.specs.Referred.{reference_of, under_references, references_of, IsAt, IsPlaced, IsReferred}
 use Rattle.itch_book.proofs.Lists.{by_test}
 
 pub same_number : (k : ℕ) → eqb k k ≡ true
@@ -32,6 +33,17 @@ one_some o i j h e = let both : Some i ≡ Some j = sym h ∙ e in cc
 pub orders_are : (xs : List Arrived) → values_of (under_references xs) ≡ xs
 orders_are [] = refl
 orders_are (x ∷ xs) = ap (λ t. x ∷ t) (orders_are xs)
+
+-- and the keys their references
+keys_are : (xs : List Arrived) → keys_of (under_references xs) ≡ references_of xs
+keys_are [] = refl
+keys_are (x ∷ xs) = ap (λ t. reference_of x ∷ t) (keys_are xs)
+
+-- an order of the reference that stands at a place
+pub stands_here : (k i : ℕ) (xs : List Arrived) → IsSomeAnd (slice_get xs i) (λ x. x.order.reference ≡ k) → IsAt (under_references xs) k i
+stands_here k i [] h = absurd h
+stands_here k zero (x ∷ xs) h = ap (λ n. Some n) h
+stands_here k (suc i) (x ∷ xs) h = stands_here k i xs h
 
 -- the first order of a reference is found
 lookup_first : (k : ℕ) (xs : List Arrived) (i : ℕ) (d : Arrived) → i < length xs → ((j : ℕ) → j < i → eqb k (get_or (references_of xs) j 0) ≡ false) → get_or (references_of xs) i 0 ≡ k
@@ -107,6 +119,16 @@ module _ (f : ℕ → Option ℕ) (xs : List Arrived) (is : IsPlaced f (referenc
 
   pub within : (k i : ℕ) → f k ≡ Some i → i < length xs
   within k i e = subst (λ n. i < n) long (is.back k i e).0
+
+  -- the table leads to a place if the order of the reference stands there
+  pub leads_here : (k i : ℕ) → f k ≡ Some i → IsAt (under_references xs) k i
+  leads_here k i e = let back = is.back k i e in
+      ap (λ (ks : List ℕ). slice_get ks i) (keys_are xs) ∙ slice_get-get_or (references_of xs) i 0 back.0 ∙ ap (λ n. Some n) back.1
+
+  pub led_here : (k i : ℕ) → IsAt (under_references xs) k i → f k ≡ Some i
+  led_here k i e =
+      let there : slice_get (references_of xs) i ≡ Some k = sym (ap (λ (ks : List ℕ). slice_get ks i) (keys_are xs)) ∙ e in
+      subst (λ n. f n ≡ Some i) (get_or_from_slice_get (references_of xs) i k 0 there) (is.leads i (slice_get_within (references_of xs) i k there))
 
   earlier : (k i : ℕ) → f k ≡ Some i → (j : ℕ) → j < i → eqb k (get_or (references_of xs) j 0) ≡ false
   earlier k i e j l = other_number k (get_or (references_of xs) j 0) (λ s.

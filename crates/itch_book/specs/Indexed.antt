@@ -1,11 +1,10 @@
 -- What an index of queues by price means: its orders, level by level.
-use Rattle.std.specs.Prelude.{◌≡◌, ℕ, ◌<◌, ◌^◌, ◌&&◌, Bool, true, false, List, [], ◌∷◌, ◌++◌, length, eqb, Option, Some, None, IsSome}
+use Rattle.std.specs.Prelude.{◌≡◌, ℕ, ◌<◌, ◌^◌, ◌&&◌, Bool, true, false, List, [], ◌∷◌, ◌++◌, eqb, Option, Some, None, IsSome}
 use Rattle.std.specs.declared.cmp.Ordering.{Ordering}
 use Rattle.std.specs.Ordering.{nat_cmp, ordering_then}
 use Rattle.std.specs.List.{AllByRecursion, list_any}
-use Rattle.std.specs.Map.{lookup, keys_of}
+use Rattle.std.specs.Map.{lookup}
 use Rattle.std.specs.BTreeMap.{is_at}
-use Rattle.std.specs.List.Sorted.{IsStrictlySortedBy}
 use Rattle.itch_codec.specs.declared.orders.Side.{Side}
 use Rattle.itch_codec.specs.declared.orders.Side.TheVariants.{Buy, Sell}
 use Rattle.itch_book.specs.declared.order.Order.{Order}
@@ -23,6 +22,11 @@ place_cmp a b = ordering_then (nat_cmp a.0 b.0) (nat_cmp a.1 b.1)
 -- the queue at a place
 abbrev pub queue_at : List (Place × ℕ) → ℕ → ℕ → Option ℕ
 queue_at es locate price = lookup (is_at (place_cmp (locate, price))) es
+
+-- no place has two queues
+abbrev pub AreApart : List (Place × ℕ) → Type 0
+AreApart [] = Unit {0}
+AreApart (e ∷ es) = (queue_at es e.0.0 e.0.1 ≡ None) × AreApart es
 
 -- the orders of these nodes, if there are any keys
 abbrev pub orders_in : (ℕ → Option Order) → Option (List ℕ) → List Order
@@ -51,10 +55,6 @@ queue_of_side Sell bids asks locate price = queue_at asks locate price
 abbrev pub is_there : Side → ℕ → ℕ → Side → ℕ → ℕ → Bool
 is_there s0 l0 p0 s l p = same_side s0 s && is_at (place_cmp (l0, p0)) (l, p)
 
--- the node of a reference
-abbrev pub node_of : List (ℕ × ℕ) → ℕ → Option ℕ
-node_of references r = lookup (eqb r) references
-
 -- a node is in the queue of its order's price
 pub record IsListed (v : Seen) (bids asks : List (Place × ℕ)) (k : ℕ) (x : Order) : Type 0 where
   pub queue : ℕ
@@ -80,22 +80,21 @@ pub record IsPlaced (bids asks : List (Place × ℕ)) (q : ℕ) : Type 0 where
 abbrev pub IsPlace : Side → ℕ → ℕ → Side → ℕ → ℕ → Type 0
 IsPlace s l p t m n = (s ≡ t) × (l ≡ m) × (p ≡ n)
 
--- references lead to the nodes, and prices to the queues, each of which is that of a price
-pub record IsIndexed (references : List (ℕ × ℕ)) (bids asks : List (Place × ℕ)) (v : Seen) : Type 0 where
+-- references lead to the nodes of their orders alone, and prices to the queues, each of which is that of a price
+pub record IsIndexed (references : ℕ → Option ℕ) (bids asks : List (Place × ℕ)) (v : Seen) : Type 0 where
   pub book : IsBook (indexed v bids asks)
   pub live : (k : ℕ) (x : Order) → v.orders k ≡ Some x → IsLive x
   pub priced : (k : ℕ) (x : Order) → v.orders k ≡ Some x → x.price < 2 ^ 32
-  pub bids_sorted : IsStrictlySortedBy place_cmp (keys_of bids)
-  pub asks_sorted : IsStrictlySortedBy place_cmp (keys_of asks)
+  pub bids_apart : AreApart bids
+  pub asks_apart : AreApart asks
   pub levels : (s : Side) (l p q : ℕ) → queue_of_side s bids asks l p ≡ Some q → AllByRecursion (λ x. is_level l s p x ≡ true) (line v q)
   pub there : (s : Side) (l p q : ℕ) → queue_of_side s bids asks l p ≡ Some q → IsSome (v.keys q)
   pub placed : (q : ℕ) → IsSome (v.keys q) → IsPlaced bids asks q
   pub apart : (s t : Side) (l p m n q : ℕ) → queue_of_side s bids asks l p ≡ Some q → queue_of_side t bids asks m n ≡ Some q → IsPlace s l p t m n
-  pub named : (k : ℕ) (x : Order) → v.orders k ≡ Some x → node_of references x.reference ≡ Some k
-  pub known : (r k : ℕ) → node_of references r ≡ Some k → IsKnown v k r
+  pub named : (k : ℕ) (x : Order) → v.orders k ≡ Some x → references x.reference ≡ Some k
+  pub known : (r k : ℕ) → references r ≡ Some k → IsKnown v k r
   pub listed : (k : ℕ) (x : Order) → v.orders k ≡ Some x → IsListed v bids asks k x
   pub full : (q : ℕ) (keys : List ℕ) (k : ℕ) → v.keys q ≡ Some keys → list_any (eqb k) keys ≡ true → IsSome (v.orders k)
-  pub count : length references ≡ length (indexed v bids asks)
 
 -- whether a queue has nodes
 abbrev pub has_keys : Option (List ℕ) → Bool
@@ -112,7 +111,7 @@ abbrev pub IsBusyBut : Seen → List (Place × ℕ) → List (Place × ℕ) → 
 IsBusyBut v bids asks but = (s : Side) (l p q : ℕ) → queue_of_side s bids asks l p ≡ Some q → eqb but q ≡ false → has_keys (v.keys q) ≡ true
 
 -- an index between calls: no queue is empty
-pub record IsWhole (references : List (ℕ × ℕ)) (bids asks : List (Place × ℕ)) (v : Seen) : Type 0 where
+pub record IsWhole (references : ℕ → Option ℕ) (bids asks : List (Place × ℕ)) (v : Seen) : Type 0 where
   pub index : IsIndexed references bids asks v
   pub busy : IsBusy v bids asks
 

@@ -7,5 +7,6 @@ pub mod Link
 pub mod Links
 pub mod Queued
 pub mod Indexed
+pub mod Near
 pub mod Settled
 pub mod Referred

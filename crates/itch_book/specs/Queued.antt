@@ -8,10 +8,12 @@ use Rattle.itch_book.specs.declared.queues.Head.{Head}
 use Rattle.itch_book.specs.Links.{order_of, walked, at_key}
 
 -- the keys of a queue's nodes, or nothing, at each queue key; the order, or nothing, at each node key;
--- and how many more nodes and queues fit
+-- the keys of the next node and of the next queue; and how many more nodes and queues fit
 pub record Queued : Type 0 where
   pub queues : List (Option (List ℕ))
   pub orders : List (Option Order)
+  pub next_key : ℕ
+  pub next_queue : ℕ
   pub node_room : ℕ
   pub queue_room : ℕ
 
@@ -28,6 +30,7 @@ pub record Opens (q : ℕ) (old new : Queued) : Type 0 where
   pub vacant : keys_at old q ≡ None
   pub keys : (k : ℕ) → keys_at new k ≡ at_key q (Some []) (keys_at old) k
   pub orders : new.orders ≡ old.orders
+  pub next_key : new.next_key ≡ old.next_key
   pub node_room : new.node_room ≡ old.node_room
 
 -- the keys without one
@@ -43,6 +46,8 @@ abbrev pub queued : Slab Node → Slab Head → Queued
 queued nodes heads = record {
   queues = map (option_map (walked (get nodes))) heads.slots;
   orders = map order_of nodes.slots;
+  next_key = nodes.vacant_key;
+  next_queue = heads.vacant_key;
   node_room = room nodes;
   queue_room = room heads;
 }

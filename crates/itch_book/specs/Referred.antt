@@ -1,6 +1,7 @@
 -- Orders under their references, kept in some order with a table of their places.
-use Rattle.std.specs.Prelude.{◌≡◌, ℕ, ◌^◌, ◌<◌, List, map, length, Option, Some, is_some, eqb, slice_index_or}
+use Rattle.std.specs.Prelude.{◌≡◌, ℕ, ◌^◌, ◌<◌, List, map, length, Option, Some, is_some, eqb, slice_get, slice_index_or}
 use Rattle.std.specs.List.{list_any, IsDistinct}
+use Rattle.std.specs.Map.{keys_of}
 use Rattle.itch_table.specs.Table.{Links, at}
 use Rattle.itch_book.specs.declared.arrived.Arrived.{Arrived}
 
@@ -19,6 +20,10 @@ under_references xs = map (λ x. (reference_of x, x)) xs
 -- the references alone
 abbrev pub references_of : List Arrived → List ℕ
 references_of xs = map reference_of xs
+
+-- the entry at a place is under this reference
+abbrev pub IsAt : List (ℕ × Arrived) → ℕ → ℕ → Type 0
+IsAt es reference place = slice_get (keys_of es) place ≡ Some reference
 
 -- f leads from each key to its place, and from nothing else to one
 pub record IsPlaced (f : ℕ → Option ℕ) (keys : List ℕ) : Type 0 where

@@ -1,5 +1,5 @@
 -- Orders with the numbers of their arrivals, and the one list in snapshot order that they make.
-use Rattle.std.specs.Prelude.{◌≡◌, ℕ, ◌≤◌, ◌<◌, ◌==◌, nat_lt, Bool, true, false, not, ◌&&◌, ◌||◌, List, map, length, Option, Some, None, cond}
+use Rattle.std.specs.Prelude.{◌≡◌, ℕ, ◌≤◌, ◌<◌, ◌+◌, ◌-◌, ◌*◌, ◌^◌, ◌==◌, nat_lt, Bool, true, false, not, ◌&&◌, ◌||◌, List, map, length, Option, Some, None, cond}
 use Rattle.std.specs.List.{filter, AllByRecursion}
 use Rattle.std.specs.Map.{values_of}
 use Rattle.itch_codec.specs.declared.orders.Side.{Side}
@@ -14,6 +14,20 @@ use Rattle.itch_book.specs.Orders.{stands_before, same_side, is_in, is_of, is_wo
 -- x stands before y in snapshot order: by its place, or at one price because it came first
 abbrev pub comes_before : Arrived → Arrived → Bool
 comes_before x y = stands_before x.order y.order || (not (stands_before y.order x.order) && nat_lt x.arrival y.arrival)
+
+-- by side and price: bids before asks, and the better price first
+abbrev pub price_rank : Side → ℕ → ℕ
+price_rank Buy price = 4294967295 - price
+price_rank Sell price = 4294967296 + price
+
+-- x's place among all as a number: by locate, side and price, and at one price by arrival
+abbrev pub rank : Arrived → ℕ
+rank x = (x.order.locate * 8589934592 + price_rank x.order.side x.order.price) * 18446744073709551616 + x.arrival
+
+-- x's numbers are as wide as they may be at most
+pub record HasRank (x : Arrived) : Type 0 where
+  pub price : x.order.price < 2 ^ 32
+  pub arrival : x.arrival < 2 ^ 64
 
 -- the order alone
 abbrev pub its_order : Arrived → Order

@@ -77,11 +77,16 @@ impl<A: Allocator + Copy> Arrivals<A> {
 
     /// The order of a reference.
     pub(crate) fn get(&self, reference: u64) -> Option<&Order>
-        ensures order { option_copied result ≡ get self.now.orders reference }
-        ensures book { IsBook self.now.orders }
+        ensures { option_copied result ≡ get self.now.orders reference }
     {
-        let arrived = self.references.get(reference)?;
-        Some(&arrived.order)
+        order_of(self.find(reference))
+    }
+
+    /// The order of a reference, and its place.
+    pub(crate) fn find(&self, reference: u64) -> Option<Placed<'_>>
+        ensures { option_map (λ p. p.order.now) result ≡ get self.now.orders reference }
+    {
+        self.references.find(reference)
     }
 
     /// The first order of a locate.
@@ -120,7 +125,7 @@ impl<A: Allocator + Copy> Arrivals<A> {
                 return next_in_line(line, place);
             }
         }
-        let this = known(&self.references, reference);
+        let (_, this) = known(&self.references, reference, place);
         sought(&self.references, line, Wanted::After(this))
     }
 
@@ -152,13 +157,14 @@ impl<A: Allocator + Copy> Arrivals<A> {
         Ok(())
     }
 
-    /// Takes shares from an order, which keeps its place, and is removed if none remain.
-    pub(crate) fn take(&mut self, reference: u64, shares: u32) -> Taken
+    /// Takes shares from an order, which keeps its place, and is removed if none remain. It is not looked for if it stands at
+    /// this place.
+    pub(crate) fn take(&mut self, reference: u64, place: usize, shares: u32) -> Taken
         requires { IsSomeAnd (get self.old.orders reference) (λ x. shares ≤ x.shares) }
         ensures orders { self.new.orders ≡ lay (taken reference shares self.old.orders) }
         ensures left { IfSome (get self.old.orders reference) (λ x. IsLeft (x.shares - shares) result) }
     {
-        let arrived = known(&self.references, reference);
+        let (place, arrived) = known(&self.references, reference, place);
         let left = arrived.order.shares - shares;
         self.is_settled = false;
         if left == 0 {
@@ -169,7 +175,7 @@ impl<A: Allocator + Copy> Arrivals<A> {
             shares: left,
             ..arrived.order
         };
-        write(&mut self.references, Arrived { order, ..arrived });
+        write(&mut self.references, place, Arrived { order, ..arrived });
         Taken::Left(left)
     }
 
@@ -183,11 +189,14 @@ impl<A: Allocator + Copy> Arrivals<A> {
         cut(&mut self.references, reference).order
     }
 
-    /// Replaces an order by a new one, last at its price, with the side, locate and attribution of the original.
+    /// Replaces an order by a new one, last at its price, with the side, locate and attribution of the original, which is not
+    /// looked for if it stands at this place.
+    ///
     /// If an allocation fails, or if there is no number left for its arrival, no order changes.
     pub(crate) fn replace(
         &mut self,
         original: u64,
+        place: usize,
         reference: u64,
         shares: u32,
         price: u32,
@@ -198,7 +207,7 @@ impl<A: Allocator + Copy> Arrivals<A> {
         ensures ok { OnOk result (self.new.orders ≡ lay (replaced original reference shares price self.old.orders)) }
         ensures err { OnErr result (self.new.orders ≡ self.old.orders) }
     {
-        let old = *self.get(original).unwrap();
+        let old = self.live(original, place);
         let order = Order {
             reference,
             shares,
@@ -208,6 +217,16 @@ impl<A: Allocator + Copy> Arrivals<A> {
         self.add(order)?;
         self.delete(original);
         Ok(())
+    }
+
+    // The order of a reference that has one.
+    fn live(&self, reference: u64, place: usize) -> Order
+        requires { IsSome (get self.now.orders reference) }
+        ensures order { get self.now.orders reference ≡ Some result }
+        ensures book { IsBook self.now.orders }
+    {
+        let (_, arrived) = known(&self.references, reference, place);
+        arrived.order
     }
 }
 

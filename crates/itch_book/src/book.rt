@@ -30,6 +30,10 @@ pub trait OrderBook: Drop {
     fn get(&self, reference: u64) -> Option<&Order>
         ensures { option_copied result ≡ get (orders self.now) reference };
 
+    /// The order of a reference, and its place.
+    fn find(&self, reference: u64) -> Option<Placed<'_>>
+        ensures { option_map (λ p. p.order.now) result ≡ get (orders self.now) reference };
+
     /// The first order of a locate.
     fn first(&self, locate: u16) -> Option<Placed<'_>>
         ensures { option_map (λ p. p.order.now) result ≡ find (is_in locate) (orders self.now) };
@@ -63,13 +67,17 @@ pub trait OrderBook: Drop {
 
     /// Takes shares from an order, which keeps its place, and is removed if none remain
     /// (TotalView-ITCH 5.0, "Order Executed Message", "Order Cancel Message").
-    fn take(&mut self, reference: u64, shares: u32) -> Taken
+    ///
+    /// The place is the one that came with that order. With another number the same is done, and may take longer.
+    fn take(&mut self, reference: u64, place: usize, shares: u32) -> Taken
         requires { IsSomeAnd (get (orders self.old) reference) (λ x. shares ≤ x.shares) }
         ensures orders { orders self.new ≡ lay (taken reference shares (orders self.old)) }
         ensures left { IfSome (get (orders self.old) reference) (λ x. IsLeft (x.shares - shares) result) };
 
     /// Removes an order, and returns it (TotalView-ITCH 5.0, "Order Delete Message").
-    fn delete(&mut self, reference: u64) -> Order
+    ///
+    /// The place is the one that came with that order. With another number the same is done, and may take longer.
+    fn delete(&mut self, reference: u64, place: usize) -> Order
         requires { IsSome (get (orders self.old) reference) }
         ensures orders { orders self.new ≡ lay (without reference (orders self.old)) }
         ensures order { get (orders self.old) reference ≡ Some result };
@@ -77,9 +85,12 @@ pub trait OrderBook: Drop {
     /// Replaces an order by a new one, last at its price, with the side, locate and attribution of the original
     /// (TotalView-ITCH 5.0, "Order Replace Message").
     /// If an allocation fails, the book is left as it was.
+    ///
+    /// The place is the one that came with the original. With another number the same is done, and may take longer.
     fn replace(
         &mut self,
         original: u64,
+        place: usize,
         reference: u64,
         shares: u32,
         price: u32,

@@ -1,43 +1,45 @@
-//! An index of orders: hashed references, and queues under ordered prices.
+//! An index of orders: a table of references, and queues under ordered prices.
 ghost use Rattle.std.specs.Prelude.{◌≡◌, ℕ, ◌<◌, ◌≤◌, ◌-◌, List, [], length, Some, None, eqb, true, find, OnOk, OnErr, IfOk, IsSome, IsSomeAnd, IfSome, Option, option_map};
-ghost use Rattle.std.specs.HashMap.{spare};
 ghost use Rattle.std.specs.List.{list_any};
+ghost use Rattle.itch_table.specs.Table.{at, Updates, IsSame};
 ghost use Rattle.itch_codec.specs.declared.orders.Side.{Side};
 ghost use Rattle.itch_codec.specs.declared.orders.Side.TheVariants.{Buy, Sell};
+ghost use Rattle.itch_book.specs.Links.{at_key};
 ghost use Rattle.itch_book.specs.Queued.{seen, keys_at, order_at, found};
 ghost use Rattle.std.specs.Option.{option_copied};
 ghost use Rattle.itch_book.specs.Orders.{get, is_in, is_of, first, after, next_price, level_total, lay, added, taken, without, replaced, IsBook};
 ghost use Rattle.itch_book.specs.TakenShares.{IsLeft};
-ghost use Rattle.itch_book.specs.Indexed.{node_of, queue_of_side, Place, indexed, IsIndexed, IsBusy, IsBusyBut, IsWhole};
+ghost use Rattle.itch_book.specs.Indexed.{queue_of_side, Place, indexed, IsIndexed, IsBusy, IsBusyBut, IsWhole};
 
 use crate::order::{Order, Placed, Taken, order_of};
 use crate::prices::Prices;
 use crate::queues::Queues;
 use itch_codec::Side;
+use itch_table::Table;
 use std::alloc::{AllocError, Allocator, Global};
-use std::collections::HashMap;
-use std::hash::{BuildHasherDefault, FoldHasher};
 use std::marker::Model;
 
 /// The live orders as queues of one price each, seen as the list in snapshot order.
 #[derive(Drop)]
 pub(crate) struct Index<A: Allocator = Global> {
-    references: References<A>,
+    // The node of each reference.
+    references: Table<A>,
     prices: Prices<A>,
     queues: Queues<A>,
 }
 
 impl<A: Allocator> Model for Index<A> {
     ghost use Rattle.std.specs.Prelude.{List};
+    ghost use Rattle.itch_table.specs.Table.{at};
     ghost use Rattle.itch_book.specs.declared.order.Order.{Order};
     ghost use Rattle.itch_book.specs.Queued.{seen};
     ghost use Rattle.itch_book.specs.Indexed.{indexed, IsWhole};
 
     ghost Value = { List Order };
 
-    ghost view = { λ b. indexed (seen b.queues) b.prices.bids.entries b.prices.asks.entries };
+    ghost view = { λ b. indexed (seen b.queues) b.prices.bids b.prices.asks };
 
-    ghost invariant = { λ b. IsWhole b.references.entries b.prices.bids.entries b.prices.asks.entries (seen b.queues) };
+    ghost invariant = { λ b. IsWhole (at b.references) b.prices.bids b.prices.asks (seen b.queues) };
 }
 
 impl<A: Allocator + Copy> Index<A> {
@@ -46,7 +48,7 @@ impl<A: Allocator + Copy> Index<A> {
         ensures { result ≡ [] }
     {
         Index {
-            references: HashMap::new(alloc),
+            references: Table::new(alloc),
             prices: Prices::new(alloc),
             queues: Queues::new(alloc),
         }
@@ -76,16 +78,25 @@ impl<A: Allocator + Copy> Index<A> {
         ensures err { OnErr result (self.new ≡ self.old) }
     {
         self.queues.reserve()?;
-        self.references.reserve(1)?;
-        let queue = level_for(
+        let key = self.queues.next_key();
+        refer(&mut self.references, order.reference, key)?;
+        let level = level_for(
             &mut self.prices,
             &mut self.queues,
             order.locate,
             order.side,
             order.price,
-        )?;
-        put_last(&mut self.references, &mut self.queues, queue, order);
-        Ok(())
+        );
+        match level {
+            Ok(queue) => {
+                put_last(&mut self.queues, queue, order);
+                Ok(())
+            }
+            Err(error) => {
+                self.references.remove(order.reference);
+                Err(error)
+            }
+        }
     }
 
     /// Takes shares from an order, which keeps its place, and is removed if none remain.
@@ -220,38 +231,55 @@ impl<A: Allocator + Copy> Index<A> {
     }
 }
 
-type References<A> = HashMap<u64, usize, BuildHasherDefault<FoldHasher>, A>;
-
 // The node of a reference.
-fn node_at<A: Allocator>(references: &References<A>, reference: u64) -> Option<usize>
-    ensures { result ≡ node_of references.now.entries reference }
+fn node_at<A: Allocator>(references: &Table<A>, reference: u64) -> Option<usize>
+    ensures { result ≡ at references.now reference }
 {
-    references.get(&reference).copied()
+    match references.get(reference) {
+        Some(link) => Some(link as usize),
+        None => None,
+    }
 }
 
 // The node of a reference that has one.
-fn known_node<A: Allocator>(references: &References<A>, reference: u64) -> usize
-    requires { IsSome (node_of references.now.entries reference) }
-    ensures { node_of references.now.entries reference ≡ Some result }
+fn known_node<A: Allocator>(references: &Table<A>, reference: u64) -> usize
+    requires { IsSome (at references.now reference) }
+    ensures { at references.now reference ≡ Some result }
 {
     node_at(references, reference).unwrap()
 }
 
 // The node of a reference that has one: this node, if the order is there.
 fn node_from<A: Allocator>(
-    references: &References<A>,
+    references: &Table<A>,
     queues: &Queues<A>,
     reference: u64,
     node: usize,
 ) -> usize
-    requires there { IsSome (node_of references.now.entries reference) }
-    requires named { (k : ℕ) → (x : Order) → order_at queues.now k ≡ Some x → node_of references.now.entries x.reference ≡ Some k }
-    ensures { node_of references.now.entries reference ≡ Some result }
+    requires there { IsSome (at references.now reference) }
+    requires named { (k : ℕ) → (x : Order) → order_at queues.now k ≡ Some x → at references.now x.reference ≡ Some k }
+    ensures { at references.now reference ≡ Some result }
 {
     if queues.has_at(node, reference) {
         return node;
     }
     known_node(references, reference)
+}
+
+// Puts the next node under a new reference. If the allocation fails, or if no link leads so far, nothing changes.
+fn refer<A: Allocator + Copy>(
+    references: &mut Table<A>,
+    reference: u64,
+    node: usize,
+) -> Result<(), AllocError>
+    requires { at references.old reference ≡ None }
+    ensures ok { OnOk result (Updates references.old references.new reference (Some node)) }
+    ensures err { OnErr result (IsSame references.old references.new) }
+{
+    if node >= u32::MAX as usize {
+        return Err(AllocError);
+    }
+    references.insert(reference, node as u32)
 }
 
 // The queue at a price of a side, opened if there is none. If an allocation fails, nothing changes.
@@ -263,12 +291,13 @@ fn level_for<A: Allocator + Copy>(
     price: u32,
 ) -> Result<usize, AllocError>
     requires { 0 < queues.old.queue_room }
-    ensures index { (references : List (ℕ × ℕ)) → IsIndexed references prices.old.bids.entries prices.old.asks.entries (seen queues.old) → IsIndexed references prices.new.bids.entries prices.new.asks.entries (seen queues.new) }
-    ensures view { (references : List (ℕ × ℕ)) → IsIndexed references prices.old.bids.entries prices.old.asks.entries (seen queues.old) → indexed (seen queues.new) prices.new.bids.entries prices.new.asks.entries ≡ indexed (seen queues.old) prices.old.bids.entries prices.old.asks.entries }
-    ensures queue { IfOk result (λ q. queue_of_side side prices.new.bids.entries prices.new.asks.entries locate price ≡ Some q) }
+    ensures index { (references : ℕ → Option ℕ) → IsIndexed references prices.old.bids prices.old.asks (seen queues.old) → IsIndexed references prices.new.bids prices.new.asks (seen queues.new) }
+    ensures view { (references : ℕ → Option ℕ) → IsIndexed references prices.old.bids prices.old.asks (seen queues.old) → indexed (seen queues.new) prices.new.bids prices.new.asks ≡ indexed (seen queues.old) prices.old.bids prices.old.asks }
+    ensures queue { IfOk result (λ q. queue_of_side side prices.new.bids prices.new.asks locate price ≡ Some q) }
     ensures room { queues.new.node_room ≡ queues.old.node_room }
-    ensures busy { IfOk result (λ q. (references : List (ℕ × ℕ)) → IsIndexed references prices.old.bids.entries prices.old.asks.entries (seen queues.old) → IsBusy (seen queues.old) prices.old.bids.entries prices.old.asks.entries → IsBusyBut (seen queues.new) prices.new.bids.entries prices.new.asks.entries q) }
-    ensures kept { OnErr result (IsBusy (seen queues.old) prices.old.bids.entries prices.old.asks.entries → IsBusy (seen queues.new) prices.new.bids.entries prices.new.asks.entries) }
+    ensures next { queues.new.next_key ≡ queues.old.next_key }
+    ensures busy { IfOk result (λ q. (references : ℕ → Option ℕ) → IsIndexed references prices.old.bids prices.old.asks (seen queues.old) → IsBusy (seen queues.old) prices.old.bids prices.old.asks → IsBusyBut (seen queues.new) prices.new.bids prices.new.asks q) }
+    ensures kept { OnErr result (IsBusy (seen queues.old) prices.old.bids prices.old.asks → IsBusy (seen queues.new) prices.new.bids prices.new.asks) }
 {
     prices.level(queues, locate, side, price)
 }
@@ -283,9 +312,9 @@ fn close_empty<A: Allocator + Copy>(
     price: u32,
 )
     requires { IsSome (keys_at queues.old queue) }
-    ensures index { (references : List (ℕ × ℕ)) → IsIndexed references prices.old.bids.entries prices.old.asks.entries (seen queues.old) → queue_of_side side prices.old.bids.entries prices.old.asks.entries locate price ≡ Some queue → IsIndexed references prices.new.bids.entries prices.new.asks.entries (seen queues.new) }
-    ensures view { (references : List (ℕ × ℕ)) → IsIndexed references prices.old.bids.entries prices.old.asks.entries (seen queues.old) → queue_of_side side prices.old.bids.entries prices.old.asks.entries locate price ≡ Some queue → indexed (seen queues.new) prices.new.bids.entries prices.new.asks.entries ≡ indexed (seen queues.old) prices.old.bids.entries prices.old.asks.entries }
-    ensures busy { (references : List (ℕ × ℕ)) → IsIndexed references prices.old.bids.entries prices.old.asks.entries (seen queues.old) → queue_of_side side prices.old.bids.entries prices.old.asks.entries locate price ≡ Some queue → IsBusyBut (seen queues.old) prices.old.bids.entries prices.old.asks.entries queue → IsBusy (seen queues.new) prices.new.bids.entries prices.new.asks.entries }
+    ensures index { (references : ℕ → Option ℕ) → IsIndexed references prices.old.bids prices.old.asks (seen queues.old) → queue_of_side side prices.old.bids prices.old.asks locate price ≡ Some queue → IsIndexed references prices.new.bids prices.new.asks (seen queues.new) }
+    ensures view { (references : ℕ → Option ℕ) → IsIndexed references prices.old.bids prices.old.asks (seen queues.old) → queue_of_side side prices.old.bids prices.old.asks locate price ≡ Some queue → indexed (seen queues.new) prices.new.bids prices.new.asks ≡ indexed (seen queues.old) prices.old.bids prices.old.asks }
+    ensures busy { (references : ℕ → Option ℕ) → IsIndexed references prices.old.bids prices.old.asks (seen queues.old) → queue_of_side side prices.old.bids prices.old.asks locate price ≡ Some queue → IsBusyBut (seen queues.old) prices.old.bids prices.old.asks queue → IsBusy (seen queues.new) prices.new.bids prices.new.asks }
 {
     if queues.first(queue).is_some() {
         return;
@@ -295,17 +324,17 @@ fn close_empty<A: Allocator + Copy>(
 
 // Removes the order of a reference, and its queue if that is empty then.
 fn take_out<A: Allocator + Copy>(
-    references: &mut References<A>,
+    references: &mut Table<A>,
     prices: &mut Prices<A>,
     queues: &mut Queues<A>,
     reference: u64,
 ) -> Order
-    requires { IsSomeAnd (node_of references.old.entries reference) (λ k. IsSome (order_at queues.old k)) }
-    ensures order { IfSome (node_of references.old.entries reference) (λ k. order_at queues.old k ≡ Some result) }
-    ensures whole { IsWhole references.old.entries prices.old.bids.entries prices.old.asks.entries (seen queues.old) → IsWhole references.new.entries prices.new.bids.entries prices.new.asks.entries (seen queues.new) }
-    ensures view { IsWhole references.old.entries prices.old.bids.entries prices.old.asks.entries (seen queues.old) → indexed (seen queues.new) prices.new.bids.entries prices.new.asks.entries ≡ lay (without reference (indexed (seen queues.old) prices.old.bids.entries prices.old.asks.entries)) }
+    requires { IsSomeAnd (at references.old reference) (λ k. IsSome (order_at queues.old k)) }
+    ensures order { IfSome (at references.old reference) (λ k. order_at queues.old k ≡ Some result) }
+    ensures whole { IsWhole (at references.old) prices.old.bids prices.old.asks (seen queues.old) → IsWhole (at references.new) prices.new.bids prices.new.asks (seen queues.new) }
+    ensures view { IsWhole (at references.old) prices.old.bids prices.old.asks (seen queues.old) → indexed (seen queues.new) prices.new.bids prices.new.asks ≡ lay (without reference (indexed (seen queues.old) prices.old.bids prices.old.asks)) }
 {
-    let key = references.remove(&reference).unwrap();
+    let key = references.remove(reference) as usize;
     let queue = queues.queue_of(key);
     let order = queues.unlink(key);
     close_empty(prices, queues, queue, order.locate, order.side, order.price);
@@ -325,26 +354,14 @@ fn head_of<A: Allocator>(queues: &Queues<A>, queue: usize) -> Option<Placed<'_>>
     })
 }
 
-// Puts an order last in the queue of its price, under its reference. There is room for both.
-fn put_last<A: Allocator + Copy>(
-    references: &mut References<A>,
-    queues: &mut Queues<A>,
-    queue: usize,
-    order: Order,
-)
-    requires spare { 0 < spare references.old }
+// Puts an order last in the queue of its price. There is room for it, and its reference leads to its node.
+fn put_last<A: Allocator + Copy>(queues: &mut Queues<A>, queue: usize, order: Order)
     requires there { IsSome (keys_at queues.old queue) }
     requires room { 0 < queues.old.node_room }
     requires some_shares { 0 < order.shares }
-    ensures index { (bids asks : List (Place × ℕ)) → IsIndexed references.old.entries bids asks (seen queues.old) → queue_of_side order.side bids asks order.locate order.price ≡ Some queue → get (indexed (seen queues.old) bids asks) order.reference ≡ None → IsIndexed references.new.entries bids asks (seen queues.new) }
-    ensures view { (bids asks : List (Place × ℕ)) → IsIndexed references.old.entries bids asks (seen queues.old) → queue_of_side order.side bids asks order.locate order.price ≡ Some queue → get (indexed (seen queues.old) bids asks) order.reference ≡ None → indexed (seen queues.new) bids asks ≡ lay (added order (indexed (seen queues.old) bids asks)) }
+    ensures index { (references references' : ℕ → Option ℕ) → (bids asks : List (Place × ℕ)) → IsIndexed references bids asks (seen queues.old) → queue_of_side order.side bids asks order.locate order.price ≡ Some queue → get (indexed (seen queues.old) bids asks) order.reference ≡ None → ((r : ℕ) → references' r ≡ at_key order.reference (Some queues.old.next_key) references r) → IsIndexed references' bids asks (seen queues.new) }
+    ensures view { (references : ℕ → Option ℕ) → (bids asks : List (Place × ℕ)) → IsIndexed references bids asks (seen queues.old) → queue_of_side order.side bids asks order.locate order.price ≡ Some queue → get (indexed (seen queues.old) bids asks) order.reference ≡ None → indexed (seen queues.new) bids asks ≡ lay (added order (indexed (seen queues.old) bids asks)) }
     ensures busy { (bids asks : List (Place × ℕ)) → IsBusyBut (seen queues.old) bids asks queue → IsBusy (seen queues.new) bids asks }
 {
-    let reference = order.reference;
-    let key = queues.push_last(queue, order);
-    match references.insert(reference, key) {
-        Ok(_) => {}
-        // There is room.
-        Err(_) => unreachable!(),
-    }
+    queues.push_last(queue, order);
 }

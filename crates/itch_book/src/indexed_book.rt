@@ -1,16 +1,17 @@
-//! A book with an index: hashed references, and queues of orders under ordered prices.
+//! A book with an index: a table of references, and queues of orders under ordered prices.
 ghost use Rattle.itch_book.specs.Orders.{IsBook};
 ghost use Rattle.itch_book.specs.BookLists.{IsBook-prop};
 
 use crate::book::OrderBook;
 use crate::index::Index;
-use crate::order::{Order, Placed, Taken};
+use crate::order::{Order, Placed, Taken, unplaced};
 use itch_codec::Side;
 use std::alloc::{AllocError, Allocator, Global};
 
 /// The live orders as queues of one price each.
 ///
-/// The time of a call grows with the logarithm of the number of prices.
+/// A side of a locate has its 256 first prices in a line, with the best one last, and others in a tree, so the time of a call
+/// grows with the logarithm of the number of prices.
 #[derive(Drop)]
 pub struct IndexedBook<A: Allocator = Global> {
     index: Index<A>,
@@ -34,6 +35,10 @@ impl<A: Allocator + Copy> OrderBook for IndexedBook<A> {
 
     fn get(&self, reference: u64) -> Option<&Order> {
         self.index.get(reference)
+    }
+
+    fn find(&self, reference: u64) -> Option<Placed<'_>> {
+        unplaced(self.index.get(reference))
     }
 
     fn first(&self, locate: u16) -> Option<Placed<'_>> {
@@ -60,17 +65,18 @@ impl<A: Allocator + Copy> OrderBook for IndexedBook<A> {
         self.index.add(order)
     }
 
-    fn take(&mut self, reference: u64, shares: u32) -> Taken {
+    fn take(&mut self, reference: u64, _place: usize, shares: u32) -> Taken {
         self.index.take(reference, shares)
     }
 
-    fn delete(&mut self, reference: u64) -> Order {
+    fn delete(&mut self, reference: u64, _place: usize) -> Order {
         self.index.delete(reference)
     }
 
     fn replace(
         &mut self,
         original: u64,
+        _place: usize,
         reference: u64,
         shares: u32,
         price: u32,

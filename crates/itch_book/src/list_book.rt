@@ -40,6 +40,10 @@ impl<A: Allocator + Copy> OrderBook for ListBook<A> {
             .find(|order| order.reference == reference)
     }
 
+    fn find(&self, reference: u64) -> Option<Placed<'_>> {
+        unplaced(self.get(reference))
+    }
+
     fn first(&self, locate: u16) -> Option<Placed<'_>> {
         unplaced(first_in(&self.orders, locate))
     }
@@ -70,11 +74,11 @@ impl<A: Allocator + Copy> OrderBook for ListBook<A> {
         put_in(&mut self.orders, order)
     }
 
-    fn take(&mut self, reference: u64, shares: u32) -> Taken {
+    fn take(&mut self, reference: u64, _place: usize, shares: u32) -> Taken {
         take_from(&mut self.orders, reference, shares)
     }
 
-    fn delete(&mut self, reference: u64) -> Order {
+    fn delete(&mut self, reference: u64, _place: usize) -> Order {
         take_out(&mut self.orders, reference)
     }
 
@@ -82,6 +86,7 @@ impl<A: Allocator + Copy> OrderBook for ListBook<A> {
     fn replace(
         &mut self,
         original: u64,
+        _place: usize,
         reference: u64,
         shares: u32,
         price: u32,

@@ -69,6 +69,20 @@ impl<A: Allocator + Copy> Queues<A> {
 }
 
 impl<A: Allocator> Queues<A> {
+    /// The key of the next order's node.
+    pub(crate) fn next_key(&self) -> usize
+        ensures { result ≡ self.now.next_key }
+    {
+        self.nodes.vacant_key()
+    }
+
+    /// The key of the next queue.
+    pub(crate) fn next_queue(&self) -> usize
+        ensures { result ≡ self.now.next_queue }
+    {
+        self.heads.vacant_key()
+    }
+
     /// Makes room for one more order, and for one more queue.
     pub(crate) fn reserve(&mut self) -> Result<(), AllocError>
         ensures room { OnOk result ((0 < self.new.node_room) × (0 < self.new.queue_room)) }
@@ -82,9 +96,11 @@ impl<A: Allocator> Queues<A> {
     /// Opens an empty queue.
     pub(crate) fn open(&mut self) -> usize
         requires { 0 < self.old.queue_room }
+        ensures key { result ≡ self.old.next_queue }
         ensures vacant { keys_at self.old result ≡ None }
         ensures keys { (q : ℕ) → keys_at self.new q ≡ at_key result (Some []) (keys_at self.old) q }
         ensures orders { self.new.orders ≡ self.old.orders }
+        ensures next_key { self.new.next_key ≡ self.old.next_key }
         ensures node_room { self.new.node_room ≡ self.old.node_room }
         ensures queue_room { self.new.queue_room + 1 ≡ self.old.queue_room }
     {
@@ -111,6 +127,7 @@ impl<A: Allocator> Queues<A> {
     pub(crate) fn push_last(&mut self, queue: usize, order: Order) -> usize
         requires there { IsSome (keys_at self.old queue) }
         requires room { 0 < self.old.node_room }
+        ensures key { result ≡ self.old.next_key }
         ensures vacant { order_at self.old result ≡ None }
         ensures orders { (k : ℕ) → order_at self.new k ≡ at_key result (Some order) (order_at self.old) k }
         ensures keys { (q : ℕ) → keys_at self.new q ≡ at_key queue (option_map (λ ks. ks ++ result ∷ []) (keys_at self.old queue)) (keys_at self.old) q }

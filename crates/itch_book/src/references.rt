@@ -1,16 +1,17 @@
 //! Orders under their references, which stand as they came or in snapshot order.
-ghost use Rattle.std.specs.Prelude.{◌≡◌, ◌<◌, ◌^◌, ◌∷◌, [], eqb, length, None, Some, OnOk, OnErr, IsSome, IsPermutation, find};
+ghost use Rattle.std.specs.Prelude.{◌≡◌, ◌<◌, ◌^◌, ◌∷◌, [], eqb, length, None, Some, OnOk, OnErr, IsSome, IsPermutation, find, option_map};
 ghost use Rattle.std.specs.Map.{lookup, values_of, set_value, remove_entry};
 ghost use Rattle.std.specs.Option.{option_copied};
 ghost use Rattle.std.specs.Ordering.{is_lt};
 ghost use Rattle.itch_book.specs.StableLists.{in_order};
 ghost use Rattle.itch_book.specs.Orders.{level_total};
-ghost use Rattle.itch_book.specs.Settled.{comes_before, settled, wants, line_if, IsApart};
-ghost use Rattle.itch_book.specs.Referred.{references_of, IsKnown, IsPlaced};
+ghost use Rattle.itch_book.specs.Settled.{comes_before, its_order, settled, wants, line_if, IsApart};
+ghost use Rattle.itch_book.specs.Referred.{references_of, IsAt, IsKnown, IsPlaced};
 ghost use Rattle.itch_table.specs.Table.{at};
 
 use crate::arrived::{Arrived, Wanted, comes_before, sooner, wants};
-use crate::line::total_in;
+use crate::line::{stands_at, total_in};
+use crate::order::Placed;
 use itch_codec::Side;
 use itch_table::Table;
 use std::alloc::{AllocError, Allocator, Global};
@@ -61,12 +62,15 @@ impl<A: Allocator> References<A> {
         self.orders.len()
     }
 
-    /// The order of a reference.
-    pub(crate) fn get(&self, reference: u64) -> Option<&Arrived>
-        ensures { option_copied result ≡ lookup (eqb reference) self.now.entries }
+    /// The order of a reference, and its place.
+    pub(crate) fn find(&self, reference: u64) -> Option<Placed<'_>>
+        ensures { option_map (λ p. p.order.now) result ≡ option_map its_order (lookup (eqb reference) self.now.entries) }
     {
         match self.places.get(reference) {
-            Some(place) => Some(&self.orders[place as usize]),
+            Some(place) => Some(Placed {
+                order: &self.orders[place as usize].order,
+                place: place as usize,
+            }),
             None => None,
         }
     }
@@ -93,12 +97,29 @@ impl<A: Allocator> References<A> {
     }
 }
 
-// The order of a reference that has one.
-pub(crate) fn known<A: Allocator>(references: &References<A>, reference: u64) -> Arrived
+// The order of a reference that has one, and its place: the one that is given, if the order stands there.
+pub(crate) fn known<A: Allocator>(
+    references: &References<A>,
+    reference: u64,
+    place: usize,
+) -> (usize, Arrived)
     requires { IsSome (lookup (eqb reference) references.now.entries) }
-    ensures { lookup (eqb reference) references.now.entries ≡ Some result }
+    ensures order { lookup (eqb reference) references.now.entries ≡ Some result.1 }
+    ensures place { IsAt references.now.entries reference result.0 }
 {
-    *references.get(reference).unwrap()
+    let place = place_of(references, reference, place);
+    (place, references.orders[place])
+}
+
+// The place of a reference that has an order: the one that is given, if the order stands there. Else the table has it.
+fn place_of<A: Allocator>(references: &References<A>, reference: u64, place: usize) -> usize
+    requires { IsSome (lookup (eqb reference) references.now.entries) }
+    ensures { IsAt references.now.entries reference result }
+{
+    if stands_at(&references.orders, reference, place) {
+        return place;
+    }
+    references.places.get(reference).unwrap() as usize
 }
 
 // Puts an order under its reference. If an allocation fails, or if there are 2^32 - 1 orders, nothing changes.
@@ -137,13 +158,12 @@ pub(crate) fn cut<A: Allocator>(references: &mut References<A>, reference: u64) 
     arrived
 }
 
-// Writes an order in place of that of the same reference.
-pub(crate) fn write<A: Allocator>(references: &mut References<A>, arrived: Arrived)
-    requires { IsSome (lookup (eqb arrived.order.reference) references.old.entries) }
+// Writes an order in place of that of the same reference, which stands at this place.
+pub(crate) fn write<A: Allocator>(references: &mut References<A>, place: usize, arrived: Arrived)
+    requires { IsAt references.old.entries arrived.order.reference place }
     ensures { references.new.entries ≡ set_value (eqb arrived.order.reference) references.old.entries arrived }
 {
-    let place = references.places.get(arrived.order.reference).unwrap();
-    references.orders[place as usize] = arrived;
+    references.orders[place] = arrived;
 }
 
 // Puts the orders in snapshot order. Arrivals differ, so whichever way they are sorted there is one line.

@@ -38,6 +38,10 @@ impl<A: Allocator + Copy> OrderBook for SettledBook<A> {
         self.arrivals.get(reference)
     }
 
+    fn find(&self, reference: u64) -> Option<Placed<'_>> {
+        self.arrivals.find(reference)
+    }
+
     fn first(&self, locate: u16) -> Option<Placed<'_>> {
         self.arrivals.first(locate)
     }
@@ -63,11 +67,12 @@ impl<A: Allocator + Copy> OrderBook for SettledBook<A> {
         self.arrivals.add(order)
     }
 
-    fn take(&mut self, reference: u64, shares: u32) -> Taken {
-        self.arrivals.take(reference, shares)
+    fn take(&mut self, reference: u64, place: usize, shares: u32) -> Taken {
+        self.arrivals.take(reference, place, shares)
     }
 
-    fn delete(&mut self, reference: u64) -> Order {
+    // To take the order out of the table gives its place.
+    fn delete(&mut self, reference: u64, _place: usize) -> Order {
         self.arrivals.delete(reference)
     }
 
@@ -75,11 +80,13 @@ impl<A: Allocator + Copy> OrderBook for SettledBook<A> {
     fn replace(
         &mut self,
         original: u64,
+        place: usize,
         reference: u64,
         shares: u32,
         price: u32,
     ) -> Result<(), AllocError> {
-        self.arrivals.replace(original, reference, shares, price)
+        self.arrivals
+            .replace(original, place, reference, shares, price)
     }
 
     // Puts the orders in snapshot order.

@@ -7,3 +7,4 @@ pub mod Tables
 pub mod Texts
 pub mod Trimming
 pub mod Hexadecimal
+pub mod LaterDigits

@@ -1,5 +1,5 @@
 //! Pieces of a line, for texts of any capacity: numbers, prices, times of the day and hexadecimal digits.
-ghost use Rattle.std.specs.Prelude.{◌≡◌, ◌+◌, ◌/◌, ◌%◌, ◌<◌, ◌≤◌, [], ◌∷◌, ◌++◌, decimal};
+ghost use Rattle.std.specs.Prelude.{◌≡◌, ◌+◌, ◌/◌, ◌%◌, ◌<◌, ◌≤◌, [], ◌∷◌, ◌++◌, length, drop, decimal};
 ghost use Rattle.arrayvec.specs.ArrayString.{array_string_len};
 ghost use Rattle.itch_codec.specs.Clock.{clock, two_digits, nine_digits};
 ghost use Rattle.itch_codec.specs.Lines.{hex_digit, four_digits, price_text};
@@ -17,6 +17,7 @@ pub(crate) fn push_number<const CAP: usize>(line: &mut ArrayString<CAP>, number:
 }
 
 /// Appends a price with its four decimals.
+#[tactic(auto, using(crate::proofs::LaterDigits::later, crate::proofs::Joining::joining))]
 pub(crate) fn push_price<const CAP: usize>(line: &mut ArrayString<CAP>, price: u32)
     requires { array_string_len line.old + 25 ≤ CAP }
     ensures bytes { line.new.bytes ≡ line.old.bytes ++ price_text price }
@@ -24,10 +25,7 @@ pub(crate) fn push_price<const CAP: usize>(line: &mut ArrayString<CAP>, price: u
 {
     push_number(line, u64::from(price / 10_000));
     line.push_str(".");
-    push_digit(line, price / 1000 % 10);
-    push_digit(line, price / 100 % 10);
-    push_digit(line, price / 10 % 10);
-    push_digit(line, price % 10);
+    push_later_digits(line, u64::from(10_000 + price % 10_000));
 }
 
 /// Appends nanoseconds since midnight as a time of the day.
@@ -46,40 +44,32 @@ pub(crate) fn push_clock<const CAP: usize>(line: &mut ArrayString<CAP>, nanoseco
     push_nine_digits(line, nanoseconds);
 }
 
-#[tactic(auto, using(crate::proofs::Joining::joining), unfolding(crate::specs::Clock::two_digits))]
+#[tactic(auto, using(crate::proofs::LaterDigits::later), unfolding(crate::specs::Clock::two_digits))]
 fn push_two_digits<const CAP: usize>(line: &mut ArrayString<CAP>, number: u64)
     requires { array_string_len line.old + 2 ≤ CAP }
     ensures bytes { line.new.bytes ≡ line.old.bytes ++ two_digits number }
     ensures len { array_string_len line.new ≡ array_string_len line.old + 2 }
 {
-    push_digit(line, (number / 10 % 10) as u32);
-    push_digit(line, (number % 10) as u32);
+    push_later_digits(line, 100 + number % 100);
 }
 
-#[tactic(auto, using(crate::proofs::Joining::joining), unfolding(crate::specs::Clock::nine_digits))]
+#[tactic(auto, using(crate::proofs::LaterDigits::later), unfolding(crate::specs::Clock::nine_digits))]
 fn push_nine_digits<const CAP: usize>(line: &mut ArrayString<CAP>, number: u64)
     requires { array_string_len line.old + 9 ≤ CAP }
     ensures bytes { line.new.bytes ≡ line.old.bytes ++ nine_digits number }
     ensures len { array_string_len line.new ≡ array_string_len line.old + 9 }
 {
-    push_digit(line, (number / 100_000_000 % 10) as u32);
-    push_digit(line, (number / 10_000_000 % 10) as u32);
-    push_digit(line, (number / 1_000_000 % 10) as u32);
-    push_digit(line, (number / 100_000 % 10) as u32);
-    push_digit(line, (number / 10_000 % 10) as u32);
-    push_digit(line, (number / 1000 % 10) as u32);
-    push_digit(line, (number / 100 % 10) as u32);
-    push_digit(line, (number / 10 % 10) as u32);
-    push_digit(line, (number % 10) as u32);
+    push_later_digits(line, 1_000_000_000 + number % 1_000_000_000);
 }
 
-fn push_digit<const CAP: usize>(line: &mut ArrayString<CAP>, digit: u32)
-    requires digit { digit < 10 }
-    requires room { array_string_len line.old < CAP }
-    ensures bytes { line.new.bytes ≡ line.old.bytes ++ (48 + digit) ∷ [] }
-    ensures len { array_string_len line.new ≡ array_string_len line.old + 1 }
+// Appends the decimal digits of a number but the first: with a 1 before them, the others keep their zeros.
+fn push_later_digits<const CAP: usize>(line: &mut ArrayString<CAP>, number: u64)
+    requires { array_string_len line.old + length (decimal number) ≤ CAP + 1 }
+    ensures bytes { line.new.bytes ≡ line.old.bytes ++ drop 1 (decimal number) }
+    ensures len { array_string_len line.new + 1 ≡ array_string_len line.old + length (decimal number) }
 {
-    push_ascii(line, b'0' + digit as u8);
+    let mut digits = Buffer::new();
+    line.push_str(&digits.format(number)[1..]);
 }
 
 /// Appends an ASCII character.

@@ -1,6 +1,6 @@
 -- How far the current block is, and the law on cut streams.
 use Rattle.std.proofs.Common.{◌≡◌, ℕ, ◌+◌, ◌-◌, ◌/◌, ◌%◌, ◌<◌, ◌≤◌, ◌⊎◌, min, List, [], ◌∷◌, ◌++◌, length, take, drop, get_or, refl, sym, ap, subst, ◌∙◌, inl, inr, append_assoc, arith, length-append}
-use Rattle.std.proofs.lemmas.List.{take_all, take_at, take-append-le, take-take, length-take-le, length-drop, append-nil, nil_from_length, get_or_append_left, drop-take}
+use Rattle.std.proofs.lemmas.List.{take_all, take_at, take-append-le, take-take, length-take-le, length-drop, append-nil, nil_from_length, get_or_append_left, get_or-take, take-append-drop, drop-take}
 use Rattle.std.proofs.Math.Seq.{take-append-add, take-add}
 use Rattle.std.proofs.lemmas.Bool.{cases_lt}
 use Rattle.itch_frame.specs.Blocks.{IsPayload, block, blocks, IsBlock, IsBlockOf, HasNoBlock, Blocks}
@@ -34,17 +34,32 @@ need_two [] = omega arith
 need_two (x ∷ []) = omega arith
 need_two (x ∷ y ∷ payload) = omega arith
 
+-- the payload of the first bytes of a buffer
+front_payload : (buffer : List ℕ) (len : ℕ) → 2 ≤ len → drop 2 (take len buffer) ≡ take (len - 2) (drop 2 buffer)
+front_payload buffer len two =
+    let parts : len ≡ 2 + (len - 2) = omega arith in
+    ap (λ n. drop 2 (take n buffer)) parts ∙ drop-take 2 (len - 2) buffer
+
 -- the same of the first bytes of a buffer
 pub front_whole : (buffer : List ℕ) (len : ℕ) → len ≤ length buffer → len ≤ 65537 → need (take len buffer) ≡ len
     → get_or (take len buffer) 0 0 < 256 → get_or (take len buffer) 1 0 < 256 → IsBlockOf (take (len - 2) (drop 2 buffer)) (take len buffer)
 front_whole buffer len within bound is x_fits y_fits =
     let all : length (take len buffer) ≡ len = length-take-le len buffer within in
     let two : 2 ≤ len = omega (arith, need_two (take len buffer)) in
-    let parts : len ≡ 2 + (len - 2) = omega arith in
-    let payload : drop 2 (take len buffer) ≡ take (len - 2) (drop 2 buffer) = ap (λ n. drop 2 (take n buffer)) parts ∙ drop-take 2 (len - 2) buffer in
     let same : take (length (take len buffer) - 2) (drop 2 (take len buffer)) ≡ take (len - 2) (drop 2 buffer) =
-    ap (λ n. take (n - 2) (drop 2 (take len buffer))) all ∙ ap (take (len - 2)) payload ∙ take-take (len - 2) (len - 2) (drop 2 buffer) (omega arith) in
+    ap (λ n. take (n - 2) (drop 2 (take len buffer))) all ∙ ap (take (len - 2)) (front_payload buffer len two) ∙ take-take (len - 2) (len - 2) (drop 2 buffer) (omega arith) in
     subst (λ (p : List ℕ). IsBlockOf p (take len buffer)) same (whole_block (take len buffer) (omega (arith, all)) (is ∙ sym all) (omega (arith, all)) x_fits y_fits)
+
+-- where the first bytes of a buffer are a block, they are as many as they need, and the payload follows the length bytes
+pub front_block : (buffer : List ℕ) (len : ℕ) → len ≤ length buffer → IsBlock (take len buffer)
+    → (len ≤ need (take len buffer)) × IsBlockOf (take (len - 2) (drop 2 buffer)) (take len buffer)
+front_block buffer len within (payload, of) =
+    let all : length (take len buffer) ≡ len = length-take-le len buffer within in
+    let needs = block_need (take len buffer) (payload, of) in
+    let same : payload ≡ take (len - 2) (drop 2 buffer) = ap (drop 2) (sym of.1) ∙ front_payload buffer len (omega (arith, needs.0, all)) in (
+      omega (arith, needs.1, all),
+      subst (λ (p : List ℕ). IsBlockOf p (take len buffer)) same of,
+    )
 
 need_start : (held : List ℕ) → length held < 2 → need held ≡ 2
 need_start [] short = refl
@@ -56,6 +71,19 @@ need-append : (held more : List ℕ) → 2 ≤ length held → need (held ++ mor
 need-append [] more long = absurd (omega arith)
 need-append (x ∷ []) more long = absurd (omega arith)
 need-append (x ∷ y ∷ payload) more long = refl
+
+-- as many bytes as are needed, if they are there, are a block
+pub first_needed : (bytes : List ℕ) → 2 ≤ length bytes → need bytes ≤ length bytes → need bytes ≤ 65537 → ((k : ℕ) → get_or bytes k 0 < 256)
+    → IsBlock (take (need bytes) bytes)
+first_needed bytes long within bound fits =
+    let two : 2 ≤ need bytes = need_two bytes in
+    let all : length (take (need bytes) bytes) ≡ need bytes = length-take-le (need bytes) bytes within in
+    let same : need (take (need bytes) bytes) ≡ need bytes =
+    sym (need-append (take (need bytes) bytes) (drop (need bytes) bytes) (omega (arith, all))) ∙ ap need (take-append-drop (need bytes) bytes) in (
+      take (need bytes - 2) (drop 2 bytes),
+      front_whole bytes (need bytes) within bound same
+          (omega (arith, fits 0, get_or-take (need bytes) bytes 0 0 (omega arith))) (omega (arith, fits 1, get_or-take (need bytes) bytes 1 0 (omega arith))),
+    )
 
 -- as many bytes as are needed, or fewer, are no more than are needed then
 pub still_begun : (held more : List ℕ) → length held + length more ≤ need held → length (held ++ more) ≤ need (held ++ more)

@@ -2,9 +2,10 @@
 //!
 //! Contracts see the bytes that a reader has left or a writer has taken, if they are known, how many calls failed, and the
 //! error of the last failure.
-ghost use Rattle.std.specs.Prelude.{◌≡◌, ℕ, ◌-◌, List, Option};
+ghost use Rattle.std.specs.Prelude.{◌≡◌, ℕ, ◌-◌, ◌≤◌, List, length, take, Option, IfSome, IfNone};
 ghost use Rattle.std.specs.Io.{ReadsAtMost, WritesAtMost};
-ghost use Rattle.std.specs.Io.KnownBytes.{ReadConsumes};
+ghost use Rattle.std.specs.Io.KnownBytes.{ReadConsumes, Consumes};
+ghost use Rattle.itch_frame.specs.Blocks.{IsBlock};
 ghost use Rattle.itch_frame.specs.Counting.{CountsErr, Takes};
 
 mod buffered;
@@ -30,6 +31,19 @@ pub trait CountedRead {
         ensures bound { ReadsAtMost result buf.new }
         ensures bytes { ReadConsumes (remaining self.old) (remaining self.new) result buf.new }
         ensures count { CountsErr result (failures self.old) (failures self.new) };
+
+    /// Moves the next block to the front of `buf` and returns how long it is, if all of it lies at hand already.
+    ///
+    /// It reads nothing, so it cannot fail. `None`, which a reader may always return, changes nothing.
+    fn take_block(&mut self, buf: &mut [u8]) -> Option<usize>
+        ensures block { IfSome result (λ size. (size ≤ length buf.new) × IsBlock (take size buf.new)) }
+        ensures bytes { IfSome result (λ size. Consumes (remaining self.old) (remaining self.new) (take size buf.new)) }
+        ensures none { IfNone result ((self.new ≡ self.old) × (buf.new ≡ buf.old)) }
+        ensures count { failures self.new ≡ failures self.old }
+    {
+        let _buf = buf;
+        None
+    }
 }
 
 /// A writer that counts its failures.

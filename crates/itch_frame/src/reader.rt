@@ -1,7 +1,7 @@
 //! Blocks from a reader.
 ghost use Rattle.std.specs.Prelude.{◌≡◌, ℕ, ◌+◌, ◌-◌, ◌<◌, ◌≤◌, List, [], ◌++◌, length, take, drop, vec_len, IfOk, true, false};
-ghost use Rattle.std.specs.Io.KnownBytes.{prepend_known, Keeps, IsAtEnd};
-ghost use Rattle.itch_frame.specs.Blocks.{IsBlockOf};
+ghost use Rattle.std.specs.Io.KnownBytes.{prepend_known, Keeps, Consumes, IsAtEnd};
+ghost use Rattle.itch_frame.specs.Blocks.{IsBlock, IsBlockOf};
 ghost use Rattle.itch_frame.specs.Counting.{CountsErr};
 ghost use Rattle.itch_frame.specs.Needs.{need};
 
@@ -127,8 +127,53 @@ fn zeros<A: Allocator>(alloc: A, len: usize) -> Result<Vec<u8, A>, AllocError>
     vec![in alloc; 0; len]
 }
 
-/// Reads until the current block, the first `len` bytes of `buffer`, is complete (true) or the input ends (false).
+/// Completes the current block, the first `len` bytes of `buffer` (true), unless the input ends before (false).
 fn fill_block<R: CountedRead>(
+    reader: &mut R,
+    buffer: &mut [u8],
+    len: &mut usize,
+) -> io::Result<bool>
+    requires room { length buffer.old ≡ 65537 }
+    requires begun { len.old ≤ need (take len.old buffer.old) }
+    requires within { len.old ≤ 65537 }
+    ensures begun { len.new ≤ need (take len.new buffer.new) }
+    ensures within { len.new ≤ 65537 }
+    ensures kept { Keeps (prepend_known (take len.old buffer.old) (R.remaining reader.old)) (prepend_known (take len.new buffer.new) (R.remaining reader.new)) }
+    ensures front { (more : List ℕ) × (take len.new buffer.new ≡ take len.old buffer.old ++ more) }
+    ensures whole { result ≡ Ok true → IsBlockOf (take (len.new - 2) (drop 2 buffer.new)) (take len.new buffer.new) }
+    ensures ended { result ≡ Ok false → (len.new < need (take len.new buffer.new)) × IsAtEnd (R.remaining reader.new) }
+    ensures count { CountsErr result (R.failures reader.old) (R.failures reader.new) }
+{
+    if take_block(reader, buffer, len) {
+        return Ok(true);
+    }
+    read_block(reader, buffer, len)
+}
+
+/// Takes the current block at once, if nothing of it is held and all of it lies at hand.
+fn take_block<R: CountedRead>(reader: &mut R, buffer: &mut [u8], len: &mut usize) -> bool
+    ensures room { length buffer.new ≡ length buffer.old }
+    ensures begun { result ≡ true → len.old ≡ 0 }
+    ensures within { result ≡ true → len.new ≤ length buffer.new }
+    ensures block { result ≡ true → IsBlock (take len.new buffer.new) }
+    ensures bytes { result ≡ true → Consumes (R.remaining reader.old) (R.remaining reader.new) (take len.new buffer.new) }
+    ensures none { result ≡ false → (reader.new ≡ reader.old) × (buffer.new ≡ buffer.old) × (len.new ≡ len.old) }
+    ensures count { R.failures reader.new ≡ R.failures reader.old }
+{
+    if *len > 0 {
+        return false;
+    }
+    match reader.take_block(buffer) {
+        Some(size) => {
+            *len = size;
+            true
+        }
+        None => false,
+    }
+}
+
+/// Reads until the current block is complete (true) or the input ends (false).
+fn read_block<R: CountedRead>(
     reader: &mut R,
     buffer: &mut [u8],
     len: &mut usize,

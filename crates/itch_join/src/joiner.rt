@@ -152,9 +152,8 @@ impl<B: OrderBook> Joiner<B> {
     pub fn settle_market(&mut self)
         ensures { self.new ≡ self.old }
     {
-        if let Some(mut position) = self.joined.take() {
+        if let Some(position) = &mut self.joined {
             position.market.settle();
-            self.joined = Some(position);
         }
     }
 
@@ -222,11 +221,12 @@ impl<B: OrderBook> Joiner<B> {
         ensures cap { self.new.cap ≡ self.old.cap }
         ensures set { self.new.set ≡ self.old.set }
     {
-        let mut position = self.joined.take().unwrap();
+        let Some(position) = &mut self.joined else {
+            unreachable!()
+        };
         let waits = self.wait.has(number);
-        let ended = advance(&mut self.wait, &self.set, &mut position, payload);
+        let ended = advance(&mut self.wait, &self.set, position, payload);
         let next = position.next;
-        self.joined = Some(position);
         self.halt = halt_of(ended, next);
         match ended {
             Ok(()) => Ok(Live::Applied { next }),
@@ -348,12 +348,11 @@ impl<B: OrderBook> Joiner<B> {
                 cause: halt.cause,
             });
         }
-        let Some(mut position) = self.joined.take() else {
+        let Some(position) = &mut self.joined else {
             return Ok(None);
         };
-        let ended = drain(&mut self.wait, &self.set, &mut position);
+        let ended = drain(&mut self.wait, &self.set, position);
         let next = position.next;
-        self.joined = Some(position);
         self.halt = halt_of(ended, next);
         match ended {
             Ok(()) => Ok(Some(next)),

@@ -95,10 +95,8 @@ impl<B: OrderBook> Market<B> {
         ensures err { OnErr result (self.new ≡ self.old) }
         ensures memory { result ≡ Err Refusal.OutOfMemory → IsTrue (takes_memory self.old message.now) }
     {
-        if let Some(why) = self.refusal(message) {
-            return Err(why);
-        }
-        self.act(message)?;
+        let place = self.check(message)?;
+        self.act(message, place)?;
         Ok(())
     }
 

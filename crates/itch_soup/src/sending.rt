@@ -75,7 +75,7 @@ fn pass_over<B: OrderBook>(messages: &mut SnapshotIter<'_, B>, count: u64)
 
 /// Accepts a login, writes the packet of each message from this number on, and ends the session. Returns how many messages
 /// there were.
-pub(crate) fn write_session<W: CountedWrite, B: OrderBook>(
+pub fn write_session<W: CountedWrite, B: OrderBook>(
     writer: &mut W,
     market: &Market<B>,
     next: Seq,

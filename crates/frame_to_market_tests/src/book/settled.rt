@@ -30,6 +30,10 @@ impl<A: Allocator + Copy> OrderBook for Settling<A> {
         self.book.get(reference)
     }
 
+    fn find(&self, reference: u64) -> Option<Placed<'_>> {
+        self.book.find(reference)
+    }
+
     fn first(&self, locate: u16) -> Option<Placed<'_>> {
         self.book.first(locate)
     }
@@ -56,14 +60,14 @@ impl<A: Allocator + Copy> OrderBook for Settling<A> {
         Ok(())
     }
 
-    fn take(&mut self, reference: u64, shares: u32) -> Taken {
-        let left = self.book.take(reference, shares);
+    fn take(&mut self, reference: u64, place: usize, shares: u32) -> Taken {
+        let left = self.book.take(reference, place, shares);
         self.book.settle();
         left
     }
 
-    fn delete(&mut self, reference: u64) -> Order {
-        let order = self.book.delete(reference);
+    fn delete(&mut self, reference: u64, place: usize) -> Order {
+        let order = self.book.delete(reference, place);
         self.book.settle();
         order
     }
@@ -71,11 +75,13 @@ impl<A: Allocator + Copy> OrderBook for Settling<A> {
     fn replace(
         &mut self,
         original: u64,
+        place: usize,
         reference: u64,
         shares: u32,
         price: u32,
     ) -> Result<(), AllocError> {
-        self.book.replace(original, reference, shares, price)?;
+        self.book
+            .replace(original, place, reference, shares, price)?;
         self.book.settle();
         Ok(())
     }

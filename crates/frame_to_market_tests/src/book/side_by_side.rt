@@ -1,6 +1,8 @@
 //! Two books side by side: random calls return the same, and leave the same orders.
 use super::settled::Settling;
-use super::{add, after, after_at, delete, first, live, order, replace, take, unplaced};
+use super::{
+    add, after, after_at, delete_at, first, live, order, place_of, replace_at, take_at, unplaced,
+};
 use crate::equal::same;
 use itch_book::{IndexedBook, ListBook, Order, OrderBook, SettledBook};
 use itch_codec::Side;
@@ -44,12 +46,37 @@ impl Random {
         }
     }
 
+    // The place of the order, one that another may have, or one beyond all.
+    fn given(&mut self) -> Given {
+        match self.below(3) {
+            0 => Given::Own,
+            1 => Given::Another(self.below(20) as usize),
+            _ => Given::Another(usize::MAX),
+        }
+    }
+
     // An order of 1 to 20 shares.
     fn order(&mut self, reference: u64) -> Order {
         let (side, shares, price) = (self.side(), self.below(20), self.price());
         Order {
             locate: self.locate(),
             ..order(reference, side, shares.saturating_add(1), price)
+        }
+    }
+}
+
+// The place that a call is given.
+#[derive(Clone, Copy)]
+enum Given {
+    Own,
+    Another(usize),
+}
+
+impl Given {
+    fn place<B: OrderBook>(self, book: &B, reference: u64) -> usize {
+        match self {
+            Given::Own => place_of(book, reference),
+            Given::Another(place) => place,
         }
     }
 }
@@ -73,19 +100,25 @@ fn call<B: OrderBook, C: OrderBook>(
         return add_copy(rt, other, &order);
     };
     let new = u64::from(random.below(40));
+    let given = random.given();
+    let (place, beside) = (given.place(one, reference), given.place(other, reference));
     match random.below(4) {
         0 if live(one, new).is_none() => {
             let (shares, price) = (random.below(20).saturating_add(1), random.price());
-            replace(rt, one, reference, new, shares, price)?;
-            replace(rt, other, reference, new, shares, price)?;
+            replace_at(rt, one, reference, place, new, shares, price)?;
+            replace_at(rt, other, reference, beside, new, shares, price)?;
         }
-        1 => same(rt, delete(rt, one, reference), delete(rt, other, reference)),
+        1 => same(
+            rt,
+            delete_at(rt, one, reference, place),
+            delete_at(rt, other, reference, beside),
+        ),
         _ => {
             let shares = random.below(order.shares.saturating_add(1));
             same(
                 rt,
-                take(rt, one, reference, shares),
-                take(rt, other, reference, shares),
+                take_at(rt, one, reference, place, shares),
+                take_at(rt, other, reference, beside, shares),
             );
         }
     }
@@ -102,6 +135,8 @@ fn check_live<B: OrderBook, C: OrderBook>(
 ) {
     same(rt, &live(one, reference), want);
     same(rt, &live(other, reference), want);
+    same(rt, &unplaced(one.find(reference)), want);
+    same(rt, &unplaced(other.find(reference)), want);
 }
 
 // Checks that both books have the same orders of a locate, in the same order: those of the other book from place to place.

@@ -37,7 +37,7 @@ impl Growth {
             None => book.add(order),
             Some(original) => {
                 assert!(rt; book.get(original).is_some());
-                book.replace(original, order.reference, order.shares, order.price)
+                book.replace(original, 0, order.reference, order.shares, order.price)
             }
         }
     }
@@ -191,18 +191,54 @@ fn a_list_book_stays_as_it_was(rt: HostRuntime) -> Result<(), Fail> {
     Ok(())
 }
 
-// The first order takes four allocations. A replacement of every order takes the ones that follow,
-// a replacement of every third leaves them to the additions.
+// A call that is refused keeps room that it made, so that three calls for the first order are refused. A replacement of every
+// order takes the allocations that follow, a replacement of every third leaves them to the additions.
 #[test]
 fn an_indexed_book_stays_as_it_was(rt: HostRuntime) -> Result<(), Fail> {
     for (step, every) in [(0, 1), (0, 3), (100, 1), (100, 3)] {
         let refusing = Refusing::new(rt.alloc(), 0);
         let mut book: IndexedBook<&Refusing<Global>> = IndexedBook::new(&refusing);
         let (additions, replacements) = grow(&rt, rt.alloc(), &refusing, &mut book, step, every)?;
-        assert!(rt; additions >= 4);
-        assert!(rt; additions > 4 || every == 1);
-        assert!(rt; replacements > 4 || every == 3);
+        assert!(rt; additions >= 3);
+        assert!(rt; additions > 3 || every == 1);
+        assert!(rt; replacements > 3 || every == 3);
     }
+    Ok(())
+}
+
+// Adds three hundred levels, which are more than one line of an indexed book takes.
+fn fill_line<B: OrderBook>(rt: &impl Abort, book: &mut B) -> Result<(), AllocError> {
+    for number in 1000..1300u32 {
+        let added = Growth {
+            original: None,
+            order: bid(u64::from(number), 10, 1000000 + number),
+        };
+        added.call(rt, book)?;
+    }
+    Ok(())
+}
+
+// Levels that find their line full are refused in turn too, above and below those that are there.
+#[test]
+fn an_indexed_book_with_a_full_line_stays_as_it_was(rt: HostRuntime) -> Result<(), Fail> {
+    let refusing = Refusing::new(rt.alloc(), u64::MAX);
+    let mut book: IndexedBook<&Refusing<Global>> = IndexedBook::new(&refusing);
+    fill_line(&rt, &mut book)?;
+    let mut refused = 0u64;
+    for number in 1..21u32 {
+        for price in [1000000 + number, 1002000 + number] {
+            let added = add_one(
+                &rt,
+                rt.alloc(),
+                &refusing,
+                &mut book,
+                (u64::from(price), price),
+            )?;
+            refused = refused.saturating_add(added);
+        }
+    }
+    assert!(rt; refused > 3);
+    has_len(&rt, &book, 340);
     Ok(())
 }
 

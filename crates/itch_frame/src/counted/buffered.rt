@@ -3,6 +3,7 @@ ghost use Rattle.std.specs.Prelude.{◌≡◌, None, length, take, min};
 ghost use Rattle.std.specs.Io.Buffered.{reader_remaining};
 
 use crate::counted::{Counted, CountedRead};
+use crate::splitter::first_block;
 use crate::tally::Failures;
 use std::alloc::{Allocator, Global};
 use std::io::{self, BufRead, BufReader, Read};
@@ -51,6 +52,18 @@ impl<T: Read, A: Allocator> CountedRead for Buffered<T, A> {
         self.counted.inner.consume(count);
         Ok(count)
     }
+
+    #[inline(always)]
+    fn take_block(&mut self, buf: &mut [u8]) -> Option<usize> {
+        let ahead = self.counted.inner.buffer();
+        let size = first_block(ahead)?;
+        if size > buf.len() {
+            return None;
+        }
+        buf[..size].copy_from_slice(&ahead[..size]);
+        self.counted.inner.consume(size);
+        Some(size)
+    }
 }
 
 // Copies as many bytes as there are and as fit, and returns how many.
@@ -60,12 +73,6 @@ fn copy_front(from: &[u8], to: &mut [u8]) -> usize
     ensures bytes { take result to.new ≡ take result from.now }
 {
     let count = from.len().min(to.len());
-    // The two length bytes of a block: a call would cost more than they do.
-    if count == 2 {
-        to[0] = from[0];
-        to[1] = from[1];
-    } else {
-        to[..count].copy_from_slice(&from[..count]);
-    }
+    to[..count].copy_from_slice(&from[..count]);
     count
 }

@@ -54,8 +54,8 @@ fn order_of(x: AddOrder, mpid: Option<Alpha<4>>) -> Order
 }
 
 impl<B: OrderBook> Market<B> {
-    /// Changes the market by a message that is not refused.
-    pub(super) fn act(&mut self, message: &Message<'_>) -> Result<(), AllocError>
+    /// Changes the market by a message that is not refused. The order that it changes is likely to have this place in the book.
+    pub(super) fn act(&mut self, message: &Message<'_>, place: usize) -> Result<(), AllocError>
         requires { reason self.old message.now ≡ None }
         ensures ok { OnOk result (self.new ≡ laid (effect self.old message.now)) }
         ensures err { OnErr result (self.new ≡ self.old) }
@@ -70,13 +70,13 @@ impl<B: OrderBook> Market<B> {
             Message::Position(x) => self.set_position(x)?,
             Message::AddOrder(x) => self.add(x, None)?,
             Message::AttributedAddOrder(x) => self.add(x.order, Some(x.attribution))?,
-            Message::OrderExecuted(x) => self.take(x.reference, x.shares),
+            Message::OrderExecuted(x) => self.take(x.reference, place, x.shares),
             Message::OrderExecutedWithPrice(x) => {
-                self.take(x.execution.reference, x.execution.shares)
+                self.take(x.execution.reference, place, x.execution.shares)
             }
-            Message::OrderCancel(x) => self.take(x.reference, x.shares),
-            Message::OrderDelete(x) => self.delete(x.reference),
-            Message::OrderReplace(x) => self.replace(x)?,
+            Message::OrderCancel(x) => self.take(x.reference, place, x.shares),
+            Message::OrderDelete(x) => self.delete(x.reference, place),
+            Message::OrderReplace(x) => self.replace(x, place)?,
             Message::Trade(_)
             | Message::CrossTrade(_)
             | Message::BrokenTrade(_)
@@ -151,26 +151,26 @@ impl<B: OrderBook> Market<B> {
         self.book.add(order_of(x, mpid))
     }
 
-    fn take(&mut self, reference: u64, shares: u32)
+    fn take(&mut self, reference: u64, place: usize, shares: u32)
         requires { IsSomeAnd (book.get self.old.orders reference) (λ x. shares ≤ x.shares) }
         ensures { self.new ≡ laid (record self.old { orders = book.taken reference shares self.old.orders }) }
     {
-        let _left = self.book.take(reference, shares);
+        let _left = self.book.take(reference, place, shares);
     }
 
-    fn delete(&mut self, reference: u64)
+    fn delete(&mut self, reference: u64, place: usize)
         requires { IsSome (book.get self.old.orders reference) }
         ensures { self.new ≡ laid (record self.old { orders = book.without reference self.old.orders }) }
     {
-        let _order = self.book.delete(reference);
+        let _order = self.book.delete(reference, place);
     }
 
-    fn replace(&mut self, x: OrderReplace) -> Result<(), AllocError>
+    fn replace(&mut self, x: OrderReplace, place: usize) -> Result<(), AllocError>
         requires { reason self.old (Message.OrderReplace x) ≡ None }
         ensures ok { OnOk result (self.new ≡ laid (effect self.old (Message.OrderReplace x))) }
         ensures err { OnErr result (self.new ≡ self.old) }
     {
         self.book
-            .replace(x.original, x.reference, x.shares, x.price)
+            .replace(x.original, place, x.reference, x.shares, x.price)
     }
 }

@@ -1,5 +1,6 @@
 //! The order rules: why a message is refused.
 ghost use Rattle.std.specs.Prelude.{◌≡◌};
+ghost use Rattle.std.specs.Result.{result_err};
 ghost use Rattle.std.specs.FinMap as map;
 ghost use Rattle.itch_market.specs.Reasons.{reason, directory_reason, security_reason, add_reason, take_reason, is_other_stock};
 
@@ -17,34 +18,46 @@ fn is_other_stock<A: Allocator>(security: &Security<A>, stock: Alpha<8>) -> bool
     security.entry.stock.bytes() != stock.bytes()
 }
 
+/// The verdict on a message that changes no order, so that any place will do.
+fn no_order(refusal: Option<Refusal>) -> Result<usize, Refusal>
+    ensures { result_err result ≡ refusal }
+{
+    match refusal {
+        Some(why) => Err(why),
+        None => Ok(0),
+    }
+}
+
 impl<B: OrderBook> Market<B> {
-    /// Why a message is refused, if it is: the first check of its rules that fails.
-    pub(super) fn refusal(&self, message: &Message<'_>) -> Option<Refusal>
-        ensures { result ≡ reason self.now message.now }
+    /// The place of the order that a message changes, or why the message is refused: the first check of its rules that fails.
+    pub(super) fn check(&self, message: &Message<'_>) -> Result<usize, Refusal>
+        ensures { result_err result ≡ reason self.now message.now }
     {
         match *message {
-            Message::StockDirectory(x) => self.directory_refusal(x.header.locate, x.entry.stock),
-            Message::TradingAction(x) => self.security_refusal(x.header.locate, x.stock),
-            Message::RegSho(x) => self.security_refusal(x.header.locate, x.stock),
-            Message::Halt(x) => self.security_refusal(x.header.locate, x.stock),
-            Message::Position(x) => self.security_refusal(x.header.locate, x.stock),
-            Message::AddOrder(x) => self.add_refusal(x),
-            Message::AttributedAddOrder(x) => self.add_refusal(x.order),
-            Message::OrderExecuted(x) => self.take_refusal(x.header.locate, x.reference, x.shares),
-            Message::OrderExecutedWithPrice(x) => self.take_refusal(
+            Message::StockDirectory(x) => {
+                no_order(self.directory_refusal(x.header.locate, x.entry.stock))
+            }
+            Message::TradingAction(x) => no_order(self.security_refusal(x.header.locate, x.stock)),
+            Message::RegSho(x) => no_order(self.security_refusal(x.header.locate, x.stock)),
+            Message::Halt(x) => no_order(self.security_refusal(x.header.locate, x.stock)),
+            Message::Position(x) => no_order(self.security_refusal(x.header.locate, x.stock)),
+            Message::AddOrder(x) => no_order(self.add_refusal(x)),
+            Message::AttributedAddOrder(x) => no_order(self.add_refusal(x.order)),
+            Message::OrderExecuted(x) => self.check_take(x.header.locate, x.reference, x.shares),
+            Message::OrderExecutedWithPrice(x) => self.check_take(
                 x.execution.header.locate,
                 x.execution.reference,
                 x.execution.shares,
             ),
-            Message::OrderCancel(x) => self.take_refusal(x.header.locate, x.reference, x.shares),
-            Message::OrderDelete(x) => self.delete_refusal(x),
-            Message::OrderReplace(x) => self.replace_refusal(x),
-            Message::End { .. } => Some(Refusal::UnexpectedEnd),
+            Message::OrderCancel(x) => self.check_take(x.header.locate, x.reference, x.shares),
+            Message::OrderDelete(x) => self.check_delete(x),
+            Message::OrderReplace(x) => self.check_replace(x),
+            Message::End { .. } => Err(Refusal::UnexpectedEnd),
             Message::SystemEvent(_)
             | Message::Trade(_)
             | Message::CrossTrade(_)
             | Message::BrokenTrade(_)
-            | Message::Other(_) => None,
+            | Message::Other(_) => Ok(0),
         }
     }
 
@@ -78,38 +91,38 @@ impl<B: OrderBook> Market<B> {
         }
     }
 
-    fn take_refusal(&self, locate: u16, reference: u64, shares: u32) -> Option<Refusal>
-        ensures { result ≡ take_reason self.now locate reference shares }
+    fn check_take(&self, locate: u16, reference: u64, shares: u32) -> Result<usize, Refusal>
+        ensures { result_err result ≡ take_reason self.now locate reference shares }
     {
-        match self.book.get(reference) {
-            None => Some(Refusal::UnknownRef),
-            Some(order) if order.locate != locate => Some(Refusal::LocateMismatch),
-            Some(order) if order.shares < shares => Some(Refusal::TooManyShares {
-                remain: order.shares,
+        match self.book.find(reference) {
+            None => Err(Refusal::UnknownRef),
+            Some(found) if found.order.locate != locate => Err(Refusal::LocateMismatch),
+            Some(found) if found.order.shares < shares => Err(Refusal::TooManyShares {
+                remain: found.order.shares,
             }),
-            Some(_) => None,
+            Some(found) => Ok(found.place),
         }
     }
 
-    fn delete_refusal(&self, x: OrderDelete) -> Option<Refusal>
-        ensures { result ≡ reason self.now (Message.OrderDelete x) }
+    fn check_delete(&self, x: OrderDelete) -> Result<usize, Refusal>
+        ensures { result_err result ≡ reason self.now (Message.OrderDelete x) }
     {
-        match self.book.get(x.reference) {
-            None => Some(Refusal::UnknownRef),
-            Some(order) if order.locate != x.header.locate => Some(Refusal::LocateMismatch),
-            Some(_) => None,
+        match self.book.find(x.reference) {
+            None => Err(Refusal::UnknownRef),
+            Some(found) if found.order.locate != x.header.locate => Err(Refusal::LocateMismatch),
+            Some(found) => Ok(found.place),
         }
     }
 
-    fn replace_refusal(&self, x: OrderReplace) -> Option<Refusal>
-        ensures { result ≡ reason self.now (Message.OrderReplace x) }
+    fn check_replace(&self, x: OrderReplace) -> Result<usize, Refusal>
+        ensures { result_err result ≡ reason self.now (Message.OrderReplace x) }
     {
-        match self.book.get(x.original) {
-            None => Some(Refusal::UnknownRef),
-            Some(order) if order.locate != x.header.locate => Some(Refusal::LocateMismatch),
-            Some(_) if x.shares == 0 => Some(Refusal::ZeroShares),
-            Some(_) if self.book.get(x.reference).is_some() => Some(Refusal::DuplicateRef),
-            Some(_) => None,
+        match self.book.find(x.original) {
+            None => Err(Refusal::UnknownRef),
+            Some(found) if found.order.locate != x.header.locate => Err(Refusal::LocateMismatch),
+            Some(_) if x.shares == 0 => Err(Refusal::ZeroShares),
+            Some(_) if self.book.get(x.reference).is_some() => Err(Refusal::DuplicateRef),
+            Some(found) => Ok(found.place),
         }
     }
 }

@@ -33,36 +33,36 @@ returns-then-is_some-clause-busy g c references is at busy s l p q h =
 
 pub returns-clause-index : goal.returns-clause-index
 returns-clause-index g c references is at =
-    let bids = c.args.prices.now.bids.entries in let asks = c.args.prices.now.asks.entries in
-    let bids' = c.close_level.new.self.bids.entries in let asks' = c.close_level.new.self.asks.entries in
+    let bids = c.args.prices.now.bids in let asks = c.args.prices.now.asks in
+    let bids' = c.close_level.new.self.bids in let asks' = c.close_level.new.self.asks in
     let w : Seen = seen c.args.queues.now in let q = c.args.queue in
     let keys = some_of (keys_at c.args.queues.now q) c.requires in
     let none : is_some c.first.result ≡ false = search rules in
     let empty : keys_at c.args.queues.now q ≡ Some [] = keys.1 ∙ ap Some (empty_of keys.0 c.first.result (c.first.ensures keys.0 keys.1) none) in
     let v : Seen = record { keys = at_key q None w.keys; orders = w.orders } in
     let same : seen c.close_level.new.queues ≡ v = seen_same v (seen c.close_level.new.queues) c.close_level.ensures.keys (same_orders c.args.queues.now c.close_level.new.queues c.close_level.ensures.orders) in
-    subst (IsIndexed references bids' asks') (sym same) (close_index references bids asks bids' asks' w is c.args.side c.args.locate c.args.price q (c.close_level.ensures.bids_sorted is.bids_sorted) (c.close_level.ensures.asks_sorted is.asks_sorted) empty at c.close_level.ensures.placed)
+    subst (IsIndexed references bids' asks') (sym same) (close_index references bids asks bids' asks' w is c.args.side c.args.locate c.args.price q c.close_level.ensures.bids c.close_level.ensures.asks empty at c.close_level.ensures.placed)
 
 pub returns-clause-view : goal.returns-clause-view
 returns-clause-view g c references is at =
-    let bids = c.args.prices.now.bids.entries in let asks = c.args.prices.now.asks.entries in
-    let bids' = c.close_level.new.self.bids.entries in let asks' = c.close_level.new.self.asks.entries in
+    let bids = c.args.prices.now.bids in let asks = c.args.prices.now.asks in
+    let bids' = c.close_level.new.self.bids in let asks' = c.close_level.new.self.asks in
     let w : Seen = seen c.args.queues.now in let q = c.args.queue in
     let keys = some_of (keys_at c.args.queues.now q) c.requires in
     let none : is_some c.first.result ≡ false = search rules in
     let empty : keys_at c.args.queues.now q ≡ Some [] = keys.1 ∙ ap Some (empty_of keys.0 c.first.result (c.first.ensures keys.0 keys.1) none) in
     let v : Seen = record { keys = at_key q None w.keys; orders = w.orders } in
     let same : seen c.close_level.new.queues ≡ v = seen_same v (seen c.close_level.new.queues) c.close_level.ensures.keys (same_orders c.args.queues.now c.close_level.new.queues c.close_level.ensures.orders) in
-    ap (λ (u : Seen). indexed u bids' asks') same ∙ close_view references bids asks bids' asks' w is c.args.side c.args.locate c.args.price q (c.close_level.ensures.bids_sorted is.bids_sorted) (c.close_level.ensures.asks_sorted is.asks_sorted) empty at c.close_level.ensures.placed
+    ap (λ (u : Seen). indexed u bids' asks') same ∙ close_view references bids asks bids' asks' w is c.args.side c.args.locate c.args.price q c.close_level.ensures.bids c.close_level.ensures.asks empty at c.close_level.ensures.placed
 
 pub returns-clause-busy : goal.returns-clause-busy
 returns-clause-busy g c references is at busy =
-    let bids = c.args.prices.now.bids.entries in let asks = c.args.prices.now.asks.entries in
-    let bids' = c.close_level.new.self.bids.entries in let asks' = c.close_level.new.self.asks.entries in
+    let bids = c.args.prices.now.bids in let asks = c.args.prices.now.asks in
+    let bids' = c.close_level.new.self.bids in let asks' = c.close_level.new.self.asks in
     let w : Seen = seen c.args.queues.now in let q = c.args.queue in
     let keys = some_of (keys_at c.args.queues.now q) c.requires in
     let none : is_some c.first.result ≡ false = search rules in
     let empty : keys_at c.args.queues.now q ≡ Some [] = keys.1 ∙ ap Some (empty_of keys.0 c.first.result (c.first.ensures keys.0 keys.1) none) in
     let v : Seen = record { keys = at_key q None w.keys; orders = w.orders } in
     let same : seen c.close_level.new.queues ≡ v = seen_same v (seen c.close_level.new.queues) c.close_level.ensures.keys (same_orders c.args.queues.now c.close_level.new.queues c.close_level.ensures.orders) in
-    subst (λ (u : Seen). IsBusy u bids' asks') (sym same) (close_busy references bids asks bids' asks' w is c.args.side c.args.locate c.args.price q (c.close_level.ensures.bids_sorted is.bids_sorted) (c.close_level.ensures.asks_sorted is.asks_sorted) empty at c.close_level.ensures.placed busy)
+    subst (λ (u : Seen). IsBusy u bids' asks') (sym same) (close_busy references bids asks bids' asks' w is c.args.side c.args.locate c.args.price q c.close_level.ensures.bids c.close_level.ensures.asks empty at c.close_level.ensures.placed busy)

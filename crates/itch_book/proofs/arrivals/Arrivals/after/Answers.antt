@@ -28,5 +28,5 @@ known-this-requires g c = there c.args.reference _ _ _ c.self.invariant.arrived 
 pub returns : goal.returns
 returns g c =
     c.sought.ensures
-    ∙ after_is c.args.reference _ _ c.known-this.result c.self.invariant.arrived c.known-this.ensures
+    ∙ after_is c.args.reference _ _ c.known-this.result.1 c.self.invariant.arrived c.known-this.ensures.order
     ∙ ap (λ (os : List Order). after os c.args.reference) (ap orders_of c.self.view_is)

@@ -1,84 +1,114 @@
-use Rattle.std.proofs.Common.{◌≡◌, ℕ, List, length, None, sym, ap, ◌∙◌, subst}
+use Rattle.std.proofs.Common.{◌≡◌, ℕ, List, eqb, Option, Some, None, sym, ap, ◌∙◌, subst}
+use Rattle.itch_table.specs.Table.{at}
 use Rattle.itch_book.specs.declared.order.Order.{Order}
 use Rattle.itch_book.specs.Orders.{get, lay, added}
+use Rattle.itch_book.specs.Links.{at_key}
 use Rattle.itch_book.specs.Queued.{Queued, Seen, seen}
-use Rattle.itch_book.specs.Indexed.{Place, indexed, node_of, IsIndexed, IsBusy, IsWhole}
-use Rattle.itch_book.proofs.OpenLemmas.{seen_slots, any_err, reordered}
+use Rattle.itch_book.specs.Indexed.{Place, indexed, IsIndexed, IsBusy, IsWhole}
+use Rattle.itch_book.proofs.Lists.{by_test}
+use Rattle.itch_book.proofs.LinkLemmas.{eqb_is}
+use Rattle.itch_book.proofs.SoundSteps.{at_apart, at_same}
+use Rattle.itch_book.proofs.OpenLemmas.{seen_slots, any_err, renamed}
+use Rattle.itch_book.proofs.PutLemmas.{unnamed}
 use Rattle.itch_book.proofs.index.Index.add.Goals as goal
 
 -- an index between calls, with these orders
-record IsStill (refs : List (ℕ × ℕ)) (bids asks : List (Place × ℕ)) (v : Seen) (orders : List Order) : Type 0 where
+record IsStill (refs : ℕ → Option ℕ) (bids asks : List (Place × ℕ)) (v : Seen) (orders : List Order) : Type 0 where
   pub index : IsIndexed refs bids asks v
   pub busy : IsBusy v bids asks
   pub view : indexed v bids asks ≡ orders
 
 -- room for queues changes nothing that is seen
-roomy : (refs : List (ℕ × ℕ)) (bids asks : List (Place × ℕ)) (old new : Queued) (orders : List Order) → IsWhole refs bids asks (seen old) → indexed (seen old) bids asks ≡ orders
+roomy : (refs : ℕ → Option ℕ) (bids asks : List (Place × ℕ)) (old new : Queued) (orders : List Order) → IsWhole refs bids asks (seen old) → indexed (seen old) bids asks ≡ orders
     → new.queues ≡ old.queues → new.orders ≡ old.orders → IsStill refs bids asks (seen new) orders
 roomy refs bids asks old new orders whole view queues kept =
     subst (λ (u : Seen). IsStill refs bids asks u orders) (sym (seen_slots old new queues kept)) (record { index = whole.index; busy = whole.busy; view = view })
 
--- nor does room for references
-rehashed : (refs refs' : List (ℕ × ℕ)) (bids asks : List (Place × ℕ)) (v : Seen) (orders : List Order) → ((r : ℕ) → node_of refs' r ≡ node_of refs r) → length refs' ≡ length refs
-    → IsStill refs bids asks v orders → IsStill refs' bids asks v orders
-rehashed refs refs' bids asks v orders nodes count is = record { index = reordered refs refs' bids asks v nodes count is.index; busy = is.busy; view = is.view }
+-- an order of a new reference
+fresh_in : (refs : ℕ → Option ℕ) (bids asks : List (Place × ℕ)) (v : Seen) (orders : List Order) (r : ℕ) → IsStill refs bids asks v orders → get orders r ≡ None → refs r ≡ None
+fresh_in refs bids asks v orders r is new = unnamed refs bids asks v is.index r (ap (λ (os : List Order). get os r) is.view ∙ new)
+
+-- a reference that is put and taken back
+taken_back : (f g h : ℕ → Option ℕ) (k n : ℕ) → f k ≡ None → ((r : ℕ) → g r ≡ at_key k (Some n) f r) → ((r : ℕ) → h r ≡ at_key k None g r) → (r : ℕ) → h r ≡ f r
+taken_back f g h k n new put taken r =
+    by_test (eqb k r)
+    (λ e. taken r ∙ at_same k None g r e ∙ sym (ap f (sym (eqb_is k r e)) ∙ new))
+    (λ e. taken r ∙ at_apart k None g r e ∙ put r ∙ at_apart k (Some n) f r e)
 
 pub invariant_of-self : goal.invariant_of-self
 invariant_of-self g c =
-    let one = roomy c.self.inside.references.entries c.self.inside.prices.bids.entries c.self.inside.prices.asks.entries c.self.inside.queues c.reserve.new.self c.args.self.now c.self.invariant c.self.view_is c.reserve.ensures.queues c.reserve.ensures.orders in
+    let one = roomy (at c.self.inside.references) c.self.inside.prices.bids c.self.inside.prices.asks c.self.inside.queues c.reserve.new.self c.args.self.now c.self.invariant c.self.view_is c.reserve.ensures.queues c.reserve.ensures.orders in
     record { index = one.index; busy = one.busy }
 
 pub returns-in_err-reserve-clause-err : goal.returns-in_err-reserve-clause-err
 returns-in_err-reserve-clause-err g c =
-    let one = roomy c.self.inside.references.entries c.self.inside.prices.bids.entries c.self.inside.prices.asks.entries c.self.inside.queues c.reserve.new.self c.args.self.now c.self.invariant c.self.view_is c.reserve.ensures.queues c.reserve.ensures.orders in
+    let one = roomy (at c.self.inside.references) c.self.inside.prices.bids c.self.inside.prices.asks c.self.inside.queues c.reserve.new.self c.args.self.now c.self.invariant c.self.view_is c.reserve.ensures.queues c.reserve.ensures.orders in
     any_err c.from_residual.result one.view
 
-pub invariant_of-self-in_err-reserve-2 : goal.invariant_of-self-in_err-reserve-2
-invariant_of-self-in_err-reserve-2 g c =
-    let one = roomy c.self.inside.references.entries c.self.inside.prices.bids.entries c.self.inside.prices.asks.entries c.self.inside.queues c.reserve.new.self c.args.self.now c.self.invariant c.self.view_is c.reserve.ensures.queues c.reserve.ensures.orders in
-    let two = rehashed c.self.inside.references.entries c.reserve-2.new.self.entries c.self.inside.prices.bids.entries c.self.inside.prices.asks.entries (seen c.reserve.new.self) c.args.self.now c.reserve-2.ensures.entries.2 c.reserve-2.ensures.entries.1 one in
-    record { index = two.index; busy = two.busy }
+pub refer-requires : goal.refer-requires
+refer-requires g c =
+    let one = roomy (at c.self.inside.references) c.self.inside.prices.bids c.self.inside.prices.asks c.self.inside.queues c.reserve.new.self c.args.self.now c.self.invariant c.self.view_is c.reserve.ensures.queues c.reserve.ensures.orders in
+    fresh_in (at c.self.inside.references) c.self.inside.prices.bids c.self.inside.prices.asks (seen c.reserve.new.self) c.args.self.now c.args.order.reference one c.requires.new_reference
 
-pub returns-in_err-reserve-2-clause-err : goal.returns-in_err-reserve-2-clause-err
-returns-in_err-reserve-2-clause-err g c =
-    let one = roomy c.self.inside.references.entries c.self.inside.prices.bids.entries c.self.inside.prices.asks.entries c.self.inside.queues c.reserve.new.self c.args.self.now c.self.invariant c.self.view_is c.reserve.ensures.queues c.reserve.ensures.orders in
-    any_err c.from_residual-in_err-reserve-2.result one.view
+pub invariant_of-self-in_err-refer : goal.invariant_of-self-in_err-refer
+invariant_of-self-in_err-refer g c =
+    let one = roomy (at c.self.inside.references) c.self.inside.prices.bids c.self.inside.prices.asks c.self.inside.queues c.reserve.new.self c.args.self.now c.self.invariant c.self.view_is c.reserve.ensures.queues c.reserve.ensures.orders in
+    record {
+      index = renamed (at c.self.inside.references) (at c.refer.new.references) c.self.inside.prices.bids c.self.inside.prices.asks (seen c.reserve.new.self) c.in_err-refer.ensures.err one.index;
+      busy = one.busy;
+    }
 
-pub invariant_of-self-in_err-queue : goal.invariant_of-self-in_err-queue
-invariant_of-self-in_err-queue g c =
-    let one = roomy c.self.inside.references.entries c.self.inside.prices.bids.entries c.self.inside.prices.asks.entries c.self.inside.queues c.reserve.new.self c.args.self.now c.self.invariant c.self.view_is c.reserve.ensures.queues c.reserve.ensures.orders in
-    let two = rehashed c.self.inside.references.entries c.reserve-2.new.self.entries c.self.inside.prices.bids.entries c.self.inside.prices.asks.entries (seen c.reserve.new.self) c.args.self.now c.reserve-2.ensures.entries.2 c.reserve-2.ensures.entries.1 one in
-    record { index = c.level_for.ensures.index c.reserve-2.new.self.entries two.index; busy = c.in_err-queue.ensures.kept two.busy }
-
-pub returns-in_err-queue-clause-err : goal.returns-in_err-queue-clause-err
-returns-in_err-queue-clause-err g c =
-    let one = roomy c.self.inside.references.entries c.self.inside.prices.bids.entries c.self.inside.prices.asks.entries c.self.inside.queues c.reserve.new.self c.args.self.now c.self.invariant c.self.view_is c.reserve.ensures.queues c.reserve.ensures.orders in
-    let two = rehashed c.self.inside.references.entries c.reserve-2.new.self.entries c.self.inside.prices.bids.entries c.self.inside.prices.asks.entries (seen c.reserve.new.self) c.args.self.now c.reserve-2.ensures.entries.2 c.reserve-2.ensures.entries.1 one in
-    any_err c.from_residual-in_err-queue.result (c.level_for.ensures.view c.reserve-2.new.self.entries two.index ∙ two.view)
+pub returns-in_err-refer-clause-err : goal.returns-in_err-refer-clause-err
+returns-in_err-refer-clause-err g c =
+    let one = roomy (at c.self.inside.references) c.self.inside.prices.bids c.self.inside.prices.asks c.self.inside.queues c.reserve.new.self c.args.self.now c.self.invariant c.self.view_is c.reserve.ensures.queues c.reserve.ensures.orders in
+    any_err c.from_residual-in_err-refer.result one.view
 
 pub put_last-requires-clause-there : goal.put_last-requires-clause-there
 put_last-requires-clause-there g c =
-    let one = roomy c.self.inside.references.entries c.self.inside.prices.bids.entries c.self.inside.prices.asks.entries c.self.inside.queues c.reserve.new.self c.args.self.now c.self.invariant c.self.view_is c.reserve.ensures.queues c.reserve.ensures.orders in
-    let two = rehashed c.self.inside.references.entries c.reserve-2.new.self.entries c.self.inside.prices.bids.entries c.self.inside.prices.asks.entries (seen c.reserve.new.self) c.args.self.now c.reserve-2.ensures.entries.2 c.reserve-2.ensures.entries.1 one in
-    (c.level_for.ensures.index c.reserve-2.new.self.entries two.index).there c.args.order.side c.args.order.locate c.args.order.price c.in_ok-queue.queue c.in_ok-queue.ensures.queue
+    let one = roomy (at c.self.inside.references) c.self.inside.prices.bids c.self.inside.prices.asks c.self.inside.queues c.reserve.new.self c.args.self.now c.self.invariant c.self.view_is c.reserve.ensures.queues c.reserve.ensures.orders in
+    (c.in-Ok.ensures.index (at c.self.inside.references) one.index).there c.args.order.side c.args.order.locate c.args.order.price c.in-Ok.queue c.in-Ok.ensures.queue
 
-pub invariant_of-self-2 : goal.invariant_of-self-2
-invariant_of-self-2 g c =
-    let one = roomy c.self.inside.references.entries c.self.inside.prices.bids.entries c.self.inside.prices.asks.entries c.self.inside.queues c.reserve.new.self c.args.self.now c.self.invariant c.self.view_is c.reserve.ensures.queues c.reserve.ensures.orders in
-    let two = rehashed c.self.inside.references.entries c.reserve-2.new.self.entries c.self.inside.prices.bids.entries c.self.inside.prices.asks.entries (seen c.reserve.new.self) c.args.self.now c.reserve-2.ensures.entries.2 c.reserve-2.ensures.entries.1 one in
-    let index = c.level_for.ensures.index c.reserve-2.new.self.entries two.index in
-    let view = c.level_for.ensures.view c.reserve-2.new.self.entries two.index ∙ two.view in
-    let fresh : get (indexed (seen c.level_for.new.queues) c.level_for.new.prices.bids.entries c.level_for.new.prices.asks.entries) c.args.order.reference ≡ None = ap (λ (os : List Order). get os c.args.order.reference) view ∙ c.requires.new_reference in
+pub invariant_of-self-in-Ok : goal.invariant_of-self-in-Ok
+invariant_of-self-in-Ok g c =
+    let refs : ℕ → Option ℕ = at c.self.inside.references in
+    let r = c.args.order.reference in
+    let bids = c.level_for-level.new.prices.bids in let asks = c.level_for-level.new.prices.asks in
+    let one = roomy refs c.self.inside.prices.bids c.self.inside.prices.asks c.self.inside.queues c.reserve.new.self c.args.self.now c.self.invariant c.self.view_is c.reserve.ensures.queues c.reserve.ensures.orders in
+    let index = c.in-Ok.ensures.index refs one.index in
+    let view = c.in-Ok.ensures.view refs one.index ∙ one.view in
+    let fresh : get (indexed (seen c.level_for-level.new.queues) bids asks) r ≡ None = ap (λ (os : List Order). get os r) view ∙ c.requires.new_reference in
     record {
-      index = c.put_last.ensures.index c.level_for.new.prices.bids.entries c.level_for.new.prices.asks.entries index c.in_ok-queue.ensures.queue fresh;
-      busy = c.put_last.ensures.busy c.level_for.new.prices.bids.entries c.level_for.new.prices.asks.entries (c.in_ok-queue.ensures.busy c.reserve-2.new.self.entries two.index two.busy);
+      index = c.put_last.ensures.index refs (at c.refer.new.references) bids asks index c.in-Ok.ensures.queue fresh
+          (λ j. c.in_ok-refer.ensures.ok j ∙ ap (λ (n : ℕ). at_key r (Some n) refs j) (c.next_key-key.ensures ∙ sym c.in-Ok.ensures.next));
+      busy = c.put_last.ensures.busy bids asks (c.in-Ok.ensures.busy refs one.index one.busy);
     }
 
-pub returns-clause-ok : goal.returns-clause-ok
-returns-clause-ok g c =
-    let one = roomy c.self.inside.references.entries c.self.inside.prices.bids.entries c.self.inside.prices.asks.entries c.self.inside.queues c.reserve.new.self c.args.self.now c.self.invariant c.self.view_is c.reserve.ensures.queues c.reserve.ensures.orders in
-    let two = rehashed c.self.inside.references.entries c.reserve-2.new.self.entries c.self.inside.prices.bids.entries c.self.inside.prices.asks.entries (seen c.reserve.new.self) c.args.self.now c.reserve-2.ensures.entries.2 c.reserve-2.ensures.entries.1 one in
-    let index = c.level_for.ensures.index c.reserve-2.new.self.entries two.index in
-    let view = c.level_for.ensures.view c.reserve-2.new.self.entries two.index ∙ two.view in
-    let fresh : get (indexed (seen c.level_for.new.queues) c.level_for.new.prices.bids.entries c.level_for.new.prices.asks.entries) c.args.order.reference ≡ None = ap (λ (os : List Order). get os c.args.order.reference) view ∙ c.requires.new_reference in
-    c.put_last.ensures.view c.level_for.new.prices.bids.entries c.level_for.new.prices.asks.entries index c.in_ok-queue.ensures.queue fresh ∙ ap (λ (os : List Order). lay (added c.args.order os)) view
+pub returns-in-Ok-clause-ok : goal.returns-in-Ok-clause-ok
+returns-in-Ok-clause-ok g c =
+    let refs : ℕ → Option ℕ = at c.self.inside.references in
+    let r = c.args.order.reference in
+    let bids = c.level_for-level.new.prices.bids in let asks = c.level_for-level.new.prices.asks in
+    let one = roomy refs c.self.inside.prices.bids c.self.inside.prices.asks c.self.inside.queues c.reserve.new.self c.args.self.now c.self.invariant c.self.view_is c.reserve.ensures.queues c.reserve.ensures.orders in
+    let index = c.in-Ok.ensures.index refs one.index in
+    let view = c.in-Ok.ensures.view refs one.index ∙ one.view in
+    let fresh : get (indexed (seen c.level_for-level.new.queues) bids asks) r ≡ None = ap (λ (os : List Order). get os r) view ∙ c.requires.new_reference in
+    c.put_last.ensures.view refs bids asks index c.in-Ok.ensures.queue fresh ∙ ap (λ (os : List Order). lay (added c.args.order os)) view
+
+pub invariant_of-self-in-Err : goal.invariant_of-self-in-Err
+invariant_of-self-in-Err g c =
+    let refs : ℕ → Option ℕ = at c.self.inside.references in
+    let bids = c.level_for-level.new.prices.bids in let asks = c.level_for-level.new.prices.asks in
+    let one = roomy refs c.self.inside.prices.bids c.self.inside.prices.asks c.self.inside.queues c.reserve.new.self c.args.self.now c.self.invariant c.self.view_is c.reserve.ensures.queues c.reserve.ensures.orders in
+    let new = fresh_in refs c.self.inside.prices.bids c.self.inside.prices.asks (seen c.reserve.new.self) c.args.self.now c.args.order.reference one c.requires.new_reference in
+    record {
+      index = renamed refs (at c.remove.new.self) bids asks (seen c.level_for-level.new.queues)
+          (taken_back refs (at c.refer.new.references) (at c.remove.new.self) c.args.order.reference c.next_key-key.result new c.in_ok-refer.ensures.ok c.remove.ensures.updates)
+          (c.in-Err.ensures.index refs one.index);
+      busy = c.in-Err.ensures.kept one.busy;
+    }
+
+pub returns-in-Err-clause-err : goal.returns-in-Err-clause-err
+returns-in-Err-clause-err g c =
+    let refs : ℕ → Option ℕ = at c.self.inside.references in
+    let one = roomy refs c.self.inside.prices.bids c.self.inside.prices.asks c.self.inside.queues c.reserve.new.self c.args.self.now c.self.invariant c.self.view_is c.reserve.ensures.queues c.reserve.ensures.orders in
+    c.in-Err.ensures.view refs one.index ∙ one.view

@@ -6,7 +6,7 @@ use Rattle.itch_book.specs.declared.order.Order.{Order}
 use Rattle.itch_book.specs.Links.{first_or}
 use Rattle.itch_book.specs.Orders.{get, after, following, first, is_level, is_of, is_next}
 use Rattle.itch_book.specs.Queued.{Seen, seen, keys_at, order_at, found, shown}
-use Rattle.itch_book.specs.Indexed.{Place, node_of, indexed, has_keys, IsIndexed}
+use Rattle.itch_book.specs.Indexed.{Place, indexed, has_keys, IsIndexed}
 use Rattle.itch_book.proofs.LinkLemmas.{in_head, in_tail}
 use Rattle.itch_book.proofs.UnlinkLemmas.{in_right}
 use Rattle.itch_book.proofs.QueueSteps.{none_some, inj}
@@ -39,8 +39,8 @@ head_found : (orders : ℕ → Option Order) (n : ℕ) (js : List ℕ) (y : Orde
 head_found orders n js y h = ap (λ o. first (shown o (found orders js))) h
 
 -- the index and what is known of the order
-module _ (references : List (ℕ × ℕ)) (bids asks : List (Place × ℕ)) (w : Seen) (is : IsIndexed references bids asks w)
-    (r k : ℕ) (node : node_of references r ≡ Some k) (next : Option ℕ)
+module _ (references : ℕ → Option ℕ) (bids asks : List (Place × ℕ)) (w : Seen) (is : IsIndexed references bids asks w)
+    (r k : ℕ) (node : references r ≡ Some k) (next : Option ℕ)
     (decided : (q : ℕ) (before after_it : List ℕ) → w.keys q ≡ Some (before ++ k ∷ after_it) → next ≡ first_or after_it None) where
   -- the node after it has an order
   next_some : (n : ℕ) → next ≡ Some n → IsSome (w.orders n)

@@ -1,5 +1,6 @@
 use Rattle.std.proofs.Common.{◌≡◌, ℕ, ◌-◌, ◌≤◌, ◌<◌, List, remove, Option, Some, None, IsSome, IsSomeAnd, option_map, refl, sym, ap, ◌∙◌, subst, arith}
 use Rattle.std.specs.List.{position_or_len}
+use Rattle.itch_table.specs.Table.{at}
 use Rattle.itch_book.specs.declared.order.Order.{Order}
 use Rattle.itch_book.specs.Orders.{get, lay, taken, without, has_reference, IsBook}
 use Rattle.itch_book.specs.Links.{at_key}
@@ -65,7 +66,7 @@ returns-clause-left g c =
 
 pub invariant_of-self-2 : goal.invariant_of-self-2
 invariant_of-self-2 g c =
-    let refs = c.self.inside.references.entries in let bids = c.self.inside.prices.bids.entries in let asks = c.self.inside.prices.asks.entries in
+    let refs = at c.self.inside.references in let bids = c.self.inside.prices.bids in let asks = c.self.inside.prices.asks in
     let w : Seen = seen c.self.inside.queues in
     let k = c.known_node-key.result in let x = c.order.result.now in let m = x.shares - c.args.shares in
     let some : 0 < m = omega (arith, c.if-left-eq0.false) in
@@ -79,7 +80,7 @@ invariant_of-self-2 g c =
 
 pub returns-clause-orders : goal.returns-clause-orders
 returns-clause-orders g c =
-    let refs = c.self.inside.references.entries in let bids = c.self.inside.prices.bids.entries in let asks = c.self.inside.prices.asks.entries in
+    let refs = at c.self.inside.references in let bids = c.self.inside.prices.bids in let asks = c.self.inside.prices.asks in
     let w : Seen = seen c.self.inside.queues in
     let k = c.known_node-key.result in let x = c.order.result.now in let m = x.shares - c.args.shares in
     let some : 0 < m = omega (arith, c.if-left-eq0.false) in

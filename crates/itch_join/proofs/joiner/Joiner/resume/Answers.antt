@@ -18,7 +18,7 @@ returns-clause-step g c =
     let ending = c.drain-ended.result in
     let j = c.drain-ended.new.position in
     let number_is : c.position.inside.next ≡ j.next = ap (λ (k : Position). k.next) c.position.view_is in
-    let first = c.in-Some-take.position in
+    let first = c.in-Some-joined.position in
     let none : s.halt ≡ None = search rules in
     let there : s.joined ≡ Some first = search rules in
     let now : State = record { wait = c.drain-ended.new.wait; half = half_of i.half; joined = Some j; halt = c.halt_of-self-inside.result } in

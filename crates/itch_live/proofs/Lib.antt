@@ -1,0 +1,15 @@
+pub mod Hearing
+pub mod Logins
+pub mod Sound
+pub mod Stories
+pub mod OneStory
+pub mod Same
+pub mod Feeds
+pub mod Recorded
+pub mod Places
+pub mod Handing
+pub mod Visits
+pub mod OneVisit
+pub mod FeedDesks
+pub mod Rising
+pub mod Rows

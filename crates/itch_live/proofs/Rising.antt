@@ -1,0 +1,120 @@
+-- The market of a feed never goes back.
+use Rattle.std.proofs.Common.{◌≡◌, ℕ, ◌≤◌, List, [], ◌∷◌, ◌++◌, Option, None, Some, Result, Ok, Err, refl, sym, ap, subst, ◌∙◌, inl, inr, arith}
+use Rattle.itch_frame.specs.declared.tally.Failures.{Failures}
+use Rattle.itch_market.specs.Wanted.{has}
+use Rattle.itch_join.specs.declared.outcome.Live.{Live}
+use Rattle.itch_join.specs.declared.outcome.Snap.{Snap}
+use Rattle.itch_join.specs.declared.fault.JoinFault.{JoinFault}
+use Rattle.itch_join.specs.declared.state.LiveCase.{LiveCase}
+use Rattle.itch_join.specs.declared.state.LiveCase.TheVariants as kind
+use Rattle.itch_join.specs.declared.state.Stopped.{Stopped}
+use Rattle.itch_join.specs.Positions.{Position}
+use Rattle.itch_join.specs.Rules.{Rules, rules_of}
+use Rattle.itch_join.specs.States.{State}
+use Rattle.itch_join.specs.Applying.{Front, front_of, advanced, at_hand, Applies}
+use Rattle.itch_join.specs.Steps.{live_case, LiveBy, NextBy, SnapshotCase, SnapHalted, SnapJoined, SnapBroken, SnapFails, SnapEnds, SnapTakes, snapshot_case, SnapshotBy, restarted}
+use Rattle.itch_join.proofs.CallCases.{IsSnapshotCase, snapshot_case_is}
+use Rattle.itch_soup.specs.declared.login.ServerConfig.{ServerConfig}
+use Rattle.itch_soup.specs.declared.client.ClientAct.{ClientAct}
+use Rattle.itch_soup.specs.declared.client.ClientAct.TheVariants as act
+use Rattle.itch_live.specs.declared.news.Source.{Source}
+use Rattle.itch_live.specs.declared.news.Source.TheVariants as source
+use Rattle.itch_live.specs.declared.news.News.{News}
+use Rattle.itch_live.specs.Follows.{Following, ActsOn}
+use Rattle.itch_live.specs.Feeds.{Did, Connects, Ticks, Hears, Does}
+use Rattle.itch_live.specs.Desks as desks
+use Rattle.itch_live.specs.Desks.{Desk, answered_with, Call, Event, History}
+use Rattle.itch_live.specs.FeedDesks.{GoesOn}
+
+same_position : (o o' : Option Position) → o' ≡ o → GoesOn o o'
+same_position None o' same = tt
+same_position (Some i) o' same = subst (GoesOn (Some i)) (sym same) (omega arith)
+
+after_both : (o p q : Option Position) → GoesOn o p → GoesOn p q → GoesOn o q
+after_both None p q first second = tt
+after_both (Some i) None q first second = absurd first
+after_both (Some i) (Some j) None first second = absurd second
+after_both (Some i) (Some j) (Some k) first second = omega arith
+
+from_none : (o o' : Option Position) → o ≡ None → GoesOn o o'
+from_none o o' none = subst (λ p. GoesOn p o') (sym none) tt
+
+module _ (R : Rules) where
+  rises : (a b : Front) (hand : Option (List ℕ)) (ps : List (List ℕ)) (ending : Result (Unit {0}) Stopped) → Applies R a hand ps ending b → a.next ≤ b.next
+  rises a b hand [] ending (ends, same) = let e = ap (λ (f : Front). f.next) same in omega arith
+  rises a b hand (p ∷ ps) ending (there, none, rest) = let more = rises (advanced R a p) b (at_hand (advanced R a p)) ps ending rest in omega arith
+
+  next_rises : (s now : State) (number : ℕ) (payload : List ℕ) (result : Result Live JoinFault) (o : Option Position) → s.joined ≡ o → NextBy R s number payload o result now → GoesOn s.joined now.joined
+  next_rises s now number payload result None there goes = absurd goes
+  next_rises s now number payload result (Some j) there goes =
+      let up = rises (front_of s j) goes.front (Some payload) goes.payloads goes.ending goes.applies in
+      let joined : now.joined ≡ Some (record { next = goes.front.next; market = goes.front.market }) = ap (λ (t : State). t.joined) goes.left in
+      subst (λ o. GoesOn o now.joined) (sym there) (subst (GoesOn (Some j)) (sym joined) up)
+
+  live_rises : (s now : State) (number : ℕ) (payload : List ℕ) (result : Result Live JoinFault) (cap : ℕ) (case : LiveCase) → LiveBy R cap s number payload case result now → GoesOn s.joined now.joined
+  live_rises s now number payload result cap (kind.Halted h) (answer, same) = same_position s.joined now.joined (ap (λ (t : State). t.joined) same)
+  live_rises s now number payload result cap kind.BadNumber (answer, same) = same_position s.joined now.joined (ap (λ (t : State). t.joined) same)
+  live_rises s now number payload result cap kind.Old (answer, same) = same_position s.joined now.joined (ap (λ (t : State). t.joined) same)
+  live_rises s now number payload result cap kind.Conflict (answer, same) = same_position s.joined now.joined (ap (λ (t : State). t.joined) same)
+  live_rises s now number payload result cap kind.Next goes = next_rises s now number payload result s.joined refl goes
+  live_rises s now number payload result cap kind.Kept (answer, same) = same_position s.joined now.joined (ap (λ (t : State). t.joined) same)
+  live_rises s now number payload result cap kind.Full (answer, same) = same_position s.joined now.joined (ap (λ (t : State). t.joined) same)
+  live_rises s now number payload (Ok outcome) cap kind.Stored (kept, same) = same_position s.joined now.joined (ap (λ (t : State). t.joined) same)
+  live_rises s now number payload (Err fault) cap kind.Stored (refused, same) = same_position s.joined now.joined (ap (λ (t : State). t.joined) same)
+
+  snapshot_rises : (s now : State) (payload : List ℕ) (result : Result Snap JoinFault) (case : SnapshotCase) → IsSnapshotCase R s payload case → SnapshotBy R s payload case result now
+      → GoesOn s.joined now.joined
+  snapshot_rises s now payload result (SnapHalted h) is (answer, same) = same_position s.joined now.joined (ap (λ (t : State). t.joined) same)
+  snapshot_rises s now payload result SnapJoined is (answer, same) = same_position s.joined now.joined (ap (λ (t : State). t.joined) same)
+  snapshot_rises s now payload result (SnapBroken place cause) is (answer, same) = same_position s.joined now.joined (ap (λ (t : State). t.joined) same)
+  snapshot_rises s now payload result (SnapFails place cause) is (answer, same) = same_position s.joined now.joined (ap (λ (t : State). t.joined) same)
+  snapshot_rises s now payload result (SnapEnds next m) (none, apart, taken, half) goes = from_none s.joined now.joined apart
+  snapshot_rises s now payload (Ok outcome) (SnapTakes taken m) is (more, same) = same_position s.joined now.joined (ap (λ (t : State). t.joined) same)
+  snapshot_rises s now payload (Err fault) (SnapTakes taken m) is (memory, takes, same) = same_position s.joined now.joined (ap (λ (t : State). t.joined) same)
+
+restarted_same : (o : Option Position) (s : State) → (restarted o s).joined ≡ s.joined
+restarted_same None s = refl
+restarted_same (Some j) s = refl
+
+module _ {W : Type 0} (contents : W → Option (List ℕ)) (failures : W → Failures) where
+  acted : (from : Source) (answer : ClientAct) (f g : Following) (old new : W) (told : News) → ActsOn contents failures from answer f.joining old told new g.joining
+      → GoesOn f.joining.state.joined g.joining.state.joined
+  acted from (act.Accepted next) f g old new told (says, kept, same) = same_position _ _ (ap (λ x. x.state.joined) same)
+  acted from (act.Rejected code) f g old new told (says, kept, same) = same_position _ _ (ap (λ x. x.state.joined) same)
+  acted source.Glimpse (act.Data number payload) f g old new told ((result, calls, says), kept) =
+      snapshot_rises (rules_of (has f.joining.set)) f.joining.state g.joining.state payload result (snapshot_case (rules_of (has f.joining.set)) f.joining.state payload)
+      (snapshot_case_is (rules_of (has f.joining.set)) f.joining.state payload) calls.0
+  acted source.Live (act.Data number payload) f g old new told (result, calls, records) =
+      live_rises (rules_of (has f.joining.set)) f.joining.state g.joining.state number payload result f.joining.cap (live_case f.joining.cap f.joining.state number payload) calls.0
+  acted from act.Nothing f g old new told (says, kept, same) = same_position _ _ (ap (λ x. x.state.joined) same)
+  acted from act.Ended f g old new told (says, kept, same) = same_position _ _ (ap (λ x. x.state.joined) same)
+  acted from (act.Fault fault) f g old new told (says, kept, same) = same_position _ _ (ap (λ x. x.state.joined) same)
+
+  does : (f g : Following) (did : Did W) → Does contents failures f did g → GoesOn f.joining.state.joined g.joining.state.joined
+  does f g (Connects now) is = same_position _ _ (ap (λ x. x.joining.state.joined) is ∙ restarted_same f.joining.state.joined f.joining.state)
+  does f g (Ticks now) is = same_position _ _ (ap (λ x. x.joining.state.joined) is)
+  does f g (Hears piece now result old new) (held, took, inl (payload, block, (answer, named, means, acts, pins), login, from, none)) = acted f.source answer f g old new result.1 acts
+  does f g (Hears piece now result old new) (held, took, inr (none, says, kept, is)) = same_position _ _ (ap (λ x. x.joining.state.joined) is)
+
+  abbrev Of : Desk → Option Position
+  Of d = d.following.joining.state.joined
+
+  called : (d e : Desk) (call : Call W) → desks.Step contents failures d call e → GoesOn (Of d) (Of e)
+  called d e (desks.Feeds did) (f, doing, is) = subst (GoesOn (Of d)) (sym (ap (λ x. Of x) is)) (does d.following f did doing)
+  called d e (desks.Admits now (Ok (Some place))) (free, is) = same_position _ _ (ap (λ x. Of x) is)
+  called d e (desks.Admits now (Ok None)) (taken, is) = same_position _ _ (ap (λ x. Of x) is)
+  called d e (desks.Admits now (Err error)) is = same_position _ _ (ap (λ x. Of x) is)
+  called d e (desks.Hears place piece now count) (s, hears, is) = same_position _ _ (ap (λ x. Of x) is)
+  called d e (desks.Answers now count) is = same_position _ _ (ap (λ x. Of x) is ∙ by_joined (Of d)) where
+    by_joined : (o : Option Position) → Of (answered_with o d count now) ≡ Of d
+    by_joined None = refl
+    by_joined (Some j) = refl
+  called d e (desks.Takes place count now) (fits, is) = same_position _ _ (ap (λ x. Of x) is)
+  called d e (desks.Ticks now) is = same_position _ _ (ap (λ x. Of x) is)
+  called d e (desks.Leaves place) is = same_position _ _ (ap (λ x. Of x) is)
+
+  pub goes_on : (config : ServerConfig) (begun : Following) (later : List (Event W)) (at : Event W) (before : List (Event W)) (d : Desk)
+      → History contents failures config begun (later ++ at ∷ before) d → GoesOn (Of at.before) (Of d)
+  goes_on config begun [] at before d (took, h) = called at.before d at.call took
+  goes_on config begun (x ∷ later) at before d (took, h) =
+      after_both (Of at.before) (Of x.before) (Of d) (goes_on config begun later at before x.before h) (called x.before d x.call took)

@@ -1,0 +1,178 @@
+-- What happens to one client of a desk is what would happen to it alone.
+use Rattle.std.proofs.Common.{◌≡◌, ℕ, ◌<◌, ◌≤◌, ◌++◌, ◌==◌, nat_lt, Bool, true, false, cond, if◌then◌else◌, List, [], ◌∷◌, length, take, Option, None, Some, Result, Ok, Err, option_map, refl, sym, ap, ◌∙◌, subst, append-nil, set}
+use Rattle.std.specs.declared.alloc.AllocError.{AllocError}
+use Rattle.std.proofs.Math.Seq.{take-nil}
+use Rattle.std.proofs.lemmas.Bool.{eqb-true, eqb-false, ltb-true, ltb-false}
+use Rattle.std.proofs.lemmas.List.{get_or-set_same, get_or-set_other, get_or_past, length-set}
+use Rattle.itch_frame.specs.declared.tally.Failures.{Failures}
+use Rattle.itch_join.specs.Positions.{Position}
+use Rattle.itch_soup.specs.declared.login.ServerConfig.{ServerConfig}
+use Rattle.itch_live.specs.Guests as guests
+use Rattle.itch_live.specs.Guests.{Guest, whole, new_guest, pending}
+use Rattle.itch_live.specs.Seats.{Seats, guest_at, HearsBy, pending_of, took_by, took_at, answered_seat, ticked_seat}
+use Rattle.itch_live.specs.Follows.{Following}
+use Rattle.itch_live.specs.Stories as stories
+use Rattle.itch_live.specs.Stories.{Happening, Story, Becomes}
+use Rattle.itch_live.specs.Desks.{Desk, Accepts, answered_with, Call, Feeds, Admits, Hears, Answers, Takes, Ticks, Leaves, Event, Step, History, sent_by, sent_at}
+use Rattle.itch_live.specs.Visits.{Visit, with, answers, visit_by, visit_at, IsVisit}
+use Rattle.itch_live.proofs.Places.{within, at_mapped, at_first, none_seated}
+
+-- one happening more to the client of a visit
+more : (config : ServerConfig) (visit : Option Visit) (g h : Guest) (so_far sent : List ℕ) (happening : Happening) → IsVisit config visit (Some g) so_far
+    → Becomes config g happening h → sent ≡ so_far ++ stories.sent_by g happening → IsVisit config (with happening visit) (Some h) sent
+more config None g h so_far sent happening is becomes sends = absurd is
+more config (Some v) g h so_far sent happening is becomes sends = (g, so_far, is, becomes, sends)
+
+-- the same client
+along : (config : ServerConfig) (visit : Option Visit) (seat other : Option Guest) (sent : List ℕ) → other ≡ seat → IsVisit config visit seat sent → IsVisit config visit other sent
+along config visit seat other sent same is = subst (λ s. IsVisit config visit s sent) (sym same) is
+
+-- something that happens to a client, if there is one
+happens : (config : ServerConfig) (visit : Option Visit) (seat : Option Guest) (f : Guest → Guest) (so_far : List ℕ) (happening : Happening) → IsVisit config visit seat so_far
+    → ((g : Guest) → Becomes config g happening (f g)) → ((g : Guest) → stories.sent_by g happening ≡ []) → IsVisit config (with happening visit) (option_map f seat) so_far
+happens config None None f so_far happening is becomes silent = is
+happens config None (Some g) f so_far happening is becomes silent = absurd is
+happens config (Some v) None f so_far happening is becomes silent = absurd is
+happens config (Some v) (Some g) f so_far happening is becomes silent =
+    (g, so_far, is, becomes g, sym (append-nil so_far) ∙ ap (λ bytes. so_far ++ bytes) (sym (silent g)))
+
+module _ {W : Type 0} (contents : W → Option (List ℕ)) (failures : W → Failures) (config : ServerConfig) (k : ℕ) where
+  abbrev Stands : Option Visit → Desk → List ℕ → Type 0
+  Stands visit d sent = IsVisit config visit (guest_at d.seats k) sent
+
+  -- the seats are others, and at this place is the same client
+  unmoved : (visit : Option Visit) (d e : Desk) (sent : List ℕ) → guest_at e.seats k ≡ guest_at d.seats k → Stands visit d sent → Stands visit e sent
+  unmoved visit d e sent same is = along config visit (guest_at d.seats k) (guest_at e.seats k) sent same is
+
+  -- a place is another one
+  other_place : (seats : Seats) (place : ℕ) (seat : Option Guest) → (place == k) ≡ false → guest_at (set seats place seat) k ≡ guest_at seats k
+  other_place seats place seat is = get_or-set_other seats place k seat None (λ same. eqb-false place k is (sym same))
+
+  this_place : (seats : Seats) (place : ℕ) (seat : Option Guest) → (place == k) ≡ true → place < length seats → guest_at (set seats place seat) k ≡ seat
+  this_place seats place seat is inside = ap (λ i. guest_at (set seats place seat) i) (sym (eqb-true place k is)) ∙ get_or-set_same seats place seat None inside
+
+  admitted : (visit : Option Visit) (d e : Desk) (so_far : List ℕ) (now : ℕ) (result : Result (Option ℕ) AllocError) → d.config ≡ config → Accepts d now result e → Stands visit d so_far
+      → Stands (visit_by {W = W} (Admits now result) d k visit) e (sent_by {W = W} (Admits now result) d k so_far)
+  admitted visit d e so_far now (Ok None) cfg (taken, same) is = unmoved visit d e so_far (ap (λ x. guest_at x.seats k) same) is
+  admitted visit d e so_far now (Err error) cfg same is = unmoved visit d e so_far (ap (λ x. guest_at x.seats k) same) is
+  admitted visit d e so_far now (Ok (Some place)) cfg (free, same) is = by_test (place == k) refl where
+    by_test : (b : Bool) → (place == k) ≡ b → IsVisit config (if b then Some (record { begun = now; past = [] }) else visit) (guest_at e.seats k) (if b then [] else so_far)
+    by_test true here =
+        let seat : guest_at e.seats k ≡ Some (new_guest config now) =
+        ap (λ x. guest_at x.seats k) same ∙ this_place d.seats place (Some (new_guest d.config now)) here free.0 ∙ ap (λ c. Some (new_guest c now)) cfg in
+        along config (Some (record { begun = now; past = [] })) (Some (new_guest config now)) (guest_at e.seats k) [] seat (refl, refl)
+    by_test false elsewhere =
+        unmoved visit d e so_far (ap (λ x. guest_at x.seats k) same ∙ other_place d.seats place (Some (new_guest d.config now)) elsewhere) is
+
+  heard : (visit : Option Visit) (d : Desk) (s : Seats) (so_far : List ℕ) (place : ℕ) (piece : List ℕ) (now count : ℕ) (seat : Option Guest) (b : Bool) → guest_at d.seats place ≡ seat
+      → (place == k) ≡ b → HearsBy seat d.seats place piece now count s → Stands visit d so_far
+      → IsVisit config (if b then with (stories.Hears piece now count) visit else visit) (guest_at s k) so_far
+  heard visit d s so_far place piece now count None false there here (all, same) is = along config visit _ _ so_far (ap (λ x. guest_at x k) same) is
+  heard visit d s so_far place piece now count (Some g) false there here (h, hears, same) is =
+      along config visit _ _ so_far (ap (λ x. guest_at x k) same ∙ other_place d.seats place (Some h) here) is
+  heard visit d s so_far place piece now count None true there here (all, same) is =
+      let none : guest_at d.seats k ≡ None = ap (λ i. guest_at d.seats i) (sym (eqb-true place k here)) ∙ there in
+      let empty = along config visit (guest_at d.seats k) None so_far (sym none) is in
+      along config (with (stories.Hears piece now count) visit) None (guest_at s k) so_far (ap (λ x. guest_at x k) same ∙ none) (nobody visit empty) where
+        nobody : (visit : Option Visit) → IsVisit config visit None so_far → IsVisit config (with (stories.Hears piece now count) visit) None so_far
+        nobody None is = is
+        nobody (Some v) is = absurd is
+  heard visit d s so_far place piece now count (Some g) true there here (h, hears, same) is =
+      let some : guest_at d.seats k ≡ Some g = ap (λ i. guest_at d.seats i) (sym (eqb-true place k here)) ∙ there in
+      along config (with (stories.Hears piece now count) visit) (Some h) (guest_at s k) so_far
+      (ap (λ x. guest_at x k) same ∙ this_place d.seats place (Some h) here (within d.seats place g there))
+      (more config visit g h so_far so_far (stories.Hears piece now count) (along config visit (guest_at d.seats k) (Some g) so_far (sym some) is) hears (sym (append-nil so_far)))
+
+  taken : (visit : Option Visit) (d : Desk) (so_far : List ℕ) (place count now : ℕ) (seat : Option Guest) (b : Bool) → guest_at d.seats place ≡ seat
+      → (place == k) ≡ b → count ≤ length (pending_of seat) → Stands visit d so_far
+      → IsVisit config (if b then with (stories.Takes count now) visit else visit) (guest_at (took_by seat d.seats place count now) k)
+      (if b then so_far ++ take count (pending_of seat) else so_far)
+  taken visit d so_far place count now None false there here fits is = is
+  taken visit d so_far place count now (Some g) false there here fits is =
+      along config visit _ _ so_far (other_place d.seats place (Some (guests.took g count now)) here) is
+  taken visit d so_far place count now None true there here fits is =
+      let none : guest_at d.seats k ≡ None = ap (λ i. guest_at d.seats i) (sym (eqb-true place k here)) ∙ there in
+      let empty = along config visit (guest_at d.seats k) None so_far (sym none) is in
+      along config (with (stories.Takes count now) visit) None (guest_at d.seats k) _ none (nobody visit empty) where
+        nobody : (visit : Option Visit) → IsVisit config visit None so_far → IsVisit config (with (stories.Takes count now) visit) None (so_far ++ take count [])
+        nobody None is = ap (λ bytes. bytes ++ take count []) is ∙ take-nil {A = ℕ} count
+        nobody (Some v) is = absurd is
+  taken visit d so_far place count now (Some g) true there here fits is =
+      let some : guest_at d.seats k ≡ Some g = ap (λ i. guest_at d.seats i) (sym (eqb-true place k here)) ∙ there in
+      along config (with (stories.Takes count now) visit) (Some (guests.took g count now)) _ _
+      (this_place d.seats place (Some (guests.took g count now)) here (within d.seats place g there))
+      (more config visit g (guests.took g count now) so_far _ (stories.Takes count now) (along config visit (guest_at d.seats k) (Some g) so_far (sym some) is) (fits, refl) refl)
+
+  -- an answer, where there is a market
+  handed : (visit : Option Visit) (d : Desk) (so_far : List ℕ) (now count : ℕ) (joined : Option Position) → d.config ≡ config → Stands visit d so_far
+      → IsVisit config (answers joined (nat_lt k count) now visit) (guest_at (answered_with joined d count now).seats k) so_far
+  handed visit d so_far now count None cfg is = is
+  handed visit d so_far now count (Some j) cfg is =
+      let f = answered_seat (whole j.market j.next d.config) now in
+      let at = at_first f d.seats count k refl in
+      by_test (nat_lt k count) at where
+        by_test : (b : Bool) → guest_at (answered_with (Some j) d count now).seats k ≡ cond b (answered_seat (whole j.market j.next d.config) now (guest_at d.seats k)) (guest_at d.seats k)
+            → IsVisit config (answers (Some j) b now visit) (guest_at (answered_with (Some j) d count now).seats k) so_far
+        by_test false at = along config visit _ _ so_far at is
+        by_test true at =
+            along config (with (stories.Answers j.market j.next now) visit) _ _ so_far at
+            (happens config visit (guest_at d.seats k) (guests.answered_if (whole j.market j.next d.config) now) so_far (stories.Answers j.market j.next now) is
+            (λ g. ap (λ c. guests.answered_if (whole j.market j.next c) now g) cfg) (λ g. refl))
+
+  left : (visit : Option Visit) (d : Desk) (so_far : List ℕ) (place : ℕ) (b : Bool) → (place == k) ≡ b → Stands visit d so_far
+      → IsVisit config (if b then None else visit) (guest_at (set d.seats place None) k) (if b then [] else so_far)
+  left visit d so_far place false here is = along config visit _ _ so_far (other_place d.seats place None here) is
+  left visit d so_far place true here is = along config None None _ [] (gone (nat_lt place (length d.seats)) refl) refl where
+    gone : (b : Bool) → nat_lt place (length d.seats) ≡ b → guest_at (set d.seats place None) k ≡ None
+    gone true h = this_place d.seats place None here (ltb-true place (length d.seats) h)
+    gone false h =
+        let past = ltb-false place (length d.seats) h in
+        get_or_past (set d.seats place None) k None
+        (subst (λ n. n ≤ k) (sym (length-set d.seats place None)) (subst (λ i. length d.seats ≤ i) (eqb-true place k here) past))
+
+  step : (visit : Option Visit) (d e : Desk) (so_far : List ℕ) (call : Call W) → d.config ≡ config → Step contents failures d call e → Stands visit d so_far
+      → Stands (visit_by call d k visit) e (sent_by call d k so_far)
+  step visit d e so_far (Feeds did) cfg (f, does, same) is = unmoved visit d e so_far (ap (λ x. guest_at x.seats k) same) is
+  step visit d e so_far (Admits now result) cfg accepts is = admitted visit d e so_far now result cfg accepts is
+  step visit d e so_far (Hears place piece now count) cfg (s, hears, same) is =
+      along config _ (guest_at s k) (guest_at e.seats k) so_far (ap (λ x. guest_at x.seats k) same)
+      (heard visit d s so_far place piece now count (guest_at d.seats place) (place == k) refl refl hears is)
+  step visit d e so_far (Answers now count) cfg same is =
+      along config _ _ (guest_at e.seats k) so_far (ap (λ x. guest_at x.seats k) same) (handed visit d so_far now count d.following.joining.state.joined cfg is)
+  step visit d e so_far (Takes place count now) cfg (fits, same) is =
+      along config _ _ (guest_at e.seats k) _ (ap (λ x. guest_at x.seats k) same)
+      (here (place == k) refl) where
+        here : (b : Bool) → (place == k) ≡ b → IsVisit config (if b then with (stories.Takes count now) visit else visit) (guest_at (took_at d.seats place count now) k)
+            (if b then so_far ++ take count (pending_of (guest_at d.seats k)) else so_far)
+        here true h = subst (λ i. IsVisit config (with (stories.Takes count now) visit) (guest_at (took_at d.seats place count now) k) (so_far ++ take count (pending_of (guest_at d.seats i))))
+            (eqb-true place k h) (taken visit d so_far place count now (guest_at d.seats place) true refl h fits is)
+        here false h = taken visit d so_far place count now (guest_at d.seats place) false refl h fits is
+  step visit d e so_far (Ticks now) cfg same is =
+      along config _ _ (guest_at e.seats k) so_far (ap (λ x. guest_at x.seats k) same ∙ at_mapped (ticked_seat now) d.seats k refl)
+      (happens config visit (guest_at d.seats k) (λ g. guests.ticked g now) so_far (stories.Ticks now) is (λ g. refl) (λ g. refl))
+  step visit d e so_far (Leaves place) cfg same is =
+      along config _ _ (guest_at e.seats k) _ (ap (λ x. guest_at x.seats k) same) (left visit d so_far place (place == k) refl is)
+
+  -- the configuration stays
+  same_config : (d e : Desk) (call : Call W) → Step contents failures d call e → e.config ≡ d.config
+  same_config d e (Feeds did) (f, does, same) = ap (λ x. x.config) same
+  same_config d e (Admits now (Ok (Some place))) (free, same) = ap (λ x. x.config) same
+  same_config d e (Admits now (Ok None)) (taken, same) = ap (λ x. x.config) same
+  same_config d e (Admits now (Err error)) same = ap (λ x. x.config) same
+  same_config d e (Hears place piece now count) (s, hears, same) = ap (λ x. x.config) same
+  same_config d e (Answers now count) same = ap (λ x. x.config) same ∙ by_joined d.following.joining.state.joined where
+    by_joined : (o : Option Position) → (answered_with o d count now).config ≡ d.config
+    by_joined None = refl
+    by_joined (Some j) = refl
+  same_config d e (Takes place count now) (fits, same) = ap (λ x. x.config) same
+  same_config d e (Ticks now) same = ap (λ x. x.config) same
+  same_config d e (Leaves place) same = ap (λ x. x.config) same
+
+  pub configured : (begun : Following) (past : List (Event W)) (d : Desk) → History contents failures config begun past d → d.config ≡ config
+  configured begun [] d (places, is) = ap (λ x. x.config) is
+  configured begun (x ∷ past) d (took, before) = same_config x.before d x.call took ∙ configured begun past x.before before
+
+  pub visits : (begun : Following) (past : List (Event W)) (d : Desk) → History contents failures config begun past d → IsVisit config (visit_at k past) (guest_at d.seats k) (sent_at k past)
+  visits begun [] d (places, is) = along config None None (guest_at d.seats k) [] (ap (λ x. guest_at x.seats k) is ∙ none_seated places k) refl
+  visits begun (x ∷ past) d (took, before) =
+      step (visit_at k past) x.before d (sent_at k past) x.call (configured begun past x.before before) took (visits begun past x.before before)

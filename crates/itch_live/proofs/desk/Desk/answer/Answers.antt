@@ -1,0 +1,45 @@
+use Rattle.std.proofs.Common.{◌≡◌, ◌≤◌, length, sym, subst, ◌∙◌, ap, arith, OnOk}
+use Rattle.std.specs.List.{list_any}
+use Rattle.std.proofs.lemmas.List.{with_items_is}
+use Rattle.std.specs.Option.{option_copied}
+use Rattle.itch_live.specs.Guests.{whole}
+use Rattle.itch_live.specs.Seats.{Seats, waits, answered}
+use Rattle.itch_live.specs.Desks.{Desk}
+use Rattle.itch_live.proofs.Handing.{none_waits, no_market, unnumbered, unmarketed, position_is, handed}
+use Rattle.itch_live.proofs.desk.Desk.answer.Goals as goal
+use Rattle.itch_live.proofs.desk.Desk.answer.Goals.{in_default-via-in-Some+in_default, in_default-via-in_default}
+
+pub returns-then-not-any_waits : goal.returns-then-not-any_waits
+returns-then-not-any_waits g c = (
+  length c.args.self.now.seats,
+  omega arith,
+  none_waits c.args.self.now c.args.now_ms (ap (list_any waits) (ap (λ d. d.seats) (sym c.self.view_is) ∙ sym c.deref.ensures.value) ∙ sym c.any_waits.ensures ∙ c.if-not-any_waits.true),
+)
+
+pub returns-in_default : goal.returns-in_default
+returns-in_default g c = (
+  length c.args.self.now.seats,
+  omega arith,
+  no_market c.args.self.now (length c.args.self.now.seats) c.args.now_ms
+      (ap (λ d. d.following.joining.state.joined) (sym c.self.view_is) ∙ elim c.in_default.branch [
+        | in_default-via-in-Some+in_default w ↦ unmarketed _ (sym c.market.ensures ∙ ap option_copied w.in_default.is-1)
+        | in_default-via-in_default w ↦ unnumbered _ (sym c.next.ensures ∙ w.in_default.is-0)
+      ]),
+)
+
+pub returns : goal.returns
+returns g c =
+    let length_is : length c.answer_all.new.seats ≡ c.self.inside.seats.len = c.answer_all.auto.seats ∙ ap length c.deref_mut.ensures.value ∙ sym c.self.inside.seats.ok.0 in
+    let with_seats : Seats → Desk = λ s. record { config = c.self.inside.config; following = c.self.inside.follower; seats = s } in (
+      c.answer_all.ensures.0,
+      subst (λ s. OnOk c.answer_all.result (length s ≤ c.answer_all.ensures.0)) (c.deref_mut.ensures.value ∙ ap (λ d. d.seats) c.self.view_is) c.answer_all.ensures.1,
+      ap with_seats (with_items_is c.self.inside.seats c.answer_all.new.seats length_is)
+          ∙ ap (λ (d : Desk). record d { seats = c.answer_all.new.seats }) c.self.view_is
+          ∙ handed c.args.self.now (record { next = c.in-Some-Some.next; market = c.in-Some-Some.market.now }) c.in_ok-shot.shot.value.items c.answer_all.ensures.0 c.args.now_ms
+          c.answer_all.new.seats
+          (ap (λ (d : Desk). d.following.joining.state.joined) (sym c.self.view_is)
+          ∙ position_is _ c.in-Some-Some.next c.in-Some-Some.market.now (sym c.next.ensures ∙ c.in-Some-Some.is-0) (sym c.market.ensures ∙ ap option_copied c.in-Some-Some.is-1))
+          (ap (λ v. v.items) c.in_ok-shot.ensures.ok ∙ c.in_ok-shoot.ensures ∙ ap (λ n. whole c.in-Some-Some.market.now n c.self.inside.config) c.in-Some.ensures.number
+          ∙ ap (λ (d : Desk). whole c.in-Some-Some.market.now c.in-Some-Some.next d.config) c.self.view_is)
+          (c.answer_all.ensures.2 ∙ ap (λ s. answered c.in_ok-shot.shot.value.items c.args.now_ms c.answer_all.ensures.0 s) (c.deref_mut.ensures.value ∙ ap (λ (d : Desk). d.seats) c.self.view_is)),
+    )

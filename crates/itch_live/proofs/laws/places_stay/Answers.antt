@@ -1,0 +1,5 @@
+use Rattle.itch_live.proofs.Rows.{rows_stay}
+use Rattle.itch_live.proofs.laws.places_stay.Goals as goal
+
+pub returns : goal.returns
+returns g c = λ config begun later at before d h. rows_stay g.W.CountedWrite.contents g.W.CountedWrite.failures config begun later at before d h

@@ -1,0 +1,77 @@
+-- A follower and its clients, over every list of calls.
+use Rattle.std.specs.Prelude.{◌≡◌, ℕ, ◌≤◌, ◌==◌, ◌++◌, List, [], ◌∷◌, length, take, Option, None, Some, Result, Ok, Err, slice_set, replicate, if◌then◌else◌}
+use Rattle.std.specs.declared.alloc.AllocError.{AllocError}
+use Rattle.itch_frame.specs.declared.tally.Failures.{Failures}
+use Rattle.itch_join.specs.Positions.{Position}
+use Rattle.itch_soup.specs.declared.login.ServerConfig.{ServerConfig}
+use Rattle.itch_live.specs.Guests.{whole, new_guest}
+use Rattle.itch_live.specs.Seats as seats
+use Rattle.itch_live.specs.Seats.{Seats, guest_at, pending_of, IsFree, AreTaken}
+use Rattle.itch_live.specs.Follows.{Following}
+use Rattle.itch_live.specs.Feeds.{Did, Does}
+
+-- who may log in, what follows the feed, and the places of clients
+pub record Desk : Type 0 where
+  pub config : ServerConfig
+  pub following : Following
+  pub seats : Seats
+
+abbrev pub new_desk : ServerConfig → Following → ℕ → Desk
+new_desk config following places = record { config = config; following = following; seats = replicate places None }
+
+-- a client is given a free place, or there is none; where memory is refused nothing changes
+abbrev pub Accepts : Desk → ℕ → Result (Option ℕ) AllocError → Desk → Type 0
+Accepts d now (Ok (Some place)) e =
+    IsFree d.seats place × (e ≡ record d { seats = slice_set d.seats place (Some (new_guest d.config now)) })
+Accepts d now (Ok None) e = AreTaken d.seats × (e ≡ d)
+Accepts d now (Err error) e = e ≡ d
+
+abbrev pub answered_with : Option Position → Desk → ℕ → ℕ → Desk
+answered_with None d count now = d
+answered_with (Some j) d count now = record d { seats = seats.answered (whole j.market j.next d.config) now count d.seats }
+
+-- those who wait at the first `count` places are answered with the present market, once there is one
+abbrev pub answered : Desk → ℕ → ℕ → Desk
+answered d count now = answered_with d.following.joining.state.joined d count now
+
+-- a call, with its result; of an answer, at how many places it was handed in
+pub data Call (W : Type 0) : Type 0 where
+  Feeds : (did : Did W) → Call W
+  Admits : (now : ℕ) (result : Result (Option ℕ) AllocError) → Call W
+  Hears : (place : ℕ) (piece : List ℕ) (now count : ℕ) → Call W
+  Answers : (now count : ℕ) → Call W
+  Takes : (place count now : ℕ) → Call W
+  Ticks : (now : ℕ) → Call W
+  Leaves : (place : ℕ) → Call W
+
+-- a call, and the desk at which it was made
+pub record Event (W : Type 0) : Type 0 where
+  pub before : Desk
+  pub call : Call W
+
+module _ {W : Type 0} (contents : W → Option (List ℕ)) (failures : W → Failures) where
+  -- what a call makes of a desk
+  abbrev pub Step : Desk → Call W → Desk → Type 0
+  Step d (Feeds did) e = (f : Following) × Does contents failures d.following did f × (e ≡ record d { following = f })
+  Step d (Admits now result) e = Accepts d now result e
+  Step d (Hears place piece now count) e = (s : Seats) × seats.HearsAt d.seats place piece now count s × (e ≡ record d { seats = s })
+  Step d (Answers now count) e = e ≡ answered d count now
+  Step d (Takes place count now) e = (count ≤ length (pending_of (guest_at d.seats place))) × (e ≡ record d { seats = seats.took_at d.seats place count now })
+  Step d (Ticks now) e = e ≡ record d { seats = seats.ticked now d.seats }
+  Step d (Leaves place) e = e ≡ record d { seats = slice_set d.seats place None }
+
+  -- a desk that was new, after these calls; the latest stands first
+  abbrev pub History : ServerConfig → Following → List (Event W) → Desk → Type 0
+  History config begun [] d = (places : ℕ) × (d ≡ new_desk config begun places)
+  History config begun (x ∷ past) d = Step x.before x.call d × History config begun past x.before
+
+-- the bytes that the socket of the present client at this place took
+abbrev pub sent_by : {W : Type 0} → Call W → Desk → ℕ → List ℕ → List ℕ
+sent_by (Admits now (Ok (Some place))) d k so_far = if place == k then [] else so_far
+sent_by (Takes place count now) d k so_far = if place == k then so_far ++ take count (pending_of (guest_at d.seats k)) else so_far
+sent_by (Leaves place) d k so_far = if place == k then [] else so_far
+sent_by other d k so_far = so_far
+
+abbrev pub sent_at : {W : Type 0} → ℕ → List (Event W) → List ℕ
+sent_at k [] = []
+sent_at k (x ∷ past) = sent_by x.call x.before k (sent_at k past)

@@ -1,0 +1,72 @@
+-- What the clients of a desk are sent, where what follows the feed is sent one feed.
+use Rattle.std.specs.Prelude.{◌≡◌, ℕ, ◌-◌, ◌<◌, ◌≤◌, ◌⊎◌, List, [], ◌∷◌, ◌++◌, take, Some, None, Option}
+use Rattle.itch_join.specs.Positions.{Position}
+use Rattle.itch_join.specs.Rules.{Rules, run, bad}
+use Rattle.itch_soup.specs.declared.login.ServerConfig.{ServerConfig}
+use Rattle.itch_soup.specs.declared.packet.LoginRequest.{LoginRequest}
+use Rattle.itch_soup.specs.declared.server.ServerAct.TheVariants as act
+use Rattle.itch_soup.specs.Servers.{judged}
+use Rattle.itch_soup.specs.Sending.{served}
+use Rattle.itch_live.specs.Guests.{Guest}
+use Rattle.itch_live.specs.Seats.{guest_at}
+use Rattle.itch_live.specs.Feeds.{Did, IsHonest}
+use Rattle.itch_live.specs.Stories.{IsBeginning, IsRefusal}
+use Rattle.itch_live.specs.Desks.{Desk, Call, Feeds, Answers, Event}
+use Rattle.itch_live.specs.Visits.{Visit, visit_at}
+
+-- the calls of a desk's follower
+abbrev pub fed_by : {W : Type 0} → Call W → List (Did W) → List (Did W)
+fed_by (Feeds did) past = did ∷ past
+fed_by other past = past
+
+abbrev pub fed : {W : Type 0} → List (Event W) → List (Did W)
+fed [] = []
+fed (x ∷ past) = fed_by x.call (fed past)
+
+-- what servers send is of one feed
+abbrev pub IsHonestCall : {W : Type 0} → Rules → List (List ℕ) → Desk → Call W → Type 0
+IsHonestCall R feed d (Feeds did) = IsHonest R feed d.following did
+IsHonestCall R feed d other = Unit {0}
+
+abbrev pub AreHonest : {W : Type 0} → Rules → List (List ℕ) → List (Event W) → Type 0
+AreHonest R feed [] = Unit {0}
+AreHonest R feed (x ∷ past) = IsHonestCall R feed x.before x.call × AreHonest R feed past
+
+-- The answer to the login of a client at this place. It was handed in by one of these calls, after the login had come, and is the snapshot of the
+-- market after exactly the messages of the feed before the one that was the next then, with that one's number.
+pub record IsFeedAnswer {W : Type 0} (R : Rules) (feed : List (List ℕ)) (config : ServerConfig) (k : ℕ) (past : List (Event W)) (bytes : List ℕ) : Type 0 where
+  pub later : List (Event W)
+  pub at : Event W
+  pub before : List (Event W)
+  pub place : past ≡ later ++ at ∷ before
+  pub now : ℕ
+  pub count : ℕ
+  pub handed : at.call ≡ Answers now count
+  pub waiting : Guest
+  pub there : guest_at at.before.seats k ≡ Some waiting
+  pub login : LoginRequest
+  pub asked : waiting.asked ≡ Some login
+  pub accepted : (judged config 0 login).0 ≡ act.Accept 1
+  pub joined : Position
+  pub position : at.before.following.joining.state.joined ≡ Some joined
+  pub positive : 0 < joined.next
+  pub to_bad : joined.next ≤ bad R feed
+  pub is : bytes ≡ served (run R (take (joined.next - 1) feed)) joined.next config login
+
+-- the rejection of a login that the client at this place has sent
+abbrev pub IsRefusalAt : {W : Type 0} → ServerConfig → ℕ → List (Event W) → List ℕ → Type 0
+IsRefusalAt config k past bytes = (visit : Visit) × (visit_at k past ≡ Some visit) × IsRefusal config visit.begun visit.past bytes
+
+-- what a client is told in all: nothing, the rejection of its login, or the answer to it
+abbrev pub IsToldOfFeed : {W : Type 0} → Rules → List (List ℕ) → ServerConfig → ℕ → List (Event W) → List ℕ → Type 0
+IsToldOfFeed R feed config k past bytes = (bytes ≡ []) ⊎ IsRefusalAt config k past bytes ⊎ IsFeedAnswer R feed config k past bytes
+
+-- what was sent is the beginning of that, and no more
+abbrev pub IsSentOfFeed : {W : Type 0} → Rules → List (List ℕ) → ServerConfig → ℕ → List (Event W) → List ℕ → Type 0
+IsSentOfFeed R feed config k past sent = (bytes : List ℕ) × IsToldOfFeed R feed config k past bytes × IsBeginning sent bytes
+
+-- once there is a market, there is one from then on, of no fewer messages
+abbrev pub GoesOn : Option Position → Option Position → Type 0
+GoesOn None now = Unit {0}
+GoesOn (Some i) None = ⊥
+GoesOn (Some i) (Some j) = i.next ≤ j.next

@@ -1,0 +1,65 @@
+-- What follows a feed, over every list of its calls.
+use Rattle.std.specs.Prelude.{◌≡◌, ℕ, ◌-◌, true, List, [], ◌∷◌, Option, Some, slice_get}
+use Rattle.itch_codec.specs.Fields.{AreBytes}
+use Rattle.itch_frame.specs.Blocks.{IsBlockOf}
+use Rattle.itch_frame.specs.Cuts.{IsTake}
+use Rattle.itch_frame.specs.declared.tally.Failures.{Failures}
+use Rattle.itch_market.specs.Wanted.{Wanted, has}
+use Rattle.itch_join.specs.Rules.{Rules, rules_of}
+use Rattle.itch_join.specs.States.{State, is_number}
+use Rattle.itch_join.specs.Steps.{snapshot_case}
+use Rattle.itch_join.specs.Deliveries.{Event, History, IsOfFeed}
+use Rattle.itch_join.specs.Stands.{Stands}
+use Rattle.itch_soup.specs.declared.client.ClientAct.{ClientAct}
+use Rattle.itch_soup.specs.declared.client.ClientAct.TheVariants as act
+use Rattle.itch_soup.specs.Clients.{Client}
+use Rattle.itch_live.specs.declared.news.Source.{Source}
+use Rattle.itch_live.specs.declared.news.Source.TheVariants as source
+use Rattle.itch_live.specs.declared.news.News.{News}
+use Rattle.itch_live.specs.Follows.{Following, connected, ticked, Means, HearsFeed}
+
+-- what a caller does: it begins a connection, lets time pass, or hands in bytes, with the result and the record before and after
+pub data Did (W : Type 0) : Type 0 where
+  Connects : (now : ℕ) → Did W
+  Ticks : (now : ℕ) → Did W
+  Hears : (piece : List ℕ) (now : ℕ) (result : ℕ × News) (old new : W) → Did W
+
+-- a message of the live feed is the feed's with its number; one of a snapshot is bytes, and the snapshot is one of the feed
+abbrev pub FitsSource : Rules → List (List ℕ) → State → Source → ℕ → List ℕ → Type 0
+FitsSource R feed s source.Live number payload = is_number number ≡ true → slice_get feed (number - 1) ≡ Some payload
+FitsSource R feed s source.Glimpse number payload = AreBytes payload × IsOfFeed R feed (snapshot_case R s payload)
+
+abbrev pub FitsAct : Rules → List (List ℕ) → Following → ClientAct → Type 0
+FitsAct R feed f (act.Data number payload) = FitsSource R feed f.joining.state f.source number payload
+FitsAct R feed f other = Unit {0}
+
+-- the premise on servers: what a packet that is heard means is of the feed
+abbrev pub IsHonest : {W : Type 0} → Rules → List (List ℕ) → Following → Did W → Type 0
+IsHonest R feed f (Connects now) = Unit {0}
+IsHonest R feed f (Ticks now) = Unit {0}
+IsHonest R feed f (Hears piece now result old new) =
+    (held payload : List ℕ) (answer : ClientAct) (named : Option (List ℕ)) (t : Client) → IsTake f.held piece result.0 held → IsBlockOf payload held
+    → Means f.session payload now answer named t → FitsAct R feed f answer
+
+-- a joiner of this cap and these locates that was delivered nothing but this feed and snapshots of it
+pub record IsJoining (set : Wanted) (cap : ℕ) (feed : List (List ℕ)) (f : Following) : Type 0 where
+  pub set_is : f.joining.set ≡ set
+  pub cap_is : f.joining.cap ≡ cap
+  pub calls : List Event
+  pub history : History (rules_of (has set)) cap feed calls f.joining.state
+
+module _ {W : Type 0} (contents : W → Option (List ℕ)) (failures : W → Failures) where
+  -- what a call makes of it
+  abbrev pub Does : Following → Did W → Following → Type 0
+  Does f (Connects now) g = g ≡ connected f now
+  Does f (Ticks now) g = g ≡ ticked f now
+  Does f (Hears piece now result old new) g = HearsFeed contents failures f piece now old result new g
+
+  -- these calls have led from one to the other, and what servers sent was of this feed; the latest stands first
+  abbrev pub Followed : Rules → List (List ℕ) → Following → List (Did W) → Following → Type 0
+  Followed R feed begun [] f = f ≡ begun
+  Followed R feed begun (did ∷ past) f = (e : Following) × Does e did f × IsHonest R feed e did × Followed R feed begun past e
+
+-- the joiner stands where the calls of one feed leave it
+abbrev pub StandsJoined : Wanted → ℕ → List (List ℕ) → Following → Type 0
+StandsJoined set cap feed f = (calls : List Event) × History (rules_of (has set)) cap feed calls f.joining.state × Stands (rules_of (has set)) cap feed calls f.joining.state

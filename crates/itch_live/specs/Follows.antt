@@ -1,0 +1,151 @@
+-- What follows a feed, call by call.
+use Rattle.std.specs.Prelude.{◌≡◌, ℕ, ◌^◌, min, ◌⊎◌, Bool, true, false, List, [], Option, None, Some, Result, Ok, Err, if◌then◌else◌}
+use Rattle.itch_frame.specs.Blocks.{IsBlock, IsBlockOf}
+use Rattle.itch_frame.specs.Cuts.{IsTake}
+use Rattle.itch_frame.specs.Writing.{WriteBlock}
+use Rattle.itch_frame.specs.declared.tally.Failures.{Failures}
+use Rattle.itch_frame.specs.declared.fault.FrameFault.{FrameFault}
+use Rattle.itch_market.specs.Wanted.{has}
+use Rattle.itch_join.specs.declared.outcome.Live.{Live}
+use Rattle.itch_join.specs.declared.outcome.Live.TheVariants as live
+use Rattle.itch_join.specs.declared.outcome.Snap.{Snap}
+use Rattle.itch_join.specs.declared.outcome.Snap.TheVariants as snap
+use Rattle.itch_join.specs.declared.fault.JoinFault.{JoinFault}
+use Rattle.itch_join.specs.Positions.{Position}
+use Rattle.itch_join.specs.Rules.{rules_of}
+use Rattle.itch_join.specs.States.{Joining}
+use Rattle.itch_join.specs.Steps.{Call, CallLive, CallSnapshot, Step, restarted}
+use Rattle.itch_soup.specs.declared.login.Credentials.{Credentials}
+use Rattle.itch_soup.specs.declared.packet.Packet.{Packet}
+use Rattle.itch_soup.specs.declared.packet.Packet.TheVariants as is
+use Rattle.itch_soup.specs.declared.client.ClientAct.{ClientAct}
+use Rattle.itch_soup.specs.declared.client.ClientAct.TheVariants as act
+use Rattle.itch_soup.specs.declared.origin.Origin.TheVariants.{Server}
+use Rattle.itch_soup.specs.declared.fault.SoupFault.{SoupFault}
+use Rattle.itch_soup.specs.Packets.{PacketSpells, packet_fault}
+use Rattle.itch_soup.specs.Clients.{Client, new_client, client_answer, client_after_packet, client_after_tick}
+use Rattle.itch_live.specs.declared.news.Source.{Source}
+use Rattle.itch_live.specs.declared.news.Source.TheVariants as source
+use Rattle.itch_live.specs.declared.news.News.{News}
+use Rattle.itch_live.specs.declared.news.News.TheVariants as news
+
+-- what follows a feed: whom it logs in as, the session that the feed named first, what it is connected to, the bytes held of an unfinished packet,
+-- its session, and its joiner
+pub record Following : Type 0 where
+  pub credentials : Credentials
+  pub pinned : Option (List ℕ)
+  pub source : Source
+  pub held : List ℕ
+  pub session : Client
+  pub joining : Joining
+
+abbrev pub new_following : Credentials → Joining → ℕ → Following
+new_following credentials joining now = record { credentials = credentials; pinned = None; source = source.Live; held = []; session = new_client credentials 0 now; joining = joining }
+
+-- while there is no market the whole of a snapshot is asked for, and from then on the feed's messages from the next number on
+abbrev pub source_for : Option Position → Source
+source_for None = source.Glimpse
+source_for (Some j) = source.Live
+
+abbrev pub asked_from : Option Position → ℕ
+asked_from None = 1
+asked_from (Some j) = min j.next (10 ^ 19)
+
+-- what a connection logs in with: the live feed is asked for the session that it named first
+abbrev pub asking : Credentials → Option (List ℕ) → Source → Credentials
+asking credentials pinned source.Glimpse = credentials
+asking credentials None source.Live = credentials
+asking credentials (Some session) source.Live = record credentials { session = session }
+
+-- the session that a packet names where it accepts a login
+abbrev pub named_in : Packet → Option (List ℕ)
+named_in (is.LoginAccepted login) = Some login.session
+named_in packet = None
+
+-- the session to ask for from now on: that of the first acceptance by the live feed
+abbrev pub pinned_after : Option (List ℕ) → Source → Bool → Option (List ℕ) → Option (List ℕ)
+pinned_after (Some session) from accepted named = Some session
+pinned_after None source.Glimpse accepted named = None
+pinned_after None source.Live accepted named = if accepted then named else None
+
+abbrev pub is_accepted : ClientAct → Bool
+is_accepted (act.Accepted next) = true
+is_accepted other = false
+
+-- a connection is begun: what was heard of an unfinished packet and of an unfinished snapshot is dropped
+abbrev pub connected : Following → ℕ → Following
+connected f now = record {
+  credentials = f.credentials;
+  pinned = f.pinned;
+  source = source_for f.joining.state.joined;
+  held = [];
+  session = new_client (asking f.credentials f.pinned (source_for f.joining.state.joined)) (asked_from f.joining.state.joined) now;
+  joining = record { cap = f.joining.cap; set = f.joining.set; state = restarted f.joining.state.joined f.joining.state };
+}
+
+abbrev pub ticked : Following → ℕ → Following
+ticked f now = record f { session = client_after_tick f.session now }
+
+-- a joiner makes this call, and keeps its cap and its locates
+abbrev pub Calls : Joining → Call → Joining → Type 0
+Calls old call new = Step (rules_of (has old.set)) old.cap old.state call new.state × (new.cap ≡ old.cap) × (new.set ≡ old.set)
+
+-- a message of the snapshot is delivered
+abbrev pub snapshot_news : Result Snap JoinFault → News
+snapshot_news (Ok snap.More) = news.Nothing
+snapshot_news (Ok (snap.Joined next)) = news.Joined next
+snapshot_news (Err fault) = news.Refused fault
+
+abbrev pub TakesSnapshot : Joining → List ℕ → News → Joining → Type 0
+TakesSnapshot old payload told new = (result : Result Snap JoinFault) × Calls old (CallSnapshot payload result) new × (told ≡ snapshot_news result)
+
+-- the session's answer to a payload, and the session that it names: those of its packet, or its fault
+abbrev pub Means : Client → List ℕ → ℕ → ClientAct → Option (List ℕ) → Client → Type 0
+Means s payload now answer named t =
+    ((packet : Packet) × PacketSpells packet payload Server × (answer ≡ client_answer s packet) × (named ≡ named_in packet) × (t ≡ client_after_packet s packet now))
+    ⊎ ((fault : SoupFault) × (packet_fault payload Server ≡ Some fault) × (answer ≡ act.Fault fault) × (named ≡ None) × (t ≡ s))
+
+module _ {W : Type 0} (contents : W → Option (List ℕ)) (failures : W → Failures) where
+  -- a message that is applied is recorded, and no other
+  abbrev pub Records : List ℕ → Result Live JoinFault → W → News → W → Type 0
+  Records payload (Ok (live.Applied next)) old told new =
+      (WriteBlock contents failures old payload (Ok tt) new × (told ≡ news.Taken next))
+      ⊎ ((fault : FrameFault) × WriteBlock contents failures old payload (Err fault) new × (told ≡ news.Unrecorded fault))
+  Records payload (Ok live.Kept) old told new = (told ≡ news.Nothing) × (new ≡ old)
+  Records payload (Ok live.Old) old told new = (told ≡ news.Nothing) × (new ≡ old)
+  Records payload (Err fault) old told new = (told ≡ news.Refused fault) × (new ≡ old)
+
+  -- a message of the feed is delivered
+  abbrev pub TakesLive : Joining → ℕ → List ℕ → W → News → W → Joining → Type 0
+  TakesLive old number payload record_old told record_new new =
+      (result : Result Live JoinFault) × Calls old (CallLive number payload result) new × Records payload result record_old told record_new
+
+  abbrev pub TakesFrom : Source → Joining → ℕ → List ℕ → W → News → W → Joining → Type 0
+  TakesFrom source.Glimpse old number payload record_old told record_new new = TakesSnapshot old payload told new × (record_new ≡ record_old)
+  TakesFrom source.Live old number payload record_old told record_new new = TakesLive old number payload record_old told record_new new
+
+  -- only a message reaches the joiner
+  abbrev pub ActsOn : Source → ClientAct → Joining → W → News → W → Joining → Type 0
+  ActsOn from (act.Accepted next) old record_old told record_new new = (told ≡ news.Accepted next) × (record_new ≡ record_old) × (new ≡ old)
+  ActsOn from (act.Rejected code) old record_old told record_new new = (told ≡ news.Rejected code) × (record_new ≡ record_old) × (new ≡ old)
+  ActsOn from (act.Data number payload) old record_old told record_new new = TakesFrom from old number payload record_old told record_new new
+  ActsOn from act.Nothing old record_old told record_new new = (told ≡ news.Nothing) × (record_new ≡ record_old) × (new ≡ old)
+  ActsOn from act.Ended old record_old told record_new new = (told ≡ news.Ended) × (record_new ≡ record_old) × (new ≡ old)
+  ActsOn from (act.Fault fault) old record_old told record_new new = (told ≡ news.Broken fault) × (record_new ≡ record_old) × (new ≡ old)
+
+  -- what a payload means is done, and the session that it names is asked for from now on if it is the first
+  abbrev pub HearsPacket : Source → Option (List ℕ) → Client → Joining → List ℕ → ℕ → W → News × Option (List ℕ) → W → Client → Joining → Type 0
+  HearsPacket from pinned s old payload now record_old result record_new t new =
+      (answer : ClientAct) × (named : Option (List ℕ)) × Means s payload now answer named t × ActsOn from answer old record_old result.0 record_new new
+      × (result.1 ≡ pinned_after pinned from (is_accepted answer) named)
+
+  -- the bytes held and those taken are a whole packet, which is heard, or less than one
+  abbrev pub HearsHeld : Following → List ℕ → ℕ → W → News → W → Following → Type 0
+  HearsHeld f held now record_old told record_new g =
+      ((payload : List ℕ) × IsBlockOf payload held × HearsPacket f.source f.pinned f.session f.joining payload now record_old (told, g.pinned) record_new g.session g.joining
+      × (g.credentials ≡ f.credentials) × (g.source ≡ f.source) × (g.held ≡ []))
+      ⊎ ((IsBlock held → ⊥) × (told ≡ news.Nothing) × (record_new ≡ record_old) × (g ≡ record f { held = held }))
+
+  -- some bytes of a piece of the feed are heard
+  abbrev pub HearsFeed : Following → List ℕ → ℕ → W → ℕ × News → W → Following → Type 0
+  HearsFeed f piece now record_old result record_new g = (held : List ℕ) × IsTake f.held piece result.0 held × HearsHeld f held now record_old result.1 record_new g

@@ -1,0 +1,9 @@
+pub mod Guests
+pub mod Stories
+pub mod Seats
+pub mod Follows
+pub mod Feeds
+pub mod Records
+pub mod Desks
+pub mod Visits
+pub mod FeedDesks

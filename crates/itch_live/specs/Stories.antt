@@ -1,0 +1,96 @@
+-- What a client is sent, over every list of what may happen to it.
+use Rattle.std.specs.Prelude.{◌≡◌, ℕ, ◌≤◌, List, [], ◌∷◌, ◌++◌, length, take, Some, ◌⊎◌}
+use Rattle.itch_frame.specs.Blocks.{IsBlockOf}
+use Rattle.itch_frame.specs.Cuts.{IsTake}
+use Rattle.itch_market.specs.Content.{Content}
+use Rattle.itch_soup.specs.declared.login.ServerConfig.{ServerConfig}
+use Rattle.itch_soup.specs.declared.packet.LoginRequest.{LoginRequest}
+use Rattle.itch_soup.specs.declared.packet.Packet.TheVariants as is
+use Rattle.itch_soup.specs.declared.origin.Origin.TheVariants.{Client}
+use Rattle.itch_soup.specs.declared.server.ServerAct.TheVariants as act
+use Rattle.itch_soup.specs.Packets.{PacketSpells}
+use Rattle.itch_soup.specs.Servers.{judged}
+use Rattle.itch_soup.specs.Sending.{served}
+use Rattle.itch_live.specs.Guests as guests
+use Rattle.itch_live.specs.Guests.{Guest, whole, refusal, pending, new_guest}
+
+-- what may happen to a client: some bytes of a piece are heard; the answer with the snapshot of a market, and the number of the next message, is
+-- handed to it if it waits; its socket takes so many bytes; time passes; it is gone
+pub data Happening : Type 0 where
+  Hears : (piece : List ℕ) (now count : ℕ) → Happening
+  Answers : (m : Content) (next now : ℕ) → Happening
+  Takes : (count now : ℕ) → Happening
+  Ticks : (now : ℕ) → Happening
+  Leaves : Happening
+
+-- what this makes of a client
+abbrev pub Becomes : ServerConfig → Guest → Happening → Guest → Type 0
+Becomes config g (Hears piece now count) h = guests.Hears g piece now count h
+Becomes config g (Answers m next now) h = h ≡ guests.answered_if (whole m next config) now g
+Becomes config g (Takes count now) h = (count ≤ length (pending g)) × (h ≡ guests.took g count now)
+Becomes config g (Ticks now) h = h ≡ guests.ticked g now
+Becomes config g Leaves h = h ≡ guests.left g
+
+-- the bytes that its socket takes
+abbrev pub sent_by : Guest → Happening → List ℕ
+sent_by g (Takes count now) = take count (pending g)
+sent_by g other = []
+
+-- A client that has connected then is this one after all this, and these bytes were sent to it. The latest stands first.
+abbrev pub Story : ServerConfig → ℕ → List Happening → Guest → List ℕ → Type 0
+Story config begun [] g sent = (g ≡ new_guest config begun) × (sent ≡ [])
+Story config begun (happening ∷ past) g sent =
+    (f : Guest) × (so_far : List ℕ) × Story config begun past f so_far × Becomes config f happening g × (sent ≡ so_far ++ sent_by f happening)
+
+-- bytes are the beginning of others
+abbrev pub IsBeginning : List ℕ → List ℕ → Type 0
+IsBeginning front bytes = (rest : List ℕ) × (bytes ≡ front ++ rest)
+
+-- the bytes that are held of a client, with those taken of a piece, are a login
+pub record IsLogin (g : Guest) (piece : List ℕ) (count : ℕ) (login : LoginRequest) : Type 0 where
+  pub held : List ℕ
+  pub takes : IsTake g.held piece count held
+  pub payload : List ℕ
+  pub block : IsBlockOf payload held
+  pub spelled : PacketSpells (is.LoginRequest login) payload Client
+
+-- the rejection of a login that the client has sent
+pub record IsRefusal (config : ServerConfig) (begun : ℕ) (past : List Happening) (bytes : List ℕ) : Type 0 where
+  pub later : List Happening
+  pub before : List Happening
+  pub piece : List ℕ
+  pub now : ℕ
+  pub count : ℕ
+  pub place : past ≡ later ++ Hears piece now count ∷ before
+  pub hearing : Guest
+  pub so_far : List ℕ
+  pub story : Story config begun before hearing so_far
+  pub login : LoginRequest
+  pub came : IsLogin hearing piece count login
+  pub code : ℕ
+  pub rejected : (judged config 0 login).0 ≡ act.Reject code
+  pub is : bytes ≡ refusal code
+
+-- the answer to the client's login with the snapshot of a market, which was handed in after the login had come
+pub record IsAnswer (config : ServerConfig) (begun : ℕ) (past : List Happening) (bytes : List ℕ) : Type 0 where
+  pub later : List Happening
+  pub before : List Happening
+  pub m : Content
+  pub next : ℕ
+  pub now : ℕ
+  pub place : past ≡ later ++ Answers m next now ∷ before
+  pub waiting : Guest
+  pub so_far : List ℕ
+  pub story : Story config begun before waiting so_far
+  pub login : LoginRequest
+  pub asked : waiting.asked ≡ Some login
+  pub accepted : (judged config 0 login).0 ≡ act.Accept 1
+  pub is : bytes ≡ served m next config login
+
+-- what a client is told in all: nothing, the rejection of its login, or the answer to it
+abbrev pub IsTold : ServerConfig → ℕ → List Happening → List ℕ → Type 0
+IsTold config begun past bytes = (bytes ≡ []) ⊎ IsRefusal config begun past bytes ⊎ IsAnswer config begun past bytes
+
+-- what a client was sent is the beginning of what it is told, and no more
+abbrev pub IsSentRight : ServerConfig → ℕ → List Happening → List ℕ → Type 0
+IsSentRight config begun past sent = (bytes : List ℕ) × IsTold config begun past bytes × IsBeginning sent bytes

@@ -1,0 +1,46 @@
+-- What happens to one client of a desk.
+use Rattle.std.specs.Prelude.{◌≡◌, ℕ, ◌==◌, nat_lt, Bool, true, false, List, [], ◌∷◌, Option, None, Some, Ok, Err, if◌then◌else◌}
+use Rattle.itch_join.specs.Positions.{Position}
+use Rattle.itch_soup.specs.declared.login.ServerConfig.{ServerConfig}
+use Rattle.itch_live.specs.Guests.{Guest}
+use Rattle.itch_live.specs.Stories as stories
+use Rattle.itch_live.specs.Stories.{Happening, Story}
+use Rattle.itch_live.specs.Desks.{Desk, Call, Feeds, Admits, Hears, Answers, Takes, Ticks, Leaves, Event}
+
+-- when a client came, and what has happened to it since; the latest stands first
+pub record Visit : Type 0 where
+  pub begun : ℕ
+  pub past : List Happening
+
+abbrev pub with : Happening → Option Visit → Option Visit
+with happening None = None
+with happening (Some v) = Some (record v { past = happening ∷ v.past })
+
+-- the present market is handed in, once there is one, if this is one of the first places
+abbrev pub answers : Option Position → Bool → ℕ → Option Visit → Option Visit
+answers None here now visit = visit
+answers (Some j) false now visit = visit
+answers (Some j) true now visit = with (stories.Answers j.market j.next now) visit
+
+-- Of a call at another place nothing is seen.
+abbrev pub visit_by : {W : Type 0} → Call W → Desk → ℕ → Option Visit → Option Visit
+visit_by (Feeds did) d k visit = visit
+visit_by (Admits now (Ok (Some place))) d k visit = if place == k then Some (record { begun = now; past = [] }) else visit
+visit_by (Admits now (Ok None)) d k visit = visit
+visit_by (Admits now (Err error)) d k visit = visit
+visit_by (Hears place piece now count) d k visit = if place == k then with (stories.Hears piece now count) visit else visit
+visit_by (Answers now count) d k visit = answers d.following.joining.state.joined (nat_lt k count) now visit
+visit_by (Takes place count now) d k visit = if place == k then with (stories.Takes count now) visit else visit
+visit_by (Ticks now) d k visit = with (stories.Ticks now) visit
+visit_by (Leaves place) d k visit = if place == k then None else visit
+
+-- what has happened to the present client at this place
+abbrev pub visit_at : {W : Type 0} → ℕ → List (Event W) → Option Visit
+visit_at k [] = None
+visit_at k (x ∷ past) = visit_by x.call x.before k (visit_at k past)
+
+-- the client of a visit is the one that it makes, and was sent these bytes, as if there were no other client; where there is none, nothing was sent
+abbrev pub IsVisit : ServerConfig → Option Visit → Option Guest → List ℕ → Type 0
+IsVisit config None None sent = sent ≡ []
+IsVisit config (Some v) (Some g) sent = Story config v.begun v.past g sent
+IsVisit config visit seat sent = ⊥

@@ -1,0 +1,203 @@
+//! A follower and its clients.
+ghost use Rattle.std.specs.Prelude.{◌≡◌, ℕ, ◌≤◌, Some, None, IfOk, OnOk, length, option_map, replicate, slice_set};
+ghost use Rattle.std.specs.Option.{option_copied};
+ghost use Rattle.std.specs.List.{list_any};
+ghost use Rattle.itch_soup.specs.Connections.{tick_answer};
+ghost use Rattle.itch_soup.specs.Clients.{login_of};
+ghost use Rattle.itch_soup.specs.Packets.{packet_spelling};
+ghost use Rattle.itch_live.specs.Guests as guests;
+ghost use Rattle.itch_live.specs.Seats as places;
+ghost use Rattle.itch_live.specs.Follows as follows;
+ghost use Rattle.itch_live.specs.Desks as desks;
+
+use crate::follower::Follower;
+use crate::guest::Guest;
+use crate::news::News;
+use crate::seats::{Seat, answer_all, any_waits, free_place, guest_at, hear_at, tick_all, took_at};
+use crate::shot::shoot;
+use itch_book::OrderBook;
+use itch_codec::Seq;
+use itch_frame::CountedWrite;
+use itch_market::Market;
+use itch_soup::{Packet, ServerConfig, Tick};
+use std::alloc::{AllocError, Allocator};
+use std::marker::Model;
+use std::rc::Rc;
+
+/// A live server without its sockets: a feed that is followed, and a number of places for clients.
+///
+/// A caller hands in the bytes that come, writes [`Desk::pending`] as far as each socket takes it, and says by [`Desk::took`] how
+/// much that was. What is done for one client changes nothing of any other.
+#[derive(Drop)]
+pub struct Desk<B: OrderBook> {
+    alloc: B::Alloc,
+    config: ServerConfig,
+    follower: Follower<B>,
+    seats: Vec<Seat<B::Alloc>, B::Alloc>,
+}
+
+impl<B: OrderBook> Model for Desk<B> {
+    ghost use Rattle.std.specs.FinMap as map;
+    ghost use Rattle.std.specs.Coded.{codes};
+    ghost use Rattle.itch_live.specs.Desks as desks;
+
+    ghost Value = { desks.Desk };
+
+    ghost coded = { Prim.hlevel (codes, map.code) };
+
+    ghost view = { λ d. record { config = d.config; following = d.follower; seats = d.seats.items } };
+}
+
+impl<B: OrderBook> Desk<B> {
+    /// A desk with this many places, all of them free. The memory of the places is taken here, that of a client in
+    /// [`Desk::admit`].
+    pub fn new(
+        alloc: B::Alloc,
+        config: ServerConfig,
+        follower: Follower<B>,
+        clients: usize,
+    ) -> Result<Desk<B>, AllocError>
+        ensures { IfOk result (λ d. d ≡ desks.new_desk config follower clients) }
+    {
+        Ok(Desk {
+            alloc,
+            config,
+            follower,
+            seats: free_places(alloc, clients)?,
+        })
+    }
+
+    /// Begins a connection to the feed, or to a server of snapshots, as [`Follower::connect`] does.
+    pub fn connect(&mut self, now_ms: u64) -> [u8; 47]
+        ensures after { self.new ≡ record self.old { following = follows.connected self.old.following now_ms } }
+        ensures login { result ≡ packet_spelling (Packet.LoginRequest (login_of self.new.following.session)) }
+    {
+        self.follower.connect(now_ms)
+    }
+
+    /// Takes bytes of the feed, as [`Follower::hear`] does.
+    pub fn hear_feed<W: CountedWrite>(
+        &mut self,
+        piece: &[u8],
+        now_ms: u64,
+        record: &mut W,
+    ) -> (usize, News)
+        ensures heard { follows.HearsFeed W.contents W.failures self.old.following piece.now now_ms record.old result record.new self.new.following }
+        ensures rest { self.new ≡ record self.old { following = self.new.following } }
+    {
+        self.follower.hear(piece, now_ms, record)
+    }
+
+    /// What is to be sent to the feed, or done about it, at this moment.
+    pub fn tick_feed(&mut self, now_ms: u64) -> Tick
+        ensures answer { result ≡ tick_answer self.old.following.session.connection now_ms }
+        ensures after { self.new ≡ record self.old { following = follows.ticked self.old.following now_ms } }
+    {
+        self.follower.tick(now_ms)
+    }
+
+    /// The number of the feed's next message, once there is a market.
+    pub fn next(&self) -> Option<u64>
+        ensures { result ≡ option_map (λ j. j.next) self.now.following.joining.state.joined }
+    {
+        self.follower.next()
+    }
+
+    /// The market of the feed's messages before the next one, once there is one.
+    pub fn market(&self) -> Option<&Market<B>>
+        ensures { option_copied result ≡ option_map (λ j. j.market) self.now.following.joining.state.joined }
+    {
+        self.follower.market()
+    }
+
+    /// Gives a client that has connected a free place, and returns its number; `None` where there is none.
+    pub fn admit(&mut self, now_ms: u64) -> Result<Option<usize>, AllocError>
+        ensures { desks.Accepts self.old now_ms result self.new }
+    {
+        let Some(place) = free_place(&self.seats) else {
+            return Ok(None);
+        };
+        let guest = Guest::new(self.alloc, self.config, now_ms)?;
+        self.seats[place] = Some(guest);
+        Ok(Some(place))
+    }
+
+    /// Takes bytes of the client at a place, as [`Guest::hear`] does. Where there is none, all are passed over.
+    pub fn hear(&mut self, place: usize, piece: &[u8], now_ms: u64) -> usize
+        ensures seats { places.HearsAt self.old.seats place piece.now now_ms result self.new.seats }
+        ensures rest { self.new ≡ record self.old { seats = self.new.seats } }
+    {
+        hear_at(&mut self.seats, place, piece, now_ms)
+    }
+
+    /// Answers all who wait with the present market, once there is one, which is encoded once for them all. Where none waits it is
+    /// not encoded. It may be called again after an error: then some were answered, and the others still wait.
+    pub fn answer(&mut self, now_ms: u64) -> Result<(), AllocError>
+        ensures { (count : ℕ) × OnOk result (length self.old.seats ≤ count) × (self.new ≡ desks.answered self.old count now_ms) }
+    {
+        if !any_waits(&self.seats) {
+            return Ok(());
+        }
+        let (Some(next), Some(market)) = (self.follower.next(), self.follower.market()) else {
+            return Ok(());
+        };
+        // No End of Snapshot has a number that is none; the joiner does not say so.
+        let Some(next) = Seq::new(next) else {
+            return Err(AllocError);
+        };
+        let shot = Rc::new(self.alloc, shoot(self.alloc, market, next, &self.config)?)?;
+        answer_all(&mut self.seats, &shot, now_ms)
+    }
+
+    /// What is still to be written to the client at a place.
+    pub fn pending(&self, place: usize) -> &[u8]
+        ensures { result.now ≡ places.pending_of (places.guest_at self.now.seats place) }
+    {
+        match guest_at(&self.seats, place) {
+            Some(guest) => guest.pending(),
+            None => &[],
+        }
+    }
+
+    /// Takes note that the socket of the client at a place took the first `count` of the pending bytes at this moment.
+    pub fn took(&mut self, place: usize, count: usize, now_ms: u64)
+        requires { count ≤ length (places.pending_of (places.guest_at self.old.seats place)) }
+        ensures { self.new ≡ record self.old { seats = places.took_at self.old.seats place count now_ms } }
+    {
+        took_at(&mut self.seats, place, count, now_ms)
+    }
+
+    /// Takes note of the moment: a client that has not moved on for 15 seconds is cut off, as [`Guest::tick`] says.
+    pub fn tick(&mut self, now_ms: u64)
+        ensures { self.new ≡ record self.old { seats = places.ticked now_ms self.old.seats } }
+    {
+        tick_all(&mut self.seats, now_ms)
+    }
+
+    /// Frees a place, as is to be done once the connection of its client is closed.
+    pub fn leave(&mut self, place: usize)
+        ensures { self.new ≡ record self.old { seats = slice_set self.old.seats place None } }
+    {
+        if place < self.seats.len() {
+            self.seats[place] = None;
+        }
+    }
+
+    /// The client at a place: whether its connection is closing, or is to be closed.
+    pub fn guest(&self, place: usize) -> Option<&Guest<B::Alloc>>
+        ensures { option_copied result ≡ places.guest_at self.now.seats place }
+    {
+        guest_at(&self.seats, place)
+    }
+}
+
+// Free places for this many clients.
+fn free_places<A: Allocator>(alloc: A, count: usize) -> Result<Vec<Seat<A>, A>, AllocError>
+    ensures { IfOk result (λ seats. seats.items ≡ replicate count None) }
+{
+    let mut seats = Vec::with_capacity(alloc, count)?;
+    for _place in 0..count {
+        seats.push(None)?;
+    }
+    Ok(seats)
+}

@@ -1,0 +1,88 @@
+//! What holds of every client of a live server, of its feed and of its record.
+//!
+//! Each function here does nothing: its clauses are the laws, over every list of calls. They do not say that a peer sends or takes
+//! anything, that it is served before another one, or how long anything takes.
+ghost use Rattle.std.specs.Prelude.{◌≡◌, ℕ, List, ◌∷◌, ◌++◌, true, length};
+ghost use Rattle.std.specs.List.{AllByRecursion};
+ghost use Rattle.itch_codec.specs.Fields.{AreBytes};
+ghost use Rattle.itch_market.specs.Content.{Content};
+ghost use Rattle.itch_market.specs.Wanted.{Wanted, has};
+ghost use Rattle.itch_join.specs.Rules.{rules_of, market_rules};
+ghost use Rattle.itch_snapshot.specs.Snapshot.{snap};
+ghost use Rattle.itch_soup.specs.declared.login.ServerConfig.{ServerConfig};
+ghost use Rattle.itch_live.specs.Guests.{Guest, whole};
+ghost use Rattle.itch_live.specs.Seats.{guest_at};
+ghost use Rattle.itch_live.specs.Stories.{Happening, Story, IsSentRight};
+ghost use Rattle.itch_live.specs.Follows.{Following};
+ghost use Rattle.itch_live.specs.Feeds.{Did, IsJoining, Followed, StandsJoined};
+ghost use Rattle.itch_live.specs.Records.{IsOneRecord, IsRecord};
+ghost use Rattle.itch_live.specs.Desks.{Desk, Event, History, sent_at};
+ghost use Rattle.itch_live.specs.Visits.{Visit, visit_at, IsVisit};
+ghost use Rattle.itch_live.specs.FeedDesks.{AreHonest, IsSentOfFeed, GoesOn};
+
+use itch_frame::CountedWrite;
+
+/// Whatever happens to a client, in whatever order, and however little its socket takes at a time: what it was sent is the
+/// beginning of nothing, of the rejection of its login, or of what answers its login with the snapshot of one market, which was
+/// handed in after the login had come.
+#[tactic(auto, using(crate::proofs::Stories::sent_right))]
+pub fn sent_in_order()
+    ensures { (config : ServerConfig) → (begun : ℕ) → (past : List Happening) → (g : Guest) → (sent : List ℕ) → Story config begun past g sent → IsSentRight config begun past sent }
+{}
+
+/// Over any number of connections to servers that send one feed and snapshots of it, cut into whatever pieces, and lost
+/// wherever: the joiner stands where the calls of this feed leave it, so the market is that of the feed's messages before the
+/// next one.
+pub fn market_of_the_feed<W: CountedWrite>()
+    ensures { (set : Wanted) → (cap : ℕ) → (feed : List (List ℕ)) → (begun : Following) → (past : List (Did W)) → (f : Following) → AllByRecursion AreBytes feed
+        → IsJoining set cap feed begun → Followed W.contents W.failures (rules_of (has set)) feed begun past f → StandsJoined set cap feed f }
+{}
+
+/// What becomes of a client at a desk, and what it is sent, is what would become of it alone: a call for another client is no
+/// part of its visit. And that alone decides what it is sent, at whichever desk and place.
+pub fn clients_apart<W: CountedWrite>()
+    ensures alone { (config : ServerConfig) → (begun : Following) → (past : List (Event W)) → (d : Desk) → (k : ℕ) → History W.contents W.failures config begun past d
+        → IsVisit config (visit_at k past) (guest_at d.seats k) (sent_at k past) }
+    ensures decides { (config : ServerConfig) → (begun start : Following) → (past other : List (Event W)) → (d e : Desk) → (k i : ℕ)
+        → History W.contents W.failures config begun past d → History W.contents W.failures config start other e
+        → visit_at k past ≡ visit_at i other → sent_at k past ≡ sent_at i other }
+{}
+
+/// The same markets are answered with the same bytes: it is their snapshot lists alone that count, which are equal exactly if
+/// the markets are the same.
+#[tactic(auto, using(crate::proofs::Same::same_bytes))]
+pub fn same_answers()
+    ensures { (m n : Content) → (next : ℕ) → (config : ServerConfig) → snap m ≡ snap n → whole m next config ≡ whole n next config }
+{}
+
+/// A desk's market never goes back: what was there when a login came is in each snapshot that is handed in after it.
+pub fn market_goes_on<W: CountedWrite>()
+    ensures { (config : ServerConfig) → (begun : Following) → (later : List (Event W)) → (at : Event W) → (before : List (Event W)) → (d : Desk)
+        → History W.contents W.failures config begun (later ++ at ∷ before) d → GoesOn at.before.following.joining.state.joined d.following.joining.state.joined }
+{}
+
+/// A desk has the places that it was made with, so there are never more clients, nor more snapshots kept for them, than those.
+pub fn places_stay<W: CountedWrite>()
+    ensures { (config : ServerConfig) → (begun : Following) → (later : List (Event W)) → (at : Event W) → (before : List (Event W)) → (d : Desk)
+        → History W.contents W.failures config begun (later ++ at ∷ before) d → length d.seats ≡ length at.before.seats }
+{}
+
+/// Where no message may wait out of order, and no write to the record fails, what is added to it are exactly the blocks of the
+/// feed's messages from the first one up to the one before the next, over any number of connections.
+pub fn record_of_the_feed<W: CountedWrite>()
+    ensures { (set : Wanted) → (feed : List (List ℕ)) → (begun : Following) → (past : List (Did W)) → (f : Following) → (record_begun record_now : W) → AllByRecursion AreBytes feed
+        → IsJoining set 0 feed begun → Followed W.contents W.failures (rules_of (has set)) feed begun past f → IsOneRecord record_begun past record_now
+        → IsRecord W.contents feed begun past record_begun f record_now }
+{}
+
+/// All of this of a desk whose follower is sent one feed: what a client was sent is the beginning of nothing, of the rejection
+/// of its login, or of the answer to it, which is the snapshot of the market after exactly the first n messages of the feed,
+/// the End of Snapshot with n + 1, and the end of the session, for an n at which the feed stood once the login had come.
+pub fn snapshots_of_the_feed<W: CountedWrite>()
+    ensures only { (set : Wanted) → (cap : ℕ) → (feed : List (List ℕ)) → (config : ServerConfig) → (begun : Following) → (past : List (Event W)) → (d : Desk) → (k : ℕ)
+        → AllByRecursion AreBytes feed → IsJoining set cap feed begun → History W.contents W.failures config begun past d → AreHonest (rules_of (has set)) feed past
+        → IsSentOfFeed (rules_of (has set)) feed config k past (sent_at k past) }
+    ensures market { (set : Wanted) → (cap : ℕ) → (feed : List (List ℕ)) → (config : ServerConfig) → (begun : Following) → (past : List (Event W)) → (d : Desk) → (k : ℕ)
+        → ((locate : ℕ) → has set locate ≡ true) → AllByRecursion AreBytes feed → IsJoining set cap feed begun → History W.contents W.failures config begun past d
+        → AreHonest market_rules feed past → IsSentOfFeed market_rules feed config k past (sent_at k past) }
+{}

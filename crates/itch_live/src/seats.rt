@@ -1,0 +1,126 @@
+//! The places of clients.
+ghost use Rattle.std.specs.Prelude.{◌≡◌, ℕ, ◌≤◌, length, MatchOption, OnOk, OnErr};
+ghost use Rattle.std.specs.List.{list_any};
+ghost use Rattle.std.specs.Option.{option_copied};
+ghost use Rattle.itch_live.specs.Seats as places;
+
+use crate::guest::Guest;
+use crate::shot::Shot;
+use std::alloc::{AllocError, Allocator};
+
+/// A free place, or one with a client.
+pub(crate) type Seat<A> = Option<Guest<A>>;
+
+/// The first free place.
+pub(crate) fn free_place<A: Allocator>(seats: &[Seat<A>]) -> Option<usize>
+    ensures { MatchOption result (places.AreTaken seats.now) (places.IsFree seats.now) }
+{
+    for place in 0..seats.len() {
+        if seats[place].is_none() {
+            return Some(place);
+        }
+    }
+    None
+}
+
+/// The client at a place.
+pub(crate) fn guest_at<A: Allocator>(seats: &[Seat<A>], place: usize) -> Option<&Guest<A>>
+    ensures { option_copied result ≡ places.guest_at seats.now place }
+{
+    match seats.get(place) {
+        Some(seat) => seat.as_ref(),
+        None => None,
+    }
+}
+
+/// The client at a place hears bytes of a piece, and takes so many of them.
+pub(crate) fn hear_at<A: Allocator>(
+    seats: &mut [Seat<A>],
+    place: usize,
+    piece: &[u8],
+    now_ms: u64,
+) -> usize
+    ensures { places.HearsAt seats.old place piece.now now_ms result seats.new }
+{
+    if place < seats.len() {
+        if let Some(guest) = &mut seats[place] {
+            return guest.hear(piece, now_ms);
+        }
+    }
+    piece.len()
+}
+
+/// The socket of the client at a place took the next bytes.
+pub(crate) fn took_at<A: Allocator>(seats: &mut [Seat<A>], place: usize, count: usize, now_ms: u64)
+    requires { count ≤ length (places.pending_of (places.guest_at seats.old place)) }
+    ensures { seats.new ≡ places.took_at seats.old place count now_ms }
+{
+    if place < seats.len() {
+        if let Some(guest) = &mut seats[place] {
+            guest.took(count, now_ms);
+        }
+    }
+}
+
+/// Each client is told the moment.
+pub(crate) fn tick_all<A: Allocator>(seats: &mut [Seat<A>], now_ms: u64)
+    ensures { seats.new ≡ places.ticked now_ms seats.old }
+{
+    for place in 0..seats.len() {
+        tick_one(&mut seats[place], now_ms);
+    }
+}
+
+fn tick_one<A: Allocator>(seat: &mut Seat<A>, now_ms: u64)
+    ensures { seat.new ≡ places.ticked_seat now_ms seat.old }
+{
+    if let Some(guest) = seat {
+        guest.tick(now_ms);
+    }
+}
+
+/// Whether some client waits.
+pub(crate) fn any_waits<A: Allocator>(seats: &[Seat<A>]) -> bool
+    ensures { result ≡ list_any places.waits seats.now }
+{
+    seats.iter().any(|seat| waits(seat))
+}
+
+fn waits<A: Allocator>(seat: &Seat<A>) -> bool
+    ensures { result ≡ places.waits seat.now }
+{
+    match seat {
+        Some(guest) => guest.is_waiting(),
+        None => false,
+    }
+}
+
+/// Those who wait are answered. Where an `Rc` can have no more owners, the rest go on waiting.
+pub(crate) fn answer_all<A: Allocator>(
+    seats: &mut [Seat<A>],
+    shot: &Shot<A>,
+    now_ms: u64,
+) -> Result<(), AllocError>
+    ensures { (count : ℕ) × OnOk result (length seats.old ≤ count) × (seats.new ≡ places.answered shot.now.value.items now_ms count seats.old) }
+{
+    for place in 0..seats.len() {
+        answer_one(&mut seats[place], shot, now_ms)?;
+    }
+    Ok(())
+}
+
+fn answer_one<A: Allocator>(
+    seat: &mut Seat<A>,
+    shot: &Shot<A>,
+    now_ms: u64,
+) -> Result<(), AllocError>
+    ensures ok { OnOk result (seat.new ≡ places.answered_seat shot.now.value.items now_ms seat.old) }
+    ensures err { OnErr result (seat.new ≡ seat.old) }
+{
+    if let Some(guest) = seat {
+        if guest.is_waiting() {
+            guest.answer(shot.clone()?, now_ms);
+        }
+    }
+    Ok(())
+}

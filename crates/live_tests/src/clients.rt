@@ -1,0 +1,179 @@
+//! Clients: what each is sent, beside the others, and when it is cut off.
+use crate::messages::{
+    AAPL, ACCEPTED_1, ADD_1, ADD_2, CLIENT_HEARTBEAT, END_3, EVENT, FEED_FROM_1, LOGIN, LOGIN_2,
+    LOGIN_BLANK, LOGIN_OTHER, LOGIN_WRONG, LOGOUT, REFUSED_SESSION, REFUSED_USER, SNAPSHOT_2,
+    SNAPSHOT_4,
+};
+use crate::steps::{Brought, Standing, Step, check};
+use itch_book::IndexedBook;
+use itch_live::laws;
+use std::alloc::Global;
+use std::test::Fail;
+
+type Index = IndexedBook<Global>;
+
+// Two messages of the feed come, and a client; two more come, and another. Each is sent the snapshot of its moment.
+const TWO_CLIENTS: &[Step<'static>] = &[
+    Step::Connect(FEED_FROM_1),
+    Step::Feed(ACCEPTED_1, Brought::Accepted(1)),
+    Step::Feed(EVENT, Brought::Taken(2)),
+    Step::Feed(AAPL, Brought::Taken(3)),
+    Step::Admit(Some(0)),
+    Step::Admit(Some(1)),
+    Step::Admit(None),
+    Step::Answer,
+    Step::Pending(0, b""),
+    Step::Hear(0, CLIENT_HEARTBEAT),
+    Step::Hear(0, LOGIN),
+    Step::Pending(0, b""),
+    Step::Answer,
+    Step::Pending(0, SNAPSHOT_2),
+    Step::Pending(1, b""),
+    Step::Feed(ADD_1, Brought::Taken(4)),
+    Step::Feed(ADD_2, Brought::Taken(5)),
+    Step::Hear(1, LOGIN_BLANK),
+    Step::Answer,
+    Step::Pending(1, SNAPSHOT_4),
+    Step::Pending(0, SNAPSHOT_2),
+    Step::Take(0, 33),
+    Step::Pending(
+        0,
+        b"\0\x0dSS\0\0\0\0\0\0\0\0\0\0O\
+        \0\x28SR\0\x01\0\0\0\0\0\0\0\0AAPL    QN\0\0\0dNCZ PNN1N\0\0\0\0N\
+        \0\x16SG                   3\0\x01Z",
+    ),
+    Step::Hear(0, LOGOUT),
+    Step::Stands(0, Standing::Gone),
+    Step::Pending(0, b""),
+    Step::Stands(1, Standing::There),
+    Step::Leave(0),
+    Step::Stands(0, Standing::Free),
+    Step::Hear(0, LOGIN),
+    Step::Admit(Some(0)),
+    Step::Take(1, 195),
+    Step::Pending(1, b""),
+    Step::Stands(1, Standing::Closing),
+    Step::Hear(1, CLIENT_HEARTBEAT),
+    Step::Hear(1, LOGIN),
+    Step::Stands(1, Standing::Closing),
+    Step::Leave(1),
+    Step::Stands(1, Standing::Free),
+    Step::Stands(0, Standing::There),
+];
+
+#[test]
+fn two_clients(rt: HostRuntime) -> Result<(), Fail> {
+    check::<Index>(&rt, rt.alloc(), rt.alloc(), false, TWO_CLIENTS)
+}
+
+// A login waits until there is a market.
+const EARLY: &[Step<'static>] = &[
+    Step::Admit(Some(0)),
+    Step::Hear(0, LOGIN),
+    Step::Answer,
+    Step::Pending(0, b""),
+    Step::Connect(FEED_FROM_1),
+    Step::Feed(ACCEPTED_1, Brought::Accepted(1)),
+    Step::Feed(EVENT, Brought::Nothing),
+    Step::Feed(AAPL, Brought::Nothing),
+    Step::Answer,
+    Step::Pending(0, b""),
+    Step::Feed(END_3, Brought::Joined(3)),
+    Step::Answer,
+    Step::Pending(0, SNAPSHOT_2),
+];
+
+#[test]
+fn before_the_market(rt: HostRuntime) -> Result<(), Fail> {
+    check::<Index>(&rt, rt.alloc(), rt.alloc(), true, EARLY)
+}
+
+// A login that is refused is told so, whatever follows it, and what is no login cuts off.
+const REFUSED: &[Step<'static>] = &[
+    Step::Admit(Some(0)),
+    Step::Hear(0, LOGIN_WRONG),
+    Step::Hear(0, CLIENT_HEARTBEAT),
+    Step::Answer,
+    Step::Pending(0, REFUSED_USER),
+    Step::Take(0, 4),
+    Step::Stands(0, Standing::Closing),
+    Step::Leave(0),
+    Step::Admit(Some(0)),
+    Step::Hear(0, LOGIN_2),
+    Step::Answer,
+    Step::Pending(0, REFUSED_SESSION),
+    Step::Admit(Some(1)),
+    Step::Hear(1, LOGIN_OTHER),
+    Step::Pending(1, REFUSED_SESSION),
+    Step::Leave(1),
+    Step::Admit(Some(1)),
+    Step::Hear(1, b"\0\x01Q"),
+    Step::Stands(1, Standing::Gone),
+    Step::Leave(1),
+    Step::Admit(Some(1)),
+    Step::Hear(1, LOGIN),
+    Step::Hear(1, LOGIN),
+    Step::Stands(1, Standing::Gone),
+    Step::Answer,
+    Step::Pending(1, b""),
+    Step::Leave(1),
+    Step::Admit(Some(1)),
+    Step::Hear(1, LOGOUT),
+    Step::Stands(1, Standing::Gone),
+    Step::Pending(0, REFUSED_SESSION),
+];
+
+#[test]
+fn refused(rt: HostRuntime) -> Result<(), Fail> {
+    check::<Index>(&rt, rt.alloc(), rt.alloc(), false, REFUSED)
+}
+
+// 15 seconds without a word before the login, without taking the answer, and after the last byte of it. Heartbeats do not help one
+// that takes nothing, nor does a byte now and then.
+const CUT_OFF: &[Step<'static>] = &[
+    Step::Admit(Some(0)),
+    Step::Admit(Some(1)),
+    Step::At(14_000),
+    Step::Hear(1, LOGIN),
+    Step::At(14_999),
+    Step::Tick,
+    Step::Stands(0, Standing::There),
+    Step::At(15_000),
+    Step::Tick,
+    Step::Stands(0, Standing::Gone),
+    Step::Leave(0),
+    Step::Answer,
+    Step::At(29_999),
+    Step::Tick,
+    Step::Stands(1, Standing::There),
+    Step::Take(1, 1),
+    Step::Hear(1, CLIENT_HEARTBEAT),
+    Step::At(30_000),
+    Step::Tick,
+    Step::Stands(1, Standing::Gone),
+    Step::Leave(1),
+    Step::Admit(Some(0)),
+    Step::Hear(0, LOGIN),
+    Step::Answer,
+    Step::At(40_000),
+    Step::Take(0, 60),
+    Step::Stands(0, Standing::Closing),
+    Step::At(54_999),
+    Step::Hear(0, CLIENT_HEARTBEAT),
+    Step::Tick,
+    Step::Stands(0, Standing::Closing),
+    Step::At(55_000),
+    Step::Tick,
+    Step::Stands(0, Standing::Gone),
+];
+
+#[test]
+fn cut_off(rt: HostRuntime) -> Result<(), Fail> {
+    check::<Index>(&rt, rt.alloc(), rt.alloc(), false, CUT_OFF)
+}
+
+#[test]
+fn the_laws() {
+    laws::sent_in_order();
+    laws::same_answers();
+}
