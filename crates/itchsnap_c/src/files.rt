@@ -6,10 +6,9 @@ ghost use Rattle.itch_market.specs.Partial.{only};
 
 use crate::answers::{Comparison, Outcome, Written};
 use crate::codes::{OUT_OF_MEMORY, UNREAD, stop_answer};
-use crate::object::Book;
 use crate::slice::SliceReader;
 use crate::snapshots::{put_partial, put_whole};
-use itch_commands::{Limit, Source, ToolFault, read_market};
+use itch_commands::{Book, Limit, Source, ToolFault, read_market};
 use itch_frame::BlockReader;
 use itch_market::Market;
 use itch_snapshot::part_place;
@@ -17,6 +16,9 @@ use std::alloc::Global;
 
 /// A file has fewer messages than are wanted.
 const SHORT: u32 = 37;
+
+/// The market of a day file, which is looked at once all messages are read.
+type DayMarket = Market<Book<Global>>;
 
 /// The number that means all messages of a file.
 const ALL: u64 = u64::MAX;
@@ -26,7 +28,7 @@ const ALL: u64 = u64::MAX;
 pub extern "C" fn itchsnap_check(alloc: Global, day: &[u8]) -> Outcome
     ensures { Checks day.now result }
 {
-    match read_day(alloc, day, None) {
+    match read_messages(alloc, day, None) {
         Ok((_market, count)) => outcome(count, 0, 0, 0),
         Err(outcome) => outcome,
     }
@@ -78,8 +80,18 @@ pub extern "C" fn itchsnap_compare(alloc: Global, first: &[u8], second: &[u8]) -
     }
 }
 
-// The market of the messages of a day file, or of its first ones, and how many there are.
-fn read_day(alloc: Global, day: &[u8], after: Option<u64>) -> Result<(Market<Book>, u64), Outcome>
+// The market of the messages of a day file, or of its first ones, and how many there are. It is settled.
+fn read_day(alloc: Global, day: &[u8], after: Option<u64>) -> Result<(DayMarket, u64), Outcome>
+    ensures read { IfOk result (λ done. ReadsDay day.now after done.0 done.1) }
+    ensures refused { IfErr result (λ outcome. RefusesDay day.now after outcome) }
+{
+    let (mut market, count) = read_messages(alloc, day, after)?;
+    market.settle();
+    Ok((market, count))
+}
+
+// The same, not settled.
+fn read_messages(alloc: Global, day: &[u8], after: Option<u64>) -> Result<(DayMarket, u64), Outcome>
     ensures read { IfOk result (λ done. ReadsDay day.now after done.0 done.1) }
     ensures refused { IfErr result (λ outcome. RefusesDay day.now after outcome) }
 {

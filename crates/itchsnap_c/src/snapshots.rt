@@ -10,7 +10,7 @@ ghost use Rattle.itchsnap_c.specs.Snapshots.{is_listed, Closes, Copies, Puts, Pu
 use crate::answers::Written;
 use crate::codes::{NO_NUMBER, NO_ROOM, OUT_OF_MEMORY, TOO_MANY_MESSAGES, WRONG_HANDLE};
 use crate::handle::Handle;
-use crate::object::Book;
+use itch_book::OrderBook;
 use itch_codec::{MOST_MESSAGES, Seq};
 use itch_frame::Counted;
 use itch_market::{LocateSet, Market};
@@ -54,16 +54,21 @@ pub extern "C" fn itchsnap_snapshot_only(
 }
 
 /// Writes the snapshot of a market.
-pub(crate) fn put_whole(alloc: Global, market: &Market<Book>, next: u64, out: &mut [u8]) -> Written
+pub(crate) fn put_whole<B: OrderBook>(
+    alloc: Global,
+    market: &Market<B>,
+    next: u64,
+    out: &mut [u8],
+) -> Written
     ensures { Puts market.now market.now next out.old result out.new }
 {
     put(&whole_bytes(alloc, market, next), out)
 }
 
 /// Writes the snapshot of a market cut down to the locates of a list.
-pub(crate) fn put_partial(
+pub(crate) fn put_partial<B: OrderBook>(
     alloc: Global,
-    market: &Market<Book>,
+    market: &Market<B>,
     next: u64,
     locates: &[u16],
     out: &mut [u8],
@@ -74,7 +79,7 @@ pub(crate) fn put_partial(
 }
 
 // The snapshot of a market, closed with this number, or the code of why there is none.
-fn whole_bytes(alloc: Global, market: &Market<Book>, next: u64) -> Result<Vec<u8>, u32>
+fn whole_bytes<B: OrderBook>(alloc: Global, market: &Market<B>, next: u64) -> Result<Vec<u8>, u32>
     ensures { Spells market.now market.now next result }
 {
     let next = closing_number(market, next)?;
@@ -84,9 +89,9 @@ fn whole_bytes(alloc: Global, market: &Market<Book>, next: u64) -> Result<Vec<u8
 }
 
 // The same of the market cut down to the locates of a list.
-fn partial_bytes(
+fn partial_bytes<B: OrderBook>(
     alloc: Global,
-    market: &Market<Book>,
+    market: &Market<B>,
     next: u64,
     locates: &[u16],
 ) -> Result<Vec<u8>, u32>
@@ -100,9 +105,9 @@ fn partial_bytes(
 }
 
 // The same of the market cut down to a set.
-fn cut_bytes(
+fn cut_bytes<B: OrderBook>(
     alloc: Global,
-    market: &Market<Book>,
+    market: &Market<B>,
     set: &LocateSet<Global>,
     next: Seq,
 ) -> Result<Vec<u8>, u32>
@@ -116,7 +121,7 @@ fn cut_bytes(
 }
 
 // The number that closes the snapshot of a market, or the code of why there is none.
-fn closing_number(market: &Market<Book>, next: u64) -> Result<Seq, u32>
+fn closing_number<B: OrderBook>(market: &Market<B>, next: u64) -> Result<Seq, u32>
     ensures { Closes market.now next result }
 {
     let next = Seq::new(next).ok_or(NO_NUMBER)?;

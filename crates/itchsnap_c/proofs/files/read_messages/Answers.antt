@@ -5,7 +5,7 @@ use Rattle.itch_commands.specs.declared.fault.Source.TheVariants.{Only}
 use Rattle.itch_commands.proofs.DayReadings.{read_done}
 use Rattle.itchsnap_c.specs.Files.{RefusesDay}
 use Rattle.itchsnap_c.proofs.Days.{day_refused}
-use Rattle.itchsnap_c.proofs.files.read_day.Goals as goal
+use Rattle.itchsnap_c.proofs.files.read_messages.Goals as goal
 
 pub returns-in-Ok-read_market-clause-read : goal.returns-in-Ok-read_market-clause-read
 returns-in-Ok-read_market-clause-read c =
