@@ -66,7 +66,7 @@ pub(crate) fn put_whole<B: OrderBook>(
 }
 
 /// Writes the snapshot of a market cut down to the locates of a list.
-pub(crate) fn put_partial<B: OrderBook>(
+pub(crate) fn put_partial<B: OrderBook<Alloc = Global>>(
     alloc: Global,
     market: &Market<B>,
     next: u64,
@@ -89,7 +89,7 @@ fn whole_bytes<B: OrderBook>(alloc: Global, market: &Market<B>, next: u64) -> Re
 }
 
 // The same of the market cut down to the locates of a list.
-fn partial_bytes<B: OrderBook>(
+fn partial_bytes<B: OrderBook<Alloc = Global>>(
     alloc: Global,
     market: &Market<B>,
     next: u64,
@@ -105,7 +105,7 @@ fn partial_bytes<B: OrderBook>(
 }
 
 // The same of the market cut down to a set.
-fn cut_bytes<B: OrderBook>(
+fn cut_bytes<B: OrderBook<Alloc = Global>>(
     alloc: Global,
     market: &Market<B>,
     set: &LocateSet<Global>,

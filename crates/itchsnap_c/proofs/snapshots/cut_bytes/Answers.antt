@@ -4,4 +4,4 @@ use Rattle.itchsnap_c.proofs.Days.{cut_shorter}
 use Rattle.itchsnap_c.proofs.snapshots.cut_bytes.Goals as goal
 
 pub write_partial-requires : goal.write_partial-requires
-write_partial-requires c = omega (arith, c.requires, cut_shorter (has c.args.set.now) c.args.market.now)
+write_partial-requires g c = omega (arith, c.requires, cut_shorter (has c.args.set.now) c.args.market.now)
