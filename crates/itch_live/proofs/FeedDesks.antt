@@ -1,5 +1,5 @@
 -- What the clients of a desk are sent, where what follows the feed is sent one feed.
-use Rattle.std.proofs.Common.{◌≡◌, ℕ, ◌-◌, ◌==◌, ◌++◌, nat_lt, Bool, true, false, if◌then◌else◌, List, [], ◌∷◌, take, Option, None, Some, Ok, Err, refl, sym, ap, subst, ◌∙◌, inl, inr, append-nil}
+use Rattle.std.proofs.Common.{◌≡◌, ℕ, ◌-◌, ◌==◌, ◌++◌, nat_lt, Bool, true, false, if◌then◌else◌, List, [], ◌∷◌, take, Option, None, Some, Ok, Err, refl, sym, ap, subst, ◌∙◌, inl, inr, append-nil, ◌&&◌, is_some}
 use Rattle.std.specs.List.{AllByRecursion}
 use Rattle.itch_codec.specs.Fields.{AreBytes}
 use Rattle.itch_frame.specs.declared.tally.Failures.{Failures}
@@ -17,7 +17,7 @@ use Rattle.itch_live.specs.Follows.{Following}
 use Rattle.itch_live.specs.Feeds.{Followed, IsJoining}
 use Rattle.itch_live.specs.Stories as stories
 use Rattle.itch_live.specs.Stories.{Happening, Story, IsAnswer, IsTold, IsSentRight}
-use Rattle.itch_live.specs.Desks.{Desk, answered_with, Call, Feeds, Admits, Hears, Answers, Takes, Ticks, Leaves, Event, Step, History, sent_at}
+use Rattle.itch_live.specs.Desks.{Desk, shot_for, with_shot, answered_with, Call, Feeds, Admits, Hears, Answers, Takes, Ticks, Leaves, Event, Step, History, sent_at}
 use Rattle.itch_live.specs.Visits.{Visit, with, answers, visit_by, visit_at, IsVisit}
 use Rattle.itch_live.specs.FeedDesks.{fed_by, fed, IsHonestCall, AreHonest, IsFeedAnswer, IsToldOfFeed, IsSentOfFeed}
 use Rattle.itch_live.proofs.Feeds.{joining, stands_joined, positive_next}
@@ -164,10 +164,15 @@ module _ {W : Type 0} (k : ℕ) where
       leaves true sees = absurd (subst IsSeen (sym sees) tt)
       leaves false sees = on (visit_at k past) refl sees
 
-      handing : (at count : ℕ) (o : Option Position) (b : Bool) → x.call ≡ Answers at count → x.before.following.joining.state.joined ≡ o → answers o b at (visit_at k past) ≡ Some v → Came (x ∷ past) v.begun
+      handed_if : (at count : ℕ) (j : Position) (b : Bool) → x.call ≡ Answers at count → x.before.following.joining.state.joined ≡ Some j
+          → (if b then with (stories.Answers j.market j.next at) (visit_at k past) else visit_at k past) ≡ Some v → Came (x ∷ past) v.begun
+      handed_if at count j false call there sees = on (visit_at k past) refl sees
+      handed_if at count j true call there sees = handed_in x past at count j later v (visit_at k past) call there refl so_far sees place
+
+      handing : (at count : ℕ) (o : Option Position) (b : Bool) → x.call ≡ Answers at count → x.before.following.joining.state.joined ≡ o → answers o x.before b at (visit_at k past) ≡ Some v
+          → Came (x ∷ past) v.begun
       handing at count None b call there sees = on (visit_at k past) refl sees
-      handing at count (Some j) false call there sees = on (visit_at k past) refl sees
-      handing at count (Some j) true call there sees = handed_in x past at count j later v (visit_at k past) call there refl so_far sees place
+      handing at count (Some j) b call there sees = handed_if at count j (is_some (shot_for x.before.config x.before.seats j.market j.next) && b) call there sees
 
       cases : (call : Call W) → x.call ≡ call → visit_by call x.before k (visit_at k past) ≡ Some v → Came (x ∷ past) v.begun
       cases (Feeds did) is sees = on (visit_at k past) refl sees
@@ -209,7 +214,10 @@ module _ {W : Type 0} (contents : W → Option (List ℕ)) (failures : W → Fai
 
     answered_same : (o : Option Position) (count now : ℕ) → (answered_with o x.before count now).following ≡ x.before.following
     answered_same None count now = refl
-    answered_same (Some j) count now = refl
+    answered_same (Some j) count now = by_shot (shot_for x.before.config x.before.seats j.market j.next) where
+      by_shot : (shot : Option (List ℕ)) → (with_shot shot x.before j.next count now).following ≡ x.before.following
+      by_shot None = refl
+      by_shot (Some bytes) = refl
 
     by_call : (call : Call W) → Step contents failures x.before call d → IsHonestCall R feed x.before call → Led R feed past x.before.following → Followed contents failures R feed begun (fed_by call (fed past)) d.following
     by_call (Feeds did) (f, does, is) honest led =

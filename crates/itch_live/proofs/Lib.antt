@@ -6,8 +6,15 @@ pub mod OneStory
 pub mod Same
 pub mod Feeds
 pub mod Recorded
+pub mod Played
+pub mod PlayedFile
 pub mod Places
 pub mod Handing
+pub mod Shutting
+pub mod Seated
+pub mod Present
+pub mod Eight
+pub mod Memories
 pub mod Visits
 pub mod OneVisit
 pub mod FeedDesks

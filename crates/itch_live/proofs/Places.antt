@@ -1,8 +1,8 @@
 -- The client at a place after a change.
-use Rattle.std.proofs.Common.{◌≡◌, ℕ, ◌-◌, ◌<◌, ◌≤◌, ◌++◌, nat_lt, Bool, true, false, cond, List, [], ◌∷◌, length, map, take, drop, min, ◌+◌, ◌||◌, if◌then◌else◌, length-append, length-drop, Option, None, Some, refl, sym, ap, ◌∙◌, subst, arith, get_or, replicate}
+use Rattle.std.proofs.Common.{◌≡◌, ℕ, ◌-◌, ◌<◌, ◌≤◌, ◌++◌, nat_lt, Bool, true, false, cond, List, [], ◌∷◌, length, map, take, drop, min, ◌+◌, ◌||◌, if◌then◌else◌, length-append, length-drop, Option, None, Some, refl, sym, ap, ◌∙◌, subst, arith, get_or, replicate, set, ◌==◌, ◌⊎◌, inl, inr}
 use Rattle.std.specs.List.{list_any}
-use Rattle.std.proofs.lemmas.Bool.{ltb-true, ltb-false}
-use Rattle.std.proofs.lemmas.List.{get_or_past, get_or-append_right, get_or_append_left, get_or-take, get_or-drop, length-take, length-map, get_or-map, get_or-replicate, length-replicate}
+use Rattle.std.proofs.lemmas.Bool.{ltb-true, ltb-false, eqb-true, eqb-false}
+use Rattle.std.proofs.lemmas.List.{get_or_past, get_or-append_right, get_or_append_left, get_or-take, get_or-drop, length-take, length-map, get_or-map, get_or-replicate, length-replicate, get_or-set_same, get_or-set_other, length-set}
 use Rattle.itch_live.specs.Guests.{Guest, is_waiting, answered}
 use Rattle.itch_live.specs.Seats.{Seats, guest_at, waits, answered_seat}
 
@@ -10,7 +10,7 @@ abbrev pub IsNobody : Option Guest → Type 0
 IsNobody None = Unit {0}
 IsNobody (Some g) = ⊥
 
-no_guest : {g : Guest} → None ≡ Some g → ⊥
+pub no_guest : {g : Guest} → None ≡ Some g → ⊥
 no_guest {g} h = subst IsNobody h tt
 
 -- a place with a client exists
@@ -59,12 +59,12 @@ at_first f seats count place none = by_tests (nat_lt place count) (nat_lt place 
         either false is = sym is
 
 -- where none waits nothing changes
-pub none_answered : (bytes : List ℕ) (now : ℕ) (seats : Seats) → list_any waits seats ≡ false → map (answered_seat bytes now) seats ≡ seats
-none_answered bytes now [] none = refl
-none_answered bytes now (None ∷ seats) none = ap (λ s. None ∷ s) (none_answered bytes now seats none)
-none_answered bytes now (Some g ∷ seats) none =
-    ap (λ x. Some x ∷ map (answered_seat bytes now) seats) (one (is_waiting g) g (answered g bytes now) (list_any waits seats) none)
-    ∙ ap (λ s. Some g ∷ s) (none_answered bytes now seats (rest (is_waiting g) (list_any waits seats) none)) where
+pub none_answered : (bytes : List ℕ) (next now : ℕ) (seats : Seats) → list_any waits seats ≡ false → map (answered_seat bytes next now) seats ≡ seats
+none_answered bytes next now [] none = refl
+none_answered bytes next now (None ∷ seats) none = ap (λ s. None ∷ s) (none_answered bytes next now seats none)
+none_answered bytes next now (Some g ∷ seats) none =
+    ap (λ x. Some x ∷ map (answered_seat bytes next now) seats) (one (is_waiting g) g (answered g bytes next now) (list_any waits seats) none)
+    ∙ ap (λ s. Some g ∷ s) (none_answered bytes next now seats (rest (is_waiting g) (list_any waits seats) none)) where
       one : (b : Bool) (g h : Guest) (more : Bool) → (b || more) ≡ false → (if b then h else g) ≡ g
       one true g h more none = absurd (cc)
       one false g h more none = refl
@@ -81,3 +81,15 @@ none_seated count place = by_test (nat_lt place count) refl where
   by_test false h =
       let past = ltb-false place count h in
       get_or_past (replicate count None) place None (subst (λ n. n ≤ place) (sym (length-replicate count None)) past)
+
+-- at another place, or at this one
+pub set_cases : (seats : Seats) (place k : ℕ) (seat : Option Guest) (g : Guest) → guest_at (set seats place seat) k ≡ Some g → (seat ≡ Some g) ⊎ (guest_at seats k ≡ Some g)
+set_cases seats place k seat g there = by_tests (place == k) (nat_lt place (length seats)) refl refl where
+  by_tests : (here inside : Bool) → (place == k) ≡ here → nat_lt place (length seats) ≡ inside → (seat ≡ Some g) ⊎ (guest_at seats k ≡ Some g)
+  by_tests false inside elsewhere i = inr (sym (get_or-set_other seats place k seat None (λ same. eqb-false place k elsewhere (sym same))) ∙ there)
+  by_tests true true here i =
+      inl (sym (get_or-set_same seats place seat None (ltb-true place (length seats) i)) ∙ ap (λ n. guest_at (set seats place seat) n) (eqb-true place k here) ∙ there)
+  by_tests true false here i =
+      let past : length seats ≤ k = subst (λ n. length seats ≤ n) (eqb-true place k here) (ltb-false place (length seats) i) in
+      let beyond : length (set seats place seat) ≤ k = omega (arith, past, length-set seats place seat) in
+      absurd (no_guest (sym (get_or_past (set seats place seat) k None beyond) ∙ there))

@@ -197,7 +197,7 @@ module _ {W : Type 0} where
   first_joined (Some j) did past n h joins = absurd (cc)
 
 -- one message more
-between_more : (number next : ℕ) (feed : List (List ℕ)) (p : List ℕ) → 0 < number → number ≤ next → slice_get feed (next - 1) ≡ Some p → between number (next + 1) feed ≡ between number next feed ++ p ∷ []
+pub between_more : (number next : ℕ) (feed : List (List ℕ)) (p : List ℕ) → 0 < number → number ≤ next → slice_get feed (next - 1) ≡ Some p → between number (next + 1) feed ≡ between number next feed ++ p ∷ []
 between_more number next feed p some low there =
     let within = slice_get_within feed (next - 1) p there in
     let inside : next - number < length (drop (number - 1) feed) = omega (arith, length-drop (number - 1) feed) in
@@ -207,7 +207,7 @@ between_more number next feed p some low there =
     ∙ ap (λ x. take (next - number) (drop (number - 1) feed) ++ x ∷ [])
     (get_or-drop (number - 1) feed (next - number) p ∙ ap (λ n. get_or feed n p) at ∙ get_or_from_slice_get feed (next - 1) p p there)
 
-between_none : (n : ℕ) (feed : List (List ℕ)) → between n n feed ≡ []
+pub between_none : (n : ℕ) (feed : List (List ℕ)) → between n n feed ≡ []
 between_none n feed = let none : n - n ≡ 0 = omega arith in ap (λ k. take k (drop (n - 1) feed)) none
 
 appends_nothing : (o : Option (List ℕ)) → Appends o o []
@@ -326,8 +326,10 @@ module _ {W : Type 0} (contents : W → Option (List ℕ)) (failures : W → Fai
 
   heard : (past : List (Did W)) (piece : List ℕ) (now : ℕ) (result : ℕ × News) (old new : W) (f g : Following) → HearsFeed contents failures f piece now old result new g
       → IsHonest {W = W} R feed f (Hears piece now result old new) → IsJoining set 0 feed f → IsWritten result.1 → Kept past f old → Kept (Hears piece now result old new ∷ past) g new
-  heard past piece now result old new f g (held, took, inl (payload, block, (answer, named, means, acts, pins), login, from, none)) honest j written k =
-      acted past piece now result old new f g f.source answer refl acts (honest held payload answer named g.session took block means) j written k
+  heard past piece now result old new f g (held, took, inl (payload, block, (answer, named, t, means, inl (other, (says, shut, same, still))), login, from, none)) honest j written k =
+      unchanged past (Hears piece now result old new) f g old new (ap (λ (x : News × Option (List ℕ)). joined_in x.0) says) same (ap (λ x. x.state.joined) still) k
+  heard past piece now result old new f g (held, took, inl (payload, block, (answer, named, t, means, inr (own, goes, (acts, pins))), login, from, none)) honest j written k =
+      acted past piece now result old new f g f.source answer refl acts (honest held payload answer named t took block means) j written k
   heard past piece now result old new f g (held, took, inr (none, said, same, is)) honest j written k =
       unchanged past (Hears piece now result old new) f g old new (ap joined_in said) same (ap (λ x. x.joining.state.joined) is) k
 

@@ -23,12 +23,34 @@ use Rattle.itch_live.specs.declared.news.News.{News}
 use Rattle.itch_live.specs.Follows.{Following, ActsOn}
 use Rattle.itch_live.specs.Feeds.{Did, Connects, Ticks, Hears, Does}
 use Rattle.itch_live.specs.Desks as desks
-use Rattle.itch_live.specs.Desks.{Desk, answered_with, Call, Event, History}
+use Rattle.itch_live.specs.Desks.{Desk, shot_for, with_shot, answered_with, Call, Event, History}
 use Rattle.itch_live.specs.FeedDesks.{GoesOn}
 
-same_position : (o o' : Option Position) → o' ≡ o → GoesOn o o'
-same_position None o' same = tt
-same_position (Some i) o' same = subst (GoesOn (Some i)) (sym same) (omega arith)
+-- what holds of the position then: it is of no fewer messages, and the same one if it is of as many
+pub record Advanced (was : Position) (o : Option Position) : Type 0 where
+  pub position : Position
+  pub is : o ≡ Some position
+  pub up : was.next ≤ position.next
+  pub still : was.next ≡ position.next → position ≡ was
+
+abbrev pub Advances : Option Position → Option Position → Type 0
+Advances o p = (was : Position) → o ≡ Some was → Advanced was p
+
+same_position : (o p : Option Position) → p ≡ o → Advances o p
+same_position o p same = λ was there. record { position = was; is = same ∙ there; up = omega arith; still = λ h. refl }
+
+none_some : {j : Position} → None ≡ Some j → ⊥
+none_some {j} h = cc
+
+from_none : (o p : Option Position) → o ≡ None → Advances o p
+from_none o p none = λ was there. absurd (none_some (sym none ∙ there))
+
+advanced_on : (was : Position) (p : Option Position) → Advanced was p → GoesOn (Some was) p
+advanced_on was p a = subst (GoesOn (Some was)) (sym a.is) a.up
+
+goes_of : (o p : Option Position) → Advances o p → GoesOn o p
+goes_of None p advances = tt
+goes_of (Some was) p advances = advanced_on was p (advances was refl)
 
 after_both : (o p q : Option Position) → GoesOn o p → GoesOn p q → GoesOn o q
 after_both None p q first second = tt
@@ -36,22 +58,33 @@ after_both (Some i) None q first second = absurd first
 after_both (Some i) (Some j) None first second = absurd second
 after_both (Some i) (Some j) (Some k) first second = omega arith
 
-from_none : (o o' : Option Position) → o ≡ None → GoesOn o o'
-from_none o o' none = subst (λ p. GoesOn p o') (sym none) tt
-
 module _ (R : Rules) where
   rises : (a b : Front) (hand : Option (List ℕ)) (ps : List (List ℕ)) (ending : Result (Unit {0}) Stopped) → Applies R a hand ps ending b → a.next ≤ b.next
   rises a b hand [] ending (ends, same) = let e = ap (λ (f : Front). f.next) same in omega arith
   rises a b hand (p ∷ ps) ending (there, none, rest) = let more = rises (advanced R a p) b (at_hand (advanced R a p)) ps ending rest in omega arith
 
-  next_rises : (s now : State) (number : ℕ) (payload : List ℕ) (result : Result Live JoinFault) (o : Option Position) → s.joined ≡ o → NextBy R s number payload o result now → GoesOn s.joined now.joined
+  rests : (a b : Front) (hand : Option (List ℕ)) (ps : List (List ℕ)) (ending : Result (Unit {0}) Stopped) → Applies R a hand ps ending b → a.next ≡ b.next → b ≡ a
+  rests a b hand [] ending (ends, same) still = same
+  rests a b hand (p ∷ ps) ending (there, none, rest) still =
+      let more = rises (advanced R a p) b (at_hand (advanced R a p)) ps ending rest in
+      let never : ⊥ = omega arith in
+      absurd never
+
+  next_rises : (s now : State) (number : ℕ) (payload : List ℕ) (result : Result Live JoinFault) (o : Option Position) → s.joined ≡ o → NextBy R s number payload o result now → Advances s.joined now.joined
   next_rises s now number payload result None there goes = absurd goes
   next_rises s now number payload result (Some j) there goes =
-      let up = rises (front_of s j) goes.front (Some payload) goes.payloads goes.ending goes.applies in
-      let joined : now.joined ≡ Some (record { next = goes.front.next; market = goes.front.market }) = ap (λ (t : State). t.joined) goes.left in
-      subst (λ o. GoesOn o now.joined) (sym there) (subst (GoesOn (Some j)) (sym joined) up)
+      let ahead : Position = record { next = goes.front.next; market = goes.front.market } in
+      let joined : now.joined ≡ Some ahead = ap (λ (t : State). t.joined) goes.left in
+      subst (λ o. Advances o now.joined) (sym there) (λ was is. subst (λ i. Advanced i now.joined) (one is) (record {
+        position = ahead;
+        is = joined;
+        up = rises (front_of s j) goes.front (Some payload) goes.payloads goes.ending goes.applies;
+        still = λ h. ap (λ (f : Front). record { next = f.next; market = f.market }) (rests (front_of s j) goes.front (Some payload) goes.payloads goes.ending goes.applies h);
+      })) where
+        one : {i : Position} → Some j ≡ Some i → j ≡ i
+        one {i} h = cc
 
-  live_rises : (s now : State) (number : ℕ) (payload : List ℕ) (result : Result Live JoinFault) (cap : ℕ) (case : LiveCase) → LiveBy R cap s number payload case result now → GoesOn s.joined now.joined
+  live_rises : (s now : State) (number : ℕ) (payload : List ℕ) (result : Result Live JoinFault) (cap : ℕ) (case : LiveCase) → LiveBy R cap s number payload case result now → Advances s.joined now.joined
   live_rises s now number payload result cap (kind.Halted h) (answer, same) = same_position s.joined now.joined (ap (λ (t : State). t.joined) same)
   live_rises s now number payload result cap kind.BadNumber (answer, same) = same_position s.joined now.joined (ap (λ (t : State). t.joined) same)
   live_rises s now number payload result cap kind.Old (answer, same) = same_position s.joined now.joined (ap (λ (t : State). t.joined) same)
@@ -63,7 +96,7 @@ module _ (R : Rules) where
   live_rises s now number payload (Err fault) cap kind.Stored (refused, same) = same_position s.joined now.joined (ap (λ (t : State). t.joined) same)
 
   snapshot_rises : (s now : State) (payload : List ℕ) (result : Result Snap JoinFault) (case : SnapshotCase) → IsSnapshotCase R s payload case → SnapshotBy R s payload case result now
-      → GoesOn s.joined now.joined
+      → Advances s.joined now.joined
   snapshot_rises s now payload result (SnapHalted h) is (answer, same) = same_position s.joined now.joined (ap (λ (t : State). t.joined) same)
   snapshot_rises s now payload result SnapJoined is (answer, same) = same_position s.joined now.joined (ap (λ (t : State). t.joined) same)
   snapshot_rises s now payload result (SnapBroken place cause) is (answer, same) = same_position s.joined now.joined (ap (λ (t : State). t.joined) same)
@@ -78,7 +111,7 @@ restarted_same (Some j) s = refl
 
 module _ {W : Type 0} (contents : W → Option (List ℕ)) (failures : W → Failures) where
   acted : (from : Source) (answer : ClientAct) (f g : Following) (old new : W) (told : News) → ActsOn contents failures from answer f.joining old told new g.joining
-      → GoesOn f.joining.state.joined g.joining.state.joined
+      → Advances f.joining.state.joined g.joining.state.joined
   acted from (act.Accepted next) f g old new told (says, kept, same) = same_position _ _ (ap (λ x. x.state.joined) same)
   acted from (act.Rejected code) f g old new told (says, kept, same) = same_position _ _ (ap (λ x. x.state.joined) same)
   acted source.Glimpse (act.Data number payload) f g old new told ((result, calls, says), kept) =
@@ -90,17 +123,20 @@ module _ {W : Type 0} (contents : W → Option (List ℕ)) (failures : W → Fai
   acted from act.Ended f g old new told (says, kept, same) = same_position _ _ (ap (λ x. x.state.joined) same)
   acted from (act.Fault fault) f g old new told (says, kept, same) = same_position _ _ (ap (λ x. x.state.joined) same)
 
-  does : (f g : Following) (did : Did W) → Does contents failures f did g → GoesOn f.joining.state.joined g.joining.state.joined
+  pub does : (f g : Following) (did : Did W) → Does contents failures f did g → Advances f.joining.state.joined g.joining.state.joined
   does f g (Connects now) is = same_position _ _ (ap (λ x. x.joining.state.joined) is ∙ restarted_same f.joining.state.joined f.joining.state)
   does f g (Ticks now) is = same_position _ _ (ap (λ x. x.joining.state.joined) is)
-  does f g (Hears piece now result old new) (held, took, inl (payload, block, (answer, named, means, acts, pins), login, from, none)) = acted f.source answer f g old new result.1 acts
+  does f g (Hears piece now result old new) (held, took, inl (payload, block, (answer, named, t, means, inl (other, (says, shut, kept, same))), login, from, none)) =
+      same_position _ _ (ap (λ x. x.state.joined) same)
+  does f g (Hears piece now result old new) (held, took, inl (payload, block, (answer, named, t, means, inr (own, goes, (acts, pins))), login, from, none)) =
+      acted f.source answer f g old new result.1 acts
   does f g (Hears piece now result old new) (held, took, inr (none, says, kept, is)) = same_position _ _ (ap (λ x. x.joining.state.joined) is)
 
   abbrev Of : Desk → Option Position
   Of d = d.following.joining.state.joined
 
-  called : (d e : Desk) (call : Call W) → desks.Step contents failures d call e → GoesOn (Of d) (Of e)
-  called d e (desks.Feeds did) (f, doing, is) = subst (GoesOn (Of d)) (sym (ap (λ x. Of x) is)) (does d.following f did doing)
+  pub called : (d e : Desk) (call : Call W) → desks.Step contents failures d call e → Advances (Of d) (Of e)
+  called d e (desks.Feeds did) (f, doing, is) = subst (Advances (Of d)) (sym (ap (λ x. Of x) is)) (does d.following f did doing)
   called d e (desks.Admits now (Ok (Some place))) (free, is) = same_position _ _ (ap (λ x. Of x) is)
   called d e (desks.Admits now (Ok None)) (taken, is) = same_position _ _ (ap (λ x. Of x) is)
   called d e (desks.Admits now (Err error)) is = same_position _ _ (ap (λ x. Of x) is)
@@ -108,13 +144,16 @@ module _ {W : Type 0} (contents : W → Option (List ℕ)) (failures : W → Fai
   called d e (desks.Answers now count) is = same_position _ _ (ap (λ x. Of x) is ∙ by_joined (Of d)) where
     by_joined : (o : Option Position) → Of (answered_with o d count now) ≡ Of d
     by_joined None = refl
-    by_joined (Some j) = refl
+    by_joined (Some j) = by_shot (shot_for d.config d.seats j.market j.next) where
+      by_shot : (shot : Option (List ℕ)) → Of (with_shot shot d j.next count now) ≡ Of d
+      by_shot None = refl
+      by_shot (Some bytes) = refl
   called d e (desks.Takes place count now) (fits, is) = same_position _ _ (ap (λ x. Of x) is)
   called d e (desks.Ticks now) is = same_position _ _ (ap (λ x. Of x) is)
   called d e (desks.Leaves place) is = same_position _ _ (ap (λ x. Of x) is)
 
   pub goes_on : (config : ServerConfig) (begun : Following) (later : List (Event W)) (at : Event W) (before : List (Event W)) (d : Desk)
       → History contents failures config begun (later ++ at ∷ before) d → GoesOn (Of at.before) (Of d)
-  goes_on config begun [] at before d (took, h) = called at.before d at.call took
+  goes_on config begun [] at before d (took, h) = goes_of (Of at.before) (Of d) (called at.before d at.call took)
   goes_on config begun (x ∷ later) at before d (took, h) =
-      after_both (Of at.before) (Of x.before) (Of d) (goes_on config begun later at before x.before h) (called x.before d x.call took)
+      after_both (Of at.before) (Of x.before) (Of d) (goes_on config begun later at before x.before h) (goes_of (Of x.before) (Of d) (called x.before d x.call took))

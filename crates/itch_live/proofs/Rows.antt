@@ -5,10 +5,10 @@ use Rattle.itch_frame.specs.declared.tally.Failures.{Failures}
 use Rattle.itch_join.specs.Positions.{Position}
 use Rattle.itch_soup.specs.declared.login.ServerConfig.{ServerConfig}
 use Rattle.itch_live.specs.Guests as guests
-use Rattle.itch_live.specs.Guests.{Guest, whole}
+use Rattle.itch_live.specs.Guests.{Guest}
 use Rattle.itch_live.specs.Seats.{Seats, guest_at, HearsBy, took_by, answered_seat, ticked_seat}
 use Rattle.itch_live.specs.Follows.{Following}
-use Rattle.itch_live.specs.Desks.{Desk, answered_with, Call, Feeds, Admits, Hears, Answers, Takes, Ticks, Leaves, Event, Step, History}
+use Rattle.itch_live.specs.Desks.{Desk, shot_for, with_shot, answered_with, Call, Feeds, Admits, Hears, Answers, Takes, Ticks, Leaves, Event, Step, History}
 
 heard_row : (d s : Seats) (place : ℕ) (piece : List ℕ) (now count : ℕ) (seat : Option Guest) → HearsBy seat d place piece now count s → length s ≡ length d
 heard_row d s place piece now count None (all, same) = ap length same
@@ -20,14 +20,17 @@ took_row d place count now (Some g) = length-set d place (Some (guests.took g co
 
 answered_row : (d : Desk) (count now : ℕ) (o : Option Position) → length (answered_with o d count now).seats ≡ length d.seats
 answered_row d count now None = refl
-answered_row d count now (Some j) =
-    omega (
-      arith,
-      length-append (map (answered_seat (whole j.market j.next d.config) now) (take count d.seats)) (drop count d.seats),
-      length-map (take count d.seats) (answered_seat (whole j.market j.next d.config) now),
-      length-take count d.seats,
-      length-drop count d.seats,
-    )
+answered_row d count now (Some j) = by_shot (shot_for d.config d.seats j.market j.next) where
+  by_shot : (shot : Option (List ℕ)) → length (with_shot shot d j.next count now).seats ≡ length d.seats
+  by_shot None = refl
+  by_shot (Some bytes) =
+      omega (
+        arith,
+        length-append (map (answered_seat bytes j.next now) (take count d.seats)) (drop count d.seats),
+        length-map (take count d.seats) (answered_seat bytes j.next now),
+        length-take count d.seats,
+        length-drop count d.seats,
+      )
 
 module _ {W : Type 0} (contents : W → Option (List ℕ)) (failures : W → Failures) where
   same_row : (d e : Desk) (call : Call W) → Step contents failures d call e → length e.seats ≡ length d.seats

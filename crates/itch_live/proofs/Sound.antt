@@ -142,11 +142,11 @@ waits (Some login) None gone h = ((login, refl), refl)
 waits (Some login) (Some bytes) gone h = absurd (subst IsYes (sym h) tt)
 
 -- the snapshot
-answered_by : (config : ServerConfig) (P : List ℕ → Type 0) (so_far : List ℕ) (g : Guest) (bytes : List ℕ) (now : ℕ) (b : Bool) → is_waiting g ≡ b
+answered_by : (config : ServerConfig) (P : List ℕ → Type 0) (so_far : List ℕ) (g : Guest) (bytes : List ℕ) (next now : ℕ) (b : Bool) → is_waiting g ≡ b
     → ((login : LoginRequest) → g.asked ≡ Some login → IsAcceptance (judged config 0 login).0 → P bytes) → IsSound config P so_far g
-    → IsSound config P so_far (if b then answered g bytes now else g)
-answered_by config P so_far g bytes now false waiting fits s = s
-answered_by config P so_far g bytes now true waiting fits s =
+    → IsSound config P so_far (if b then answered g bytes next now else g)
+answered_by config P so_far g bytes next now false waiting fits s = s
+answered_by config P so_far g bytes next now true waiting fits s =
     let w = waits g.asked g.told g.gone waiting in
     record {
       config_is = s.config_is;
@@ -204,11 +204,11 @@ Permits config P g other = Unit {0}
 
 -- what is rejected may be told
 abbrev pub Rejects : ServerConfig → (List ℕ → Type 0) → Guest → Happening → Type 0
-Rejects config P g (Hears piece now count) = (login : LoginRequest) (code : ℕ) → IsLogin g piece count login → (judged config 0 login).0 ≡ act.Reject code → P (refusal code)
+Rejects config P g (Hears piece now count) = (login : LoginRequest) (code : ℕ) → IsLogin g.held piece count login → (judged config 0 login).0 ≡ act.Reject code → P (refusal code)
 Rejects config P g other = Unit {0}
 
 -- the packet that a login is
-login_packet : (packet : Packet) (login : LoginRequest) → login_in packet ≡ Some login → packet ≡ is.LoginRequest login
+pub login_packet : (packet : Packet) (login : LoginRequest) → login_in packet ≡ Some login → packet ≡ is.LoginRequest login
 login_packet (is.Debug text) login h = absurd (none_some h)
 login_packet (is.LoginAccepted accepted) login h = absurd (none_some h)
 login_packet (is.LoginRejected code) login h = absurd (none_some h)
@@ -232,7 +232,7 @@ step config P so_far g h (Hears piece now n) (inr (hears, (held, take_is, inr (n
     nothing_more config P so_far h (subst (λ x. IsSound config P so_far x) (sym is) (idle config P so_far g held g.gone g.moved g.marked s))
 step config P so_far g h (Answers m next now) is permits refused s =
     nothing_more config P so_far h (subst (λ x. IsSound config P so_far x) (sym is)
-    (answered_by config P so_far g (whole m next config) now _ refl
+    (answered_by config P so_far g (whole m next config) next now _ refl
     (λ login asked fits. subst P (sym (answered_whole config m next login fits)) (permits login asked (accepts_first config login fits))) s))
 step config P so_far g h (Takes count now) (fits, is) permits refused s =
     let none : g.told ≡ None → count ≡ 0 = none_pending_at g count fits in

@@ -1,5 +1,5 @@
 -- What happens to one client of a desk is what would happen to it alone.
-use Rattle.std.proofs.Common.{◌≡◌, ℕ, ◌<◌, ◌≤◌, ◌++◌, ◌==◌, nat_lt, Bool, true, false, cond, if◌then◌else◌, List, [], ◌∷◌, length, take, Option, None, Some, Result, Ok, Err, option_map, refl, sym, ap, ◌∙◌, subst, append-nil, set}
+use Rattle.std.proofs.Common.{◌≡◌, ℕ, ◌<◌, ◌≤◌, ◌++◌, ◌==◌, nat_lt, Bool, true, false, cond, if◌then◌else◌, List, [], ◌∷◌, length, take, Option, None, Some, Result, Ok, Err, option_map, refl, sym, ap, ◌∙◌, subst, append-nil, set, ◌&&◌, is_some}
 use Rattle.std.specs.declared.alloc.AllocError.{AllocError}
 use Rattle.std.proofs.Math.Seq.{take-nil}
 use Rattle.std.proofs.lemmas.Bool.{eqb-true, eqb-false, ltb-true, ltb-false}
@@ -13,9 +13,10 @@ use Rattle.itch_live.specs.Seats.{Seats, guest_at, HearsBy, pending_of, took_by,
 use Rattle.itch_live.specs.Follows.{Following}
 use Rattle.itch_live.specs.Stories as stories
 use Rattle.itch_live.specs.Stories.{Happening, Story, Becomes}
-use Rattle.itch_live.specs.Desks.{Desk, Accepts, answered_with, Call, Feeds, Admits, Hears, Answers, Takes, Ticks, Leaves, Event, Step, History, sent_by, sent_at}
+use Rattle.itch_live.specs.Desks.{Desk, Accepts, shot_for, with_shot, answered_with, Call, Feeds, Admits, Hears, Answers, Takes, Ticks, Leaves, Event, Step, History, sent_by, sent_at}
 use Rattle.itch_live.specs.Visits.{Visit, with, answers, visit_by, visit_at, IsVisit}
 use Rattle.itch_live.proofs.Places.{within, at_mapped, at_first, none_seated}
+use Rattle.itch_live.proofs.Present.{AreFitting, right_shot, configured, all_fit}
 
 -- one happening more to the client of a visit
 more : (config : ServerConfig) (visit : Option Visit) (g h : Guest) (so_far sent : List ℕ) (happening : Happening) → IsVisit config visit (Some g) so_far
@@ -103,21 +104,28 @@ module _ {W : Type 0} (contents : W → Option (List ℕ)) (failures : W → Fai
       (this_place d.seats place (Some (guests.took g count now)) here (within d.seats place g there))
       (more config visit g (guests.took g count now) so_far _ (stories.Takes count now) (along config visit (guest_at d.seats k) (Some g) so_far (sym some) is) (fits, refl) refl)
 
+  -- what is handed in is the present market's snapshot
+  abbrev IsRight : Desk → Type 0
+  IsRight d = (j : Position) → d.following.joining.state.joined ≡ Some j → (bytes : List ℕ) → shot_for d.config d.seats j.market j.next ≡ Some bytes → bytes ≡ whole j.market j.next d.config
+
   -- an answer, where there is a market
-  handed : (visit : Option Visit) (d : Desk) (so_far : List ℕ) (now count : ℕ) (joined : Option Position) → d.config ≡ config → Stands visit d so_far
-      → IsVisit config (answers joined (nat_lt k count) now visit) (guest_at (answered_with joined d count now).seats k) so_far
-  handed visit d so_far now count None cfg is = is
-  handed visit d so_far now count (Some j) cfg is =
-      let f = answered_seat (whole j.market j.next d.config) now in
-      let at = at_first f d.seats count k refl in
-      by_test (nat_lt k count) at where
-        by_test : (b : Bool) → guest_at (answered_with (Some j) d count now).seats k ≡ cond b (answered_seat (whole j.market j.next d.config) now (guest_at d.seats k)) (guest_at d.seats k)
-            → IsVisit config (answers (Some j) b now visit) (guest_at (answered_with (Some j) d count now).seats k) so_far
-        by_test false at = along config visit _ _ so_far at is
-        by_test true at =
-            along config (with (stories.Answers j.market j.next now) visit) _ _ so_far at
-            (happens config visit (guest_at d.seats k) (guests.answered_if (whole j.market j.next d.config) now) so_far (stories.Answers j.market j.next now) is
-            (λ g. ap (λ c. guests.answered_if (whole j.market j.next c) now g) cfg) (λ g. refl))
+  handed : (visit : Option Visit) (d : Desk) (so_far : List ℕ) (now count : ℕ) (joined : Option Position) → d.following.joining.state.joined ≡ joined → d.config ≡ config → IsRight d
+      → Stands visit d so_far → IsVisit config (answers joined d (nat_lt k count) now visit) (guest_at (answered_with joined d count now).seats k) so_far
+  handed visit d so_far now count None there cfg right is = is
+  handed visit d so_far now count (Some j) there cfg right is = by_shot (shot_for d.config d.seats j.market j.next) refl where
+    by_test : (bytes : List ℕ) (b : Bool) → bytes ≡ whole j.market j.next d.config
+        → guest_at (with_shot (Some bytes) d j.next count now).seats k ≡ cond b (answered_seat bytes j.next now (guest_at d.seats k)) (guest_at d.seats k)
+        → IsVisit config (if b then with (stories.Answers j.market j.next now) visit else visit) (guest_at (with_shot (Some bytes) d j.next count now).seats k) so_far
+    by_test bytes false whole_is at = along config visit _ _ so_far at is
+    by_test bytes true whole_is at =
+        along config (with (stories.Answers j.market j.next now) visit) _ _ so_far at
+        (happens config visit (guest_at d.seats k) (guests.answered_if bytes j.next now) so_far (stories.Answers j.market j.next now) is
+        (λ g. ap (λ b. guests.answered_if b j.next now g) (whole_is ∙ ap (λ c. whole j.market j.next c) cfg)) (λ g. refl))
+
+    by_shot : (shot : Option (List ℕ)) → shot_for d.config d.seats j.market j.next ≡ shot
+        → IsVisit config (if is_some shot && nat_lt k count then with (stories.Answers j.market j.next now) visit else visit) (guest_at (with_shot shot d j.next count now).seats k) so_far
+    by_shot None none = is
+    by_shot (Some bytes) some = by_test bytes (nat_lt k count) (right j there bytes some) (at_first (answered_seat bytes j.next now) d.seats count k refl)
 
   left : (visit : Option Visit) (d : Desk) (so_far : List ℕ) (place : ℕ) (b : Bool) → (place == k) ≡ b → Stands visit d so_far
       → IsVisit config (if b then None else visit) (guest_at (set d.seats place None) k) (if b then [] else so_far)
@@ -130,16 +138,16 @@ module _ {W : Type 0} (contents : W → Option (List ℕ)) (failures : W → Fai
         get_or_past (set d.seats place None) k None
         (subst (λ n. n ≤ k) (sym (length-set d.seats place None)) (subst (λ i. length d.seats ≤ i) (eqb-true place k here) past))
 
-  step : (visit : Option Visit) (d e : Desk) (so_far : List ℕ) (call : Call W) → d.config ≡ config → Step contents failures d call e → Stands visit d so_far
+  step : (visit : Option Visit) (d e : Desk) (so_far : List ℕ) (call : Call W) → d.config ≡ config → IsRight d → Step contents failures d call e → Stands visit d so_far
       → Stands (visit_by call d k visit) e (sent_by call d k so_far)
-  step visit d e so_far (Feeds did) cfg (f, does, same) is = unmoved visit d e so_far (ap (λ x. guest_at x.seats k) same) is
-  step visit d e so_far (Admits now result) cfg accepts is = admitted visit d e so_far now result cfg accepts is
-  step visit d e so_far (Hears place piece now count) cfg (s, hears, same) is =
+  step visit d e so_far (Feeds did) cfg right (f, does, same) is = unmoved visit d e so_far (ap (λ x. guest_at x.seats k) same) is
+  step visit d e so_far (Admits now result) cfg right accepts is = admitted visit d e so_far now result cfg accepts is
+  step visit d e so_far (Hears place piece now count) cfg right (s, hears, same) is =
       along config _ (guest_at s k) (guest_at e.seats k) so_far (ap (λ x. guest_at x.seats k) same)
       (heard visit d s so_far place piece now count (guest_at d.seats place) (place == k) refl refl hears is)
-  step visit d e so_far (Answers now count) cfg same is =
-      along config _ _ (guest_at e.seats k) so_far (ap (λ x. guest_at x.seats k) same) (handed visit d so_far now count d.following.joining.state.joined cfg is)
-  step visit d e so_far (Takes place count now) cfg (fits, same) is =
+  step visit d e so_far (Answers now count) cfg right same is =
+      along config _ _ (guest_at e.seats k) so_far (ap (λ x. guest_at x.seats k) same) (handed visit d so_far now count d.following.joining.state.joined refl cfg right is)
+  step visit d e so_far (Takes place count now) cfg right (fits, same) is =
       along config _ _ (guest_at e.seats k) _ (ap (λ x. guest_at x.seats k) same)
       (here (place == k) refl) where
         here : (b : Bool) → (place == k) ≡ b → IsVisit config (if b then with (stories.Takes count now) visit else visit) (guest_at (took_at d.seats place count now) k)
@@ -147,32 +155,15 @@ module _ {W : Type 0} (contents : W → Option (List ℕ)) (failures : W → Fai
         here true h = subst (λ i. IsVisit config (with (stories.Takes count now) visit) (guest_at (took_at d.seats place count now) k) (so_far ++ take count (pending_of (guest_at d.seats i))))
             (eqb-true place k h) (taken visit d so_far place count now (guest_at d.seats place) true refl h fits is)
         here false h = taken visit d so_far place count now (guest_at d.seats place) false refl h fits is
-  step visit d e so_far (Ticks now) cfg same is =
+  step visit d e so_far (Ticks now) cfg right same is =
       along config _ _ (guest_at e.seats k) so_far (ap (λ x. guest_at x.seats k) same ∙ at_mapped (ticked_seat now) d.seats k refl)
       (happens config visit (guest_at d.seats k) (λ g. guests.ticked g now) so_far (stories.Ticks now) is (λ g. refl) (λ g. refl))
-  step visit d e so_far (Leaves place) cfg same is =
+  step visit d e so_far (Leaves place) cfg right same is =
       along config _ _ (guest_at e.seats k) _ (ap (λ x. guest_at x.seats k) same) (left visit d so_far place (place == k) refl is)
-
-  -- the configuration stays
-  same_config : (d e : Desk) (call : Call W) → Step contents failures d call e → e.config ≡ d.config
-  same_config d e (Feeds did) (f, does, same) = ap (λ x. x.config) same
-  same_config d e (Admits now (Ok (Some place))) (free, same) = ap (λ x. x.config) same
-  same_config d e (Admits now (Ok None)) (taken, same) = ap (λ x. x.config) same
-  same_config d e (Admits now (Err error)) same = ap (λ x. x.config) same
-  same_config d e (Hears place piece now count) (s, hears, same) = ap (λ x. x.config) same
-  same_config d e (Answers now count) same = ap (λ x. x.config) same ∙ by_joined d.following.joining.state.joined where
-    by_joined : (o : Option Position) → (answered_with o d count now).config ≡ d.config
-    by_joined None = refl
-    by_joined (Some j) = refl
-  same_config d e (Takes place count now) (fits, same) = ap (λ x. x.config) same
-  same_config d e (Ticks now) same = ap (λ x. x.config) same
-  same_config d e (Leaves place) same = ap (λ x. x.config) same
-
-  pub configured : (begun : Following) (past : List (Event W)) (d : Desk) → History contents failures config begun past d → d.config ≡ config
-  configured begun [] d (places, is) = ap (λ x. x.config) is
-  configured begun (x ∷ past) d (took, before) = same_config x.before d x.call took ∙ configured begun past x.before before
 
   pub visits : (begun : Following) (past : List (Event W)) (d : Desk) → History contents failures config begun past d → IsVisit config (visit_at k past) (guest_at d.seats k) (sent_at k past)
   visits begun [] d (places, is) = along config None None (guest_at d.seats k) [] (ap (λ x. guest_at x.seats k) is ∙ none_seated places k) refl
   visits begun (x ∷ past) d (took, before) =
-      step (visit_at k past) x.before d (sent_at k past) x.call (configured begun past x.before before) took (visits begun past x.before before)
+      step (visit_at k past) x.before d (sent_at k past) x.call (configured contents failures config begun past x.before before)
+      (λ j there bytes is. right_shot x.before.config x.before.seats j bytes
+      (subst (λ o. AreFitting x.before.config o x.before.seats) there (all_fit contents failures config begun past x.before before)) is) took (visits begun past x.before before)

@@ -1,12 +1,15 @@
 -- A follower and its clients, over every list of calls.
-use Rattle.std.specs.Prelude.{◌≡◌, ℕ, ◌≤◌, ◌==◌, ◌++◌, List, [], ◌∷◌, length, take, Option, None, Some, Result, Ok, Err, slice_set, replicate, if◌then◌else◌}
+use Rattle.std.specs.Prelude.{◌≡◌, ℕ, ◌≤◌, ◌==◌, ◌++◌, List, [], ◌∷◌, length, take, Option, None, Some, Result, Ok, Err, slice_set, replicate, nat_lt, if◌then◌else◌}
 use Rattle.std.specs.declared.alloc.AllocError.{AllocError}
 use Rattle.itch_frame.specs.declared.tally.Failures.{Failures}
+use Rattle.itch_market.specs.Content.{Content}
 use Rattle.itch_join.specs.Positions.{Position}
+use Rattle.std.specs.Option.{option_or}
 use Rattle.itch_soup.specs.declared.login.ServerConfig.{ServerConfig}
 use Rattle.itch_live.specs.Guests.{whole, new_guest}
-use Rattle.itch_live.specs.Seats as seats
+use Rattle.itch_live.specs.Seats as seating
 use Rattle.itch_live.specs.Seats.{Seats, guest_at, pending_of, IsFree, AreTaken}
+use Rattle.itch_live.specs.Kept.{kept, kept_bytes, most_snapshots}
 use Rattle.itch_live.specs.Follows.{Following}
 use Rattle.itch_live.specs.Feeds.{Did, Does}
 
@@ -26,11 +29,20 @@ Accepts d now (Ok (Some place)) e =
 Accepts d now (Ok None) e = AreTaken d.seats × (e ≡ d)
 Accepts d now (Err error) e = e ≡ d
 
+-- what those who wait are handed at this number: the snapshot of the number that is kept, or else the market's, unless eight others are kept
+abbrev pub shot_for : ServerConfig → Seats → Content → ℕ → Option (List ℕ)
+shot_for config seats market next =
+    option_or (kept_bytes seats next) (if nat_lt (length (kept seats)) most_snapshots then Some (whole market next config) else None)
+
+-- those at the first `count` places are handed it
+abbrev pub with_shot : Option (List ℕ) → Desk → ℕ → ℕ → ℕ → Desk
+with_shot shot d next count now = record d { seats = seating.handed shot next now count d.seats }
+
 abbrev pub answered_with : Option Position → Desk → ℕ → ℕ → Desk
 answered_with None d count now = d
-answered_with (Some j) d count now = record d { seats = seats.answered (whole j.market j.next d.config) now count d.seats }
+answered_with (Some j) d count now = with_shot (shot_for d.config d.seats j.market j.next) d j.next count now
 
--- those who wait at the first `count` places are answered with the present market, once there is one
+-- those who wait at the first `count` places are answered, once there is a market
 abbrev pub answered : Desk → ℕ → ℕ → Desk
 answered d count now = answered_with d.following.joining.state.joined d count now
 
@@ -54,10 +66,10 @@ module _ {W : Type 0} (contents : W → Option (List ℕ)) (failures : W → Fai
   abbrev pub Step : Desk → Call W → Desk → Type 0
   Step d (Feeds did) e = (f : Following) × Does contents failures d.following did f × (e ≡ record d { following = f })
   Step d (Admits now result) e = Accepts d now result e
-  Step d (Hears place piece now count) e = (s : Seats) × seats.HearsAt d.seats place piece now count s × (e ≡ record d { seats = s })
+  Step d (Hears place piece now count) e = (s : Seats) × seating.HearsAt d.seats place piece now count s × (e ≡ record d { seats = s })
   Step d (Answers now count) e = e ≡ answered d count now
-  Step d (Takes place count now) e = (count ≤ length (pending_of (guest_at d.seats place))) × (e ≡ record d { seats = seats.took_at d.seats place count now })
-  Step d (Ticks now) e = e ≡ record d { seats = seats.ticked now d.seats }
+  Step d (Takes place count now) e = (count ≤ length (pending_of (guest_at d.seats place))) × (e ≡ record d { seats = seating.took_at d.seats place count now })
+  Step d (Ticks now) e = e ≡ record d { seats = seating.ticked now d.seats }
   Step d (Leaves place) e = e ≡ record d { seats = slice_set d.seats place None }
 
   -- a desk that was new, after these calls; the latest stands first

@@ -1,5 +1,6 @@
 -- What follows a feed, call by call.
-use Rattle.std.specs.Prelude.{◌≡◌, ℕ, ◌^◌, min, ◌⊎◌, Bool, true, false, List, [], Option, None, Some, Result, Ok, Err, if◌then◌else◌}
+use Rattle.std.specs.Prelude.{◌≡◌, ℕ, ◌^◌, min, ◌⊎◌, Bool, true, false, not, List, [], Option, None, Some, Result, Ok, Err, if◌then◌else◌}
+use Rattle.std.specs.Str.{bytes_eq}
 use Rattle.itch_frame.specs.Blocks.{IsBlock, IsBlockOf}
 use Rattle.itch_frame.specs.Cuts.{IsTake}
 use Rattle.itch_frame.specs.Writing.{WriteBlock}
@@ -22,6 +23,7 @@ use Rattle.itch_soup.specs.declared.client.ClientAct.{ClientAct}
 use Rattle.itch_soup.specs.declared.client.ClientAct.TheVariants as act
 use Rattle.itch_soup.specs.declared.origin.Origin.TheVariants.{Server}
 use Rattle.itch_soup.specs.declared.fault.SoupFault.{SoupFault}
+use Rattle.itch_soup.specs.Names.{session_name}
 use Rattle.itch_soup.specs.Packets.{PacketSpells, packet_fault}
 use Rattle.itch_soup.specs.Clients.{Client, new_client, client_answer, client_after_packet, client_after_tick}
 use Rattle.itch_live.specs.declared.news.Source.{Source}
@@ -67,6 +69,11 @@ abbrev pub pinned_after : Option (List ℕ) → Source → Bool → Option (List
 pinned_after (Some session) from accepted named = Some session
 pinned_after None source.Glimpse accepted named = None
 pinned_after None source.Live accepted named = if accepted then named else None
+
+-- the live feed accepts a login in the name of another session than the one that it named first, apart from the spaces round the names
+abbrev pub names_other : Option (List ℕ) → Source → Bool → Option (List ℕ) → Bool
+names_other (Some pinned) source.Live true (Some named) = not (bytes_eq (session_name pinned) (session_name named))
+names_other pinned from accepted named = false
 
 abbrev pub is_accepted : ClientAct → Bool
 is_accepted (act.Accepted next) = true
@@ -133,11 +140,22 @@ module _ {W : Type 0} (contents : W → Option (List ℕ)) (failures : W → Fai
   ActsOn from act.Ended old record_old told record_new new = (told ≡ news.Ended) × (record_new ≡ record_old) × (new ≡ old)
   ActsOn from (act.Fault fault) old record_old told record_new new = (told ≡ news.Broken fault) × (record_new ≡ record_old) × (new ≡ old)
 
-  -- what a payload means is done, and the session that it names is asked for from now on if it is the first
+  -- what a packet means is done, and the session that it names is asked for from now on if it is the first
+  abbrev pub TakesPacket : Source → Option (List ℕ) → ClientAct → Option (List ℕ) → Joining → W → News × Option (List ℕ) → W → Joining → Type 0
+  TakesPacket from pinned answer named old record_old result record_new new =
+      ActsOn from answer old record_old result.0 record_new new × (result.1 ≡ pinned_after pinned from (is_accepted answer) named)
+
+  -- nothing of the connection is taken from now on: its session is closed, as if it had ended
+  abbrev pub Shuts : Option (List ℕ) → Client → Joining → ℕ → W → News × Option (List ℕ) → W → Client → Joining → Type 0
+  Shuts pinned s old now record_old result record_new t new =
+      (result ≡ (news.OtherSession, pinned)) × (t ≡ client_after_packet s is.EndOfSession now) × (record_new ≡ record_old) × (new ≡ old)
+
+  -- what a payload means is done, unless it accepts a login in the name of another session than the first
   abbrev pub HearsPacket : Source → Option (List ℕ) → Client → Joining → List ℕ → ℕ → W → News × Option (List ℕ) → W → Client → Joining → Type 0
   HearsPacket from pinned s old payload now record_old result record_new t new =
-      (answer : ClientAct) × (named : Option (List ℕ)) × Means s payload now answer named t × ActsOn from answer old record_old result.0 record_new new
-      × (result.1 ≡ pinned_after pinned from (is_accepted answer) named)
+      (answer : ClientAct) × (named : Option (List ℕ)) × (heard : Client) × Means s payload now answer named heard
+      × (((names_other pinned from (is_accepted answer) named ≡ true) × Shuts pinned heard old now record_old result record_new t new)
+      ⊎ ((names_other pinned from (is_accepted answer) named ≡ false) × (t ≡ heard) × TakesPacket from pinned answer named old record_old result record_new new))
 
   -- the bytes held and those taken are a whole packet, which is heard, or less than one
   abbrev pub HearsHeld : Following → List ℕ → ℕ → W → News → W → Following → Type 0

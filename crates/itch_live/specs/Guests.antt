@@ -25,13 +25,15 @@ whole m next config = blocks (map packet_spelling (packets_for m next config (ac
 abbrev pub refusal : ℕ → List ℕ
 refusal code = 0 ∷ 2 ∷ 74 ∷ code ∷ []
 
--- a client: the bytes held of an unfinished packet, its session, the login that was accepted, what it is told, how many bytes of that its socket
--- took, whether it is gone, when it last moved on, and how many bytes were taken then
+-- a client: the bytes held of an unfinished packet, its session, the login that was accepted, what it is told, the number of the next message at
+-- which that was encoded if it is a snapshot, how many of its bytes the socket took, whether it is gone, when it last moved on, and how many bytes
+-- were taken then
 pub record Guest : Type 0 where
   pub held : List ℕ
   pub session : Server
   pub asked : Option LoginRequest
   pub told : Option (List ℕ)
+  pub snapshot : Option ℕ
   pub taken : ℕ
   pub gone : Bool
   pub moved : ℕ
@@ -41,7 +43,20 @@ pub record Guest : Type 0 where
 abbrev pub told_of : {A : Type 0} → Told A → Option (List ℕ)
 told_of told.Nothing = None
 told_of (told.Refusal bytes) = Some bytes
-told_of (told.Whole shot) = Some shot.value.items
+told_of (told.Whole shot next) = Some shot.value.items
+
+abbrev pub snapshot_of : {A : Type 0} → Told A → Option ℕ
+snapshot_of (told.Whole shot next) = Some next
+snapshot_of other = None
+
+-- a snapshot was encoded at this number
+abbrev pub is_at : Option ℕ → ℕ → Bool
+is_at None number = false
+is_at (Some next) number = next == number
+
+-- the bytes of a snapshot, if it is that of this number
+abbrev pub shot_in : Option ℕ → Option (List ℕ) → ℕ → Option (List ℕ)
+shot_in snapshot bytes number = if is_at snapshot number then bytes else None
 
 abbrev pub bytes_of : Option (List ℕ) → List ℕ
 bytes_of None = []
@@ -68,7 +83,7 @@ abbrev pub is_deaf : Guest → Bool
 is_deaf g = g.gone || (is_some g.told && not (is_some g.asked)) || has_all g
 
 abbrev pub new_guest : ServerConfig → ℕ → Guest
-new_guest config now = record { held = []; session = new_server config 0 now; asked = None; told = None; taken = 0; gone = false; moved = now; marked = 0 }
+new_guest config now = record { held = []; session = new_server config 0 now; asked = None; told = None; snapshot = None; taken = 0; gone = false; moved = now; marked = 0 }
 
 abbrev pub login_in : Packet → Option LoginRequest
 login_in (is.LoginRequest login) = Some login
@@ -77,7 +92,7 @@ login_in packet = None
 -- what the session's answer to a packet makes of the client
 abbrev pub after_act : ServerAct → Option LoginRequest → Guest → Guest
 after_act (act.Accept n) login g = record g { asked = login }
-after_act (act.Reject code) login g = record g { told = Some (refusal code); taken = 0 }
+after_act (act.Reject code) login g = record g { told = Some (refusal code); snapshot = None; taken = 0 }
 after_act act.Nothing login g = g
 after_act act.Close login g = record g { gone = true }
 after_act (act.Fault fault) login g = record g { gone = true }
@@ -96,13 +111,13 @@ heard g packet now =
 abbrev pub faulted : Guest → ℕ → Guest
 faulted g now = record g { held = []; gone = true; moved = moved_by_words g now }
 
--- the answer is handed in
-abbrev pub answered : Guest → List ℕ → ℕ → Guest
-answered g bytes now = record g { told = Some bytes; moved = now }
+-- the answer is handed in: a snapshot that was encoded at this number
+abbrev pub answered : Guest → List ℕ → ℕ → ℕ → Guest
+answered g bytes next now = record g { told = Some bytes; snapshot = Some next; moved = now }
 
 -- one that waits is answered
-abbrev pub answered_if : List ℕ → ℕ → Guest → Guest
-answered_if bytes now g = if is_waiting g then answered g bytes now else g
+abbrev pub answered_if : List ℕ → ℕ → ℕ → Guest → Guest
+answered_if bytes next now g = if is_waiting g then answered g bytes next now else g
 
 -- Its socket took the next bytes. That is moving on where it took 65,536 since it last moved on, or has all now.
 abbrev pub took : Guest → ℕ → ℕ → Guest

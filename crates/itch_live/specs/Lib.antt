@@ -1,9 +1,13 @@
 pub mod Guests
+pub mod Players
 pub mod Stories
 pub mod Seats
+pub mod Kept
 pub mod Follows
 pub mod Feeds
 pub mod Records
+pub mod Plays
 pub mod Desks
+pub mod Memory
 pub mod Visits
 pub mod FeedDesks

@@ -38,12 +38,17 @@ took_by (Some g) seats place count now = slice_set seats place (Some (guests.too
 abbrev pub took_at : Seats → ℕ → ℕ → ℕ → Seats
 took_at seats place count now = took_by (guest_at seats place) seats place count now
 
-abbrev pub answered_seat : List ℕ → ℕ → Option Guest → Option Guest
-answered_seat bytes now seat = option_map (guests.answered_if bytes now) seat
+abbrev pub answered_seat : List ℕ → ℕ → ℕ → Option Guest → Option Guest
+answered_seat bytes next now seat = option_map (guests.answered_if bytes next now) seat
 
--- those who wait at the first `count` places are answered
-abbrev pub answered : List ℕ → ℕ → ℕ → Seats → Seats
-answered bytes now count seats = map (answered_seat bytes now) (take count seats) ++ drop count seats
+-- those who wait at the first `count` places are answered with a snapshot of this number
+abbrev pub answered : List ℕ → ℕ → ℕ → ℕ → Seats → Seats
+answered bytes next now count seats = map (answered_seat bytes next now) (take count seats) ++ drop count seats
+
+-- those who wait at the first `count` places are handed a snapshot of this number, if there is one
+abbrev pub handed : Option (List ℕ) → ℕ → ℕ → ℕ → Seats → Seats
+handed None next now count seats = seats
+handed (Some bytes) next now count seats = answered bytes next now count seats
 
 abbrev pub ticked_seat : ℕ → Option Guest → Option Guest
 ticked_seat now seat = option_map (λ g. guests.ticked g now) seat

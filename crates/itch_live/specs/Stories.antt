@@ -26,7 +26,7 @@ pub data Happening : Type 0 where
 -- what this makes of a client
 abbrev pub Becomes : ServerConfig → Guest → Happening → Guest → Type 0
 Becomes config g (Hears piece now count) h = guests.Hears g piece now count h
-Becomes config g (Answers m next now) h = h ≡ guests.answered_if (whole m next config) now g
+Becomes config g (Answers m next now) h = h ≡ guests.answered_if (whole m next config) next now g
 Becomes config g (Takes count now) h = (count ≤ length (pending g)) × (h ≡ guests.took g count now)
 Becomes config g (Ticks now) h = h ≡ guests.ticked g now
 Becomes config g Leaves h = h ≡ guests.left g
@@ -46,10 +46,10 @@ Story config begun (happening ∷ past) g sent =
 abbrev pub IsBeginning : List ℕ → List ℕ → Type 0
 IsBeginning front bytes = (rest : List ℕ) × (bytes ≡ front ++ rest)
 
--- the bytes that are held of a client, with those taken of a piece, are a login
-pub record IsLogin (g : Guest) (piece : List ℕ) (count : ℕ) (login : LoginRequest) : Type 0 where
+-- the bytes that were held of a client, with those taken of a piece, are a login
+pub record IsLogin (before piece : List ℕ) (count : ℕ) (login : LoginRequest) : Type 0 where
   pub held : List ℕ
-  pub takes : IsTake g.held piece count held
+  pub takes : IsTake before piece count held
   pub payload : List ℕ
   pub block : IsBlockOf payload held
   pub spelled : PacketSpells (is.LoginRequest login) payload Client
@@ -66,7 +66,7 @@ pub record IsRefusal (config : ServerConfig) (begun : ℕ) (past : List Happenin
   pub so_far : List ℕ
   pub story : Story config begun before hearing so_far
   pub login : LoginRequest
-  pub came : IsLogin hearing piece count login
+  pub came : IsLogin hearing.held piece count login
   pub code : ℕ
   pub rejected : (judged config 0 login).0 ≡ act.Reject code
   pub is : bytes ≡ refusal code

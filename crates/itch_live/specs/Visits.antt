@@ -1,11 +1,11 @@
 -- What happens to one client of a desk.
-use Rattle.std.specs.Prelude.{◌≡◌, ℕ, ◌==◌, nat_lt, Bool, true, false, List, [], ◌∷◌, Option, None, Some, Ok, Err, if◌then◌else◌}
+use Rattle.std.specs.Prelude.{◌≡◌, ℕ, ◌==◌, nat_lt, ◌&&◌, Bool, is_some, List, [], ◌∷◌, Option, None, Some, Ok, Err, if◌then◌else◌}
 use Rattle.itch_join.specs.Positions.{Position}
 use Rattle.itch_soup.specs.declared.login.ServerConfig.{ServerConfig}
 use Rattle.itch_live.specs.Guests.{Guest}
 use Rattle.itch_live.specs.Stories as stories
 use Rattle.itch_live.specs.Stories.{Happening, Story}
-use Rattle.itch_live.specs.Desks.{Desk, Call, Feeds, Admits, Hears, Answers, Takes, Ticks, Leaves, Event}
+use Rattle.itch_live.specs.Desks.{Desk, shot_for, Call, Feeds, Admits, Hears, Answers, Takes, Ticks, Leaves, Event}
 
 -- when a client came, and what has happened to it since; the latest stands first
 pub record Visit : Type 0 where
@@ -16,11 +16,10 @@ abbrev pub with : Happening → Option Visit → Option Visit
 with happening None = None
 with happening (Some v) = Some (record v { past = happening ∷ v.past })
 
--- the present market is handed in, once there is one, if this is one of the first places
-abbrev pub answers : Option Position → Bool → ℕ → Option Visit → Option Visit
-answers None here now visit = visit
-answers (Some j) false now visit = visit
-answers (Some j) true now visit = with (stories.Answers j.market j.next now) visit
+-- the present market is handed in, once there is one, where a snapshot is, if this is one of the first places
+abbrev pub answers : Option Position → Desk → Bool → ℕ → Option Visit → Option Visit
+answers None d here now visit = visit
+answers (Some j) d here now visit = if is_some (shot_for d.config d.seats j.market j.next) && here then with (stories.Answers j.market j.next now) visit else visit
 
 -- Of a call at another place nothing is seen.
 abbrev pub visit_by : {W : Type 0} → Call W → Desk → ℕ → Option Visit → Option Visit
@@ -29,7 +28,7 @@ visit_by (Admits now (Ok (Some place))) d k visit = if place == k then Some (rec
 visit_by (Admits now (Ok None)) d k visit = visit
 visit_by (Admits now (Err error)) d k visit = visit
 visit_by (Hears place piece now count) d k visit = if place == k then with (stories.Hears piece now count) visit else visit
-visit_by (Answers now count) d k visit = answers d.following.joining.state.joined (nat_lt k count) now visit
+visit_by (Answers now count) d k visit = answers d.following.joining.state.joined d (nat_lt k count) now visit
 visit_by (Takes place count now) d k visit = if place == k then with (stories.Takes count now) visit else visit
 visit_by (Ticks now) d k visit = with (stories.Ticks now) visit
 visit_by (Leaves place) d k visit = if place == k then None else visit

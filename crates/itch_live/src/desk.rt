@@ -12,9 +12,10 @@ ghost use Rattle.itch_live.specs.Desks as desks;
 
 use crate::follower::Follower;
 use crate::guest::Guest;
+use crate::kept::{count_kept, kept_shot};
 use crate::news::News;
-use crate::seats::{Seat, answer_all, any_waits, free_place, guest_at, hear_at, tick_all, took_at};
-use crate::shot::shoot;
+use crate::seats::{Seat, any_waits, free_place, guest_at, hand_in, hear_at, tick_all, took_at};
+use crate::shot::{Shot, shoot};
 use itch_book::OrderBook;
 use itch_codec::Seq;
 use itch_frame::CountedWrite;
@@ -23,6 +24,9 @@ use itch_soup::{Packet, ServerConfig, Tick};
 use std::alloc::{AllocError, Allocator};
 use std::marker::Model;
 use std::rc::Rc;
+
+/// How many different snapshots a [`Desk`] keeps for its clients at most.
+pub const MOST_SNAPSHOTS: usize = 8;
 
 /// A live server without its sockets: a feed that is followed, and a number of places for clients.
 ///
@@ -130,8 +134,9 @@ impl<B: OrderBook> Desk<B> {
         hear_at(&mut self.seats, place, piece, now_ms)
     }
 
-    /// Answers all who wait with the present market, once there is one, which is encoded once for them all. Where none waits it is
-    /// not encoded. It may be called again after an error: then some were answered, and the others still wait.
+    /// Answers all who wait with the snapshot of the present market, once there is one. It is encoded once for all clients that
+    /// are sent it, and kept while one of them has its place; where [`MOST_SNAPSHOTS`] others are kept, it is not encoded, and
+    /// they go on waiting. It may be called again after an error: then some were answered, and the others still wait.
     pub fn answer(&mut self, now_ms: u64) -> Result<(), AllocError>
         ensures { (count : ℕ) × OnOk result (length self.old.seats ≤ count) × (self.new ≡ desks.answered self.old count now_ms) }
     {
@@ -145,8 +150,8 @@ impl<B: OrderBook> Desk<B> {
         let Some(next) = Seq::new(next) else {
             return Err(AllocError);
         };
-        let shot = Rc::new(self.alloc, shoot(self.alloc, market, next, &self.config)?)?;
-        answer_all(&mut self.seats, &shot, now_ms)
+        let shot = shot_for(self.alloc, &self.config, &self.seats, market, next)?;
+        hand_in(&mut self.seats, shot, next.value(), now_ms)
     }
 
     /// What is still to be written to the client at a place.
@@ -189,6 +194,26 @@ impl<B: OrderBook> Desk<B> {
     {
         guest_at(&self.seats, place)
     }
+}
+
+// The snapshot to hand in: that of this number which is kept, or else one of this market; none where too many others are kept.
+fn shot_for<B: OrderBook>(
+    alloc: B::Alloc,
+    config: &ServerConfig,
+    seats: &[Seat<B::Alloc>],
+    market: &Market<B>,
+    next: Seq,
+) -> Result<Option<Shot<B::Alloc>>, AllocError>
+    ensures { IfOk result (λ shot. option_map (λ s. s.value.items) shot ≡ desks.shot_for config.now seats.now market.now next) }
+{
+    if let Some(shot) = kept_shot(seats, next.value()) {
+        return Ok(Some(shot.clone()?));
+    }
+    if count_kept(seats) >= MOST_SNAPSHOTS {
+        return Ok(None);
+    }
+    let bytes = shoot(alloc, market, next, config)?;
+    Ok(Some(Rc::new(alloc, bytes)?))
 }
 
 // Free places for this many clients.

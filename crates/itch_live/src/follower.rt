@@ -1,13 +1,16 @@
 //! The feed of a live server.
-ghost use Rattle.std.specs.Prelude.{◌≡◌, IfOk, option_map};
+ghost use Rattle.std.specs.Prelude.{◌≡◌, IfOk, option_map, if◌then◌else◌};
 ghost use Rattle.std.specs.Option.{option_copied};
+ghost use Rattle.std.specs.Str.{bytes_eq};
 ghost use Rattle.itch_live.specs.Follows as follows;
 ghost use Rattle.itch_soup.specs.Connections.{tick_answer};
-ghost use Rattle.itch_soup.specs.Clients.{login_of};
+ghost use Rattle.itch_soup.specs.Clients.{login_of, client_after_packet};
+ghost use Rattle.itch_soup.specs.Names.{session_name};
 ghost use Rattle.itch_soup.specs.Packets.{packet_spelling};
 
 use crate::news::{News, Source};
 use itch_book::OrderBook;
+use itch_codec::spaces::after_spaces;
 use itch_codec::{Alpha, GREATEST_SEQ};
 use itch_frame::{CountedWrite, Splitter, write_block};
 use itch_join::{Joiner, Live, Snap};
@@ -19,7 +22,7 @@ use std::marker::Model;
 /// Keeps the market of a feed, over any number of connections to its server.
 ///
 /// A feed that is lost is asked again for the next message, in the session that it named when it first accepted a login: a
-/// later day's has other messages under the same numbers.
+/// later day's has other messages under the same numbers, so what accepts it in another name is not taken.
 #[derive(Drop)]
 pub struct Follower<B: OrderBook> {
     credentials: Credentials,
@@ -171,6 +174,53 @@ fn named_in(packet: &Packet<'_>) -> Option<Alpha<10>>
     }
 }
 
+fn is_accepted(act: &ClientAct<'_>) -> bool
+    ensures { result ≡ follows.is_accepted act.now }
+{
+    matches!(act, ClientAct::Accepted { .. })
+}
+
+// Whether the live feed accepts a login in the name of another session than the one that it named first.
+fn names_other(
+    pinned: &Option<Alpha<10>>,
+    source: Source,
+    accepted: bool,
+    named: &Option<Alpha<10>>,
+) -> bool
+    ensures { result ≡ follows.names_other pinned.now source accepted named.now }
+{
+    match (pinned, source, named) {
+        (Some(pinned), Source::Live, Some(named)) if accepted => !is_same_session(pinned, named),
+        _ => false,
+    }
+}
+
+// Whether these are the same session: a name may be padded at either end.
+fn is_same_session(session: &Alpha<10>, other: &Alpha<10>) -> bool
+    ensures { result ≡ bytes_eq (session_name session.now) (session_name other.now) }
+{
+    trimmed(session) == trimmed(other)
+}
+
+// A session's name without the spaces at both ends.
+fn trimmed(session: &Alpha<10>) -> &[u8]
+    ensures { result.now ≡ session_name session.entry.now }
+{
+    after_spaces(session.text().as_bytes())
+}
+
+// Closes the session of a connection that is another session's: whatever comes later in it is a fault.
+fn shut_if(other: bool, session: &mut ClientSession, news: News, now_ms: u64) -> News
+    ensures news { result ≡ (if other then News.OtherSession else news) }
+    ensures session { session.new ≡ (if other then client_after_packet session.old Packet.EndOfSession now_ms else session.old) }
+{
+    if other {
+        session.on_packet(&Packet::EndOfSession, now_ms);
+        return News::OtherSession;
+    }
+    news
+}
+
 // Takes the packet of a payload, and returns what it brought, and the session to ask for from now on.
 fn hear_packet<B: OrderBook, W: CountedWrite>(
     session: &mut ClientSession,
@@ -186,9 +236,12 @@ fn hear_packet<B: OrderBook, W: CountedWrite>(
     match parse_packet(payload, Origin::Server) {
         Ok(packet) => {
             let act = session.on_packet(&packet, now_ms);
-            let accepted = matches!(act, ClientAct::Accepted { .. });
-            let named = pinned_after(pinned, source, accepted, named_in(&packet));
-            (act_on(act, joiner, source, record), named)
+            let accepted = is_accepted(&act);
+            let named = named_in(&packet);
+            let other = names_other(&pinned, source, accepted, &named);
+            let news = act_on(act, joiner, source, record);
+            let pinned = pinned_after(pinned, source, accepted, named);
+            (shut_if(other, session, news, now_ms), pinned)
         }
         Err(fault) => (News::Broken(fault), pinned),
     }

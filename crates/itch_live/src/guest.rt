@@ -1,5 +1,6 @@
 //! One client of a live server.
-ghost use Rattle.std.specs.Prelude.{◌≡◌, ◌≤◌, true, length, IfOk};
+ghost use Rattle.std.specs.Prelude.{◌≡◌, ◌≤◌, true, length, IfOk, option_map};
+ghost use Rattle.std.specs.Option.{option_copied};
 ghost use Rattle.itch_live.specs.Guests as guests;
 
 use crate::shot::Shot;
@@ -39,7 +40,7 @@ impl<A: Allocator> Model for Guest<A> {
 
     ghost Value = { guests.Guest };
 
-    ghost view = { λ g. record { held = g.splitter; session = g.session; asked = g.asked; told = guests.told_of g.told; taken = g.taken; gone = g.gone; moved = g.moved; marked = g.marked } };
+    ghost view = { λ g. record { held = g.splitter; session = g.session; asked = g.asked; told = guests.told_of g.told; snapshot = guests.snapshot_of g.told; taken = g.taken; gone = g.gone; moved = g.moved; marked = g.marked } };
 
     ghost invariant = { λ g. g.taken ≤ length (guests.bytes_of (guests.told_of g.told)) };
 }
@@ -113,12 +114,12 @@ impl<A: Allocator> Guest<A> {
         self.asked.is_some() && matches!(self.told, Told::Nothing) && !self.gone
     }
 
-    /// Hands in the bytes that answer the login, at this moment.
-    pub fn answer(&mut self, shot: Shot<A>, now_ms: u64)
+    /// Hands in the bytes that answer the login, at this moment: the snapshot of the market before the message of number `next`.
+    pub fn answer(&mut self, shot: Shot<A>, next: u64, now_ms: u64)
         requires { guests.is_waiting self.old ≡ true }
-        ensures { self.new ≡ guests.answered self.old shot.value.items now_ms }
+        ensures { self.new ≡ guests.answered self.old shot.value.items next now_ms }
     {
-        self.told = Told::Whole(shot);
+        self.told = Told::Whole { shot, next };
         self.moved = now_ms;
     }
 
@@ -179,6 +180,20 @@ impl<A: Allocator> Guest<A> {
         self.gone
     }
 
+    /// The number of the next message at which the snapshot that the client is sent was encoded.
+    pub fn snapshot(&self) -> Option<u64>
+        ensures { result ≡ self.now.snapshot }
+    {
+        self.told.snapshot()
+    }
+
+    /// The snapshot that the client is sent, if it is that of this number.
+    pub(crate) fn shot(&self, number: u64) -> Option<&Shot<A>>
+        ensures { option_map (λ shot. shot.value.items) (option_copied result) ≡ guests.shot_in self.now.snapshot self.now.told number }
+    {
+        self.told.shot(number)
+    }
+
     fn has_all(&self) -> bool
         ensures { result ≡ guests.has_all self.now }
     {
@@ -194,8 +209,8 @@ impl<A: Allocator> Guest<A> {
     }
 }
 
-// What the session answers to a payload, and the login that this is.
-fn hear_payload(
+/// What the session answers to a payload, and the login that this is.
+pub(crate) fn hear_payload(
     session: &mut ServerSession,
     payload: &[u8],
     now_ms: u64,

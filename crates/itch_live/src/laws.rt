@@ -2,7 +2,7 @@
 //!
 //! Each function here does nothing: its clauses are the laws, over every list of calls. They do not say that a peer sends or takes
 //! anything, that it is served before another one, or how long anything takes.
-ghost use Rattle.std.specs.Prelude.{◌≡◌, ℕ, List, ◌∷◌, ◌++◌, true, length};
+ghost use Rattle.std.specs.Prelude.{◌≡◌, ℕ, ◌≤◌, List, ◌∷◌, ◌++◌, true, length};
 ghost use Rattle.std.specs.List.{AllByRecursion};
 ghost use Rattle.itch_codec.specs.Fields.{AreBytes};
 ghost use Rattle.itch_market.specs.Content.{Content};
@@ -11,7 +11,9 @@ ghost use Rattle.itch_join.specs.Rules.{rules_of, market_rules};
 ghost use Rattle.itch_snapshot.specs.Snapshot.{snap};
 ghost use Rattle.itch_soup.specs.declared.login.ServerConfig.{ServerConfig};
 ghost use Rattle.itch_live.specs.Guests.{Guest, whole};
+ghost use Rattle.itch_join.specs.Positions.{Position};
 ghost use Rattle.itch_live.specs.Seats.{guest_at};
+ghost use Rattle.itch_live.specs.Kept.{kept, kept_bytes, most_snapshots};
 ghost use Rattle.itch_live.specs.Stories.{Happening, Story, IsSentRight};
 ghost use Rattle.itch_live.specs.Follows.{Following};
 ghost use Rattle.itch_live.specs.Feeds.{Did, IsJoining, Followed, StandsJoined};
@@ -19,6 +21,9 @@ ghost use Rattle.itch_live.specs.Records.{IsOneRecord, IsRecord};
 ghost use Rattle.itch_live.specs.Desks.{Desk, Event, History, sent_at};
 ghost use Rattle.itch_live.specs.Visits.{Visit, visit_at, IsVisit};
 ghost use Rattle.itch_live.specs.FeedDesks.{AreHonest, IsSentOfFeed, GoesOn};
+ghost use Rattle.itch_live.specs.Players.{Player};
+ghost use Rattle.itch_live.specs.Memory.{AreWithin, held_bytes, most_bytes};
+ghost use Rattle.itch_live.specs.Plays as plays;
 
 use itch_frame::CountedWrite;
 
@@ -85,4 +90,32 @@ pub fn snapshots_of_the_feed<W: CountedWrite>()
     ensures market { (set : Wanted) → (cap : ℕ) → (feed : List (List ℕ)) → (config : ServerConfig) → (begun : Following) → (past : List (Event W)) → (d : Desk) → (k : ℕ)
         → ((locate : ℕ) → has set locate ≡ true) → AllByRecursion AreBytes feed → IsJoining set cap feed begun → History W.contents W.failures config begun past d
         → AreHonest market_rules feed past → IsSentOfFeed market_rules feed config k past (sent_at k past) }
+{}
+
+/// A desk keeps at most [`MOST_SNAPSHOTS`](crate::MOST_SNAPSHOTS) different snapshots for its clients, by the numbers of the next
+/// messages at which they were encoded; and one that is kept under the number of the present market is its snapshot.
+pub fn snapshots_kept<W: CountedWrite>()
+    ensures most { (config : ServerConfig) → (begun : Following) → (past : List (Event W)) → (d : Desk) → History W.contents W.failures config begun past d
+        → length (kept d.seats) ≤ most_snapshots }
+    ensures present { (config : ServerConfig) → (begun : Following) → (past : List (Event W)) → (d : Desk) → (j : Position) → (bytes : List ℕ)
+        → History W.contents W.failures config begun past d → d.following.joining.state.joined ≡ Some j → kept_bytes d.seats j.next ≡ Some bytes → bytes ≡ whole j.market j.next config }
+{}
+
+/// What a desk holds beside the market of its feed and the words of its places, if each snapshot that is handed in has at most so
+/// many bytes: at most 65,537 bytes for the feed and for each place, and those of [`MOST_SNAPSHOTS`](crate::MOST_SNAPSHOTS)
+/// snapshots. [`shoot`](crate::shoot) bounds a snapshot's bytes by its messages.
+pub fn memory_of_a_desk<W: CountedWrite>()
+    ensures { (most : ℕ) → (config : ServerConfig) → (begun : Following) → (past : List (Event W)) → (d : Desk) → History W.contents W.failures config begun past d
+        → AreWithin most past → held_bytes d ≤ most_bytes (length d.seats) most }
+{}
+
+/// Whatever happens to a client of a played feed, in whatever order, and however little its socket takes at a time: what it was
+/// sent is the beginning of nothing, of the rejection of its login, or of the acceptance of its login from the number on that it
+/// asked for, the packet of each message that was handed in, once and in order, heartbeats between packets alone, and, after
+/// all messages, the end of the session. Where each message that is handed in is the file's with the number that is wanted, they
+/// are exactly those of the file from the number on that was asked for.
+pub fn played_in_order()
+    ensures order { (config : ServerConfig) → (total begun : ℕ) → (past : List plays.Event) → (p : Player) → plays.History config total begun past p → plays.IsSentRight config total past p }
+    ensures file { (config : ServerConfig) → (total begun : ℕ) → (file : List (List ℕ)) → (past : List plays.Event) → (p : Player) → plays.History config total begun past p
+        → plays.AreOfFile file past → plays.IsSentOfFile config total file past p }
 {}

@@ -6,21 +6,30 @@
 //! as far as the socket takes it, and says how much that was. In what order it does so is its own affair: [`laws`] are of every
 //! order.
 //!
+//! A [`Player`] is one client of a feed that a day file is played as: it is handed the file's messages, and sends them on as a live
+//! feed does.
+//!
 //! Memory is that of the market, 65,537 bytes for the feed and for each client, and 43 bytes for each message of a snapshot that
-//! is being sent, plus 128, once for all who are sent the same one.
+//! is being sent, plus 128, once for all who are sent the same one. At most [`MOST_SNAPSHOTS`] different ones are kept at a time.
+//! That of a player is 65,537 bytes for what it hears, and 131,076 for what it sends.
 #![tactic(auto)]
 
 mod desk;
 mod follower;
 mod guest;
+mod kept;
 pub mod laws;
 mod news;
+mod outbox;
+mod player;
+mod progress;
 mod seats;
 mod shot;
 mod told;
 
-pub use desk::Desk;
+pub use desk::{Desk, MOST_SNAPSHOTS};
 pub use follower::Follower;
 pub use guest::Guest;
 pub use news::{News, Source};
+pub use player::Player;
 pub use shot::{Shot, shoot};

@@ -1,5 +1,5 @@
 //! The places of clients.
-ghost use Rattle.std.specs.Prelude.{◌≡◌, ℕ, ◌≤◌, length, MatchOption, OnOk, OnErr};
+ghost use Rattle.std.specs.Prelude.{◌≡◌, ℕ, ◌≤◌, length, MatchOption, OnOk, OnErr, option_map};
 ghost use Rattle.std.specs.List.{list_any};
 ghost use Rattle.std.specs.Option.{option_copied};
 ghost use Rattle.itch_live.specs.Seats as places;
@@ -95,16 +95,32 @@ fn waits<A: Allocator>(seat: &Seat<A>) -> bool
     }
 }
 
-/// Those who wait are answered. Where an `Rc` can have no more owners, the rest go on waiting.
-pub(crate) fn answer_all<A: Allocator>(
+/// Those who wait are handed a snapshot of this number, if there is one.
+pub(crate) fn hand_in<A: Allocator>(
     seats: &mut [Seat<A>],
-    shot: &Shot<A>,
+    shot: Option<Shot<A>>,
+    next: u64,
     now_ms: u64,
 ) -> Result<(), AllocError>
-    ensures { (count : ℕ) × OnOk result (length seats.old ≤ count) × (seats.new ≡ places.answered shot.now.value.items now_ms count seats.old) }
+    ensures { (count : ℕ) × OnOk result (length seats.old ≤ count) × (seats.new ≡ places.handed (option_map (λ s. s.value.items) shot) next now_ms count seats.old) }
+{
+    match shot {
+        Some(shot) => answer_all(seats, &shot, next, now_ms),
+        None => Ok(()),
+    }
+}
+
+/// Those who wait are answered with a snapshot of this number. Where an `Rc` can have no more owners, the rest go on waiting.
+fn answer_all<A: Allocator>(
+    seats: &mut [Seat<A>],
+    shot: &Shot<A>,
+    next: u64,
+    now_ms: u64,
+) -> Result<(), AllocError>
+    ensures { (count : ℕ) × OnOk result (length seats.old ≤ count) × (seats.new ≡ places.answered shot.now.value.items next now_ms count seats.old) }
 {
     for place in 0..seats.len() {
-        answer_one(&mut seats[place], shot, now_ms)?;
+        answer_one(&mut seats[place], shot, next, now_ms)?;
     }
     Ok(())
 }
@@ -112,14 +128,15 @@ pub(crate) fn answer_all<A: Allocator>(
 fn answer_one<A: Allocator>(
     seat: &mut Seat<A>,
     shot: &Shot<A>,
+    next: u64,
     now_ms: u64,
 ) -> Result<(), AllocError>
-    ensures ok { OnOk result (seat.new ≡ places.answered_seat shot.now.value.items now_ms seat.old) }
+    ensures ok { OnOk result (seat.new ≡ places.answered_seat shot.now.value.items next now_ms seat.old) }
     ensures err { OnErr result (seat.new ≡ seat.old) }
 {
     if let Some(guest) = seat {
         if guest.is_waiting() {
-            guest.answer(shot.clone()?, now_ms);
+            guest.answer(shot.clone()?, next, now_ms);
         }
     }
     Ok(())

@@ -1,5 +1,6 @@
 //! The packets of a snapshot, encoded once for all clients that are sent it.
-ghost use Rattle.std.specs.Prelude.{◌≡◌, IfOk};
+ghost use Rattle.std.specs.Prelude.{◌≡◌, ◌≤◌, ◌+◌, ◌*◌, length, IfOk};
+ghost use Rattle.itch_snapshot.specs.Snapshot.{snap};
 ghost use Rattle.itch_live.specs.Guests.{whole};
 
 use itch_book::OrderBook;
@@ -8,7 +9,7 @@ use itch_frame::Counted;
 use itch_market::Market;
 use itch_snapshot::snapshot_len;
 use itch_soup::{ServerConfig, write_session};
-use std::alloc::AllocError;
+use std::alloc::{AllocError, Allocator};
 use std::rc::Rc;
 
 /// The encoded packets of a snapshot, shared by the clients that are sent it.
@@ -24,15 +25,16 @@ const AROUND: u128 = 128;
 /// The bytes that answer a login for all messages: its acceptance, the market's snapshot with its End of Snapshot, and the end
 /// of the session.
 ///
-/// Their memory is taken at once, 43 bytes for each message and 128 for the rest. A snapshot for which 2^64 bytes would not do is
-/// refused as one for which there is no memory.
+/// Their memory is taken at once, 43 bytes for each message and 128 for the rest, and is not exceeded. A snapshot for which 2^64
+/// bytes would not do is refused as one for which there is no memory.
 pub fn shoot<B: OrderBook>(
     alloc: B::Alloc,
     market: &Market<B>,
     next: Seq,
     config: &ServerConfig,
 ) -> Result<Vec<u8, B::Alloc>, AllocError>
-    ensures { IfOk result (λ bytes. bytes.items ≡ whole market.now next config.now) }
+    ensures bytes { IfOk result (λ bytes. bytes.items ≡ whole market.now next config.now) }
+    ensures room { IfOk result (λ bytes. length bytes.items ≤ 43 * length (snap market.now) + 128) }
 {
     let messages = snapshot_len(market).min(1 << 64);
     let Ok(room) = usize::try_from(LONGEST * messages + AROUND) else {
@@ -43,7 +45,18 @@ pub fn shoot<B: OrderBook>(
         unreachable!()
     };
     match write_session(&mut out, market, next, config, first) {
-        Ok(_) => Ok(out.into_inner()),
+        Ok(_) => within(out.into_inner(), room),
         Err(_) => Err(AllocError),
     }
+}
+
+// These bytes, unless they are more than the memory that was taken for them.
+fn within<A: Allocator>(bytes: Vec<u8, A>, room: usize) -> Result<Vec<u8, A>, AllocError>
+    ensures same { IfOk result (λ all. all ≡ bytes) }
+    ensures room { IfOk result (λ all. length all.items ≤ room) }
+{
+    if bytes.len() > room {
+        return Err(AllocError);
+    }
+    Ok(bytes)
 }

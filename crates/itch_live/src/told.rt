@@ -1,5 +1,6 @@
 //! What a client is told.
-ghost use Rattle.std.specs.Prelude.{◌≡◌};
+ghost use Rattle.std.specs.Prelude.{◌≡◌, option_map};
+ghost use Rattle.std.specs.Option.{option_copied};
 ghost use Rattle.itch_live.specs.Guests as guests;
 
 use crate::shot::Shot;
@@ -11,8 +12,8 @@ pub(crate) enum Told<A: Allocator> {
     Nothing,
     /// Its login is rejected, by this block.
     Refusal([u8; 4]),
-    /// Its login is accepted, and answered with a whole snapshot.
-    Whole(Shot<A>),
+    /// Its login is accepted, and answered with a whole snapshot: that of the market before the message of this number.
+    Whole { shot: Shot<A>, next: u64 },
 }
 
 impl<A: Allocator> Told<A> {
@@ -22,7 +23,27 @@ impl<A: Allocator> Told<A> {
         match self {
             Told::Nothing => &[],
             Told::Refusal(bytes) => bytes,
-            Told::Whole(shot) => shot.as_slice(),
+            Told::Whole { shot, .. } => shot.as_slice(),
+        }
+    }
+
+    /// The number of the next message at which the snapshot was encoded.
+    pub(crate) fn snapshot(&self) -> Option<u64>
+        ensures { result ≡ guests.snapshot_of self.now }
+    {
+        match self {
+            Told::Whole { next, .. } => Some(*next),
+            _ => None,
+        }
+    }
+
+    /// The snapshot, if it is that of this number.
+    pub(crate) fn shot(&self, number: u64) -> Option<&Shot<A>>
+        ensures { option_map (λ shot. shot.value.items) (option_copied result) ≡ guests.shot_in (guests.snapshot_of self.now) (guests.told_of self.now) number }
+    {
+        match self {
+            Told::Whole { shot, next } if *next == number => Some(shot),
+            _ => None,
         }
     }
 }

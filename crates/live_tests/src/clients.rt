@@ -4,10 +4,12 @@ use crate::messages::{
     LOGIN_BLANK, LOGIN_OTHER, LOGIN_WRONG, LOGOUT, REFUSED_SESSION, REFUSED_USER, SNAPSHOT_2,
     SNAPSHOT_4,
 };
-use crate::steps::{Brought, Standing, Step, check};
-use itch_book::IndexedBook;
-use itch_live::laws;
+use crate::steps::{Brought, Standing, Step, check, desk_of, take_steps};
+use itch_book::{IndexedBook, OrderBook};
+use itch_frame::testing::FuseWriter;
+use itch_live::{Desk, laws};
 use std::alloc::Global;
+use std::process::Abort;
 use std::test::Fail;
 
 type Index = IndexedBook<Global>;
@@ -170,6 +172,68 @@ const CUT_OFF: &[Step<'static>] = &[
 #[test]
 fn cut_off(rt: HostRuntime) -> Result<(), Fail> {
     check::<Index>(&rt, rt.alloc(), rt.alloc(), false, CUT_OFF)
+}
+
+// The snapshot after eight system events.
+const SNAPSHOT_8: &[u8] = b"\0\x1fA  ITCHSNAP                   1\
+    \0\x0dSS\0\0\0\0\0\0\0\0\0\0O\0\x16SG                   9\0\x01Z";
+
+// Eight clients are sent eight different snapshots. The ninth waits until one of them leaves, and who comes at the same number is
+// sent the same as it.
+const NINTH: &[Step<'static>] = &[
+    Step::Admit(Some(8)),
+    Step::Hear(8, LOGIN),
+    Step::Answer,
+    Step::Pending(8, b""),
+    Step::Stands(8, Standing::There),
+    Step::Leave(3),
+    Step::Answer,
+    Step::Pending(8, SNAPSHOT_8),
+    Step::Admit(Some(3)),
+    Step::Hear(3, LOGIN),
+    Step::Answer,
+    Step::Pending(3, SNAPSHOT_8),
+    Step::Take(3, 75),
+    Step::Stands(3, Standing::Closing),
+    Step::Feed(EVENT, Brought::Taken(10)),
+    Step::Admit(Some(9)),
+    Step::Hear(9, LOGIN),
+    Step::Answer,
+    Step::Pending(9, b""),
+    Step::Leave(8),
+    Step::Answer,
+    Step::Pending(9, b""),
+    Step::Leave(3),
+    Step::Answer,
+    Step::Stands(9, Standing::There),
+    Step::Take(9, 75),
+    Step::Stands(9, Standing::Closing),
+];
+
+fn check_nine<B: OrderBook>(rt: &impl Abort, alloc: Global, memory: B::Alloc) -> Result<(), Fail> {
+    let mut desk: Desk<B> = desk_of(rt, memory, false, 10)?;
+    let mut record = FuseWriter::new(alloc, 5, None);
+    let begins = [
+        Step::Connect(FEED_FROM_1),
+        Step::Feed(ACCEPTED_1, Brought::Accepted(1)),
+    ];
+    take_steps(rt, &mut desk, &mut record, &begins)?;
+    for place in 0..8usize {
+        let comes = [
+            Step::Admit(Some(place)),
+            Step::Hear(place, LOGIN),
+            Step::Answer,
+            Step::Take(place, 33),
+            Step::Feed(EVENT, Brought::Taken(place as u64 + 2)),
+        ];
+        take_steps(rt, &mut desk, &mut record, &comes)?;
+    }
+    take_steps(rt, &mut desk, &mut record, NINTH)
+}
+
+#[test]
+fn the_ninth_snapshot(rt: HostRuntime) -> Result<(), Fail> {
+    check_nine::<Index>(&rt, rt.alloc(), rt.alloc())
 }
 
 #[test]

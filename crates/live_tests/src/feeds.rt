@@ -40,6 +40,38 @@ fn lost_in_a_message(rt: HostRuntime) -> Result<(), Fail> {
     check::<Index>(&rt, rt.alloc(), rt.alloc(), false, LOST)
 }
 
+// The next day's server accepts the login in its own name: nothing of that connection is taken, though its numbers would do. The same
+// name padded elsewhere is the same.
+const NEXT_DAY: &[Step<'static>] = &[
+    Step::Connect(FEED_FROM_1),
+    Step::Feed(ACCEPTED_1, Brought::Accepted(1)),
+    Step::Feed(EVENT, Brought::Taken(2)),
+    Step::Feed(AAPL, Brought::Taken(3)),
+    Step::Connect(FEED_FROM_3),
+    Step::Feed(
+        b"\0\x1fA   TUESDAY                   3",
+        Brought::OtherSession,
+    ),
+    Step::Feed(ADD_1, Brought::Broken),
+    Step::Feed(ACCEPTED_3, Brought::Broken),
+    Step::Feed(ADD_1, Brought::Broken),
+    Step::Next(Some(3)),
+    Step::Connect(FEED_FROM_3),
+    Step::Feed(
+        b"\0\x1fAMONDAY                       3",
+        Brought::Accepted(3),
+    ),
+    Step::Feed(ADD_1, Brought::Taken(4)),
+    Step::Feed(ADD_2, Brought::Taken(5)),
+    Step::Recorded(DAY),
+    Step::Connect(FEED_FROM_5),
+];
+
+#[test]
+fn the_next_day(rt: HostRuntime) -> Result<(), Fail> {
+    check::<Index>(&rt, rt.alloc(), rt.alloc(), false, NEXT_DAY)
+}
+
 // A feed that begins lower than it was asked to repeats messages, and one that begins higher is not taken.
 const ELSEWHERE: &[Step<'static>] = &[
     Step::Connect(FEED_FROM_1),

@@ -13,6 +13,8 @@ mod feeds;
 #[cfg(test)]
 mod messages;
 #[cfg(test)]
+mod players;
+#[cfg(test)]
 mod refused_memory;
 #[cfg(test)]
 mod steps;

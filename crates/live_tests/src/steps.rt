@@ -52,6 +52,7 @@ pub(crate) enum Brought {
     Taken(u64),
     Ended,
     Rejected(u8),
+    OtherSession,
     Broken,
     OutOfOrder,
     NoMemory,
@@ -76,6 +77,7 @@ pub(crate) fn what_came(news: &News) -> Brought {
         News::Taken { next } => Brought::Taken(*next),
         News::Ended => Brought::Ended,
         News::Rejected(code) => Brought::Rejected(*code),
+        News::OtherSession => Brought::OtherSession,
         News::Broken(_) => Brought::Broken,
         News::Refused(JoinFault::Full { .. }) => Brought::OutOfOrder,
         News::Refused(JoinFault::OutOfMemory { .. }) => Brought::NoMemory,
@@ -110,13 +112,23 @@ pub(crate) fn desk<B: OrderBook>(
     memory: B::Alloc,
     glimpse: bool,
 ) -> Result<Desk<B>, AllocError> {
+    desk_of(rt, memory, glimpse, 2)
+}
+
+/// The same with so many places.
+pub(crate) fn desk_of<B: OrderBook>(
+    rt: &impl Abort,
+    memory: B::Alloc,
+    glimpse: bool,
+    places: usize,
+) -> Result<Desk<B>, AllocError> {
     let mut joiner: Joiner<B> = Joiner::new(memory, 0);
     if !glimpse {
         let joined = joiner.snapshot(b"G                   1");
         assert!(rt; joined.is_ok());
     }
     let follower = Follower::new(memory, credentials(rt), joiner, 0)?;
-    Desk::new(memory, config(rt), follower, 2)
+    Desk::new(memory, config(rt), follower, places)
 }
 
 fn stands_at<B: OrderBook>(desk: &Desk<B>, place: usize) -> Standing {

@@ -16,6 +16,6 @@ returns-in_err-answer_one g c = (
 pub loop-place-preserved : goal.loop-place-preserved
 loop-place-preserved g c =
     ap (λ s. set c.loop-place.seats c.loop-place.place s)
-    (c.in_ok-answer_one.ensures.ok ∙ ap (answered_seat c.args.shot.now.value.items c.args.now_ms) (sym c.index-seats-place.is))
-    ∙ map_over_more (answered_seat c.args.shot.now.value.items c.args.now_ms) c.args.seats.now c.loop-place.seats c.loop-place.place c.index-seats-place.result
+    (c.in_ok-answer_one.ensures.ok ∙ ap (answered_seat c.args.shot.now.value.items c.args.next c.args.now_ms) (sym c.index-seats-place.is))
+    ∙ map_over_more (answered_seat c.args.shot.now.value.items c.args.next c.args.now_ms) c.args.seats.now c.loop-place.seats c.loop-place.place c.index-seats-place.result
     c.loop-place-test.true c.loop-place.invariant c.index-seats-place.is

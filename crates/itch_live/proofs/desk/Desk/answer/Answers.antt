@@ -1,11 +1,10 @@
-use Rattle.std.proofs.Common.{◌≡◌, ◌≤◌, length, sym, subst, ◌∙◌, ap, arith, OnOk}
+use Rattle.std.proofs.Common.{◌≡◌, ◌≤◌, length, sym, subst, ◌∙◌, ap, arith, OnOk, option_map}
 use Rattle.std.specs.List.{list_any}
 use Rattle.std.proofs.lemmas.List.{with_items_is}
 use Rattle.std.specs.Option.{option_copied}
-use Rattle.itch_live.specs.Guests.{whole}
-use Rattle.itch_live.specs.Seats.{Seats, waits, answered}
-use Rattle.itch_live.specs.Desks.{Desk}
-use Rattle.itch_live.proofs.Handing.{none_waits, no_market, unnumbered, unmarketed, position_is, handed}
+use Rattle.itch_live.specs.Seats.{Seats, waits, handed}
+use Rattle.itch_live.specs.Desks.{Desk, shot_for}
+use Rattle.itch_live.proofs.Handing.{none_waits, no_market, unnumbered, unmarketed, position_is, handed_shot}
 use Rattle.itch_live.proofs.desk.Desk.answer.Goals as goal
 use Rattle.itch_live.proofs.desk.Desk.answer.Goals.{in_default-via-in-Some+in_default, in_default-via-in_default}
 
@@ -29,17 +28,19 @@ returns-in_default g c = (
 
 pub returns : goal.returns
 returns g c =
-    let length_is : length c.answer_all.new.seats ≡ c.self.inside.seats.len = c.answer_all.auto.seats ∙ ap length c.deref_mut.ensures.value ∙ sym c.self.inside.seats.ok.0 in
+    let length_is : length c.hand_in.new.seats ≡ c.self.inside.seats.len = c.hand_in.auto.seats ∙ ap length c.deref_mut.ensures.value ∙ sym c.self.inside.seats.ok.0 in
     let with_seats : Seats → Desk = λ s. record { config = c.self.inside.config; following = c.self.inside.follower; seats = s } in (
-      c.answer_all.ensures.0,
-      subst (λ s. OnOk c.answer_all.result (length s ≤ c.answer_all.ensures.0)) (c.deref_mut.ensures.value ∙ ap (λ d. d.seats) c.self.view_is) c.answer_all.ensures.1,
-      ap with_seats (with_items_is c.self.inside.seats c.answer_all.new.seats length_is)
-          ∙ ap (λ (d : Desk). record d { seats = c.answer_all.new.seats }) c.self.view_is
-          ∙ handed c.args.self.now (record { next = c.in-Some-Some.next; market = c.in-Some-Some.market.now }) c.in_ok-shot.shot.value.items c.answer_all.ensures.0 c.args.now_ms
-          c.answer_all.new.seats
+      c.hand_in.ensures.0,
+      subst (λ s. OnOk c.hand_in.result (length s ≤ c.hand_in.ensures.0)) (c.deref_mut.ensures.value ∙ ap (λ d. d.seats) c.self.view_is) c.hand_in.ensures.1,
+      ap with_seats (with_items_is c.self.inside.seats c.hand_in.new.seats length_is)
+          ∙ ap (λ (d : Desk). record d { seats = c.hand_in.new.seats }) c.self.view_is
+          ∙ handed_shot c.args.self.now (record { next = c.in-Some-Some.next; market = c.in-Some-Some.market.now }) (option_map (λ s. s.value.items) c.in_ok-shot.shot) c.hand_in.ensures.0
+          c.args.now_ms c.hand_in.new.seats
           (ap (λ (d : Desk). d.following.joining.state.joined) (sym c.self.view_is)
           ∙ position_is _ c.in-Some-Some.next c.in-Some-Some.market.now (sym c.next.ensures ∙ c.in-Some-Some.is-0) (sym c.market.ensures ∙ ap option_copied c.in-Some-Some.is-1))
-          (ap (λ v. v.items) c.in_ok-shot.ensures.ok ∙ c.in_ok-shoot.ensures ∙ ap (λ n. whole c.in-Some-Some.market.now n c.self.inside.config) c.in-Some.ensures.number
-          ∙ ap (λ (d : Desk). whole c.in-Some-Some.market.now c.in-Some-Some.next d.config) c.self.view_is)
-          (c.answer_all.ensures.2 ∙ ap (λ s. answered c.in_ok-shot.shot.value.items c.args.now_ms c.answer_all.ensures.0 s) (c.deref_mut.ensures.value ∙ ap (λ (d : Desk). d.seats) c.self.view_is)),
+          (c.in_ok-shot.ensures ∙ ap (λ s. shot_for c.self.inside.config s c.in-Some-Some.market.now c.in-Some.next) c.deref-2.ensures.value
+          ∙ ap (λ n. shot_for c.self.inside.config c.self.inside.seats.items c.in-Some-Some.market.now n) c.in-Some.ensures.number
+          ∙ ap (λ (d : Desk). shot_for d.config d.seats c.in-Some-Some.market.now c.in-Some-Some.next) c.self.view_is)
+          (c.hand_in.ensures.2 ∙ ap (λ s. handed (option_map (λ s. s.value.items) c.in_ok-shot.shot) c.value.result c.args.now_ms c.hand_in.ensures.0 s) (c.deref_mut.ensures.value ∙ ap (λ (d : Desk). d.seats) c.self.view_is)
+          ∙ ap (λ n. handed (option_map (λ s. s.value.items) c.in_ok-shot.shot) n c.args.now_ms c.hand_in.ensures.0 c.args.self.now.seats) (c.value.ensures.value ∙ c.in-Some.ensures.number)),
     )

@@ -1,0 +1,45 @@
+-- The snapshots that are kept for clients, by the numbers of the next messages at which they were encoded.
+use Rattle.std.specs.Prelude.{ℕ, Bool, false, not, List, [], ◌∷◌, Option, None, Some, if◌then◌else◌}
+use Rattle.std.specs.List.{list_any}
+use Rattle.std.specs.Option.{option_or}
+use Rattle.itch_live.specs.Guests.{Guest, is_at, shot_in}
+use Rattle.itch_live.specs.Seats.{Seats}
+
+-- the number of the snapshot that the client at a place is sent
+abbrev pub number_of : Option Guest → Option ℕ
+number_of None = None
+number_of (Some g) = g.snapshot
+
+abbrev pub is_sent : Option Guest → ℕ → Bool
+is_sent seat number = is_at (number_of seat) number
+
+-- its bytes, if it is that of this number
+abbrev pub bytes_at : Option Guest → ℕ → Option (List ℕ)
+bytes_at None number = None
+bytes_at (Some g) number = shot_in g.snapshot g.told number
+
+-- the bytes of the snapshot of this number, if it is kept
+abbrev pub kept_bytes : Seats → ℕ → Option (List ℕ)
+kept_bytes [] number = None
+kept_bytes (seat ∷ seats) number = option_or (bytes_at seat number) (kept_bytes seats number)
+
+abbrev pub is_kept : Seats → ℕ → Bool
+is_kept seats number = list_any (λ seat. is_sent seat number) seats
+
+-- a snapshot of this number is kept for none of these
+abbrev pub keeps_alone : Option ℕ → Seats → Bool
+keeps_alone None others = false
+keeps_alone (Some number) others = not (is_kept others number)
+
+abbrev pub with_number : Option ℕ → List ℕ → List ℕ
+with_number None numbers = numbers
+with_number (Some number) numbers = number ∷ numbers
+
+-- the numbers of the snapshots that are kept, each of them once
+abbrev pub kept : Seats → List ℕ
+kept [] = []
+kept (seat ∷ seats) = if keeps_alone (number_of seat) seats then with_number (number_of seat) (kept seats) else kept seats
+
+-- how many snapshots are kept at most
+abbrev pub most_snapshots : ℕ
+most_snapshots = 8

@@ -1,0 +1,142 @@
+-- One client of a feed that is played: what it has said, how far it has come, and what waits for its socket.
+use Rattle.std.specs.Prelude.{◌≡◌, ℕ, ◌+◌, ◌-◌, ◌&&◌, ◌||◌, nat_le, nat_lt, ◌==◌, ◌⊎◌, true, false, Bool, not, List, [], ◌++◌, length, drop, Option, None, Some, if◌then◌else◌}
+use Rattle.itch_frame.specs.Blocks.{IsBlock, IsBlockOf, block}
+use Rattle.itch_frame.specs.Cuts.{IsTake}
+use Rattle.itch_soup.specs.declared.login.ServerConfig.{ServerConfig}
+use Rattle.itch_soup.specs.declared.packet.LoginRequest.{LoginRequest}
+use Rattle.itch_soup.specs.declared.packet.Packet.TheVariants as is
+use Rattle.itch_soup.specs.declared.server.ServerAct.{ServerAct}
+use Rattle.itch_soup.specs.declared.server.ServerAct.TheVariants as act
+use Rattle.itch_soup.specs.Packets.{packet_spelling}
+use Rattle.itch_soup.specs.Servers.{Server, new_server, acceptance}
+use Rattle.itch_live.specs.declared.progress.Progress.{Progress}
+use Rattle.itch_live.specs.declared.progress.Progress.TheVariants.{Waiting, Refused, Playing, Ended}
+use Rattle.itch_live.specs.Guests.{Judges}
+
+-- a client: the bytes held of an unfinished packet, its session, how far it has come, the number of the next message, what waits for its socket,
+-- whether it is gone, when it last said or took something, and when something was last sent
+pub record Player : Type 0 where
+  pub held : List ℕ
+  pub session : Server
+  pub progress : Progress
+  pub next : ℕ
+  pub outbox : List ℕ
+  pub gone : Bool
+  pub moved : ℕ
+  pub sent : ℕ
+
+abbrev pub is_empty : List ℕ → Bool
+is_empty bytes = length bytes == 0
+
+-- any packet has room beside so many bytes
+abbrev pub has_room : List ℕ → Bool
+has_room bytes = nat_le (length bytes) 65536
+
+-- how many bytes may wait: what has room, a message, and then the end of the session
+abbrev pub most_pending : Progress → ℕ
+most_pending Ended = 131076
+most_pending progress = 131073
+
+-- what is still to be written
+abbrev pub pending : Player → List ℕ
+pending p = if p.gone then [] else p.outbox
+
+abbrev pub plays : Progress → Bool
+plays Playing = true
+plays progress = false
+
+abbrev pub was_refused : Progress → Bool
+was_refused Refused = true
+was_refused progress = false
+
+-- nothing is sent after a refusal, nor after the end of the session
+abbrev pub is_last : Progress → Bool
+is_last Refused = true
+is_last Ended = true
+is_last progress = false
+
+-- its login was accepted, the session goes on, and it is not gone
+abbrev pub is_playing : Player → Bool
+is_playing p = plays p.progress && not p.gone
+
+-- its socket took all, and nothing comes after it
+abbrev pub has_all : Player → Bool
+has_all p = is_last p.progress && is_empty p.outbox
+
+-- it has all, and the connection is to be closed once it closes it
+abbrev pub is_closing : Player → Bool
+is_closing p = not p.gone && has_all p
+
+-- what it says no longer matters: it is gone, it was refused, or it has all
+abbrev pub is_deaf : Player → Bool
+is_deaf p = p.gone || was_refused p.progress || has_all p
+
+-- a heartbeat is due: nothing waits, and nothing was sent for more than 1,000 ms
+abbrev pub is_idle : Player → ℕ → Bool
+is_idle p now = is_playing p && is_empty p.outbox && nat_lt 1000 (now - p.sent)
+
+-- the number of the message to hand in next, where one may be handed in
+abbrev pub wanted : Player → Option ℕ
+wanted p = if is_playing p && nat_le p.next p.session.total && has_room p.outbox then Some p.next else None
+
+abbrev pub new_player : ServerConfig → ℕ → ℕ → Player
+new_player config total now =
+    record { held = []; session = new_server config total now; progress = Waiting; next = 0; outbox = []; gone = false; moved = now; sent = now }
+
+-- the client is told what its login has come to
+abbrev pub told : Player → Progress → List ℕ → ℕ → Player
+told p progress packet now = record p { progress = progress; outbox = block packet; sent = now }
+
+-- what the session's answer to a packet makes of the client
+abbrev pub after_act : ServerAct → ℕ → Player → Player
+after_act (act.Accept n) now p = told (record p { next = n }) Playing (packet_spelling (is.LoginAccepted (acceptance p.session.config n))) now
+after_act (act.Reject code) now p = told p Refused (packet_spelling (is.LoginRejected code)) now
+after_act act.Nothing now p = p
+after_act act.Close now p = record p { gone = true }
+after_act (act.Fault fault) now p = record p { gone = true }
+
+-- a packet was heard, or a block that is none
+abbrev pub heard : Player → Server → ServerAct → ℕ → Player
+heard p session answer now = after_act answer now (record p { held = []; session = session; moved = now })
+
+-- the bytes held and those taken are a whole packet, which is heard, or less than one
+abbrev pub HearsHeld : Player → List ℕ → ℕ → Player → Type 0
+HearsHeld p held now q =
+    ((payload : List ℕ) × (answer : ServerAct × Option LoginRequest) × (session : Server) × IsBlockOf payload held × Judges p.session payload now answer session
+    × (q ≡ heard p session answer.0 now))
+    ⊎ ((IsBlock held → ⊥) × (q ≡ record p { held = held }))
+
+-- some bytes of a piece are heard; where what it says no longer matters, all are passed over
+abbrev pub Hears : Player → List ℕ → ℕ → ℕ → Player → Type 0
+Hears p piece now n q =
+    ((is_deaf p ≡ true) × (n ≡ length piece) × (q ≡ p))
+    ⊎ ((is_deaf p ≡ false) × ((held : List ℕ) × IsTake p.held piece n held × HearsHeld p held now q))
+
+-- the packet of a message
+abbrev pub message_packet : List ℕ → List ℕ
+message_packet message = packet_spelling (is.SequencedData message)
+
+-- the message that is wanted is handed in
+abbrev pub played : Player → List ℕ → ℕ → Player
+played p message now = record p { outbox = p.outbox ++ block (message_packet message); next = p.next + 1; sent = now }
+
+-- all messages were handed in, and the session is not ended yet
+abbrev pub is_played : Player → Bool
+is_played p = is_playing p && nat_lt p.session.total p.next
+
+-- the session is ended, once all messages were handed in
+abbrev pub ended : Player → ℕ → Player
+ended p now = if is_played p then record p { outbox = p.outbox ++ block (packet_spelling is.EndOfSession); progress = Ended; sent = now } else p
+
+-- its socket took the next bytes
+abbrev pub took : Player → ℕ → ℕ → Player
+took p count now = if nat_lt 0 count then record p { outbox = drop count p.outbox; moved = now; sent = now } else p
+
+abbrev pub left : Player → Player
+left p = record p { gone = true }
+
+-- one that has said nothing and taken nothing for 15,000 ms is gone; another is sent a heartbeat where one is due
+abbrev pub ticked : Player → ℕ → Player
+ticked p now =
+    if nat_le 15000 (now - p.moved) then left p else (
+    if is_idle p now then record p { outbox = p.outbox ++ block (packet_spelling is.ServerHeartbeat); sent = now } else p)

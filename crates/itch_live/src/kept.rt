@@ -1,0 +1,79 @@
+//! The snapshots that are kept for clients.
+ghost use Rattle.std.specs.Prelude.{◌≡◌, length, option_map};
+ghost use Rattle.std.specs.Option.{option_copied};
+ghost use Rattle.itch_live.specs.Kept as kept;
+
+use crate::seats::Seat;
+use crate::shot::Shot;
+use std::alloc::Allocator;
+
+/// The number of the next message at which the snapshot of the client at a place was encoded.
+fn number_of<A: Allocator>(seat: &Seat<A>) -> Option<u64>
+    ensures { result ≡ kept.number_of seat.now }
+{
+    match seat {
+        Some(guest) => guest.snapshot(),
+        None => None,
+    }
+}
+
+/// The snapshot of the client at a place, if it is that of this number.
+fn shot_at<A: Allocator>(seat: &Seat<A>, number: u64) -> Option<&Shot<A>>
+    ensures { option_map (λ shot. shot.value.items) (option_copied result) ≡ kept.bytes_at seat.now number }
+{
+    match seat {
+        Some(guest) => guest.shot(number),
+        None => None,
+    }
+}
+
+/// The snapshot of this number, if it is kept for a client.
+pub(crate) fn kept_shot<A: Allocator>(seats: &[Seat<A>], number: u64) -> Option<&Shot<A>>
+    ensures { option_map (λ shot. shot.value.items) (option_copied result) ≡ kept.kept_bytes seats.now number }
+{
+    for place in 0..seats.len() {
+        if let Some(shot) = shot_at(&seats[place], number) {
+            return Some(shot);
+        }
+    }
+    None
+}
+
+/// How many different snapshots are kept, by their numbers.
+pub(crate) fn count_kept<A: Allocator>(seats: &[Seat<A>]) -> usize
+    ensures { result ≡ length (kept.kept seats.now) }
+{
+    let mut count = 0;
+    let len = seats.len();
+    for place in 0..len {
+        if keeps_alone(&seats[place], &seats[place + 1..]) {
+            count += 1;
+        }
+    }
+    count
+}
+
+// Whether a snapshot is kept for a client, and for none of the others.
+fn keeps_alone<A: Allocator>(seat: &Seat<A>, others: &[Seat<A>]) -> bool
+    ensures { result ≡ kept.keeps_alone (kept.number_of seat.now) others.now }
+{
+    match number_of(seat) {
+        Some(number) => !is_kept(others, number),
+        None => false,
+    }
+}
+
+fn is_kept<A: Allocator>(seats: &[Seat<A>], number: u64) -> bool
+    ensures { result ≡ kept.is_kept seats.now number }
+{
+    seats.iter().any(|seat| is_sent(seat, number))
+}
+
+fn is_sent<A: Allocator>(seat: &Seat<A>, number: u64) -> bool
+    ensures { result ≡ kept.is_sent seat.now number }
+{
+    match number_of(seat) {
+        Some(next) => next == number,
+        None => false,
+    }
+}
