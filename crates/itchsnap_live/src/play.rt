@@ -1,0 +1,241 @@
+//! `feed`: a day file that is played as a live feed, to each client from the number on that it asks for.
+
+use crate::callers::Callers;
+use crate::departure::{Departure, write_departure};
+use crate::link::Link;
+use crate::playback::Playback;
+use crate::player_side::PlayerSide;
+use crate::socket::Socket;
+use crate::turns::{Turns, called};
+use itch_codec::Seq;
+use itch_commands::ToolFault;
+use itch_frame::CountedWrite;
+use itch_live::Player;
+use itch_soup::ServerConfig;
+use itchsnap_cli::sessions::PIECE;
+use itchsnap_cli::words::Pace;
+use mio::Token;
+use mio::net::TcpStream;
+use std::alloc::{AllocError, Global};
+use std::io::Read;
+use std::net::{Net, SocketAddr};
+use std::rt::{Clock, Files};
+
+const LISTENER: usize = 0;
+
+const PLACES: usize = 1;
+
+/// How many clients a feed has at a time.
+const CLIENTS: usize = 64;
+
+const EVENTS: usize = 64;
+
+/// The moment is looked at this often, where no socket is ready; and where a message is not due yet.
+const MOMENT_MS: u64 = 100;
+
+const SOON_MS: u64 = 2;
+
+/// What is played, to whom and how.
+#[derive(Clone, Copy)]
+pub struct Playing<'a> {
+    pub path: &'a str,
+    pub address: SocketAddr,
+    pub config: ServerConfig,
+    pub pace: Pace,
+    /// After how many connections it ends, if it does.
+    pub count: Option<u64>,
+    /// Whether heartbeats follow the last message, and not the end of the session.
+    pub stay: bool,
+}
+
+/// Plays a day file to each client that logs in, from the number on that it asks for, with a line on `out` for each that is gone. Its
+/// messages are counted first. Each client has the file opened for itself, so it may be at any place of it.
+///
+/// # Faults
+///
+/// A file that cannot be opened, or ends within a message (`Stopped`); `Socket` if the port cannot be listened on; a line that
+/// cannot be written.
+pub fn play_feed<R, W: CountedWrite>(
+    rt: &R,
+    playing: &Playing<'_>,
+    out: &mut W,
+) -> Result<bool, ToolFault>
+where
+    R: Net + Clock + Files + Eprint + AllocGlobal,
+{
+    let total = Playback::open(rt, playing.path)?.count()?;
+    let Some(end) = Seq::new(total.saturating_add(1)) else {
+        return Err(ToolFault::TooMany);
+    };
+    let mut players = Players::new(rt, playing, end)?;
+    for _turn in 0..u64::MAX {
+        if playing.count.is_some_and(|count| players.ended >= count) {
+            break;
+        }
+        players.turn(out)?;
+    }
+    Ok(true)
+}
+
+// The clients of a feed.
+#[derive(Drop)]
+struct Players<'a, R: Clock + Files> {
+    rt: &'a R,
+    playing: &'a Playing<'a>,
+    // The number after that of the last message.
+    end: Seq,
+    turns: Turns<'a, R>,
+    callers: Callers,
+    clients: Vec<Option<PlayerSide<R::File>>>,
+    // How many clients have connected, and how many connections have ended.
+    connected: u64,
+    ended: u64,
+    buffer: Vec<u8>,
+}
+
+impl<'a, R> Players<'a, R>
+where
+    R: Net + Clock + Files + Eprint + AllocGlobal,
+{
+    // Listens on the port, and says so.
+    fn new(rt: &'a R, playing: &'a Playing<'a>, end: Seq) -> Result<Players<'a, R>, ToolFault> {
+        let turns = Turns::begin(rt, rt, EVENTS)?;
+        let callers = called(Callers::listen(rt, turns.registry(), playing.address, LISTENER))?;
+        Ok(Players {
+            rt,
+            playing,
+            end,
+            turns,
+            callers,
+            clients: no_clients(rt.alloc())?,
+            connected: 0,
+            ended: 0,
+            buffer: vec![in rt.alloc(); 0; PIECE]?,
+        })
+    }
+
+    // Waits until something is ready or due, and does it.
+    fn turn<W: CountedWrite>(&mut self, out: &mut W) -> Result<(), ToolFault> {
+        let most_ms = self.patience_ms();
+        let now_ms = self.turns.wait(most_ms)?;
+        self.note();
+        self.accept(now_ms, out)?;
+        self.play(now_ms);
+        self.close(out)
+    }
+
+    // How long there is nothing to do unless something is ready.
+    fn patience_ms(&self) -> u64 {
+        let mut most_ms = MOMENT_MS;
+        for client in self.clients.iter() {
+            if let Some(client) = client {
+                if client.is_busy() {
+                    return 0;
+                }
+                if client.is_early() {
+                    most_ms = SOON_MS;
+                }
+            }
+        }
+        most_ms
+    }
+
+    // Takes note of what is ready.
+    fn note(&mut self) {
+        for event in self.turns.events().iter() {
+            let Token(token) = event.token();
+            if token == LISTENER {
+                self.callers.note();
+            } else if let Some(Some(client)) = self.clients.get_mut(token.saturating_sub(PLACES)) {
+                client.note(event);
+            }
+        }
+    }
+
+    // Accepts those who call, as far as there are places. Others wait until one is free.
+    fn accept<W: CountedWrite>(&mut self, now_ms: u64, out: &mut W) -> Result<(), ToolFault> {
+        for place in 0..self.clients.len() {
+            if self.is_taken(place) {
+                continue;
+            }
+            let Some(stream) = self.callers.next() else {
+                return Ok(());
+            };
+            self.connected = self.connected.saturating_add(1);
+            match self.seat(stream, place, now_ms) {
+                Ok(client) => self.set(place, Some(client)),
+                Err(_) => {
+                    self.ended = self.ended.saturating_add(1);
+                    write_departure(out, self.connected, Departure::Fault)?;
+                }
+            }
+        }
+        Ok(())
+    }
+
+    fn is_taken(&self, place: usize) -> bool {
+        matches!(self.clients.get(place), Some(Some(_)))
+    }
+
+    // Seats a client at a place, or frees it, which closes the connection.
+    fn set(&mut self, place: usize, client: Option<PlayerSide<R::File>>) {
+        if let Some(seat) = self.clients.get_mut(place) {
+            *seat = client;
+        }
+    }
+
+    // A client with the file opened for it.
+    fn seat(
+        &self,
+        stream: TcpStream,
+        place: usize,
+        now_ms: u64,
+    ) -> Result<PlayerSide<R::File>, ToolFault> {
+        let playback = Playback::open(self.rt, self.playing.path)?;
+        let total = self.end.value() - 1;
+        let player = Player::new(self.rt.alloc(), self.playing.config, total, now_ms)?;
+        let token = place.saturating_add(PLACES);
+        let socket = called(Socket::register(self.turns.registry(), stream, token, true))?;
+        let link = Link::new(socket, self.connected);
+        Ok(PlayerSide::new(link, player, playback))
+    }
+
+    // Plays to each client what is due.
+    fn play(&mut self, now_ms: u64) {
+        let (pace, stay) = (self.playing.pace, self.playing.stay);
+        for client in self.clients.iter_mut() {
+            if let Some(client) = client {
+                client.turn(pace, stay, now_ms, self.buffer.as_mut_slice());
+            }
+        }
+    }
+
+    // Closes the connection of each that is gone.
+    fn close<W: CountedWrite>(&mut self, out: &mut W) -> Result<(), ToolFault> {
+        for place in 0..self.clients.len() {
+            if let Some((number, departure)) = self.departure(place) {
+                self.set(place, None);
+                self.ended = self.ended.saturating_add(1);
+                write_departure(out, number, departure)?;
+            }
+        }
+        Ok(())
+    }
+
+    // The number of the client at a place, and how its connection ended, once it is to be closed.
+    fn departure(&self, place: usize) -> Option<(u64, Departure)> {
+        match self.clients.get(place) {
+            Some(Some(client)) => Some((client.number(), client.departure()?)),
+            _ => None,
+        }
+    }
+}
+
+// Free places.
+fn no_clients<F: Read + Drop>(alloc: Global) -> Result<Vec<Option<PlayerSide<F>>>, AllocError> {
+    let mut clients = Vec::with_capacity(alloc, CLIENTS)?;
+    for _place in 0..CLIENTS {
+        clients.push(None)?;
+    }
+    Ok(clients)
+}
