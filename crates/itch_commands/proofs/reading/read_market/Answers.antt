@@ -12,22 +12,17 @@ loop-count-init g c = record {
   standing = standing_first _;
 }
 
-pub loop-count-preserved : goal.loop-count-preserved
-loop-count-preserved g c = record {
-  so_far = one_more c.args.limit _ _ _ _ _ _ _ c.loop-count.invariant.so_far (rw c.in-Ok-true.field-0-test at c.in-Ok-true.ensures.step);
-  uncounted = c.in-Ok-true.ensures.failures ∙ c.loop-count.invariant.uncounted;
-  standing = standing_on _ _ _ _ c.loop-count.invariant.standing c.in-Ok-true.ensures.reader;
+pub loop-count-preserved-in-Some-Ok-true : goal.loop-count-preserved-in-Some-Ok-true
+loop-count-preserved-in-Some-Ok-true g c = record {
+  so_far = one_more c.args.limit _ _ _ _ _ _ _ c.loop-count.invariant.so_far (rw (c.look_ahead.ensures, c.in-Some-Ok-true.field-0-is) at c.in-Some-Ok-true.ensures.step);
+  uncounted = c.in-Some-Ok-true.ensures.failures ∙ c.loop-count.invariant.uncounted;
+  standing = standing_on _ _ _ _ c.loop-count.invariant.standing (rw c.in-Some-Ok-true.field-0-is at c.in-Some-Ok-true.ensures.reader);
 }
 
-pub returns-in-Err-clause-reads : goal.returns-in-Err-clause-reads
-returns-in-Err-clause-reads g c =
-    let remaining = g.R.CountedRead.remaining in
-    let limit = c.args.limit in
-    subst (λ r. ReadsMarket c.args.file limit c.args.market.now (bytes_left remaining c.args.reader.now) (bytes_left remaining c.read_next.new.reader) r c.read_next.new.market) (sym c.stopped.ensures)
-    (stopped_so c.args.file limit _ _ _ _ _ c.in-Err.stop
-    (stops_there limit _ _ _ _ _ _ _ c.loop-count.invariant.so_far c.in-Err.stop (before_most limit.after _ (rw c.most-most.ensures at c.loop-count-test.true)) c.in-Err.ensures.step))
-
-pub returns-in-Err-clause-reader : goal.returns-in-Err-clause-reader
-returns-in-Err-clause-reader g c =
-    subst (λ r. LeavesDay r c.args.limit c.args.reader.now c.read_next.new.reader) (sym c.stopped.ensures)
-    (stopped_leaves c.args.file c.args.limit _ _ _ _ c.loop-count.invariant.standing c.in-Err.stop c.in-Err.ensures.reader)
+pub loop-count-preserved : goal.loop-count-preserved
+loop-count-preserved g c = record {
+  so_far = one_more c.args.limit _ _ _ _ _ _ _ c.loop-count.invariant.so_far
+  (rw (c.in-None.ensures.none.0, c.in-None.ensures.none.1, c.look_ahead.ensures, c.in-Ok-true.field-0-test) at c.in-Ok-true.ensures.step);
+  uncounted = (rw c.in-None.ensures.none.0 at c.in-Ok-true.ensures.failures) ∙ c.loop-count.invariant.uncounted;
+  standing = standing_on _ _ _ _ c.loop-count.invariant.standing (rw c.in-None.ensures.none.0 at c.in-Ok-true.ensures.reader);
+}
