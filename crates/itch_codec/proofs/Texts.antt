@@ -1,6 +1,6 @@
 -- Printable bytes, and their first byte that is not.
 use Rattle.std.proofs.Common.{◌≡◌, ℕ, zero, suc, ◌+◌, ◌-◌, ◌<◌, ◌≤◌, Bool, true, false, not, ltb, List, [], ◌∷◌, ◌++◌, length, take, drop, replicate, get_or, slice_index, None, refl, sym, ap, ◌∙◌, arith}
-use Rattle.std.specs.List.{prefix_len}
+use Rattle.std.specs.List.{prefix_len, list_all}
 use Rattle.std.proofs.Math.Numerals.{one-add}
 use Rattle.std.proofs.lemmas.List.Sums.{prefix_len-le-length}
 use Rattle.std.proofs.lemmas.Bool.Decides.{nat_tests}
@@ -50,6 +50,24 @@ printable-none bytes h =
     let t : ltb (printed_len bytes) (length bytes) ≡ false = grind (arith, nat_tests) in rw t refl
 
 pub ruleset printing = (none-printable, printable-none)
+
+-- whether no byte is unprintable
+abbrev pub all_printable : List ℕ → Bool
+all_printable bytes = list_all (λ byte. not (is_unprintable byte)) bytes
+
+all_step : (byte : ℕ) (bytes : List ℕ) (b : Bool) → is_unprintable byte ≡ b → all_printable (byte ∷ bytes) ≡ true
+    → (is_unprintable byte ≡ false) × (all_printable bytes ≡ true)
+all_step byte bytes true e h = absurd (let k = rw e at h in cc)
+all_step byte bytes false e h = let k = rw e at h in (e, k)
+
+pub all-printable : (bytes : List ℕ) → all_printable bytes ≡ true → IsPrintable bytes
+all-printable [] h = tt
+all-printable (byte ∷ bytes) h =
+    let step = all_step byte bytes (is_unprintable byte) refl h in (byte_printable byte step.0, all-printable bytes step.1)
+
+pub printable-all : (bytes : List ℕ) → IsPrintable bytes → all_printable bytes ≡ true
+printable-all [] h = refl
+printable-all (byte ∷ bytes) h = rw (printable_byte byte h.0, printable-all bytes h.1) refl
 
 -- what stands after the text is spaces
 pub text-whole : (field : List ℕ) (len : ℕ) → len ≤ length field → ((k : ℕ) → len ≤ k → k < length field → slice_index field k ≡ 32)

@@ -22,6 +22,7 @@ use crate::undecoded::Undecoded;
 /// The message that a payload spells.
 ///
 /// A payload that spells no message has a fault, which is returned: its length, or else that of the first field that has one.
+#[inline(always)]
 pub fn decode(payload: &[u8]) -> Result<Message<'_>, CodecFault>
     ensures found { IfOk result (λ m. Spells m payload.entry.now) }
     ensures only { (m : MessageValue) → Spells m payload.entry.now → result ≡ Ok m }
@@ -34,6 +35,7 @@ pub fn decode(payload: &[u8]) -> Result<Message<'_>, CodecFault>
 }
 
 // The message that the payload spells, or the payload's fault.
+#[inline(always)]
 fn read(payload: &[u8]) -> Result<Message<'_>, CodecFault>
     ensures { Reads (λ m. Spells m payload.entry.now) (fault payload.entry.now) result }
 {

@@ -3,11 +3,12 @@ ghost use Rattle.std.specs.Prelude.{◌≡◌, ◌+◌, ◌<◌, ◌≤◌, ◌^
 ghost use Rattle.arrayvec.specs.ArrayVec.{array_vec_len};
 ghost use Rattle.itch_codec.specs.Numbers.{slice_at, number_at, be};
 ghost use Rattle.itch_codec.specs.Layouts.{column, Text, OneSide};
-ghost use Rattle.itch_codec.specs.Fields.{Bytes, TheSide, Has, field_fault, Reads, AreBytes, IsBytes, IsAlpha, side_byte};
+ghost use Rattle.itch_codec.specs.Fields.{Bytes, TheSide, Has, field_fault, Reads, AreBytes, IsBytes, IsAlpha, side_byte, side_of};
+ghost use Rattle.itch_codec.specs.Text.{IsPrintable};
 
 use crate::fault::CodecFault;
 use crate::orders::Side;
-use crate::text::Alpha;
+use crate::text::{Alpha, are_printable, unprintable};
 use arrayvec::ArrayVec;
 use byteorder::{BigEndian, ByteOrder};
 
@@ -61,19 +62,56 @@ pub(crate) fn text_at<const N: usize>(payload: &[u8], offset: usize) -> Result<A
     requires { offset + N ≤ length payload.now }
     ensures { Reads (λ text. Has payload.now (column offset N Text) (Bytes text)) (field_fault payload.now (column offset N Text)) result }
 {
-    match Alpha::checked(codes_at(payload, offset)) {
-        Ok(text) => Ok(text),
-        Err(place) => Err(CodecFault::BadText {
+    check_text::<N>(payload, offset)?;
+    Ok(known_text(payload, offset))
+}
+
+/// Whether a field is a text, or its fault.
+#[inline(always)]
+#[tactic(auto, using(crate::proofs::Texts::printing), unfolding(crate::specs::Numbers::slice_at))]
+pub(crate) fn check_text<const N: usize>(payload: &[u8], offset: usize) -> Result<(), CodecFault>
+    requires { offset + N ≤ length payload.now }
+    ensures { Reads (λ _. IsPrintable (slice_at offset N payload.now)) (field_fault payload.now (column offset N Text)) result }
+{
+    let bytes = &payload[offset..offset + N];
+    if are_printable(bytes) {
+        return Ok(());
+    }
+    match unprintable(bytes) {
+        None => Ok(()),
+        Some(place) => Err(CodecFault::BadText {
             offset: offset + place,
         }),
     }
+}
+
+/// The text of a field that has no fault.
+#[inline(always)]
+pub(crate) fn known_text<const N: usize>(payload: &[u8], offset: usize) -> Alpha<N>
+    requires within { offset + N ≤ length payload.now }
+    requires printable { IsPrintable (slice_at offset N payload.now) }
+    ensures { result ≡ slice_at offset N payload.now }
+{
+    Alpha::known(codes_at(payload, offset))
 }
 
 pub(crate) fn side_at(payload: &[u8], offset: usize) -> Result<Side, CodecFault>
     requires { offset < length payload.now }
     ensures { Reads (λ side. Has payload.now (column offset 1 OneSide) (TheSide side)) (field_fault payload.now (column offset 1 OneSide)) result }
 {
-    Side::try_from(payload[offset]).map_err(|_| CodecFault::BadSide { offset })
+    let byte = payload[offset];
+    if byte != b'B' && byte != b'S' {
+        return Err(CodecFault::BadSide { offset });
+    }
+    Ok(side_of(byte))
+}
+
+// The side of a byte that is `B` or `S`.
+#[inline(always)]
+fn side_of(byte: u8) -> Side
+    ensures { result ≡ side_of byte }
+{
+    if byte == b'B' { Side::Buy } else { Side::Sell }
 }
 
 fn put(out: &mut Buffer, bytes: &[u8])

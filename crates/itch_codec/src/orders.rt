@@ -10,7 +10,8 @@ ghost use Rattle.itch_codec.specs.Widths.{IsAddOrder, IsAttributedAddOrder, IsOr
 
 use crate::fault::CodecFault;
 use crate::fields::{
-    Buffer, put_code, put_side, put_text, put_u32, put_u64, side_at, text_at, u32_at, u64_at,
+    Buffer, check_text, known_text, put_code, put_side, put_text, put_u32, put_u64, side_at,
+    text_at, u32_at, u64_at,
 };
 use crate::header::Header;
 use crate::text::Alpha;
@@ -43,12 +44,14 @@ impl AddOrder {
         requires { 36 ≤ length payload.now }
         ensures { Reads (λ m. HasAll payload.now add_order.columns (add_order_values m)) (first_fault payload.now add_order.columns) result }
     {
+        let side = side_at(payload, 19)?;
+        check_text::<8>(payload, 24)?;
         Ok(AddOrder {
             header: Header::decode(payload),
             reference: u64_at(payload, 11),
-            side: side_at(payload, 19)?,
+            side,
             shares: u32_at(payload, 20),
-            stock: text_at(payload, 24)?,
+            stock: known_text(payload, 24),
             price: u32_at(payload, 32),
         })
     }

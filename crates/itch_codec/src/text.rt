@@ -1,7 +1,7 @@
 //! Texts of a fixed width.
-ghost use Rattle.std.specs.Prelude.{◌≡◌, ℕ, ◌-◌, ◌<◌, ◌≤◌, ◌↔◌, List, length, Option, None, Some, IfOk, IfErr, IfSome, IsOk, OnOk, slice_index, ◌≢◌};
+ghost use Rattle.std.specs.Prelude.{◌≡◌, not, ℕ, ◌-◌, ◌<◌, ◌≤◌, ◌↔◌, List, length, Option, None, Some, true, IfOk, IfErr, IfSome, IsOk, OnOk, slice_index, ◌≢◌};
 ghost use Rattle.std.specs.Str.{IsUtf8};
-ghost use Rattle.itch_codec.specs.Text.{IsPrintable, IsTextOf, before_spaces, first_unprintable, padded_to};
+ghost use Rattle.itch_codec.specs.Text.{IsPrintable, IsTextOf, before_spaces, first_unprintable, is_unprintable, padded_to};
 
 use std::marker::Model;
 use std::str;
@@ -71,6 +71,15 @@ impl<const N: usize> Alpha<N> {
         }
     }
 
+    /// The text of printable bytes.
+    #[inline(always)]
+    pub(crate) fn known(bytes: [u8; N]) -> Alpha<N>
+        requires { IsPrintable bytes }
+        ensures { result ≡ bytes.entry }
+    {
+        Alpha { bytes }
+    }
+
     // The text of these bytes, or the place of the first that is not printable.
     pub(crate) fn checked(bytes: [u8; N]) -> Result<Alpha<N>, usize>
         ensures taken { IfOk result (λ alpha. alpha ≡ bytes.entry) }
@@ -114,9 +123,28 @@ impl<const N: usize> Alpha<N> {
     }
 }
 
-// The place of the first byte that is not printable.
+/// Whether all bytes are printable. It looks at each, so that a processor compares several at once.
+#[inline(always)]
+pub(crate) fn are_printable(bytes: &[u8]) -> bool
+    ensures { (result ≡ true) ↔ IsPrintable bytes.now }
+{
+    let mut are = true;
+    for byte in bytes {
+        are &= is_printable(*byte);
+    }
+    are
+}
+
+#[inline(always)]
+fn is_printable(byte: u8) -> bool
+    ensures { result ≡ not (is_unprintable byte) }
+{
+    byte >= b' ' && byte <= b'~'
+}
+
+/// The place of the first byte that is not printable.
 #[tactic(auto, using(crate::proofs::Texts::printing), unfolding(crate::specs::Text::first_unprintable))]
-fn unprintable(bytes: &[u8]) -> Option<usize>
+pub(crate) fn unprintable(bytes: &[u8]) -> Option<usize>
     ensures place { result ≡ first_unprintable bytes.now }
     ensures printable { (result ≡ None) ↔ IsPrintable bytes.now }
     ensures within { IfSome result (λ at. at < length bytes.now) }

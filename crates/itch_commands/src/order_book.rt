@@ -1,9 +1,6 @@
-//! The books of orders that the commands use.
+//! The book of orders that the commands use.
 
-use itch_book::{IndexedBook, SettledBook};
+use itch_book::SettledBook;
 
-/// The one for a market that is looked at once all messages are read. It is settled first.
+/// The one for a market that is looked at once all messages are read, or seldom. It is settled before.
 pub type Book<A> = SettledBook<A>;
-
-/// The one for a market that is looked at between messages.
-pub(crate) type LiveBook<A> = IndexedBook<A>;

@@ -23,6 +23,7 @@
 
 mod counted;
 mod fault;
+mod first;
 pub mod laws;
 mod reader;
 mod splitter;
@@ -32,6 +33,7 @@ mod writer;
 
 pub use counted::{Buffered, Counted, CountedRead, CountedWrite};
 pub use fault::FrameFault;
+pub use first::copy_first_block;
 pub use reader::BlockReader;
 pub use splitter::Splitter;
 pub use writer::{write_block, write_part};

@@ -76,6 +76,7 @@ impl<R: CountedRead, A: Allocator> BlockReader<R, A> {
     ///
     /// After `Read`, what was read so far is kept, and the call may be made again. After `None` or `Truncated`, each call
     /// returns the same, and nothing more is read.
+    #[inline(always)]
     pub fn next_block(&mut self) -> Result<Option<&[u8]>, FrameFault>
         ensures* next { sem 𝓛 (Rests (reader_row R.row A.row R.CountedRead A.Allocator) self.entry (λ new.
             NextBlock R.remaining R.failures self.old result new × StaysEnded self.old result new)) }
@@ -109,6 +110,7 @@ impl<R: CountedRead, A: Allocator> BlockReader<R, A> {
     ///
     /// The faults are those of [`BlockReader::next_block`], and leave the same. After the end of input each call returns `None`;
     /// after an empty block the next call reads on.
+    #[inline(always)]
     pub fn next_message(&mut self) -> Result<Option<&[u8]>, FrameFault>
         ensures* next { sem 𝓛 (Rests (reader_row R.row A.row R.CountedRead A.Allocator) self.entry (λ new.
             NextMessage R.remaining R.failures self.old result new × StaysEnded self.old result new)) }
@@ -128,6 +130,7 @@ fn zeros<A: Allocator>(alloc: A, len: usize) -> Result<Vec<u8, A>, AllocError>
 }
 
 /// Completes the current block, the first `len` bytes of `buffer` (true), unless the input ends before (false).
+#[inline(always)]
 fn fill_block<R: CountedRead>(
     reader: &mut R,
     buffer: &mut [u8],
@@ -151,6 +154,7 @@ fn fill_block<R: CountedRead>(
 }
 
 /// Takes the current block at once, if nothing of it is held and all of it lies at hand.
+#[inline(always)]
 fn take_block<R: CountedRead>(reader: &mut R, buffer: &mut [u8], len: &mut usize) -> bool
     ensures room { length buffer.new ≡ length buffer.old }
     ensures begun { result ≡ true → len.old ≡ 0 }
@@ -173,6 +177,7 @@ fn take_block<R: CountedRead>(reader: &mut R, buffer: &mut [u8], len: &mut usize
 }
 
 /// Reads until the current block is complete (true) or the input ends (false).
+#[inline(never)]
 fn read_block<R: CountedRead>(
     reader: &mut R,
     buffer: &mut [u8],

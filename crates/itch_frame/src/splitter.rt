@@ -91,25 +91,9 @@ pub(crate) fn lacking(held: &[u8]) -> usize
     }
 }
 
-/// How long the block is that the bytes begin with, if all of it is there.
-#[inline(always)]
-pub(crate) fn first_block(bytes: &[u8]) -> Option<usize>
-    ensures within { IfSome result (λ size. size ≤ length bytes.now) }
-    ensures block { IfSome result (λ size. IsBlock (take size bytes.now)) }
-{
-    if bytes.len() < 2 {
-        return None;
-    }
-    let size = needed(bytes);
-    if size > bytes.len() {
-        return None;
-    }
-    Some(size)
-}
-
 /// How long the current block is, once its length bytes are there.
 #[inline(always)]
-fn needed(held: &[u8]) -> usize
+pub(crate) fn needed(held: &[u8]) -> usize
     requires { 2 ≤ length held.now }
     ensures count { result ≡ need held.now }
     ensures bound { result ≤ 65537 }

@@ -88,6 +88,7 @@ impl<B: OrderBook> Market<B> {
     ///
     /// A refusal leaves the market as it was. [`Refusal::OutOfMemory`] is returned only for a message that no rule refuses and
     /// that adds an order, a directory entry, a halt's market code or a market participant, and only if an allocation failed.
+    #[inline(always)]
     pub fn apply(&mut self, message: &Message<'_>) -> Result<(), Refusal>
         ensures refused { IfSome (reason self.old message.now) (λ why. result ≡ Err why) }
         ensures accepted { IfNone (reason self.old message.now) (IsOkUnless result Refusal.OutOfMemory) }

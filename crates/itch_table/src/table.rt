@@ -71,7 +71,7 @@ impl<A: Allocator> Table<A> {
         requires known { IsSome (at self.old key) }
         ensures { Updates self.old self.new key (Some link) }
     {
-        if self.near.get(key).is_some() {
+        if self.far.is_empty() || self.near.get(key).is_some() {
             self.near.set(key, link);
         } else {
             *self.far.get_mut(&key).unwrap() = link;

@@ -1,7 +1,7 @@
 //! A reader of bytes in memory, which never fails.
 ghost use Rattle.std.specs.Prelude.{Some, None};
 
-use itch_frame::CountedRead;
+use itch_frame::{CountedRead, copy_first_block};
 use std::io;
 
 /// Bytes in memory.
@@ -20,5 +20,11 @@ impl CountedRead for SliceReader<'_> {
         buf[..count].copy_from_slice(&self.rest[..count]);
         self.rest = &self.rest[count..];
         Ok(count)
+    }
+
+    fn take_block(&mut self, buf: &mut [u8]) -> Option<usize> {
+        let size = copy_first_block(self.rest, buf)?;
+        self.rest = &self.rest[size..];
+        Some(size)
     }
 }

@@ -17,7 +17,7 @@ use crate::fault::{Source, ToolFault};
 use crate::form::Form;
 use crate::limit::Limit;
 use crate::line::Line;
-use crate::order_book::LiveBook;
+use crate::order_book::Book;
 use crate::reading::stopped;
 use crate::writing::write_text;
 use itch_book::OrderBook;
@@ -71,7 +71,7 @@ pub fn compare_first_blocks<
     ensures { ComparesFirst R.remaining R.failures S.remaining S.failures W.contents W.failures form limit (FromBlocks first.old first.new) (FromBlocks second.old second.new)
         out.old result out.new }
 {
-    compare_first_over::<R, S, B, C, LiveBook<A>, W>(alloc, first, second, limit, form, out)
+    compare_first_over::<R, S, B, C, Book<A>, W>(alloc, first, second, limit, form, out)
 }
 
 // The same with any book of orders.
@@ -116,7 +116,7 @@ fn first_difference<R: CountedRead, S: CountedRead, A: Allocator, C: Allocator, 
         }
         let change = step(first, &mut one, one_goes, count, limit, Source::First)?;
         let other_change = step(second, &mut other, other_goes, count, limit, Source::Second)?;
-        if !still_same(&one, &other, &change, &other_change) {
+        if !still_same(&mut one, &mut other, &change, &other_change) {
             return Ok(Some(count + 1));
         }
         one_goes = change.is_some();
@@ -183,20 +183,25 @@ fn take_change<B: OrderBook>(
     Ok(Some(change))
 }
 
-// Whether two markets are the same, which were so before these changes. The markets are compared only if the changes do not tell.
+// Whether two markets are the same, which were so before these changes. The markets are settled and compared only if the changes do
+// not tell.
 fn still_same<B: OrderBook>(
-    one: &Market<B>,
-    other: &Market<B>,
+    one: &mut Market<B>,
+    other: &mut Market<B>,
     change: &Option<Message<'_>>,
     other_change: &Option<Message<'_>>,
 ) -> bool
-    requires few { length (snap one.now) < 10 ^ 19 }
-    requires alike { AreAlike change.now other_change.now → Same one.now other.now }
-    ensures { IsTrue result ↔ Same one.now other.now }
+    requires few { length (snap one.old) < 10 ^ 19 }
+    requires alike { AreAlike change.now other_change.now → Same one.old other.old }
+    ensures same { IsTrue result ↔ Same one.old other.old }
+    ensures one { one.new ≡ one.old }
+    ensures other { other.new ≡ other.old }
 {
     if are_alike(change, other_change) {
         return true;
     }
+    one.settle();
+    other.settle();
     same_market(one, other)
 }
 

@@ -3,7 +3,7 @@ ghost use Rattle.std.specs.Prelude.{◌≡◌, None, length, take, min};
 ghost use Rattle.std.specs.Io.Buffered.{reader_remaining};
 
 use crate::counted::{Counted, CountedRead};
-use crate::splitter::first_block;
+use crate::first::copy_first_block;
 use crate::tally::Failures;
 use std::alloc::{Allocator, Global};
 use std::io::{self, BufRead, BufReader, Read};
@@ -56,11 +56,7 @@ impl<T: Read, A: Allocator> CountedRead for Buffered<T, A> {
     #[inline(always)]
     fn take_block(&mut self, buf: &mut [u8]) -> Option<usize> {
         let ahead = self.counted.inner.buffer();
-        let size = first_block(ahead)?;
-        if size > buf.len() {
-            return None;
-        }
-        buf[..size].copy_from_slice(&ahead[..size]);
+        let size = copy_first_block(ahead, buf)?;
         self.counted.inner.consume(size);
         Some(size)
     }

@@ -55,6 +55,7 @@ fn order_of(x: AddOrder, mpid: Option<Alpha<4>>) -> Order
 
 impl<B: OrderBook> Market<B> {
     /// Changes the market by a message that is not refused. The order that it changes is likely to have this place in the book.
+    #[inline(always)]
     pub(super) fn act(&mut self, message: &Message<'_>, place: usize) -> Result<(), AllocError>
         requires { reason self.old message.now ≡ None }
         ensures ok { OnOk result (self.new ≡ laid (effect self.old message.now)) }

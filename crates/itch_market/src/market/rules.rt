@@ -30,6 +30,7 @@ fn no_order(refusal: Option<Refusal>) -> Result<usize, Refusal>
 
 impl<B: OrderBook> Market<B> {
     /// The place of the order that a message changes, or why the message is refused: the first check of its rules that fails.
+    #[inline(always)]
     pub(super) fn check(&self, message: &Message<'_>) -> Result<usize, Refusal>
         ensures { result_err result ≡ reason self.now message.now }
     {

@@ -44,16 +44,16 @@ returns-then-not-still_same g c =
     differ_now _ _ _ _ _ _ _ _ _ _ _ _ _ _ _
     (both_on _ _ _ _ _ _ _ _ _ _ _ _ _ _ before c.loop-count.invariant c.step.new.reader c.in_ok-change.change c.step.new.market c.in_ok-change.ensures c.step-in-loop-count.new.reader
     c.in_ok-other_change.other_change c.step-in-loop-count.new.market c.in_ok-other_change.ensures)
-    refl (within_more c.args.limit.after c.loop-count.count before) (λ same. let no = c.if-not-still_same.ensures.1 same in cc)
+    refl (within_more c.args.limit.after c.loop-count.count before) (λ same. let no = c.if-not-still_same.ensures.same.1 same in cc)
 
 pub loop-count-preserved : goal.loop-count-preserved
 loop-count-preserved g c =
     let before = before_most c.args.limit.after c.loop-count.count (rw c.most-count-end.ensures at c.loop-count-test.true) in
-    rw (c.is_some-one_goes.ensures, c.is_some-other_goes.ensures)
+    rw (c.is_some-one_goes.ensures, c.is_some-other_goes.ensures, c.if-not-still_same.ensures.one, c.if-not-still_same.ensures.other)
     (still_same _ _ _ _ _ _ _ _ _ _ _ _ _ _ _
     (both_on _ _ _ _ _ _ _ _ _ _ _ _ _ _ before c.loop-count.invariant c.step.new.reader c.in_ok-change.change c.step.new.market c.in_ok-change.ensures c.step-in-loop-count.new.reader
     c.in_ok-other_change.other_change c.step-in-loop-count.new.market c.in_ok-other_change.ensures)
-    refl (c.if-not-still_same.ensures.0 refl))
+    refl (c.if-not-still_same.ensures.same.0 refl))
 
 pub returns : goal.returns
 returns g c =

@@ -1,7 +1,7 @@
 use Rattle.std.proofs.Common.{ℕ, ◌≤◌, take, sym, subst, arith}
 use Rattle.itch_frame.specs.Blocks.{IsBlock}
 use Rattle.itch_frame.proofs.SplitterLemmas.{first_needed}
-use Rattle.itch_frame.proofs.splitter.first_block.Goals as goal
+use Rattle.itch_frame.proofs.first.first_block.Goals as goal
 
 pub returns-clause-block : goal.returns-clause-block
 returns-clause-block c =
