@@ -247,9 +247,13 @@ def parts_are_the_whole_or_end_as_the_program_does(program):
 
 def the_page_has_each_command_and_option(program):
     page = (TOP / "docs/itchsnap.1").read_text().replace("\\-", "-")
-    helps = [subprocess.run([program, *words, "--help"], capture_output=True, text=True, check=True).stdout
-             for words in ([], *([it] for it in "snap check compare canon join show book serve fetch completions".split()))]
-    for name in re.findall(r"^  ([a-z]+)  ", helps[0], re.M):
+
+    def help_of(*words):
+        return subprocess.run([program, *words, "--help"], capture_output=True, text=True, check=True).stdout
+
+    names = re.findall(r"^  ([a-z]+)  ", help_of(), re.M)
+    helps = [help_of(), *(help_of(name) for name in names if name != "help")]
+    for name in names:
         if f"\n.TP\n.B {name}\n" not in page:
             yield f"the page lacks the command {name}"
     for option in {it for text in helps for it in re.findall(r"--[a-z][a-z-]*[a-z]", text)}:

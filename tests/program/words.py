@@ -156,7 +156,7 @@ def each_command_has_an_example(program):
         if not example:
             yield f"{command} has none"
             continue
-        if command in ("serve", "fetch"):
+        if command in ("serve", "fetch", "live", "follow", "feed"):
             continue
         with tempfile.TemporaryDirectory() as folder:
             for name, blocks in FILES.items():

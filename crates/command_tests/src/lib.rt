@@ -19,6 +19,8 @@ mod files;
 #[cfg(test)]
 mod joins;
 #[cfg(test)]
+mod live_words;
+#[cfg(test)]
 mod refusals;
 #[cfg(test)]
 mod restricted;

@@ -7,7 +7,7 @@ use std::alloc::{AllocError, Global};
 use std::test::Fail;
 
 // The program's name, and these words after it.
-fn words(alloc: Global, line: &str) -> Result<Vec<String>, AllocError> {
+pub(crate) fn words(alloc: Global, line: &str) -> Result<Vec<String>, AllocError> {
     let mut words: Vec<String> = vec![in alloc; String::from_str(alloc, "itchsnap")?]?;
     for word in line.split_whitespace() {
         words.push(String::from_str(alloc, word)?)?;
@@ -16,7 +16,7 @@ fn words(alloc: Global, line: &str) -> Result<Vec<String>, AllocError> {
 }
 
 // What these words ask for, as `{:?}` shows it, or why not: a job with all its types is no value of a test.
-fn asked(alloc: Global, words: &[String]) -> Result<String, Fail> {
+pub(crate) fn asked(alloc: Global, words: &[String]) -> Result<String, Fail> {
     let job = read_job(alloc, words, false, None);
     match &job {
         Ok(job) => shown(alloc, job),

@@ -26,6 +26,11 @@ impl<'a> DeviceName<'a> {
                 None => DeviceName::Input,
             },
             (Some(Job::Serve { address, .. }), Device::Socket) => DeviceName::Address(*address),
+            (Some(Job::Live(live)), Device::Socket) => DeviceName::Address(live.address),
+            (Some(Job::Feed(feed)), Device::Socket) => DeviceName::Address(feed.address),
+            (Some(Job::Follow(follow)), Device::Socket) => {
+                DeviceName::Server(follow.feed.host, follow.feed.port)
+            }
             (Some(Job::Fetch { server, .. }), Device::Socket) => {
                 DeviceName::Server(server.host, server.port)
             }

@@ -1,11 +1,13 @@
 //! `itchsnap`: market snapshots from day files of TotalView-ITCH 5.0 messages.
 //!
 //! `itchsnap_cli::words` reads the command line. The commands over files are those of `itch_commands`; `run` opens files and standard
-//! streams for them. `serve` and `fetch` are those of `itchsnap_cli::sessions`, over sockets.
+//! streams for them. `serve` and `fetch` are those of `itchsnap_cli::sessions`, over sockets; `live`,
+//! `follow` and `feed` those of `itchsnap_live`.
 #![tactic(auto)]
 
 mod explaining;
 mod failed;
+mod live;
 mod opened;
 mod packed;
 mod password;

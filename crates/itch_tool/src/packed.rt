@@ -21,6 +21,9 @@ pub fn packed_file<'a, R: Files>(
     job: &Job<'a>,
     fault: &ToolFault,
 ) -> Option<PackedFile<'a>> {
+    let (Job::Files { .. } | Job::Serve { .. }) = job else {
+        return None;
+    };
     let source = source_of(fault)?;
     let path = job.file(source)?;
     Some(PackedFile {

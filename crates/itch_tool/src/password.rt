@@ -21,18 +21,24 @@ pub fn password_of_environment<R: Env + AllocGlobal>(rt: &R) -> Result<Option<St
     }
 }
 
-/// The password that is a word, or the first line of a file.
+/// The password that is a word, or the first line of a file. `source` says in a fault which file it is.
 pub fn read_password<R: Files + AllocGlobal>(
     rt: &R,
     password: Password<'_>,
+    source: Source,
 ) -> Result<String, ToolFault> {
     match password {
         Password::Word(word) => Ok(String::from_str(rt.alloc(), word)?),
         Password::File(path) => match read_beginning(rt, path) {
             Ok(text) => Ok(String::from_str(rt.alloc(), first_line(text.as_str()))?),
             Err(error) => {
-                let file = Source::PasswordFile;
-                Err(system_fault(error, ToolFault::Open { file, error }))
+                Err(system_fault(
+                    error,
+                    ToolFault::Open {
+                        file: source,
+                        error,
+                    },
+                ))
             }
         },
     }

@@ -1,6 +1,7 @@
 //! The commands over files and standard streams.
 ghost use Rattle.itch_commands.specs.Requests.{IsOverOne};
 
+use crate::live::{run_feed, run_follow, run_live};
 use crate::opened::open;
 use crate::sockets::{run_fetch, run_serve};
 use itch_commands::compare::{compare_blocks, compare_first_blocks};
@@ -40,6 +41,9 @@ where
             login,
             from,
         } => run_fetch(rt, server, login, *from),
+        Job::Live(words) => run_live(rt, words),
+        Job::Follow(words) => run_follow(rt, words),
+        Job::Feed(words) => run_feed(rt, words),
         Job::Completions(shell) => print_completions(rt, *shell),
     }
 }

@@ -28,7 +28,7 @@ where
     R: Files + Input + Print + Eprint + AllocGlobal + Clock,
     R: Net<Listener = TcpListener, Stream = TcpStream>,
 {
-    let login = read_login(rt, login)?;
+    let login = read_login(rt, login, Source::PasswordFile)?;
     let progress = if progress { Progress::begin(rt) } else { None };
     let file = open(rt, file, Source::Only, progress.as_ref())?;
     let Ok(buffered) = BufReader::with_capacity(rt.alloc(), PIECE, file) else {
@@ -58,7 +58,7 @@ pub fn run_fetch<R>(
 where
     R: Files + Print + AllocGlobal + Net<Stream = TcpStream>,
 {
-    let login = read_login(rt, login)?;
+    let login = read_login(rt, login, Source::PasswordFile)?;
     let stream = connect(rt, server)?;
     let Ok(buffered) = BufReader::with_capacity(rt.alloc(), PIECE, &stream) else {
         return Err(ToolFault::OutOfMemory);
@@ -88,8 +88,13 @@ where
     }
 }
 
-fn read_login<R: Files + AllocGlobal>(rt: &R, login: &LoginWords<'_>) -> Result<Login, ToolFault> {
-    let password = read_password(rt, login.password)?;
+/// The login of the command line. `source` says in a fault which password file it is.
+pub fn read_login<R: Files + AllocGlobal>(
+    rt: &R,
+    login: &LoginWords<'_>,
+    source: Source,
+) -> Result<Login, ToolFault> {
+    let password = read_password(rt, login.password, source)?;
     Login::new(login.user, password.as_str())
 }
 

@@ -1,11 +1,16 @@
 -- What the program is asked to do.
 use Rattle.std.specs.Prelude.{ℕ, Bool, true, false, List, Option, Some, None, option_map}
 use Rattle.itchsnap_cli.specs.declared.words.job.Job.{Job}
-use Rattle.itchsnap_cli.specs.declared.words.job.Job.TheVariants.{Files, Serve, Fetch, Completions}
+use Rattle.itchsnap_cli.specs.declared.words.job.Job.TheVariants.{Files, Serve, Fetch, Live, Follow, Feed, Completions}
+use Rattle.itchsnap_cli.specs.declared.words.live.LiveWords.{LiveWords}
+use Rattle.itchsnap_cli.specs.declared.words.live.FollowWords.{FollowWords}
+use Rattle.itchsnap_cli.specs.declared.words.live.Place.{Place}
+use Rattle.itchsnap_cli.specs.declared.words.live.FollowForm.{FollowForm}
+use Rattle.itchsnap_cli.specs.declared.words.live.FollowForm.TheVariants as form
 use Rattle.itchsnap_cli.specs.declared.words.session.Password.{Password}
 use Rattle.itchsnap_cli.specs.declared.words.session.Password.TheVariants.{Word, File}
 use Rattle.itch_commands.specs.declared.fault.Source.{Source}
-use Rattle.itch_commands.specs.declared.fault.Source.TheVariants.{PasswordFile}
+use Rattle.itch_commands.specs.declared.fault.Source.TheVariants.{Only, First, Second, Snapshot, PasswordFile}
 use Rattle.itch_commands.specs.Requests as requests
 use Rattle.itch_commands.specs.Requests.{is_binary}
 
@@ -14,6 +19,27 @@ abbrev pub password_file : Password → Option (List ℕ)
 password_file (Word word) = None
 password_file (File path) = Some path.now
 
+-- what a fault of a live server's only file names: its record, or the server that it begins with in place of one
+abbrev pub begun_with : Option (List ℕ) → Option (List ℕ) → Option (List ℕ)
+begun_with (Some path) glimpse = Some path
+begun_with None glimpse = glimpse
+
+-- what a fault of a live server names so
+abbrev pub live_file : LiveWords → Source → Option (List ℕ)
+live_file live First = Some live.feed.words.now
+live_file live Second = password_file live.feed_login.password
+live_file live Snapshot = option_map (λ s. s.folder.now) live.snapshots
+live_file live PasswordFile = password_file live.login.password
+live_file live Only = begun_with (option_map (λ path. path.now) live.«record») (option_map (λ (place : Place). place.words.now) live.glimpse)
+
+-- what a fault names so where a feed is followed
+abbrev pub follow_file : FollowWords → Source → Option (List ℕ)
+follow_file follow First = Some follow.feed.words.now
+follow_file follow PasswordFile = password_file follow.login.password
+follow_file follow Only = Some follow.glimpse.words.now
+follow_file follow Second = Some follow.glimpse.words.now
+follow_file follow Snapshot = Some follow.glimpse.words.now
+
 -- the path of the file that a fault of a job names so; none where it is standard input
 abbrev pub file_of : Job → Source → Option (List ℕ)
 file_of (Files request progress) source = requests.file_of request source
@@ -21,11 +47,24 @@ file_of (Serve file kind address login count progress) PasswordFile = password_f
 file_of (Serve file kind address login count progress) source = option_map (λ path. path.now) file
 file_of (Fetch server login from) PasswordFile = password_file login.password
 file_of (Fetch server login from) source = None
+file_of (Live live) source = live_file live source
+file_of (Follow follow) source = follow_file follow source
+file_of (Feed feed) PasswordFile = password_file feed.login.password
+file_of (Feed feed) source = Some feed.file.now
 file_of (Completions shell) source = None
 
--- the jobs whose output is a snapshot, which is no text
+-- a form that is no text
+abbrev pub is_blocks : FollowForm → Bool
+is_blocks form.Json = false
+is_blocks form.Blocks = true
+is_blocks form.Whole = true
+
+-- the jobs whose output is a snapshot or a day file, which are no text
 abbrev pub writes_snapshot : Job → Bool
 writes_snapshot (Files request progress) = is_binary request
 writes_snapshot (Serve file kind address login count progress) = false
 writes_snapshot (Fetch server login from) = true
+writes_snapshot (Live live) = false
+writes_snapshot (Follow follow) = is_blocks follow.form
+writes_snapshot (Feed feed) = false
 writes_snapshot (Completions shell) = false

@@ -1,7 +1,7 @@
 //! The words of the command line of `itchsnap`, and what they ask for.
 //!
-//! [`read_job`] makes a [`Job`] of them: a request over files, a session, of which [`LoginWords`] are the login, or the
-//! [`Completions`] of a shell. Otherwise it returns a usage fault, or a request for help or the version.
+//! [`read_job`] makes a [`Job`] of them: a request over files, a session, of which [`LoginWords`] are the login, a live server, a feed
+//! to follow or to play, or the [`Completions`] of a shell. Otherwise it returns a usage fault, or a request for help or the version.
 //!
 //! ```
 //! // of `itchsnap check day.itch`
@@ -14,6 +14,7 @@ mod arguments;
 mod commands;
 mod completions;
 mod job;
+mod live;
 mod request;
 mod session;
 mod time;
@@ -21,4 +22,5 @@ mod time;
 pub use commands::usage_fault;
 pub use completions::{Completions, Shell};
 pub use job::{Job, read_job};
+pub use live::{FeedWords, FollowForm, FollowWords, LiveWords, Pace, Place, SnapshotWords};
 pub use session::{LoginWords, Password, Server};

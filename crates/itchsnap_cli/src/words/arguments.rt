@@ -1,6 +1,9 @@
 //! The arguments of the commands: files, numbers, lists, flags, and the parts of a session.
 
+mod live;
+
 use clap::{Arg, ArgAction};
+pub use live::LiveArgument;
 use std::alloc::Global;
 
 /// The greatest number that `--after` and `--depth` take.
@@ -57,6 +60,8 @@ pub enum Argument {
     User,
     Password,
     PasswordFile,
+    // What `live`, `follow` and `feed` take and no other command.
+    Live(LiveArgument),
     Shell,
 }
 
@@ -118,6 +123,7 @@ impl Argument {
             Argument::Password => password(alloc),
             Argument::PasswordFile => password_file(alloc),
             Argument::Shell => named(alloc, "SHELL", "The shell: bash, zsh or fish"),
+            Argument::Live(argument) => argument.arg(alloc),
         }
     }
 }
@@ -239,7 +245,7 @@ fn csv<'a>(alloc: Global) -> Arg<'a> {
         .action(ArgAction::SetTrue)
 }
 
-fn named<'a>(alloc: Global, name: &'a str, help: &'a str) -> Arg<'a> {
+pub(crate) fn named<'a>(alloc: Global, name: &'a str, help: &'a str) -> Arg<'a> {
     Arg::new(alloc, name).help(help).required(true)
 }
 

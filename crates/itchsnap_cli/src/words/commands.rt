@@ -1,6 +1,6 @@
 //! The words of the command line: the commands, what they take, and an example of each.
 
-use crate::words::arguments::Argument;
+use crate::words::arguments::{Argument, LiveArgument};
 use clap::error::ErrorKind;
 use clap::{Command, Error};
 use std::alloc::{AllocError, Global};
@@ -20,7 +20,7 @@ struct Entry {
 }
 
 /// The commands.
-const COMMANDS: [Entry; 10] = [
+const COMMANDS: [Entry; 13] = [
     Entry {
         name: "snap",
         about: "Write the snapshot of the market that a day file leaves",
@@ -146,6 +146,58 @@ const COMMANDS: [Entry; 10] = [
             Argument::From,
         ],
         example: "Example: itchsnap fetch --port 5100 --user desk --pass secret > day.snap",
+    },
+    Entry {
+        name: "live",
+        about: "Follow a live feed, and serve the snapshot of its present market",
+        takes: &[
+            Argument::Live(LiveArgument::Feed),
+            Argument::Live(LiveArgument::GlimpseIfAny),
+            Argument::Live(LiveArgument::FeedUser),
+            Argument::Live(LiveArgument::FeedPasswordFile),
+            Argument::Bind,
+            Argument::ListenedPort,
+            Argument::User,
+            Argument::Password,
+            Argument::PasswordFile,
+            Argument::Live(LiveArgument::Clients),
+            Argument::Live(LiveArgument::Record),
+            Argument::Live(LiveArgument::Snapshots),
+            Argument::Live(LiveArgument::Every),
+            Argument::Live(LiveArgument::Stay),
+        ],
+        example: "Example: itchsnap live --feed feed.example:5000 --port 5100 --user desk --pass-file pass",
+    },
+    Entry {
+        name: "follow",
+        about: "Fetch a snapshot, join a live feed, and write each message from there on",
+        takes: &[
+            Argument::Live(LiveArgument::Feed),
+            Argument::Live(LiveArgument::Glimpse),
+            Argument::User,
+            Argument::Password,
+            Argument::PasswordFile,
+            Argument::Live(LiveArgument::Whole),
+            Argument::Json,
+        ],
+        example: "Example: itchsnap follow --feed host:5000 --glimpse host:5100 --user desk --pass-file pass --json",
+    },
+    Entry {
+        name: "feed",
+        about: "Play a day file as a live feed over SoupBinTCP",
+        takes: &[
+            Argument::Live(LiveArgument::File),
+            Argument::Live(LiveArgument::Rate),
+            Argument::Live(LiveArgument::Clock),
+            Argument::Live(LiveArgument::Count),
+            Argument::Live(LiveArgument::StayAtEnd),
+            Argument::Bind,
+            Argument::ListenedPort,
+            Argument::User,
+            Argument::Password,
+            Argument::PasswordFile,
+        ],
+        example: "Example: itchsnap feed day.itch --port 5000 --user desk --pass-file pass --rate 1000",
     },
     Entry {
         name: "completions",

@@ -189,9 +189,14 @@ enum Operand {
 fn operand_of(argument: &Arg<'_>) -> Operand {
     if !argument.get_action().takes_values() {
         Operand::Nothing
-    } else if argument.get_id() == "pass-file" {
+    } else if is_path(argument.get_id()) {
         Operand::File
     } else {
         Operand::Text
     }
+}
+
+// Whether a path stands after this option.
+fn is_path(id: &str) -> bool {
+    matches!(id, "pass-file" | "feed-pass-file" | "record" | "snapshots")
 }

@@ -1,9 +1,12 @@
 //! What the program is asked to do: a request over files, one end of a session, or the completions of a shell.
 ghost use Rattle.std.specs.Prelude.{◌≡◌, option_map};
-ghost use Rattle.itchsnap_cli.specs.Jobs.{file_of, password_file, writes_snapshot};
+ghost use Rattle.itchsnap_cli.specs.Jobs.{file_of, follow_file, live_file, password_file, writes_snapshot};
 
 use crate::words::commands::{command, usage_fault};
 use crate::words::completions::Shell;
+use crate::words::live::{
+    FeedWords, FollowForm, FollowWords, LiveWords, read_feed, read_follow, read_live,
+};
 use crate::words::request::{read_kind, read_path, read_request};
 use crate::words::session::{
     LoginWords, Password, Server, read_address, read_from, read_login, read_number, read_server,
@@ -37,12 +40,19 @@ pub enum Job<'a> {
         login: LoginWords<'a>,
         from: Option<Seq>,
     },
+    /// Follow a live feed, and serve the snapshot of its present market.
+    Live(LiveWords<'a>),
+    /// Fetch a snapshot, join a live feed, and write its messages from there on.
+    Follow(FollowWords<'a>),
+    /// Play a day file as a live feed.
+    Feed(FeedWords<'a>),
     /// Print the completions of a shell.
     Completions(Shell),
 }
 
 impl<'a> Job<'a> {
-    /// The path of the file that a fault names, or none if that is standard input.
+    /// The path of the file that a fault names, or none if that is standard input. Of `live` and `follow` that may be a server whose
+    /// name is looked up, as it was written.
     pub fn file(&self, source: Source) -> Option<&'a str>
         ensures { option_map (λ path. path.now) result ≡ file_of self.now source }
     {
@@ -52,8 +62,42 @@ impl<'a> Job<'a> {
                 password_file(login)
             }
             (Job::Serve { file, .. }, _) => *file,
+            (Job::Live(live), _) => live_file(live, source),
+            (Job::Follow(follow), _) => follow_file(follow, source),
+            (Job::Feed(feed), Source::PasswordFile) => password_file(&feed.login),
+            (Job::Feed(feed), _) => Some(feed.file),
             (Job::Fetch { .. } | Job::Completions(_), _) => None,
         }
+    }
+}
+
+// What a fault of a live server names: its feed, its own password file there, its folder of snapshots, its record, or the server
+// that it begins with in place of a record.
+fn live_file<'a>(live: &LiveWords<'a>, source: Source) -> Option<&'a str>
+    ensures { option_map (λ path. path.now) result ≡ live_file live.now source }
+{
+    match (source, live.record, live.glimpse) {
+        (Source::First, _, _) => Some(live.feed.words),
+        (Source::Second, _, _) => password_file(&live.feed_login),
+        (Source::PasswordFile, _, _) => password_file(&live.login),
+        (Source::Snapshot, _, _) => match live.snapshots {
+            Some(snapshots) => Some(snapshots.folder),
+            None => None,
+        },
+        (Source::Only, Some(path), _) => Some(path),
+        (Source::Only, None, Some(glimpse)) => Some(glimpse.words),
+        (Source::Only, None, None) => None,
+    }
+}
+
+// What a fault names where a feed is followed: its server, the server of the snapshot, or the password file.
+fn follow_file<'a>(follow: &FollowWords<'a>, source: Source) -> Option<&'a str>
+    ensures { option_map (λ path. path.now) result ≡ follow_file follow.now source }
+{
+    match source {
+        Source::First => Some(follow.feed.words),
+        Source::PasswordFile => password_file(&follow.login),
+        _ => Some(follow.glimpse.words),
     }
 }
 
@@ -67,14 +111,15 @@ fn password_file<'a>(login: &LoginWords<'a>) -> Option<&'a str>
     }
 }
 
-// Whether the output is a snapshot, which is no text.
+// Whether the output is a snapshot or a day file, which are no text.
 fn writes_snapshot(job: &Job<'_>) -> bool
     ensures { result ≡ writes_snapshot job.now }
 {
     match job {
         Job::Files { request, .. } => request.is_binary(),
-        Job::Serve { .. } | Job::Completions(_) => false,
+        Job::Serve { .. } | Job::Live(_) | Job::Feed(_) | Job::Completions(_) => false,
         Job::Fetch { .. } => true,
+        Job::Follow(follow) => !matches!(follow.form, FollowForm::Json),
     }
 }
 
@@ -96,6 +141,9 @@ pub fn read_job<'a>(
             login: read_login(alloc, options, password)?,
             from: read_from(alloc, options)?,
         },
+        Some(("live", options)) => Job::Live(read_live(alloc, options, password)?),
+        Some(("follow", options)) => Job::Follow(read_follow(alloc, options, password)?),
+        Some(("feed", options)) => Job::Feed(read_feed(alloc, options, password)?),
         Some(("completions", options)) => Job::Completions(read_shell(alloc, options)?),
         Some((_, options)) => Job::Files {
             request: read_request(alloc, &matches)?,
@@ -104,12 +152,18 @@ pub fn read_job<'a>(
         None => return Err(usage_fault(alloc, "a command is missing")?),
     };
     if terminal && writes_snapshot(&job) {
-        return Err(usage_fault(
-            alloc,
-            "a snapshot is not written to a terminal: redirect the output",
-        )?);
+        return Err(usage_fault(alloc, terminal_fault(&job))?);
     }
     Ok(job)
+}
+
+fn terminal_fault(job: &Job<'_>) -> &'static str {
+    match job {
+        Job::Follow(_) => {
+            "messages are not written to a terminal: redirect the output, or give --json"
+        }
+        _ => "a snapshot is not written to a terminal: redirect the output",
+    }
 }
 
 fn read_serve<'a>(

@@ -1,0 +1,101 @@
+//! What the words of `live`, `follow` and `feed` ask for.
+
+use crate::equal::{holds_in, same_in};
+use crate::words::{asked, words};
+use itchsnap_cli::words::{Job, Password, read_job};
+use std::test::Fail;
+
+const FEED: &str = "feed: Place { words: \"h:1\", host: \"h\", port: 1 }";
+
+const LOGIN: &str = "LoginWords { user: \"user\", .. }";
+
+#[test]
+fn words_of_a_live_server_are_read(rt: HostRuntime) -> Result<(), Fail> {
+    let cases = [
+        (
+            "",
+            "glimpse: None, address: 127.0.0.1:0",
+            "clients: 64, record: None, snapshots: None, stay: false",
+        ),
+        (
+            "--record day.itch --stay --clients 007",
+            "glimpse: None, address: 127.0.0.1:0",
+            "clients: 7, record: Some(\"day.itch\"), snapshots: None, stay: true",
+        ),
+        (
+            "--bind ::1 --glimpse [::1]:65535 --snapshots s --every 1000",
+            "glimpse: Some(Place { words: \"[::1]:65535\", host: \"::1\", port: 65535 }), address: [::1]:0",
+            "clients: 64, record: None, snapshots: Some(SnapshotWords { folder: \"s\", every: 1000 }), stay: false",
+        ),
+    ];
+    for (line, place, kept) in cases {
+        let line = format!(in rt.alloc();
+            "live --feed h:1 --port 0 --user user --pass secret {line}"
+        )?;
+        let wanted = format!(in rt.alloc();
+            "Live(LiveWords {{ {FEED}, {place}, login: {LOGIN}, feed_login: {LOGIN}, {kept} }})"
+        )?;
+        let words = words(rt.alloc(), line.as_str())?;
+        let found = asked(rt.alloc(), words.as_slice())?;
+        same_in(&rt, line.as_str(), found.as_str(), wanted.as_str());
+    }
+    Ok(())
+}
+
+#[test]
+fn words_of_a_follower_are_read(rt: HostRuntime) -> Result<(), Fail> {
+    for (line, form) in [("", "Blocks"), ("--whole", "Whole"), ("--json", "Json")] {
+        let line = format!(in rt.alloc();
+            "follow --feed h:1 --glimpse g.example:2 --user user --pass secret {line}"
+        )?;
+        let wanted = format!(in rt.alloc();
+            "Follow(FollowWords {{ {FEED}, glimpse: Place {{ words: \"g.example:2\", host: \"g.example\", port: 2 }}, \
+             login: {LOGIN}, form: {form} }})"
+        )?;
+        let words = words(rt.alloc(), line.as_str())?;
+        let found = asked(rt.alloc(), words.as_slice())?;
+        same_in(&rt, line.as_str(), found.as_str(), wanted.as_str());
+    }
+    Ok(())
+}
+
+#[test]
+fn words_of_a_played_feed_are_read(rt: HostRuntime) -> Result<(), Fail> {
+    let cases = [
+        ("", "pace: Free, count: None, stay: false"),
+        (
+            "--rate 1000 --stay",
+            "pace: Rate(1000), count: None, stay: true",
+        ),
+        (
+            "--clock 10 --count 2",
+            "pace: Clock(10), count: Some(2), stay: false",
+        ),
+    ];
+    for (line, rest) in cases {
+        let line = format!(in rt.alloc();
+            "feed day.itch --port 5 --user user --pass secret {line}"
+        )?;
+        let wanted = format!(in rt.alloc();
+            "Feed(FeedWords {{ file: \"day.itch\", address: 127.0.0.1:5, login: {LOGIN}, {rest} }})"
+        )?;
+        let words = words(rt.alloc(), line.as_str())?;
+        let found = asked(rt.alloc(), words.as_slice())?;
+        same_in(&rt, line.as_str(), found.as_str(), wanted.as_str());
+    }
+    Ok(())
+}
+
+#[test]
+fn a_live_server_may_have_a_login_of_its_own(rt: HostRuntime) -> Result<(), Fail> {
+    let line =
+        "live --feed h:1 --port 0 --user user --pass secret --feed-user other --feed-pass-file p";
+    let words = words(rt.alloc(), line)?;
+    let own = match read_job(rt.alloc(), words.as_slice(), false, None) {
+        Ok(Job::Live(live)) => live.feed_login,
+        _ => return Err(Fail::from("no live server")),
+    };
+    same_in(&rt, line, own.user, "other");
+    holds_in(&rt, line, own.password == Password::File("p"));
+    Ok(())
+}

@@ -1,0 +1,255 @@
+//! The words of a live server, of what follows a feed, and of a feed that is played.
+
+use crate::words::commands::usage_fault;
+use crate::words::request::read_count;
+use crate::words::session::{LoginWords, Password, read_address, read_login};
+use crate::words::time::read_digits;
+use clap::{ArgMatches, Error};
+use std::alloc::Global;
+use std::net::SocketAddr;
+
+/// How many clients a live server has at a time, where nothing is said.
+const CLIENTS: u64 = 64;
+
+/// A server: its name or its address, and its port.
+#[derive(Clone, Copy, Debug, PartialEq, Eq)]
+pub struct Place<'a> {
+    /// Both as they were written.
+    pub words: &'a str,
+    pub host: &'a str,
+    pub port: u16,
+}
+
+/// A folder for snapshots, and after how many messages each is written.
+#[derive(Clone, Copy, Debug, PartialEq, Eq)]
+pub struct SnapshotWords<'a> {
+    pub folder: &'a str,
+    pub every: u64,
+}
+
+/// What a live server is told.
+#[derive(Clone, Copy, Debug, PartialEq, Eq)]
+pub struct LiveWords<'a> {
+    pub feed: Place<'a>,
+    /// A server of snapshots to begin with, or none to begin with the feed's first message.
+    pub glimpse: Option<Place<'a>>,
+    pub address: SocketAddr,
+    /// Who may log in.
+    pub login: LoginWords<'a>,
+    /// Whom it logs in as itself.
+    pub feed_login: LoginWords<'a>,
+    /// How many clients it has at a time.
+    pub clients: u64,
+    /// The day file that each message is appended to.
+    pub record: Option<&'a str>,
+    pub snapshots: Option<SnapshotWords<'a>>,
+    /// Whether it serves on once the feed has ended.
+    pub stay: bool,
+}
+
+/// How the messages that are followed are written.
+#[derive(Clone, Copy, Debug, PartialEq, Eq)]
+pub enum FollowForm {
+    /// As the blocks of a day file.
+    Blocks,
+    /// The same after the messages of the snapshot.
+    Whole,
+    /// As lines of JSON.
+    Json,
+}
+
+/// What is followed, and how.
+#[derive(Clone, Copy, Debug, PartialEq, Eq)]
+pub struct FollowWords<'a> {
+    pub feed: Place<'a>,
+    pub glimpse: Place<'a>,
+    pub login: LoginWords<'a>,
+    pub form: FollowForm,
+}
+
+/// How fast a day file is played.
+#[derive(Clone, Copy, Debug, PartialEq, Eq)]
+pub enum Pace {
+    /// As fast as a client takes it.
+    Free,
+    /// So many messages a second from the login on.
+    Rate(u64),
+    /// As the timestamps of its messages say, so many times as fast.
+    Clock(u64),
+}
+
+/// Which day file is played, where, to whom and how.
+#[derive(Clone, Copy, Debug, PartialEq, Eq)]
+pub struct FeedWords<'a> {
+    pub file: &'a str,
+    pub address: SocketAddr,
+    pub login: LoginWords<'a>,
+    pub pace: Pace,
+    /// After how many connections it ends, if it does.
+    pub count: Option<u64>,
+    /// Whether heartbeats follow the last message, and not the end of the session.
+    pub stay: bool,
+}
+
+/// The words of `live`.
+pub fn read_live<'a>(
+    alloc: Global,
+    options: &ArgMatches<'a>,
+    password: Option<&'a str>,
+) -> Result<LiveWords<'a>, Error> {
+    let login = read_login(alloc, options, password)?;
+    let glimpse = read_place_if_any(alloc, options, "glimpse")?;
+    let record = options.get_str("record");
+    if glimpse.is_some() && record.is_some() {
+        return Err(usage_fault(
+            alloc,
+            "--record and --glimpse exclude each other: a day file begins with the first message",
+        )?);
+    }
+    Ok(LiveWords {
+        feed: read_place(alloc, options, "feed")?,
+        glimpse,
+        address: read_address(alloc, options)?,
+        login,
+        feed_login: read_feed_login(options, login),
+        clients: read_counted(alloc, options, "clients")?.unwrap_or(CLIENTS),
+        record,
+        snapshots: read_snapshots(alloc, options)?,
+        stay: options.get_flag("stay"),
+    })
+}
+
+/// The words of `follow`.
+pub fn read_follow<'a>(
+    alloc: Global,
+    options: &ArgMatches<'a>,
+    password: Option<&'a str>,
+) -> Result<FollowWords<'a>, Error> {
+    Ok(FollowWords {
+        feed: read_place(alloc, options, "feed")?,
+        glimpse: read_place(alloc, options, "glimpse")?,
+        login: read_login(alloc, options, password)?,
+        form: read_follow_form(alloc, options)?,
+    })
+}
+
+/// The words of `feed`.
+pub fn read_feed<'a>(
+    alloc: Global,
+    options: &ArgMatches<'a>,
+    password: Option<&'a str>,
+) -> Result<FeedWords<'a>, Error> {
+    Ok(FeedWords {
+        file: read_played(alloc, options)?,
+        address: read_address(alloc, options)?,
+        login: read_login(alloc, options, password)?,
+        pace: read_pace(alloc, options)?,
+        count: read_counted(alloc, options, "count")?,
+        stay: options.get_flag("stay"),
+    })
+}
+
+// Whom a live server logs in as: a name and a password of its own where they are given, and otherwise those of its clients.
+fn read_feed_login<'a>(options: &ArgMatches<'a>, login: LoginWords<'a>) -> LoginWords<'a> {
+    LoginWords {
+        user: options.get_str("feed-user").unwrap_or(login.user),
+        password: match options.get_str("feed-pass-file") {
+            Some(path) => Password::File(path),
+            None => login.password,
+        },
+    }
+}
+
+fn read_snapshots<'a>(
+    alloc: Global,
+    options: &ArgMatches<'a>,
+) -> Result<Option<SnapshotWords<'a>>, Error> {
+    let every = read_counted(alloc, options, "every")?;
+    match (options.get_str("snapshots"), every) {
+        (None, None) => Ok(None),
+        (Some(folder), Some(every)) => Ok(Some(SnapshotWords { folder, every })),
+        _ => Err(usage_fault(alloc, "--snapshots and --every go together")?),
+    }
+}
+
+fn read_follow_form<'a>(alloc: Global, options: &ArgMatches<'a>) -> Result<FollowForm, Error> {
+    match (options.get_flag("whole"), options.get_flag("json")) {
+        (false, false) => Ok(FollowForm::Blocks),
+        (true, false) => Ok(FollowForm::Whole),
+        (false, true) => Ok(FollowForm::Json),
+        (true, true) => Err(usage_fault(alloc, "--whole and --json exclude each other")?),
+    }
+}
+
+// Each client reads the file by itself, which standard input does not allow.
+fn read_played<'a>(alloc: Global, options: &ArgMatches<'a>) -> Result<&'a str, Error> {
+    match options.get_str("FILE") {
+        Some(path) if path != "-" => Ok(path),
+        _ => Err(usage_fault(
+            alloc,
+            "a feed is played from a file, not from standard input",
+        )?),
+    }
+}
+
+fn read_pace<'a>(alloc: Global, options: &ArgMatches<'a>) -> Result<Pace, Error> {
+    let rate = read_counted(alloc, options, "rate")?;
+    match (rate, read_counted(alloc, options, "clock")?) {
+        (None, None) => Ok(Pace::Free),
+        (Some(rate), None) => Ok(Pace::Rate(rate)),
+        (None, Some(clock)) => Ok(Pace::Clock(clock)),
+        (Some(_), Some(_)) => Err(usage_fault(alloc, "--rate and --clock exclude each other")?),
+    }
+}
+
+fn read_counted<'a>(
+    alloc: Global,
+    options: &ArgMatches<'a>,
+    name: &str,
+) -> Result<Option<u64>, Error> {
+    read_count(
+        alloc,
+        options,
+        name,
+        "a number must have decimal digits only",
+    )
+}
+
+fn read_place<'a>(alloc: Global, options: &ArgMatches<'a>, name: &str) -> Result<Place<'a>, Error> {
+    match read_place_if_any(alloc, options, name)? {
+        Some(place) => Ok(place),
+        None => Err(usage_fault(alloc, "a server is missing")?),
+    }
+}
+
+fn read_place_if_any<'a>(
+    alloc: Global,
+    options: &ArgMatches<'a>,
+    name: &str,
+) -> Result<Option<Place<'a>>, Error> {
+    let Some(words) = options.get_str(name) else {
+        return Ok(None);
+    };
+    match place_of(words) {
+        Some(place) => Ok(Some(place)),
+        None => Err(usage_fault(
+            alloc,
+            "a server is HOST:PORT, with an IPv6 address in brackets and a port from 1 to 65535",
+        )?),
+    }
+}
+
+// A host and a port. The colons of an IPv6 address stand in brackets.
+fn place_of(words: &str) -> Option<Place<'_>> {
+    let (host, port) = words.rsplit_once(':')?;
+    let port = u16::try_from(read_digits(port)?).ok()?;
+    let host = match host.strip_prefix('[') {
+        Some(rest) => rest.strip_suffix(']')?,
+        None if host.contains(':') => return None,
+        None => host,
+    };
+    if host.is_empty() || port == 0 {
+        return None;
+    }
+    Some(Place { words, host, port })
+}

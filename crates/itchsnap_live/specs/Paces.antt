@@ -1,0 +1,12 @@
+-- When a message of a day file that is played is due.
+use Rattle.std.specs.Prelude.{ℕ, ◌*◌, nat_le, Bool, true}
+use Rattle.itchsnap_cli.specs.declared.words.live.Pace.{Pace}
+use Rattle.itchsnap_cli.specs.declared.words.live.Pace.TheVariants.{Free, Rate, Clock}
+
+-- Whether a message is due so many milliseconds after the login was accepted, where so many messages come before it, and its timestamp is
+-- so many nanoseconds later than that of the first. At a rate of N a second, message k after the first is due k / N seconds after it; at
+-- X times the clock, a message whose timestamp is t later is due t / X later.
+abbrev pub is_due : Pace → ℕ → ℕ → ℕ → Bool
+is_due Free passed before later = true
+is_due (Rate rate) passed before later = nat_le (before * 1_000) (rate * passed)
+is_due (Clock times) passed before later = nat_le later (times * 1_000_000 * passed)

@@ -1,0 +1,64 @@
+-- What a follower does about the news of its feed.
+use Rattle.std.specs.Prelude.{ℕ, ◌-◌, Bool, true, false, Result, Ok, Err}
+use Rattle.itch_frame.specs.declared.fault.FrameFault.{FrameFault}
+use Rattle.itch_frame.specs.declared.fault.FrameFault.TheVariants as frame
+use Rattle.itch_market.specs.declared.stop.Stop.{Stop}
+use Rattle.itch_market.specs.declared.stop.Stop.TheVariants as stop
+use Rattle.itch_snapshot.specs.declared.fault.SnapFault.{SnapFault}
+use Rattle.itch_snapshot.specs.declared.fault.SnapFault.TheVariants as snap
+use Rattle.itch_soup.specs.declared.fault.SoupFault.TheVariants as soup
+use Rattle.itch_join.specs.declared.fault.Cause.{Cause}
+use Rattle.itch_join.specs.declared.fault.Cause.TheVariants as cause
+use Rattle.itch_join.specs.declared.fault.JoinFault.{JoinFault}
+use Rattle.itch_join.specs.declared.fault.JoinFault.TheVariants as join
+use Rattle.itch_live.specs.declared.news.News.{News}
+use Rattle.itch_live.specs.declared.news.News.TheVariants as news
+use Rattle.itch_commands.specs.declared.fault.ToolFault.{ToolFault}
+use Rattle.itch_commands.specs.declared.fault.ToolFault.TheVariants as tool
+use Rattle.itch_commands.specs.declared.fault.Source.TheVariants.{Only, Snapshot}
+use Rattle.itchsnap_live.specs.declared.step.Step.{Step}
+use Rattle.itchsnap_live.specs.declared.step.Step.TheVariants.{On, Accepted, Joined, Taken, Ended, Lost}
+
+-- why a message of the feed is refused, as a replay says it
+abbrev pub stop_of : Cause → Stop
+stop_of (cause.Codec fault) = stop.Codec fault
+stop_of (cause.Rule refusal) = stop.Rule refusal
+stop_of cause.TooMany = stop.TooManyMessages
+
+-- why a message of the snapshot is refused, as a reader of a snapshot says it
+abbrev pub snapshot_fault_of : ℕ → Cause → SnapFault
+snapshot_fault_of place (cause.Codec fault) = snap.Codec place fault
+snapshot_fault_of place (cause.Rule refusal) = snap.Rule place refusal
+snapshot_fault_of place cause.TooMany = snap.TooManyMessages
+
+-- what could not be recorded
+abbrev pub unrecorded : FrameFault → ToolFault
+unrecorded (frame.Write sent error) = tool.Write error
+unrecorded (frame.Read error) = tool.Stopped Only (record { count = 0; stop = stop.Frame (frame.Read error) })
+unrecorded (frame.Truncated held) = tool.Stopped Only (record { count = 0; stop = stop.Frame (frame.Truncated held) })
+unrecorded frame.TooLong = tool.Stopped Only (record { count = 0; stop = stop.Frame frame.TooLong })
+
+-- a message that is none, or breaks an order rule, ends the follower; so does one that was applied and could not be recorded. A new
+-- connection mends the rest.
+abbrev pub refusal_of : JoinFault → Result Step ToolFault
+refusal_of (join.Halted number cause) = Err (tool.Stopped Only (record { count = number - 1; stop = stop_of cause }))
+refusal_of (join.BadSnapshot place cause) = Err (tool.Snap Snapshot (snapshot_fault_of place cause))
+refusal_of (join.OutOfMemory true) = Err tool.OutOfMemory
+refusal_of (join.OutOfMemory false) = Ok Lost
+refusal_of (join.Full cap) = Ok Lost
+refusal_of (join.Conflict number) = Ok Lost
+refusal_of join.BadNumber = Ok Lost
+refusal_of join.Joined = Ok Lost
+
+-- what a follower does about a piece of news, or the fault that ends it
+abbrev pub step_of : News → Result Step ToolFault
+step_of news.Nothing = Ok On
+step_of (news.Accepted next) = Ok (Accepted next)
+step_of (news.Joined next) = Ok (Joined next)
+step_of (news.Taken next) = Ok (Taken next)
+step_of news.Ended = Ok Ended
+step_of (news.Broken fault) = Ok Lost
+step_of news.OtherSession = Ok Lost
+step_of (news.Rejected code) = Err (tool.Soup (soup.Rejected code))
+step_of (news.Refused fault) = refusal_of fault
+step_of (news.Unrecorded fault) = Err (unrecorded fault)

@@ -1,0 +1,94 @@
+//! How a client's connection ended, and its line.
+ghost use Rattle.std.specs.Prelude.{◌≡◌, ◌≤◌, ◌++◌, length, codes, decimal};
+ghost use Rattle.arrayvec.specs.ArrayVec.{array_vec_len};
+ghost use Rattle.itch_commands.specs.Outputs.{WritesText};
+ghost use Rattle.itchsnap_live.specs.Departures.{departure_line, departure_words};
+
+use crate::line::{push, push_number};
+use arrayvec::ArrayVec;
+use itch_commands::{ToolFault, write_text};
+use itch_frame::CountedWrite;
+
+/// How a client's connection ended.
+#[derive(Clone, Copy, Debug, PartialEq, Eq)]
+pub enum Departure {
+    /// It has the whole snapshot, so many packets of messages, the last of which is its End with this number.
+    Answered { next: u64, packets: u64 },
+    /// Its login was accepted from this number on, and so many messages were sent to it.
+    Played { from: u64, packets: u64 },
+    /// Its login was rejected with this code.
+    Rejected(u8),
+    /// It logged out, or closed its connection, before it had all.
+    Left,
+    /// It broke the protocol, or its socket failed.
+    Fault,
+    /// It was silent or took too little for 15 seconds.
+    CutOff,
+}
+
+/// Writes the line of a connection.
+pub fn write_departure<W: CountedWrite>(
+    out: &mut W,
+    number: u64,
+    departure: Departure,
+) -> Result<(), ToolFault>
+    ensures { WritesText W.contents W.failures (departure_line number departure) out.old result out.new }
+{
+    write_text(&line(number, departure), out)
+}
+
+fn line(number: u64, departure: Departure) -> ArrayVec<u8, 128>
+    ensures line { result.items ≡ departure_line number departure }
+    ensures short { array_vec_len result ≤ 128 }
+{
+    let mut line = ArrayVec::new();
+    push(&mut line, b"connection ");
+    push_number(&mut line, number);
+    push(&mut line, b": ");
+    push(&mut line, &words(departure));
+    push(&mut line, b"\n");
+    line
+}
+
+fn words(departure: Departure) -> ArrayVec<u8, 72>
+    ensures words { result.items ≡ departure_words departure }
+    ensures short { array_vec_len result ≤ 72 }
+{
+    match departure {
+        Departure::Answered { next, packets } => accepted(b"accepted at ", next, packets),
+        Departure::Played { from, packets } => accepted(b"accepted from ", from, packets),
+        Departure::Rejected(code) => {
+            let mut words = ArrayVec::new();
+            push(&mut words, b"rejected ");
+            push(&mut words, &[code]);
+            words
+        }
+        Departure::Left => plain(b"left"),
+        Departure::Fault => plain(b"fault"),
+        Departure::CutOff => plain(b"cut off"),
+    }
+}
+
+fn accepted(how: &[u8], number: u64, packets: u64) -> ArrayVec<u8, 72>
+    requires { length how.now ≤ 14 }
+    ensures words { result.items ≡ how.now ++ decimal number ++ codes ", " ++ decimal packets ++ codes " packets" }
+    ensures short { array_vec_len result ≤ 72 }
+{
+    let mut words = ArrayVec::new();
+    push(&mut words, how);
+    push_number(&mut words, number);
+    push(&mut words, b", ");
+    push_number(&mut words, packets);
+    push(&mut words, b" packets");
+    words
+}
+
+fn plain(text: &[u8]) -> ArrayVec<u8, 72>
+    requires { length text.now ≤ 72 }
+    ensures words { result.items ≡ text.now }
+    ensures short { array_vec_len result ≤ 72 }
+{
+    let mut words = ArrayVec::new();
+    push(&mut words, text);
+    words
+}

@@ -1,0 +1,40 @@
+//! The edge of a live server: one thread over the readiness of its sockets.
+//!
+//! [`serve_live`] follows a feed and serves the snapshot of its present market to many clients, [`follow_feed`] writes the messages
+//! of a feed from a snapshot on, and [`play_feed`] plays a day file as a feed. What is said to whom is decided by `itch_live`, which
+//! has no socket and no clock. Here a turn waits until a socket is ready or something is due, notes which, and then hands on what
+//! has come and writes what is pending: so much of each socket, and then the next one's turn comes.
+//!
+//! Nothing here can be said of what a peer sends or takes. The contracts are of what becomes of it: a [`Step`] for each piece of news,
+//! a [`Departure`] and its line for each client, and when a message is due.
+#![tactic(auto)]
+
+mod callers;
+mod client;
+mod departure;
+mod feed_line;
+mod feed_side;
+mod follow;
+mod line;
+mod live;
+mod moments;
+mod outbox;
+mod pace;
+mod piece;
+mod play;
+mod playback;
+mod player_side;
+mod recording;
+mod resuming;
+mod saving;
+mod socket;
+mod step;
+mod told;
+
+pub use departure::{Departure, write_departure};
+pub use feed_side::Servers;
+pub use follow::{Following, follow_feed};
+pub use live::{Serving, serve_live};
+pub use pace::is_due;
+pub use play::{Playing, play_feed};
+pub use step::{Step, step_of};

@@ -1,0 +1,48 @@
+//! When a message of a day file that is played is due.
+ghost use Rattle.std.specs.Prelude.{◌≡◌, ◌*◌, nat_le};
+ghost use Rattle.itchsnap_live.specs.Paces.{is_due};
+
+use itchsnap_cli::words::Pace;
+
+/// Whether a message is due so many milliseconds after the login was accepted, of which so many messages come before it, and so many
+/// nanoseconds lie between the timestamp of the first one and its own.
+pub fn is_due(pace: Pace, passed_ms: u64, before: u64, later_ns: u64) -> bool
+    ensures { result ≡ is_due pace passed_ms before later_ns }
+{
+    match pace {
+        Pace::Free => true,
+        Pace::Rate(rate) => reaches(
+            u128::from(before) * 1_000,
+            u128::from(rate),
+            u128::from(passed_ms),
+        ),
+        Pace::Clock(times) => reaches(
+            u128::from(later_ns),
+            u128::from(times) * 1_000_000,
+            u128::from(passed_ms),
+        ),
+    }
+}
+
+// Whether a product is no less than what is wanted.
+fn reaches(wanted: u128, factor: u128, other: u128) -> bool
+    ensures { result ≡ nat_le wanted (factor * other) }
+{
+    match factor.checked_mul(other) {
+        Some(product) => wanted <= product,
+        None => true,
+    }
+}
+
+/// The timestamp in a message's header, the nanoseconds since midnight in six bytes; 0 where it has none.
+pub(crate) fn timestamp(message: &[u8]) -> u64 {
+    let mut time = 0;
+    for place in 5..11 {
+        let byte = match message.get(place) {
+            Some(byte) => *byte,
+            None => 0,
+        };
+        time = (time << 8) | u64::from(byte);
+    }
+    time
+}

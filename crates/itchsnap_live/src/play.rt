@@ -1,0 +1,236 @@
+//! `feed`: a day file that is played as a live feed, to each client from the number on that it asks for.
+
+use crate::callers::Callers;
+use crate::departure::{Departure, write_departure};
+use crate::live::socket;
+use crate::moments::Moments;
+use crate::playback::Playback;
+use crate::player_side::PlayerSide;
+use crate::socket::Socket;
+use itch_codec::GREATEST_SEQ;
+use itch_commands::ToolFault;
+use itch_frame::CountedWrite;
+use itch_live::Player;
+use itch_soup::ServerConfig;
+use itchsnap_cli::sessions::{Listening, PIECE};
+use itchsnap_cli::words::Pace;
+use mio::net::TcpStream;
+use mio::{Events, Poll, Token};
+use std::alloc::{AllocError, Global};
+use std::io::Read;
+use std::net::{Net, SocketAddr};
+use std::rt::{Clock, Files};
+use std::time::Duration;
+
+const LISTENER: usize = 0;
+
+const PLACES: usize = 1;
+
+/// How many clients a feed has at a time.
+const CLIENTS: usize = 64;
+
+const EVENTS: usize = 64;
+
+/// The moment is looked at this often, where no socket is ready; and where a message is not due yet.
+const MOMENT_MS: u64 = 100;
+
+const SOON_MS: u64 = 2;
+
+/// What is played, to whom and how.
+#[derive(Clone, Copy)]
+pub struct Playing<'a> {
+    pub path: &'a str,
+    pub address: SocketAddr,
+    pub config: ServerConfig,
+    pub pace: Pace,
+    /// After how many connections it ends, if it does.
+    pub count: Option<u64>,
+    /// Whether heartbeats follow the last message, and not the end of the session.
+    pub stay: bool,
+}
+
+/// Plays a day file to each client that logs in, from the number on that it asks for, with a line on `out` for each that is gone. Its
+/// messages are counted first. Each client has the file opened for itself, so it may be at any place of it.
+///
+/// # Faults
+///
+/// A file that cannot be opened, or ends within a message (`Stopped`); `Socket` if the port cannot be listened on; a line that
+/// cannot be written.
+pub fn play_feed<R, W: CountedWrite>(
+    rt: &R,
+    playing: &Playing<'_>,
+    out: &mut W,
+) -> Result<bool, ToolFault>
+where
+    R: Net + Clock + Files + Eprint + AllocGlobal,
+{
+    let total = Playback::open(rt, playing.path)?.count()?;
+    if total >= GREATEST_SEQ {
+        return Err(ToolFault::TooMany);
+    }
+    let mut players = Players::new(rt, playing, total)?;
+    for _turn in 0..u64::MAX {
+        if playing.count.is_some_and(|count| players.ended >= count) {
+            break;
+        }
+        players.turn(out)?;
+    }
+    Ok(true)
+}
+
+// The clients of a feed.
+#[derive(Drop)]
+struct Players<'a, R: Clock + Files> {
+    rt: &'a R,
+    playing: &'a Playing<'a>,
+    total: u64,
+    moments: Moments<'a, R>,
+    poll: Poll,
+    events: Events<Global>,
+    callers: Callers,
+    clients: Vec<Option<PlayerSide<R::File>>>,
+    // How many clients have connected, and how many connections have ended.
+    connected: u64,
+    ended: u64,
+    buffer: Vec<u8>,
+}
+
+impl<'a, R> Players<'a, R>
+where
+    R: Net + Clock + Files + Eprint + AllocGlobal,
+{
+    // Listens on the port, and says so.
+    fn new(rt: &'a R, playing: &'a Playing<'a>, total: u64) -> Result<Players<'a, R>, ToolFault> {
+        let alloc = rt.alloc();
+        let poll = socket(Poll::new(rt))?;
+        let (callers, address) = socket(Callers::listen(
+            rt,
+            poll.registry(),
+            playing.address,
+            LISTENER,
+        ))?;
+        let _ = rt.eprintln(&Listening(address));
+        Ok(Players {
+            rt,
+            playing,
+            total,
+            moments: socket(Moments::begin(rt))?,
+            poll,
+            events: Events::with_capacity(alloc, EVENTS)?,
+            callers,
+            clients: no_clients(alloc)?,
+            connected: 0,
+            ended: 0,
+            buffer: vec![in alloc; 0; PIECE]?,
+        })
+    }
+
+    // Waits until something is ready or due, and does it.
+    fn turn<W: CountedWrite>(&mut self, out: &mut W) -> Result<(), ToolFault> {
+        let wait = self.wait();
+        socket(self.poll.poll(&mut self.events, Some(wait)))?;
+        self.note();
+        let now_ms = socket(self.moments.now())?;
+        self.accept(now_ms, out)?;
+        for client in self.clients.iter_mut() {
+            if let Some(client) = client {
+                client.hear(now_ms, self.buffer.as_mut_slice());
+                client.play(self.playing.pace, self.playing.stay, now_ms);
+                client.tick(now_ms);
+                client.tell(now_ms);
+            }
+        }
+        self.close(out)
+    }
+
+    // How long there is nothing to do unless something is ready.
+    fn wait(&self) -> Duration {
+        let mut wait = MOMENT_MS;
+        for client in self.clients.iter() {
+            if let Some(client) = client {
+                if client.is_busy() {
+                    return Duration::from_millis(0);
+                }
+                if client.is_waiting() {
+                    wait = SOON_MS;
+                }
+            }
+        }
+        Duration::from_millis(wait)
+    }
+
+    // Takes note of what is ready.
+    fn note(&mut self) {
+        for event in self.events.iter() {
+            let Token(token) = event.token();
+            if token == LISTENER {
+                self.callers.note(event);
+            } else if let Some(Some(client)) = self.clients.get_mut(token.saturating_sub(PLACES)) {
+                client.note(event);
+            }
+        }
+    }
+
+    // Accepts those who call, as far as there are places. Others wait until one is free.
+    fn accept<W: CountedWrite>(&mut self, now_ms: u64, out: &mut W) -> Result<(), ToolFault> {
+        for place in 0..self.clients.len() {
+            if self.clients[place].is_some() {
+                continue;
+            }
+            let Some(stream) = self.callers.next() else {
+                return Ok(());
+            };
+            self.connected = self.connected.saturating_add(1);
+            match self.seat(stream, place, now_ms) {
+                Ok(client) => self.clients[place] = Some(client),
+                Err(_) => {
+                    self.ended = self.ended.saturating_add(1);
+                    write_departure(out, self.connected, Departure::Fault)?;
+                }
+            }
+        }
+        Ok(())
+    }
+
+    // A client with the file opened for it.
+    fn seat(
+        &self,
+        stream: TcpStream,
+        place: usize,
+        now_ms: u64,
+    ) -> Result<PlayerSide<R::File>, ToolFault> {
+        if self.total >= GREATEST_SEQ {
+            return Err(ToolFault::TooMany);
+        }
+        let playback = Playback::open(self.rt, self.playing.path)?;
+        let player = Player::new(self.rt.alloc(), self.playing.config, self.total, now_ms)?;
+        let token = place.saturating_add(PLACES);
+        let socket = socket(Socket::register(self.poll.registry(), stream, token, true))?;
+        Ok(PlayerSide::new(socket, self.connected, player, playback))
+    }
+
+    // Closes the connection of each that is gone.
+    fn close<W: CountedWrite>(&mut self, out: &mut W) -> Result<(), ToolFault> {
+        for place in 0..self.clients.len() {
+            let Some(client) = &self.clients[place] else {
+                continue;
+            };
+            if let Some(departure) = client.departure() {
+                let number = client.number();
+                self.clients[place] = None;
+                self.ended = self.ended.saturating_add(1);
+                write_departure(out, number, departure)?;
+            }
+        }
+        Ok(())
+    }
+}
+
+// Free places.
+fn no_clients<F: Read + Drop>(alloc: Global) -> Result<Vec<Option<PlayerSide<F>>>, AllocError> {
+    let mut clients = Vec::with_capacity(alloc, CLIENTS)?;
+    for _place in 0..CLIENTS {
+        clients.push(None)?;
+    }
+    Ok(clients)
+}

@@ -1,0 +1,114 @@
+//! What a follower does about the news of its feed.
+ghost use Rattle.std.specs.Prelude.{◌≡◌};
+ghost use Rattle.itchsnap_live.specs.Steps.{refusal_of, snapshot_fault_of, step_of, stop_of, unrecorded};
+
+use itch_commands::{Source, ToolFault};
+use itch_frame::FrameFault;
+use itch_join::{Cause, JoinFault};
+use itch_live::News;
+use itch_market::{ReplayEnd, Stop};
+use itch_snapshot::SnapFault;
+use itch_soup::SoupFault;
+
+/// What a follower does next.
+#[derive(Clone, Copy, Debug)]
+pub enum Step {
+    /// It goes on.
+    On,
+    /// Its login was accepted from this number on.
+    Accepted(u64),
+    /// It has a snapshot up to this number, and connects to the live feed.
+    Joined(u64),
+    /// It has taken the message before this number.
+    Taken(u64),
+    /// The server has ended its session.
+    Ended,
+    /// This connection is of no use any more: it connects again.
+    Lost,
+}
+
+/// What a follower does about a piece of news, or the fault that ends it.
+///
+/// # Faults
+///
+/// A login that is rejected; a message of the feed that is no message or breaks an order rule (`Stopped`), or one of the
+/// snapshot (`Snap`); and a message that could not be recorded. All else is mended by a new connection.
+pub fn step_of(news: News) -> Result<Step, ToolFault>
+    ensures { result ≡ step_of news }
+{
+    match news {
+        News::Nothing => Ok(Step::On),
+        News::Accepted { next } => Ok(Step::Accepted(next)),
+        News::Joined { next } => Ok(Step::Joined(next)),
+        News::Taken { next } => Ok(Step::Taken(next)),
+        News::Ended => Ok(Step::Ended),
+        News::Broken(_) | News::OtherSession => Ok(Step::Lost),
+        News::Rejected(code) => Err(ToolFault::Soup(SoupFault::Rejected(code))),
+        News::Refused(fault) => refusal_of(fault),
+        News::Unrecorded(fault) => Err(unrecorded(fault)),
+    }
+}
+
+// What a follower does about a message that its joiner did not take.
+fn refusal_of(fault: JoinFault) -> Result<Step, ToolFault>
+    ensures { result ≡ refusal_of fault }
+{
+    match fault {
+        JoinFault::Halted { number, cause } => Err(ToolFault::Stopped {
+            file: Source::Only,
+            end: ReplayEnd {
+                count: number.saturating_sub(1),
+                stop: stop_of(cause),
+            },
+        }),
+        JoinFault::BadSnapshot { place, cause } => Err(ToolFault::Snap {
+            file: Source::Snapshot,
+            fault: snapshot_fault_of(place, cause),
+        }),
+        // It was applied, and is not recorded: no connection would send it again.
+        JoinFault::OutOfMemory { taken: true } => Err(ToolFault::OutOfMemory),
+        JoinFault::OutOfMemory { taken: false }
+        | JoinFault::Full { .. }
+        | JoinFault::Conflict { .. }
+        | JoinFault::BadNumber
+        | JoinFault::Joined => Ok(Step::Lost),
+    }
+}
+
+// The fault of a message that could not be recorded.
+fn unrecorded(fault: FrameFault) -> ToolFault
+    ensures { result ≡ unrecorded fault }
+{
+    match fault {
+        FrameFault::Write { error, .. } => ToolFault::Write(error),
+        _ => ToolFault::Stopped {
+            file: Source::Only,
+            end: ReplayEnd {
+                count: 0,
+                stop: Stop::Frame(fault),
+            },
+        },
+    }
+}
+
+/// Why a message of the feed is refused, as a replay says it.
+pub(crate) fn stop_of(cause: Cause) -> Stop
+    ensures { result ≡ stop_of cause }
+{
+    match cause {
+        Cause::Codec(fault) => Stop::Codec(fault),
+        Cause::Rule(refusal) => Stop::Rule(refusal),
+        Cause::TooMany => Stop::TooManyMessages,
+    }
+}
+
+// Why a message of the snapshot is refused, as a reader of a snapshot says it.
+fn snapshot_fault_of(place: u64, cause: Cause) -> SnapFault
+    ensures { result ≡ snapshot_fault_of place cause }
+{
+    match cause {
+        Cause::Codec(fault) => SnapFault::Codec { place, fault },
+        Cause::Rule(reason) => SnapFault::Rule { place, reason },
+        Cause::TooMany => SnapFault::TooManyMessages,
+    }
+}
