@@ -534,6 +534,73 @@ def a_client_reads_to_the_end_before_it_is_closed(program):
         yield from differs("status", server.ended()[0], 0)
 
 
+def a_client_that_sends_no_more_is_told_all(program):
+    """It ends its sending half after its login, and has its snapshot, and all messages of a feed."""
+    day, wanted = day_of(200)
+    blocks, end = split(day), threading.Event()
+    whole = acceptance(1) + b"".join(map(packet, blocks)) + ENDED
+
+    def told_after_login(port):
+        with connect(port) as peer:
+            peer.sendall(LOGIN)
+            peer.shutdown(socket.SHUT_WR)
+            return received(peer)
+
+    with Feed(plays(day, wait=end, held=ENDED)) as feed, live(program, feed.port) as server:
+        while number_of(fetch(program, server.port)[1]) < number_of(wanted):
+            time.sleep(0.05)
+        yield from differs("snapshot", told_after_login(server.port), answer(wanted))
+        end.set()
+        status, output, _ = server.ended()
+    last = output.decode().splitlines()[-1].split(": ")[1]
+    yield from differs("live", (status, last), (0, f"accepted at {number_of(wanted)}, {len(split(wanted))} packets"))
+    with folder_with(day=day) as folder, feeding(program, folder / "day", "--count", "1", "--rate", "200") as server:
+        yield from differs("messages", told_after_login(server.port), whole)
+        yield from differs("feed", server.ended(), (0, f"connection 1: accepted from 1, {len(blocks)} packets\n".encode(), []))
+
+
+def a_client_that_resets_its_connection_is_a_fault(program):
+    """Before it has logged in; one that is played to has left."""
+    day, _ = day_of(5)
+    linger = struct.pack("ii", 1, 0)
+
+    def reset(port, data=b"", until=0):
+        with connect(port) as peer:
+            peer.sendall(data)
+            received(peer, until)
+            peer.setsockopt(socket.SOL_SOCKET, socket.SO_LINGER, linger)
+
+    end = threading.Event()
+    with Feed(plays(day, wait=end, held=ENDED)) as feed, live(program, feed.port) as server:
+        server.said("feed: accepted")
+        reset(server.port)
+        server.has_lines(1)
+        end.set()
+        yield from differs("live", server.ended()[:2], (0, b"connection 1: fault\n"))
+    with folder_with(day=day) as folder, feeding(program, folder / "day", "--count", "2", "--stay") as server:
+        reset(server.port)
+        server.has_lines(1)
+        reset(server.port, LOGIN, len(acceptance(1)))
+        lines = f"connection 1: fault\nconnection 2: accepted from 1, {len(split(day))} packets\n"
+        yield from differs("feed", server.ended()[:2], (0, lines.encode()))
+
+
+def a_server_that_was_stopped_keeps_its_feed(program):
+    """What the feed has sent meanwhile is heard first."""
+    day, _ = day_of(10)
+    end = threading.Event()
+    with Feed(plays(day, wait=end, held=ENDED)) as feed, live(program, feed.port) as server:
+        server.said("feed: accepted")
+        time.sleep(1)
+        server.process.send_signal(signal.SIGSTOP)
+        time.sleep(SILENCE + 1)
+        server.process.send_signal(signal.SIGCONT)
+        time.sleep(1)
+        end.set()
+        status, _, lines = server.ended()
+    yield from differs("ended", (status, lines), (0, ["feed: accepted from 1\n", f"feed: ended at {len(split(day)) + 1}\n"]))
+
+
 def one_place_is_given_to_one_client_at_a_time(program):
     """With one place the second client waits for the first to leave."""
     day, wanted = day_of(20)
@@ -764,6 +831,9 @@ RUNS = [
     each_client_is_told_what_it_asks,
     a_client_that_takes_nothing_hinders_no_other,
     a_client_reads_to_the_end_before_it_is_closed,
+    a_client_that_sends_no_more_is_told_all,
+    a_client_that_resets_its_connection_is_a_fault,
+    a_server_that_was_stopped_keeps_its_feed,
     one_place_is_given_to_one_client_at_a_time,
     a_login_of_its_own_goes_to_the_feed,
     snapshots_are_written_on_the_way,

@@ -14,7 +14,7 @@ use itch_frame::CountedWrite;
 pub enum Departure {
     /// It has the whole snapshot, so many packets of messages, the last of which is its End with this number.
     Answered { next: u64, packets: u64 },
-    /// Its login was accepted from this number on, and so many messages were sent to it.
+    /// Its login was accepted from this number on, and so many messages were played to it.
     Played { from: u64, packets: u64 },
     /// Its login was rejected with this code.
     Rejected(u8),
