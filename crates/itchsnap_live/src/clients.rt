@@ -110,7 +110,8 @@ impl Clients {
         let token = place.saturating_add(self.first_token);
         match Socket::register(registry, stream, token, true) {
             Ok(socket) => {
-                self.seat(place, Link::new(socket, self.connected));
+                let link = Link::new(socket, self.connected);
+                self.set(place, Some(ClientSide::new(link)));
                 Ok(())
             }
             Err(error) => {
@@ -120,9 +121,10 @@ impl Clients {
         }
     }
 
-    fn seat(&mut self, place: usize, link: Link) {
+    // Seats a client at a place, or frees it, which closes the connection.
+    fn set(&mut self, place: usize, client: Option<ClientSide>) {
         if let Some(seat) = self.seats.get_mut(place) {
-            *seat = Some(ClientSide::new(link));
+            *seat = client;
         }
     }
 
@@ -191,7 +193,7 @@ impl Clients {
         desk.tick(now_ms);
         for place in 0..self.seats.len() {
             if let Some((number, departure)) = self.departure(desk, place) {
-                self.seats[place] = None;
+                self.set(place, None);
                 desk.leave(place);
                 write_departure(out, number, departure)?;
             }

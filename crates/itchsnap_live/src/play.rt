@@ -154,7 +154,7 @@ where
     // Accepts those who call, as far as there are places. Others wait until one is free.
     fn accept<W: CountedWrite>(&mut self, now_ms: u64, out: &mut W) -> Result<(), ToolFault> {
         for place in 0..self.clients.len() {
-            if self.clients[place].is_some() {
+            if self.is_taken(place) {
                 continue;
             }
             let Some(stream) = self.callers.next() else {
@@ -162,7 +162,7 @@ where
             };
             self.connected = self.connected.saturating_add(1);
             match self.seat(stream, place, now_ms) {
-                Ok(client) => self.clients[place] = Some(client),
+                Ok(client) => self.set(place, Some(client)),
                 Err(_) => {
                     self.ended = self.ended.saturating_add(1);
                     write_departure(out, self.connected, Departure::Fault)?;
@@ -170,6 +170,17 @@ where
             }
         }
         Ok(())
+    }
+
+    fn is_taken(&self, place: usize) -> bool {
+        matches!(self.clients.get(place), Some(Some(_)))
+    }
+
+    // Seats a client at a place, or frees it, which closes the connection.
+    fn set(&mut self, place: usize, client: Option<PlayerSide<R::File>>) {
+        if let Some(seat) = self.clients.get_mut(place) {
+            *seat = client;
+        }
     }
 
     // A client with the file opened for it.
@@ -201,17 +212,21 @@ where
     // Closes the connection of each that is gone.
     fn close<W: CountedWrite>(&mut self, out: &mut W) -> Result<(), ToolFault> {
         for place in 0..self.clients.len() {
-            let Some(client) = &self.clients[place] else {
-                continue;
-            };
-            if let Some(departure) = client.departure() {
-                let number = client.number();
-                self.clients[place] = None;
+            if let Some((number, departure)) = self.departure(place) {
+                self.set(place, None);
                 self.ended = self.ended.saturating_add(1);
                 write_departure(out, number, departure)?;
             }
         }
         Ok(())
+    }
+
+    // The number of the client at a place, and how its connection ended, once it is to be closed.
+    fn departure(&self, place: usize) -> Option<(u64, Departure)> {
+        match self.clients.get(place) {
+            Some(Some(client)) => Some((client.number(), client.departure()?)),
+            _ => None,
+        }
     }
 }
 
