@@ -16,6 +16,7 @@
 
 mod desk;
 mod follower;
+mod gone;
 mod guest;
 mod kept;
 pub mod laws;
@@ -29,6 +30,7 @@ mod told;
 
 pub use desk::{Desk, MOST_SNAPSHOTS};
 pub use follower::Follower;
+pub use gone::Gone;
 pub use guest::Guest;
 pub use news::{News, Source};
 pub use player::Player;
