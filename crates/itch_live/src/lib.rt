@@ -25,6 +25,7 @@ mod outbox;
 mod player;
 mod progress;
 mod seats;
+mod sheet;
 mod shot;
 mod told;
 
