@@ -58,8 +58,9 @@ def sixty_four_clients_at_once(program):
         end.set()
         status, output, _ = server.ended(120)
     ends = collections.Counter(line.split(": ", 1)[1].split(" at ")[0] for line in output.decode().splitlines())
-    left = ends.pop("left", 0) + ends.pop("accepted", 0) - fast
-    yield from differs("endings", (status, left, ends), (0, 1, collections.Counter({"cut off": 2, "fault": 1})))
+    # One that leaves with something unread resets its connection, which is a fault of its socket.
+    gone = ends.pop("left", 0) + ends.pop("fault", 0)
+    yield from differs("endings", (status, gone, ends), (0, 2, collections.Counter({"accepted": fast, "cut off": 2})))
 
 
 def is_asked_again(program, day, scripts):
