@@ -1,7 +1,7 @@
 //! A client of a played feed: what it is sent, byte by byte, and when it is cut off.
 use crate::equal::{holds_in, same_in};
 use crate::messages::{CLIENT_HEARTBEAT, LOGIN, LOGIN_2, LOGIN_OTHER, LOGIN_WRONG, LOGOUT};
-use crate::steps::{Standing, config, standing};
+use crate::steps::{Standing, config, how_it_stands};
 use itch_live::{Gone, Player, laws};
 use std::alloc::{Allocator, Global};
 use std::process::Abort;
@@ -85,7 +85,7 @@ fn take_turn<A: Allocator>(
         Turn::Waits(want) => same_in(rt, at, player.pending().len(), want),
         Turn::Take(count) => holds_in(rt, at, take(player, count, now)),
         Turn::Stands(want) => {
-            let stands = standing(player.is_gone(), player.why_gone(), player.is_closing());
+            let stands = how_it_stands(player.is_gone(), player.why_gone(), player.is_closing());
             same_in(rt, at, stands, want);
         }
         Turn::Rejected(want) => same_in(rt, at, player.rejection_code(), want),

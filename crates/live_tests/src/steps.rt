@@ -134,7 +134,7 @@ pub(crate) fn desk_of<B: OrderBook>(
 }
 
 /// How a client stands that has its place.
-pub(crate) fn standing(is_gone: bool, why: Option<Gone>, is_closing: bool) -> Standing {
+pub(crate) fn how_it_stands(is_gone: bool, why: Option<Gone>, is_closing: bool) -> Standing {
     match why {
         Some(reason) if is_gone => Standing::Gone(reason),
         None if is_closing => Standing::Closing,
@@ -145,7 +145,7 @@ pub(crate) fn standing(is_gone: bool, why: Option<Gone>, is_closing: bool) -> St
 fn stands_at<B: OrderBook>(desk: &Desk<B>, place: usize) -> Standing {
     match desk.guest(place) {
         None => Standing::Free,
-        Some(guest) => standing(guest.is_gone(), guest.why_gone(), guest.is_closing()),
+        Some(guest) => how_it_stands(guest.is_gone(), guest.why_gone(), guest.is_closing()),
     }
 }
 
