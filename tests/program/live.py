@@ -455,7 +455,7 @@ def each_client_is_told_what_it_asks(program):
         status, output, _ = server.ended()
     accepted = f"accepted at {number_of(wanted)}, {len(split(wanted))} packets"
     endings = [line.split(": ", 1)[1] for line in output.decode().splitlines()[before:]]
-    wanted = [accepted, "rejected A", "rejected S", "left", accepted, "left", accepted, accepted, "left"]
+    wanted = [accepted, "rejected A", "rejected S", "fault", accepted, "left", accepted, accepted, "left"]
     yield from differs("endings", (status, sorted(endings)), (0, sorted(wanted)))
     if "secret" in "".join(server.lines) + output.decode():
         yield "a password in a line"
@@ -513,7 +513,7 @@ def a_client_that_takes_nothing_hinders_no_other(program):
         end.set()
         status, output, _ = server.ended(120)
     endings = sorted(line.split(": ", 1)[1] for line in output.decode().splitlines() if "accepted" not in line)
-    yield from differs("endings", (status, endings), (0, ["cut off", "cut off", "left", "left"]))
+    yield from differs("endings", (status, endings), (0, ["cut off", "cut off", "fault", "left"]))
 
 
 def a_client_reads_to_the_end_before_it_is_closed(program):
@@ -681,8 +681,24 @@ def a_feed_is_played_from_the_number_asked(program):
             yield from differs(f"{login[-40:]!r}", told(server.port, login), b"\0\x02J" + code if code else b"")
         status, output, lines = server.ended()
     endings = [line.split(": ", 1)[1] for line in sorted(output.decode().splitlines())]
-    wanted = [f"accepted from {first}, {last + 1 - first} packets" for _, first in rows] + ["rejected S", "rejected A", "left"]
+    wanted = [f"accepted from {first}, {last + 1 - first} packets" for _, first in rows] + ["rejected S", "rejected A", "fault"]
     yield from differs("ended", (status, endings, lines), (0, wanted, []))
+
+
+def a_feed_says_how_a_client_went(program):
+    """One that is silent, one that logs in twice, one that logs out, and one that logs out before it has logged in."""
+    day, _ = day_of(20)
+    played = f"accepted from 1, {len(split(day))} packets"
+    with folder_with(day=day) as folder, feeding(program, folder / "day", "--stay", "--count", "4") as server:
+        with connect(server.port) as silent:
+            for data in (LOGIN + LOGIN, LOGIN + b"\0\x01O", b"\0\x01O"):
+                told(server.port, data)
+            yield from differs("silent", received(silent), b"")
+        status, output, _ = server.ended()
+    endings = [line.split(": ", 1)[1] for line in output.decode().splitlines()]
+    yield from differs("endings", (status, endings[0], endings[2:]), (0, "fault", ["left", "cut off"]))
+    if not endings[1].startswith("accepted from 1, "):
+        yield f"{endings[1]}, not as {played}"
 
 
 def a_feed_stays_with_heartbeats(program):
@@ -840,6 +856,7 @@ RUNS = [
     a_folder_that_is_not_there_ends_it,
     a_record_that_cannot_be_written_ends_it,
     a_feed_is_played_from_the_number_asked,
+    a_feed_says_how_a_client_went,
     a_feed_stays_with_heartbeats,
     a_feed_is_played_at_a_rate,
     a_feed_of_no_day_file_is_refused,
