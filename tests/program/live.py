@@ -455,7 +455,7 @@ def each_client_is_told_what_it_asks(program):
         status, output, _ = server.ended()
     accepted = f"accepted at {number_of(wanted)}, {len(split(wanted))} packets"
     endings = [line.split(": ", 1)[1] for line in output.decode().splitlines()[before:]]
-    wanted = [accepted, "rejected A", "rejected S", "left", accepted, "left", accepted, accepted, "left"]
+    wanted = [accepted, "rejected A", "rejected S", "fault", accepted, "left", accepted, accepted, "left"]
     yield from differs("endings", (status, sorted(endings)), (0, sorted(wanted)))
     if "secret" in "".join(server.lines) + output.decode():
         yield "a password in a line"
@@ -513,7 +513,7 @@ def a_client_that_takes_nothing_hinders_no_other(program):
         end.set()
         status, output, _ = server.ended(120)
     endings = sorted(line.split(": ", 1)[1] for line in output.decode().splitlines() if "accepted" not in line)
-    yield from differs("endings", (status, endings), (0, ["cut off", "cut off", "left", "left"]))
+    yield from differs("endings", (status, endings), (0, ["cut off", "cut off", "fault", "left"]))
 
 
 def a_client_reads_to_the_end_before_it_is_closed(program):
@@ -532,6 +532,73 @@ def a_client_reads_to_the_end_before_it_is_closed(program):
             yield from differs("told", received(peer) == answer(wanted), True)
         end.set()
         yield from differs("status", server.ended()[0], 0)
+
+
+def a_client_that_sends_no_more_is_told_all(program):
+    """It ends its sending half after its login, and has its snapshot, and all messages of a feed."""
+    day, wanted = day_of(200)
+    blocks, end = split(day), threading.Event()
+    whole = acceptance(1) + b"".join(map(packet, blocks)) + ENDED
+
+    def told_after_login(port):
+        with connect(port) as peer:
+            peer.sendall(LOGIN)
+            peer.shutdown(socket.SHUT_WR)
+            return received(peer)
+
+    with Feed(plays(day, wait=end, held=ENDED)) as feed, live(program, feed.port) as server:
+        while number_of(fetch(program, server.port)[1]) < number_of(wanted):
+            time.sleep(0.05)
+        yield from differs("snapshot", told_after_login(server.port), answer(wanted))
+        end.set()
+        status, output, _ = server.ended()
+    last = output.decode().splitlines()[-1].split(": ")[1]
+    yield from differs("live", (status, last), (0, f"accepted at {number_of(wanted)}, {len(split(wanted))} packets"))
+    with folder_with(day=day) as folder, feeding(program, folder / "day", "--count", "1", "--rate", "200") as server:
+        yield from differs("messages", told_after_login(server.port), whole)
+        yield from differs("feed", server.ended(), (0, f"connection 1: accepted from 1, {len(blocks)} packets\n".encode(), []))
+
+
+def a_client_that_resets_its_connection_is_a_fault(program):
+    """Before it has logged in; one that is played to has left."""
+    day, _ = day_of(5)
+    linger = struct.pack("ii", 1, 0)
+
+    def reset(port, data=b"", until=0):
+        with connect(port) as peer:
+            peer.sendall(data)
+            received(peer, until)
+            peer.setsockopt(socket.SOL_SOCKET, socket.SO_LINGER, linger)
+
+    end = threading.Event()
+    with Feed(plays(day, wait=end, held=ENDED)) as feed, live(program, feed.port) as server:
+        server.said("feed: accepted")
+        reset(server.port)
+        server.has_lines(1)
+        end.set()
+        yield from differs("live", server.ended()[:2], (0, b"connection 1: fault\n"))
+    with folder_with(day=day) as folder, feeding(program, folder / "day", "--count", "2", "--stay") as server:
+        reset(server.port)
+        server.has_lines(1)
+        reset(server.port, LOGIN, len(acceptance(1)))
+        lines = f"connection 1: fault\nconnection 2: accepted from 1, {len(split(day))} packets\n"
+        yield from differs("feed", server.ended()[:2], (0, lines.encode()))
+
+
+def a_server_that_was_stopped_keeps_its_feed(program):
+    """What the feed has sent meanwhile is heard first."""
+    day, _ = day_of(10)
+    end = threading.Event()
+    with Feed(plays(day, wait=end, held=ENDED)) as feed, live(program, feed.port) as server:
+        server.said("feed: accepted")
+        time.sleep(1)
+        server.process.send_signal(signal.SIGSTOP)
+        time.sleep(SILENCE + 1)
+        server.process.send_signal(signal.SIGCONT)
+        time.sleep(1)
+        end.set()
+        status, _, lines = server.ended()
+    yield from differs("ended", (status, lines), (0, ["feed: accepted from 1\n", f"feed: ended at {len(split(day)) + 1}\n"]))
 
 
 def one_place_is_given_to_one_client_at_a_time(program):
@@ -614,8 +681,24 @@ def a_feed_is_played_from_the_number_asked(program):
             yield from differs(f"{login[-40:]!r}", told(server.port, login), b"\0\x02J" + code if code else b"")
         status, output, lines = server.ended()
     endings = [line.split(": ", 1)[1] for line in sorted(output.decode().splitlines())]
-    wanted = [f"accepted from {first}, {last + 1 - first} packets" for _, first in rows] + ["rejected S", "rejected A", "left"]
+    wanted = [f"accepted from {first}, {last + 1 - first} packets" for _, first in rows] + ["rejected S", "rejected A", "fault"]
     yield from differs("ended", (status, endings, lines), (0, wanted, []))
+
+
+def a_feed_says_how_a_client_went(program):
+    """One that is silent, one that logs in twice, one that logs out, and one that logs out before it has logged in."""
+    day, _ = day_of(20)
+    played = f"accepted from 1, {len(split(day))} packets"
+    with folder_with(day=day) as folder, feeding(program, folder / "day", "--stay", "--count", "4") as server:
+        with connect(server.port) as silent:
+            for data in (LOGIN + LOGIN, LOGIN + b"\0\x01O", b"\0\x01O"):
+                told(server.port, data)
+            yield from differs("silent", received(silent), b"")
+        status, output, _ = server.ended()
+    endings = [line.split(": ", 1)[1] for line in output.decode().splitlines()]
+    yield from differs("endings", (status, endings[0], endings[2:]), (0, "fault", ["left", "cut off"]))
+    if not endings[1].startswith("accepted from 1, "):
+        yield f"{endings[1]}, not as {played}"
 
 
 def a_feed_stays_with_heartbeats(program):
@@ -764,12 +847,16 @@ RUNS = [
     each_client_is_told_what_it_asks,
     a_client_that_takes_nothing_hinders_no_other,
     a_client_reads_to_the_end_before_it_is_closed,
+    a_client_that_sends_no_more_is_told_all,
+    a_client_that_resets_its_connection_is_a_fault,
+    a_server_that_was_stopped_keeps_its_feed,
     one_place_is_given_to_one_client_at_a_time,
     a_login_of_its_own_goes_to_the_feed,
     snapshots_are_written_on_the_way,
     a_folder_that_is_not_there_ends_it,
     a_record_that_cannot_be_written_ends_it,
     a_feed_is_played_from_the_number_asked,
+    a_feed_says_how_a_client_went,
     a_feed_stays_with_heartbeats,
     a_feed_is_played_at_a_rate,
     a_feed_of_no_day_file_is_refused,

@@ -1,5 +1,6 @@
 -- When a message of a day file that is played is due.
-use Rattle.std.specs.Prelude.{ℕ, ◌*◌, nat_le, Bool, true}
+use Rattle.std.specs.Prelude.{ℕ, ◌*◌, nat_le, nat_lt, Bool, true, List, length, if◌then◌else◌}
+use Rattle.itch_codec.specs.Numbers.{number_at}
 use Rattle.itchsnap_cli.specs.declared.words.live.Pace.{Pace}
 use Rattle.itchsnap_cli.specs.declared.words.live.Pace.TheVariants.{Free, Rate, Clock}
 
@@ -10,3 +11,7 @@ abbrev pub is_due : Pace → ℕ → ℕ → ℕ → Bool
 is_due Free passed before later = true
 is_due (Rate rate) passed before later = nat_le (before * 1_000) (rate * passed)
 is_due (Clock times) passed before later = nat_le later (times * 1_000_000 * passed)
+
+-- the timestamp of a message; 0 where it has none
+abbrev pub timestamp : List ℕ → ℕ
+timestamp message = if nat_lt (length message) 11 then 0 else number_at 5 6 message

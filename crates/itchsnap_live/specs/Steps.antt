@@ -1,5 +1,5 @@
 -- What a follower does about the news of its feed.
-use Rattle.std.specs.Prelude.{ℕ, ◌-◌, Bool, true, false, Result, Ok, Err}
+use Rattle.std.specs.Prelude.{ℕ, ◌-◌, Bool, true, false, Option, None, Some, Result, Ok, Err}
 use Rattle.itch_frame.specs.declared.fault.FrameFault.{FrameFault}
 use Rattle.itch_frame.specs.declared.fault.FrameFault.TheVariants as frame
 use Rattle.itch_market.specs.declared.stop.Stop.{Stop}
@@ -37,6 +37,16 @@ unrecorded (frame.Write sent error) = tool.Write error
 unrecorded (frame.Read error) = tool.Stopped Only (record { count = 0; stop = stop.Frame (frame.Read error) })
 unrecorded (frame.Truncated held) = tool.Stopped Only (record { count = 0; stop = stop.Frame (frame.Truncated held) })
 unrecorded frame.TooLong = tool.Stopped Only (record { count = 0; stop = stop.Frame frame.TooLong })
+
+-- how many messages come before the last one, where the next one has this number
+abbrev pub before_last : Option ℕ → ℕ
+before_last None = 0
+before_last (Some next) = next - 2
+
+-- a record that could not be written is the fault of the last message that was taken
+abbrev pub record_fault : ToolFault → Option ℕ → ToolFault
+record_fault (tool.Write error) next = tool.Stopped Only (record { count = before_last next; stop = stop.Frame (frame.Write 0 error) })
+record_fault fault next = fault
 
 -- a message that is none, or breaks an order rule, ends the follower; so does one that was applied and could not be recorded. A new
 -- connection mends the rest.

@@ -1,6 +1,6 @@
 //! Clients that call.
 
-use mio::event::Event;
+use itchsnap_cli::sessions::Listening;
 use mio::net::{TcpListener, TcpStream};
 use mio::{Interest, Registry, Token};
 use std::io::{self, ErrorKind};
@@ -10,35 +10,36 @@ use std::net::{Net, SocketAddr};
 #[derive(Drop)]
 pub(crate) struct Callers {
     listener: TcpListener,
-    waiting: bool,
+    are_waiting: bool,
 }
 
 impl Callers {
-    /// Listens on an address, and says which it is: the port 0 becomes a free one.
-    pub(crate) fn listen<N: Net>(
-        net: &N,
+    /// Listens on an address, and says on standard error which it is: the port 0 becomes a free one.
+    pub(crate) fn listen<R: Net + Eprint>(
+        rt: &R,
         registry: &Registry,
         address: SocketAddr,
         token: usize,
-    ) -> io::Result<(Callers, SocketAddr)> {
-        let mut listener = TcpListener::bind(net, address)?;
+    ) -> io::Result<Callers> {
+        let mut listener = TcpListener::bind(rt, address)?;
         let address = listener.local_addr()?;
         registry.register(&mut listener, Token(token), Interest::READABLE)?;
-        let callers = Callers {
+        // That the line cannot be written is no reason to stop.
+        let _ = rt.eprintln(&Listening(address));
+        Ok(Callers {
             listener,
-            waiting: false,
-        };
-        Ok((callers, address))
+            are_waiting: false,
+        })
     }
 
     /// Takes note that clients call.
-    pub(crate) fn note(&mut self, _event: &Event) {
-        self.waiting = true;
+    pub(crate) fn note(&mut self) {
+        self.are_waiting = true;
     }
 
     /// The next client that calls, or none for now.
     pub(crate) fn next(&mut self) -> Option<TcpStream> {
-        if !self.waiting {
+        if !self.are_waiting {
             return None;
         }
         match self.listener.accept() {
@@ -49,7 +50,7 @@ impl Callers {
             }
             Err(error) => {
                 // Where the system has no more sockets, it is asked again in the next turn.
-                self.waiting = !matches!(error.kind(), ErrorKind::WouldBlock);
+                self.are_waiting = !matches!(error.kind(), ErrorKind::WouldBlock);
                 None
             }
         }

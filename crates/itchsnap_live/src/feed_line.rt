@@ -20,6 +20,11 @@ pub(crate) enum FeedLine {
 }
 
 impl Display for FeedLine {
+    ghost use Rattle.std.specs.Prelude.{Some};
+    ghost use Rattle.itchsnap_live.specs.FeedLines.{feed_words};
+
+    ghost output = { λ line. Some (feed_words line) };
+
     fn fmt<W: fmt::Write>(&self, f: &mut Formatter<W>) -> fmt::Result {
         match self {
             FeedLine::GlimpseAccepted => f.write_str("glimpse: accepted"),

@@ -3,6 +3,7 @@
 use crate::feed_line::FeedLine;
 use crate::outbox::Outbox;
 use crate::piece::Piece;
+use crate::route::{Route, Servers};
 use crate::socket::{Got, Socket};
 use crate::step::{Step, step_of};
 use itch_book::OrderBook;
@@ -15,32 +16,10 @@ use mio::event::Event;
 use mio::net::TcpStream;
 use std::alloc::{AllocError, Global};
 use std::io;
-use std::net::{Net, SocketAddr};
+use std::net::Net;
 
-/// What is read or written of one socket in one turn, at most.
+/// What is read of the feed in one turn, at most, and what is written to one client.
 pub(crate) const SHARE: usize = 1 << 18;
-
-/// A feed that is lost is asked for again after this long.
-const AGAIN_MS: u64 = 1_000;
-
-/// The addresses of a feed, and of a server of snapshots. Where a host has more than one, they are tried in turn.
-#[derive(Drop)]
-pub struct Servers {
-    pub feed: Vec<SocketAddr>,
-    /// None where the feed's first message is asked for.
-    pub glimpse: Vec<SocketAddr>,
-}
-
-impl Servers {
-    // The addresses of the feed, or of the server of snapshots.
-    fn of(&self, live: bool) -> &[SocketAddr] {
-        if live {
-            self.feed.as_slice()
-        } else {
-            self.glimpse.as_slice()
-        }
-    }
-}
 
 // A connection, and what is still to be sent there.
 #[derive(Drop)]
@@ -49,16 +28,25 @@ struct Connection {
     outbox: Outbox,
 }
 
+impl Connection {
+    // Sends what is pending, and a heartbeat where one is due.
+    fn send(&mut self, heartbeat: bool) -> io::Result<()> {
+        if heartbeat {
+            self.outbox.put_heartbeat();
+        }
+        let count = self.socket.write(self.outbox.pending())?;
+        self.outbox.took(count);
+        Ok(())
+    }
+}
+
 /// The connection of a desk's follower, which is made again where it was lost.
 #[derive(Drop)]
 pub(crate) struct FeedSide {
-    servers: Servers,
+    route: Route,
     token: usize,
     connection: Option<Connection>,
     again_at: u64,
-    // The place of the address to connect to, and how many connections were begun since one accepted a login.
-    address: usize,
-    tries: usize,
     // Whether it was said that the server is lost.
     is_down: bool,
     piece: Piece,
@@ -74,12 +62,10 @@ impl FeedSide {
         token: usize,
     ) -> Result<FeedSide, AllocError> {
         Ok(FeedSide {
-            servers,
+            route: Route::new(servers),
             token,
             connection: None,
             again_at: 0,
-            address: 0,
-            tries: 0,
             is_down: false,
             piece: Piece::new(alloc)?,
             share: 0,
@@ -101,7 +87,7 @@ impl FeedSide {
         }
     }
 
-    /// Begins a turn: connects where that is due, and sends what is pending.
+    /// Begins a turn: connects where that is due.
     pub(crate) fn begin_turn<R: Net + Eprint, B: OrderBook>(
         &mut self,
         rt: &R,
@@ -116,13 +102,6 @@ impl FeedSide {
                 Err(_) => self.lose(rt, desk, now_ms),
             }
         }
-        let tick = match self.connection {
-            Some(_) => desk.tick_feed(now_ms),
-            None => Tick::Nothing,
-        };
-        if matches!(tick, Tick::Lost) || self.send(matches!(tick, Tick::Heartbeat)).is_err() {
-            self.lose(rt, desk, now_ms);
-        }
     }
 
     // Begins to connect to the next address. Its login is sent once it is connected.
@@ -134,11 +113,9 @@ impl FeedSide {
         now_ms: u64,
     ) -> io::Result<Connection> {
         let login = desk.connect(now_ms);
-        let addresses = self.servers.of(desk.next().is_some());
-        let Some(address) = addresses.get(self.address).or(addresses.first()).copied() else {
+        let Some(address) = self.route.next(desk.next().is_some()) else {
             return Err(io::Error::from(io::ErrorKind::NotFound));
         };
-        self.tries = self.tries.saturating_add(1);
         let stream = TcpStream::connect(net, address)?;
         // A login or a heartbeat is not to wait for what follows it.
         let _ = stream.set_nodelay(true);
@@ -148,48 +125,38 @@ impl FeedSide {
         })
     }
 
-    // Sends what is pending, and a heartbeat where one is due.
-    fn send(&mut self, heartbeat: bool) -> io::Result<()> {
+    /// Ends a turn: sends what is pending, and a heartbeat where one is due. A server that was silent for too long is lost.
+    pub(crate) fn end_turn<R: Eprint, B: OrderBook>(
+        &mut self,
+        rt: &R,
+        desk: &mut Desk<B>,
+        now_ms: u64,
+    ) {
         let Some(connection) = &mut self.connection else {
-            return Ok(());
+            return;
         };
-        if heartbeat {
-            connection.outbox.put_heartbeat();
+        let tick = desk.tick_feed(now_ms);
+        let sent = connection.send(matches!(tick, Tick::Heartbeat));
+        if matches!(tick, Tick::Lost) || sent.is_err() {
+            self.lose(rt, desk, now_ms);
         }
-        let count = connection.socket.write(connection.outbox.pending())?;
-        connection.outbox.took(count);
-        Ok(())
     }
 
     // Drops the connection, to make another one. It is said once that the server is lost, until it accepts a login.
     fn lose<R: Eprint, B: OrderBook>(&mut self, rt: &R, desk: &Desk<B>, now_ms: u64) {
-        let wait = self.wait(desk.next().is_some());
+        let next = desk.next();
+        let wait = self.route.lose(next.is_some());
         self.drop_connection(now_ms.saturating_add(wait));
         if !self.is_down {
             self.is_down = true;
             say(
                 rt,
-                match desk.next() {
+                match next {
                     Some(next) => FeedLine::Lost(next),
                     None => FeedLine::GlimpseLost,
                 },
             );
         }
-    }
-
-    // How long to wait before the next connection: a second, but where a host has further addresses, they are tried first.
-    fn wait(&mut self, live: bool) -> u64 {
-        let addresses = self.servers.of(live).len();
-        if self.tries == 0 {
-            return AGAIN_MS;
-        }
-        self.address = self.address.saturating_add(1);
-        if self.tries < addresses {
-            return 0;
-        }
-        self.address = 0;
-        self.tries = 0;
-        AGAIN_MS
     }
 
     fn drop_connection(&mut self, again_at: u64) {
@@ -246,7 +213,7 @@ impl FeedSide {
             Step::On | Step::Taken(_) => {}
             Step::Accepted(next) => {
                 self.is_down = false;
-                self.tries = 0;
+                self.route.accept();
                 say(
                     rt,
                     match desk.next() {
@@ -257,8 +224,7 @@ impl FeedSide {
             }
             Step::Joined(next) => {
                 self.drop_connection(now_ms);
-                self.address = 0;
-                self.tries = 0;
+                self.route.begin();
                 say(rt, FeedLine::Joined(next));
             }
             Step::Ended => match desk.next() {

@@ -1,9 +1,9 @@
 //! `follow`: the messages of a feed from a snapshot on.
 
-use crate::feed_side::{FeedSide, SHARE, Servers};
-use crate::live::socket;
-use crate::moments::Moments;
+use crate::feed_side::{FeedSide, SHARE};
+use crate::route::Servers;
 use crate::step::Step;
+use crate::turns::Turns;
 use itch_book::{IndexedBook, OrderBook};
 use itch_codec::{decode, encode, json};
 use itch_commands::{ToolFault, write_text};
@@ -15,12 +15,10 @@ use itch_snapshot::SnapshotIter;
 use itch_soup::{Credentials, ServerConfig};
 use itchsnap_cli::sessions::Sending;
 use itchsnap_cli::words::FollowForm;
-use mio::{Events, Poll};
 use std::alloc::Global;
 use std::io::Write;
 use std::net::Net;
 use std::rt::Clock;
-use std::time::Duration;
 
 /// The number of the socket.
 const FEED: usize = 0;
@@ -61,9 +59,7 @@ where
     let follower = Follower::new(alloc, following.credentials, joiner, 0)?;
     let mut tail = Tail {
         rt,
-        moments: socket(Moments::begin(rt))?,
-        poll: socket(Poll::new(rt))?,
-        events: Events::with_capacity(alloc, EVENTS)?,
+        turns: Turns::begin(rt, rt, EVENTS)?,
         feed: FeedSide::new(alloc, servers, FEED)?,
         desk: Desk::new(alloc, nobody(following.credentials), follower, 0)?,
         block: Vec::new(alloc),
@@ -89,9 +85,7 @@ fn nobody(credentials: Credentials) -> ServerConfig {
 #[derive(Drop)]
 struct Tail<'a, R: Clock, B: OrderBook> {
     rt: &'a R,
-    moments: Moments<'a, R>,
-    poll: Poll,
-    events: Events<Global>,
+    turns: Turns<'a, R>,
     feed: FeedSide,
     desk: Desk<B>,
     // The block of the message that is shown as a line.
@@ -105,21 +99,19 @@ impl<R: Net + Clock + Eprint, B: OrderBook<Alloc = Global>> Tail<'_, R, B> {
         form: FollowForm,
         out: &mut Sending<W>,
     ) -> Result<bool, ToolFault> {
-        let wait = if self.feed.is_busy() { 0 } else { MOMENT_MS };
-        socket(
-            self.poll
-                .poll(&mut self.events, Some(Duration::from_millis(wait))),
-        )?;
-        for event in self.events.iter() {
+        let most_ms = if self.feed.is_busy() { 0 } else { MOMENT_MS };
+        let now_ms = self.turns.wait(most_ms)?;
+        for event in self.turns.events().iter() {
             self.feed.note(event);
         }
-        let now_ms = socket(self.moments.now())?;
         self.feed
-            .begin_turn(self.rt, self.poll.registry(), &mut self.desk, now_ms);
-        let ended = self.steps(form, now_ms, out)?;
-        match out.flush() {
-            Ok(()) => Ok(ended),
-            Err(error) => Err(ToolFault::Write(error)),
+            .begin_turn(self.rt, self.turns.registry(), &mut self.desk, now_ms);
+        let ended = self.steps(form, now_ms, out);
+        self.feed.end_turn(self.rt, &mut self.desk, now_ms);
+        // What came before a fault is written too.
+        match (ended, out.flush()) {
+            (Ok(_), Err(error)) => Err(ToolFault::Write(error)),
+            (ended, _) => ended,
         }
     }
 
@@ -143,7 +135,7 @@ impl<R: Net + Clock + Eprint, B: OrderBook<Alloc = Global>> Tail<'_, R, B> {
                 }
                 Some(Step::Ended) if self.desk.next().is_some() => return Ok(true),
                 Some(_) => {}
-                None => return Ok(false),
+                None => break,
             }
         }
         Ok(false)

@@ -11,13 +11,14 @@
 
 mod callers;
 mod client;
+mod clients;
 mod departure;
 mod feed_line;
 mod feed_side;
 mod follow;
 mod line;
+mod link;
 mod live;
-mod moments;
 mod outbox;
 mod pace;
 mod piece;
@@ -26,15 +27,16 @@ mod playback;
 mod player_side;
 mod recording;
 mod resuming;
+mod route;
 mod saving;
 mod socket;
 mod step;
-mod told;
+mod turns;
 
-pub use departure::{Departure, write_departure};
-pub use feed_side::Servers;
+pub use departure::{Departure, departure_of, write_departure};
 pub use follow::{Following, follow_feed};
 pub use live::{Serving, serve_live};
 pub use pace::is_due;
 pub use play::{Playing, play_feed};
+pub use route::Servers;
 pub use step::{Step, step_of};

@@ -1,8 +1,14 @@
 //! When a message of a day file that is played is due.
 ghost use Rattle.std.specs.Prelude.{◌≡◌, ◌*◌, nat_le};
-ghost use Rattle.itchsnap_live.specs.Paces.{is_due};
+ghost use Rattle.itchsnap_live.specs.Paces.{is_due, timestamp};
 
+use byteorder::{BigEndian, ByteOrder};
 use itchsnap_cli::words::Pace;
+
+/// Where a message has its timestamp, and where its header ends after that.
+const TIMESTAMP: usize = 5;
+
+const HEADER: usize = 11;
 
 /// Whether a message is due so many milliseconds after the login was accepted, of which so many messages come before it, and so many
 /// nanoseconds lie between the timestamp of the first one and its own.
@@ -35,14 +41,12 @@ fn reaches(wanted: u128, factor: u128, other: u128) -> bool
 }
 
 /// The timestamp in a message's header, the nanoseconds since midnight in six bytes; 0 where it has none.
-pub(crate) fn timestamp(message: &[u8]) -> u64 {
-    let mut time = 0;
-    for place in 5..11 {
-        let byte = match message.get(place) {
-            Some(byte) => *byte,
-            None => 0,
-        };
-        time = (time << 8) | u64::from(byte);
+#[tactic(auto, unfolding(itch_codec::specs::Numbers::number_at))]
+pub(crate) fn timestamp(message: &[u8]) -> u64
+    ensures { result ≡ timestamp message.now }
+{
+    if message.len() < HEADER {
+        return 0;
     }
-    time
+    BigEndian::read_u48(&message[TIMESTAMP..HEADER])
 }

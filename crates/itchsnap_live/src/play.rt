@@ -2,25 +2,24 @@
 
 use crate::callers::Callers;
 use crate::departure::{Departure, write_departure};
-use crate::live::socket;
-use crate::moments::Moments;
+use crate::link::Link;
 use crate::playback::Playback;
 use crate::player_side::PlayerSide;
 use crate::socket::Socket;
-use itch_codec::GREATEST_SEQ;
+use crate::turns::{Turns, called};
+use itch_codec::Seq;
 use itch_commands::ToolFault;
 use itch_frame::CountedWrite;
 use itch_live::Player;
 use itch_soup::ServerConfig;
-use itchsnap_cli::sessions::{Listening, PIECE};
+use itchsnap_cli::sessions::PIECE;
 use itchsnap_cli::words::Pace;
+use mio::Token;
 use mio::net::TcpStream;
-use mio::{Events, Poll, Token};
 use std::alloc::{AllocError, Global};
 use std::io::Read;
 use std::net::{Net, SocketAddr};
 use std::rt::{Clock, Files};
-use std::time::Duration;
 
 const LISTENER: usize = 0;
 
@@ -65,10 +64,10 @@ where
     R: Net + Clock + Files + Eprint + AllocGlobal,
 {
     let total = Playback::open(rt, playing.path)?.count()?;
-    if total >= GREATEST_SEQ {
+    let Some(end) = Seq::new(total.saturating_add(1)) else {
         return Err(ToolFault::TooMany);
-    }
-    let mut players = Players::new(rt, playing, total)?;
+    };
+    let mut players = Players::new(rt, playing, end)?;
     for _turn in 0..u64::MAX {
         if playing.count.is_some_and(|count| players.ended >= count) {
             break;
@@ -83,10 +82,9 @@ where
 struct Players<'a, R: Clock + Files> {
     rt: &'a R,
     playing: &'a Playing<'a>,
-    total: u64,
-    moments: Moments<'a, R>,
-    poll: Poll,
-    events: Events<Global>,
+    // The number after that of the last message.
+    end: Seq,
+    turns: Turns<'a, R>,
     callers: Callers,
     clients: Vec<Option<PlayerSide<R::File>>>,
     // How many clients have connected, and how many connections have ended.
@@ -100,71 +98,53 @@ where
     R: Net + Clock + Files + Eprint + AllocGlobal,
 {
     // Listens on the port, and says so.
-    fn new(rt: &'a R, playing: &'a Playing<'a>, total: u64) -> Result<Players<'a, R>, ToolFault> {
-        let alloc = rt.alloc();
-        let poll = socket(Poll::new(rt))?;
-        let (callers, address) = socket(Callers::listen(
-            rt,
-            poll.registry(),
-            playing.address,
-            LISTENER,
-        ))?;
-        let _ = rt.eprintln(&Listening(address));
+    fn new(rt: &'a R, playing: &'a Playing<'a>, end: Seq) -> Result<Players<'a, R>, ToolFault> {
+        let turns = Turns::begin(rt, rt, EVENTS)?;
+        let callers = called(Callers::listen(rt, turns.registry(), playing.address, LISTENER))?;
         Ok(Players {
             rt,
             playing,
-            total,
-            moments: socket(Moments::begin(rt))?,
-            poll,
-            events: Events::with_capacity(alloc, EVENTS)?,
+            end,
+            turns,
             callers,
-            clients: no_clients(alloc)?,
+            clients: no_clients(rt.alloc())?,
             connected: 0,
             ended: 0,
-            buffer: vec![in alloc; 0; PIECE]?,
+            buffer: vec![in rt.alloc(); 0; PIECE]?,
         })
     }
 
     // Waits until something is ready or due, and does it.
     fn turn<W: CountedWrite>(&mut self, out: &mut W) -> Result<(), ToolFault> {
-        let wait = self.wait();
-        socket(self.poll.poll(&mut self.events, Some(wait)))?;
+        let now_ms = self.turns.wait(self.patience_ms())?;
         self.note();
-        let now_ms = socket(self.moments.now())?;
         self.accept(now_ms, out)?;
-        for client in self.clients.iter_mut() {
-            if let Some(client) = client {
-                client.hear(now_ms, self.buffer.as_mut_slice());
-                client.play(self.playing.pace, self.playing.stay, now_ms);
-                client.tick(now_ms);
-                client.tell(now_ms);
-            }
-        }
+        self.play(now_ms);
         self.close(out)
     }
 
     // How long there is nothing to do unless something is ready.
-    fn wait(&self) -> Duration {
-        let mut wait = MOMENT_MS;
+    fn patience_ms(&self) -> u64 {
+        let mut most_ms = MOMENT_MS;
         for client in self.clients.iter() {
             if let Some(client) = client {
                 if client.is_busy() {
-                    return Duration::from_millis(0);
+                    return 0;
                 }
-                if client.is_waiting() {
-                    wait = SOON_MS;
+                if client.is_early() {
+                    most_ms = SOON_MS;
                 }
             }
         }
-        Duration::from_millis(wait)
+        most_ms
     }
 
     // Takes note of what is ready.
     fn note(&mut self) {
-        for event in self.events.iter() {
+        for event in self.turns.events().iter() {
             let Token(token) = event.token();
             if token == LISTENER {
-                self.callers.note(event);
+                self.callers.note();
             } else if let Some(Some(client)) = self.clients.get_mut(token.saturating_sub(PLACES)) {
                 client.note(event);
             }
@@ -174,7 +154,7 @@ where
     // Accepts those who call, as far as there are places. Others wait until one is free.
     fn accept<W: CountedWrite>(&mut self, now_ms: u64, out: &mut W) -> Result<(), ToolFault> {
         for place in 0..self.clients.len() {
-            if self.clients[place].is_some() {
+            if self.is_taken(place) {
                 continue;
             }
             let Some(stream) = self.callers.next() else {
@@ -182,7 +162,7 @@ where
             };
             self.connected = self.connected.saturating_add(1);
             match self.seat(stream, place, now_ms) {
-                Ok(client) => self.clients[place] = Some(client),
+                Ok(client) => self.set(place, Some(client)),
                 Err(_) => {
                     self.ended = self.ended.saturating_add(1);
                     write_departure(out, self.connected, Departure::Fault)?;
@@ -192,6 +172,17 @@ where
         Ok(())
     }
 
+    fn is_taken(&self, place: usize) -> bool {
+        matches!(self.clients.get(place), Some(Some(_)))
+    }
+
+    // Seats a client at a place, or frees it, which closes the connection.
+    fn set(&mut self, place: usize, client: Option<PlayerSide<R::File>>) {
+        if let Some(seat) = self.clients.get_mut(place) {
+            *seat = client;
+        }
+    }
+
     // A client with the file opened for it.
     fn seat(
         &self,
@@ -199,30 +190,43 @@ where
         place: usize,
         now_ms: u64,
     ) -> Result<PlayerSide<R::File>, ToolFault> {
-        if self.total >= GREATEST_SEQ {
-            return Err(ToolFault::TooMany);
-        }
         let playback = Playback::open(self.rt, self.playing.path)?;
-        let player = Player::new(self.rt.alloc(), self.playing.config, self.total, now_ms)?;
+        let total = self.end.value() - 1;
+        let player = Player::new(self.rt.alloc(), self.playing.config, total, now_ms)?;
         let token = place.saturating_add(PLACES);
-        let socket = socket(Socket::register(self.poll.registry(), stream, token, true))?;
-        Ok(PlayerSide::new(socket, self.connected, player, playback))
+        let socket = called(Socket::register(self.turns.registry(), stream, token, true))?;
+        let link = Link::new(socket, self.connected);
+        Ok(PlayerSide::new(link, player, playback))
+    }
+
+    // Plays to each client what is due.
+    fn play(&mut self, now_ms: u64) {
+        let (pace, stay) = (self.playing.pace, self.playing.stay);
+        for client in self.clients.iter_mut() {
+            if let Some(client) = client {
+                client.turn(pace, stay, now_ms, self.buffer.as_mut_slice());
+            }
+        }
     }
 
     // Closes the connection of each that is gone.
     fn close<W: CountedWrite>(&mut self, out: &mut W) -> Result<(), ToolFault> {
         for place in 0..self.clients.len() {
-            let Some(client) = &self.clients[place] else {
-                continue;
-            };
-            if let Some(departure) = client.departure() {
-                let number = client.number();
-                self.clients[place] = None;
+            if let Some((number, departure)) = self.departure(place) {
+                self.set(place, None);
                 self.ended = self.ended.saturating_add(1);
                 write_departure(out, number, departure)?;
             }
         }
         Ok(())
+    }
+
+    // The number of the client at a place, and how its connection ended, once it is to be closed.
+    fn departure(&self, place: usize) -> Option<(u64, Departure)> {
+        match self.clients.get(place) {
+            Some(Some(client)) => Some((client.number(), client.departure()?)),
+            _ => None,
+        }
     }
 }
 

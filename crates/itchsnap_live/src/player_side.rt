@@ -1,13 +1,12 @@
-//! The connection of a client that a day file is played to.
+//! A client that a day file is played to.
 
-use crate::departure::Departure;
+use crate::departure::{Departure, departure_of};
 use crate::feed_side::SHARE;
+use crate::link::Link;
 use crate::pace::is_due;
 use crate::playback::Playback;
-use crate::socket::{Got, Socket};
-use crate::told::{Verdict, verdict_in};
 use itch_commands::ToolFault;
-use itch_live::Player;
+use itch_live::{Gone, Player};
 use itchsnap_cli::words::Pace;
 use mio::event::Event;
 use std::alloc::Global;
@@ -27,117 +26,86 @@ struct Start {
     at_ms: u64,
 }
 
-/// What has become of a turn.
+/// What has become of playing to a client in a turn.
 #[derive(Clone, Copy, PartialEq, Eq)]
 enum Played {
-    /// All that the client has room for, or all that is due, was handed in.
+    /// All that it asked for and has room for was handed in.
     All,
-    /// There is more to hand in.
+    /// The next message is not due yet.
+    Early,
+    /// There is more to hand in at once.
     More,
+    /// The file cannot be read on.
+    Failed,
 }
 
 /// A client that a day file is played to.
 #[derive(Drop)]
 pub(crate) struct PlayerSide<F: Read + Drop> {
-    socket: Socket,
-    number: u64,
+    link: Link,
     player: Player<Global>,
     playback: Playback<F>,
-    verdict: Option<Verdict>,
     start: Option<Start>,
-    played: u64,
-    has_ended: bool,
-    has_all: bool,
-    // Whether it waits for a message to be due, or could be played more at once.
-    waits: bool,
-    eager: bool,
-    departure: Option<Departure>,
+    // How many messages were handed in, and how that ended in the last turn.
+    count: u64,
+    played: Played,
 }
 
 impl<F: Read + Drop> PlayerSide<F> {
-    /// The client that connected as the one with this number.
-    pub(crate) fn new(
-        socket: Socket,
-        number: u64,
-        player: Player<Global>,
-        playback: Playback<F>,
-    ) -> PlayerSide<F> {
+    /// A client that has connected.
+    pub(crate) fn new(link: Link, player: Player<Global>, playback: Playback<F>) -> PlayerSide<F> {
         PlayerSide {
-            socket,
-            number,
+            link,
             player,
             playback,
-            verdict: None,
             start: None,
-            played: 0,
-            has_ended: false,
-            has_all: false,
-            waits: false,
-            eager: false,
-            departure: None,
+            count: 0,
+            played: Played::All,
         }
     }
 
     pub(crate) fn number(&self) -> u64 {
-        self.number
+        self.link.number()
     }
 
     /// Takes note of what is ready.
     pub(crate) fn note(&mut self, event: &Event) {
-        self.socket.note(event);
+        self.link.note(event);
     }
 
     /// Whether there is something to do before anything else is ready.
     pub(crate) fn is_busy(&self) -> bool {
-        let writes = !self.player.pending().is_empty() && self.socket.is_writable();
-        self.eager || writes || self.socket.is_readable()
+        matches!(self.played, Played::More) || self.link.is_busy(!self.player.pending().is_empty())
     }
 
     /// Whether a message is at hand that is not due yet.
-    pub(crate) fn is_waiting(&self) -> bool {
-        self.waits
+    pub(crate) fn is_early(&self) -> bool {
+        matches!(self.played, Played::Early)
     }
 
-    /// How its connection ended, once it is to be closed.
-    pub(crate) fn departure(&self) -> Option<Departure> {
-        self.departure
-    }
-
-    /// Reads what it has said, up to a share.
-    pub(crate) fn hear(&mut self, now_ms: u64, buffer: &mut [u8]) {
-        let mut left = SHARE;
-        while left > 0 && self.socket.is_readable() {
-            match self.socket.read(buffer) {
-                Ok(Got::Bytes(count)) => {
-                    left = left.saturating_sub(count);
-                    hand_on(&mut self.player, &buffer[..count], now_ms);
-                }
-                Ok(Got::Nothing) => {}
-                Ok(Got::Ended) => self.has_ended = true,
-                Err(_) => {
-                    self.go(Departure::Left);
-                    return;
-                }
-            }
-        }
-        self.look(Departure::Left);
-    }
-
-    /// Hands in the messages that are due, and the end of the session after the last one unless it is to stay.
-    pub(crate) fn play(&mut self, pace: Pace, stay: bool, now_ms: u64) {
-        self.waits = false;
-        self.eager = false;
-        match self.play_due(pace, now_ms) {
-            Ok(Played::All) => {}
-            Ok(Played::More) => self.eager = true,
-            Err(_) => self.go(Departure::Fault),
-        }
+    /// Hears what it has said, hands in the messages that are due, and writes what is pending. The session is ended after the last
+    /// message, unless it is to stay.
+    pub(crate) fn turn(&mut self, pace: Pace, stay: bool, now_ms: u64, buffer: &mut [u8]) {
+        self.hear(now_ms, buffer);
+        self.played = match self.play(pace, now_ms) {
+            Ok(played) => played,
+            Err(_) => Played::Failed,
+        };
         if !stay {
             self.player.end(now_ms);
         }
+        self.tell(now_ms);
+        self.player.tick(now_ms);
     }
 
-    fn play_due(&mut self, pace: Pace, now_ms: u64) -> Result<Played, ToolFault> {
+    // Reads what it has said, as far as the buffer goes.
+    fn hear(&mut self, now_ms: u64, buffer: &mut [u8]) {
+        let count = self.link.read(buffer);
+        hand_on(&mut self.player, &buffer[..count], now_ms);
+    }
+
+    // Hands in the messages that are due.
+    fn play(&mut self, pace: Pace, now_ms: u64) -> Result<Played, ToolFault> {
         for _ in 0..MESSAGES {
             let Some(number) = self.player.wanted() else {
                 return Ok(Played::All);
@@ -147,85 +115,54 @@ impl<F: Read + Drop> PlayerSide<F> {
             }
             let time = self.playback.time();
             if !is_due_from(&mut self.start, pace, number, time, now_ms) {
-                self.waits = true;
-                return Ok(Played::All);
+                return Ok(Played::Early);
             }
             let message = self.playback.message();
             if message.len() > LONGEST {
                 return Err(ToolFault::TooMany);
             }
             self.player.play(message, now_ms);
-            self.played = self.played.saturating_add(1);
+            self.count = self.count.saturating_add(1);
         }
         Ok(Played::More)
     }
 
-    /// Writes what is pending, up to a share. Once it has all, the sending half of the connection is ended.
-    pub(crate) fn tell(&mut self, now_ms: u64) {
-        let mut left = SHARE;
-        while left > 0 && self.socket.is_writable() {
-            let pending = self.player.pending();
-            let part = &pending[..pending.len().min(left)];
-            if part.is_empty() {
-                break;
-            }
-            if self.verdict.is_none() {
-                self.verdict = verdict_in(part);
-            }
-            match self.socket.write(part) {
-                Ok(count) => {
-                    left = left.saturating_sub(count.max(1));
-                    self.player.took(count, now_ms);
-                }
-                Err(_) => {
-                    self.go(Departure::Left);
-                    return;
-                }
-            }
-        }
-        self.look(Departure::Left);
-    }
-
-    /// Takes note of the moment.
-    pub(crate) fn tick(&mut self, now_ms: u64) {
-        self.player.tick(now_ms);
-        self.look(Departure::CutOff);
-    }
-
-    // Looks what has become of the client: where it is gone now, that is so for this reason.
-    fn look(&mut self, reason: Departure) {
-        if self.player.is_gone() {
-            self.go(reason);
-            return;
-        }
-        if self.player.is_closing() && !self.has_all {
-            self.has_all = true;
-            self.socket.end_sending();
-        }
-        if self.has_ended && self.player.pending().is_empty() {
-            self.go(Departure::Left);
+    // Writes what is pending, up to a share. Once it has all, the sending half of the connection is ended.
+    fn tell(&mut self, now_ms: u64) {
+        let pending = self.player.pending();
+        let count = self.link.write(&pending[..pending.len().min(SHARE)]);
+        self.player.took(count, now_ms);
+        if self.player.is_closing() {
+            self.link.end_sending();
         }
     }
 
-    // The connection is to be closed. A client that leaves a feed was played to up to there.
-    fn go(&mut self, reason: Departure) {
-        if self.departure.is_none() {
-            self.departure = Some(match (self.verdict, reason) {
-                (Some(Verdict::Rejected(code)), _) => Departure::Rejected(code),
-                (Some(Verdict::Accepted(from)), reason) if self.has_all || !is_cut_off(reason) => {
-                    Departure::Played {
-                        from,
-                        packets: self.played,
-                    }
-                }
-                _ => reason,
-            });
+    /// How its connection ended, once it is to be closed. A client that sends no more is played to as long as it wants a message.
+    pub(crate) fn departure(&self) -> Option<Departure> {
+        if matches!(self.played, Played::Failed) {
+            return Some(Departure::Fault);
+        }
+        let waits = self.player.wanted().is_some() || !self.player.pending().is_empty();
+        let gone = self.link.ending(self.player.why_gone(), waits)?;
+        let code = self.player.rejection_code();
+        Some(departure_of(code, self.served(), gone))
+    }
+
+    // How its connection ended if it was played to for as long as it wished. One whose socket has failed closed its connection before it had
+    // read all.
+    fn served(&self) -> Option<Departure> {
+        let wished = match self.player.why_gone() {
+            Some(Gone::Fault | Gone::Silent) => self.link.has_all(),
+            Some(Gone::Left) | None => true,
+        };
+        match self.player.played_from() {
+            Some(from) if wished => Some(Departure::Played {
+                from,
+                packets: self.count,
+            }),
+            _ => None,
         }
     }
-}
-
-fn is_cut_off(reason: Departure) -> bool {
-    matches!(reason, Departure::CutOff | Departure::Fault)
 }
 
 // Hands on all bytes of a piece.

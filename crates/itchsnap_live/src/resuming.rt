@@ -5,10 +5,11 @@ use crate::recording::Recording;
 use crate::step::stop_of;
 use itch_book::OrderBook;
 use itch_commands::{Source, ToolFault, system_fault};
+use itch_frame::tally::Failures;
 use itch_frame::{BlockReader, Buffered, CountedRead, FrameFault};
 use itch_join::{JoinFault, Joiner, Live};
 use itch_market::{Refusal, ReplayEnd, Stop};
-use itchsnap_cli::sessions::{PIECE, Sending};
+use itchsnap_cli::sessions::PIECE;
 use std::alloc::{Allocator, Global};
 use std::fs::{self, OpenFile, OpenOptions};
 use std::io::{self, BufReader, BufWriter, ErrorKind};
@@ -43,7 +44,10 @@ pub(crate) fn resume<R: Files + AllocGlobal, B: OrderBook>(
         Err(error) => return Err(record_fault(error)),
     };
     match BufWriter::with_capacity(rt.alloc(), PIECE, file) {
-        Ok(buffered) => Ok(Recording::File(Sending::new(buffered))),
+        Ok(file) => Ok(Recording::File {
+            file,
+            failures: Failures::none(),
+        }),
         Err(_) => Err(ToolFault::OutOfMemory),
     }
 }

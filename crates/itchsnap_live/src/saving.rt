@@ -1,38 +1,49 @@
 //! Snapshots of the market as it is, in files of a folder.
-ghost use Rattle.std.specs.Prelude.{◌<◌, ◌^◌, length};
+ghost use Rattle.std.specs.Prelude.{◌≡◌, ◌<◌, ◌-◌, ◌%◌, ◌==◌, ◌&&◌, ◌^◌, nat_lt, length, OnOk};
 ghost use Rattle.itch_snapshot.specs.Snapshot.{snap};
+ghost use Rattle.itchsnap_live.specs.Recordings.{IsFlushed};
+ghost use Rattle.itchsnap_live.specs.Savings.{is_wanted};
 
+use crate::recording::Recording;
 use itch_book::OrderBook;
 use itch_codec::{GREATEST_SEQ, Seq};
 use itch_commands::{Source, ToolFault, system_fault, write_closed};
 use itch_market::Market;
 use itch_snapshot::snapshot_len;
 use itchsnap_cli::sessions::{PIECE, Sending};
-use itchsnap_cli::words::SnapshotWords;
 use std::fs;
 use std::io::{self, BufWriter};
 use std::rt::Files;
 
-/// Writes the snapshot of the market before this number, if it is one of those that are asked for: after each so many messages.
-///
-/// It is written in canonical form to a file beside, which then gets its name, so that a file of that name is whole.
-pub(crate) fn save_if_due<R: Files + AllocGlobal, B: OrderBook>(
+/// Whether a snapshot is wanted of the market before this number: after each so many messages.
+pub(crate) fn is_wanted(every: u64, next: u64) -> bool
+    ensures { result ≡ is_wanted every next }
+{
+    let messages = next.saturating_sub(1);
+    messages > 0 && every > 0 && messages % every == 0
+}
+
+/// Writes the snapshot of the market before this number, in canonical form, to a file beside, which then gets its name: so a file of
+/// that name is whole. The record is flushed before, so it has each message that the snapshot has.
+pub(crate) fn save<R: Files + AllocGlobal, B: OrderBook>(
     rt: &R,
-    words: &SnapshotWords<'_>,
+    folder: &str,
     market: &Market<B>,
     next: u64,
-) -> Result<(), ToolFault> {
+    record: &mut Recording<R::File>,
+) -> Result<(), ToolFault>
+    ensures { OnOk result (IsFlushed record.new) }
+{
     let messages = next.saturating_sub(1);
-    if messages == 0 || words.every == 0 || messages % words.every != 0 {
-        return Ok(());
-    }
     let Some(next) = Seq::new(next) else {
         return Err(ToolFault::TooMany);
     };
     if snapshot_len(market) >= u128::from(GREATEST_SEQ) {
         return Err(ToolFault::TooMany);
     }
-    let folder = words.folder;
+    if let Err(error) = record.flush() {
+        return Err(ToolFault::Write(error));
+    }
     let path = format!(in rt.alloc(); "{folder}/{messages}.snap")?;
     let beside = format!(in rt.alloc(); "{path}.part")?;
     write_file(rt, beside.as_str(), market, next)?;

@@ -1,6 +1,6 @@
 //! What a follower does about the news of its feed.
 ghost use Rattle.std.specs.Prelude.{◌≡◌};
-ghost use Rattle.itchsnap_live.specs.Steps.{refusal_of, snapshot_fault_of, step_of, stop_of, unrecorded};
+ghost use Rattle.itchsnap_live.specs.Steps.{record_fault, refusal_of, snapshot_fault_of, step_of, stop_of, unrecorded};
 
 use itch_commands::{Source, ToolFault};
 use itch_frame::FrameFault;
@@ -88,6 +88,23 @@ fn unrecorded(fault: FrameFault) -> ToolFault
                 stop: Stop::Frame(fault),
             },
         },
+    }
+}
+
+/// The fault of a follower that keeps a record: one that could not be written is that of the last message that was taken, where
+/// `next` is the number after it.
+pub(crate) fn record_fault(fault: ToolFault, next: Option<u64>) -> ToolFault
+    ensures { result ≡ record_fault fault next }
+{
+    match fault {
+        ToolFault::Write(error) => ToolFault::Stopped {
+            file: Source::Only,
+            end: ReplayEnd {
+                count: next.unwrap_or(0).saturating_sub(2),
+                stop: Stop::Frame(FrameFault::Write { sent: 0, error }),
+            },
+        },
+        _ => fault,
     }
 }
 

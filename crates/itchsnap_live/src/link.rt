@@ -1,0 +1,102 @@
+//! The connection of a client.
+ghost use Rattle.std.specs.Prelude.{◌≡◌, ◌≤◌, ◌&&◌, not, length};
+ghost use Rattle.itchsnap_live.specs.Departures.{ending};
+
+use crate::socket::{Got, Socket};
+use itch_live::Gone;
+use mio::event::Event;
+
+/// The connection of a client, and how far it has ended.
+#[derive(Drop)]
+pub(crate) struct Link {
+    socket: Socket,
+    number: u64,
+    // Whether the client sends no more, whether nothing more is sent to it, and whether a read or a write has failed.
+    has_ended: bool,
+    has_all: bool,
+    has_failed: bool,
+}
+
+impl Link {
+    /// The connection of the client that connected as the one with this number.
+    pub(crate) fn new(socket: Socket, number: u64) -> Link {
+        Link {
+            socket,
+            number,
+            has_ended: false,
+            has_all: false,
+            has_failed: false,
+        }
+    }
+
+    pub(crate) fn number(&self) -> u64 {
+        self.number
+    }
+
+    /// Takes note of what is ready.
+    pub(crate) fn note(&mut self, event: &Event) {
+        self.socket.note(event);
+    }
+
+    /// Whether there is something to read, or to write if something is pending, before anything else is ready.
+    pub(crate) fn is_busy(&self, is_pending: bool) -> bool {
+        self.socket.is_readable() || (is_pending && self.socket.is_writable())
+    }
+
+    /// Reads what the client has said into the front of a buffer that is not empty, and returns how many bytes that is.
+    pub(crate) fn read(&mut self, buffer: &mut [u8]) -> usize
+        ensures { result ≤ length buffer.new }
+    {
+        match self.socket.read(buffer) {
+            Ok(Got::Bytes(count)) => count,
+            Ok(Got::Nothing) => 0,
+            Ok(Got::Ended) => {
+                self.has_ended = true;
+                0
+            }
+            Err(_) => {
+                self.has_failed = true;
+                0
+            }
+        }
+    }
+
+    /// Writes bytes as far as they are taken now, and returns how many were.
+    pub(crate) fn write(&mut self, bytes: &[u8]) -> usize
+        ensures { result ≤ length bytes.now }
+    {
+        match self.socket.write(bytes) {
+            Ok(count) => count,
+            Err(_) => {
+                self.has_failed = true;
+                0
+            }
+        }
+    }
+
+    /// Ends the sending half, once.
+    pub(crate) fn end_sending(&mut self) {
+        if !self.has_all {
+            self.has_all = true;
+            self.socket.end_sending();
+        }
+    }
+
+    /// Whether the client has all that it is told: the sending half is ended.
+    pub(crate) fn has_all(&self) -> bool {
+        self.has_all
+    }
+
+    /// Why the connection is to be closed, if it is: its client is gone, its socket has failed, or it sends no more and waits for
+    /// nothing.
+    pub(crate) fn ending(&self, gone: Option<Gone>, waits: bool) -> Option<Gone>
+        ensures { result ≡ ending gone self.now.has_failed (self.now.has_ended && not waits) }
+    {
+        match gone {
+            Some(gone) => Some(gone),
+            None if self.has_failed => Some(Gone::Fault),
+            None if self.has_ended && !waits => Some(Gone::Left),
+            None => None,
+        }
+    }
+}

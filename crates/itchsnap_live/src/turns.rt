@@ -1,0 +1,68 @@
+//! The turns of a server: which sockets are ready, and which moment it is.
+
+use itch_commands::{ToolFault, system_fault};
+use mio::{Events, Poll, Registry};
+use std::alloc::Global;
+use std::io;
+use std::net::Net;
+use std::rt::Clock;
+use std::time::{Duration, Instant};
+
+/// The sockets that a server waits for, and the moment at which it began.
+#[derive(Drop)]
+pub(crate) struct Turns<'a, C> {
+    clock: &'a C,
+    begun: Instant,
+    poll: Poll,
+    events: Events<Global>,
+}
+
+impl<'a, C: Clock> Turns<'a, C> {
+    /// Begins now, with no socket. So many are reported ready at once, at most.
+    pub(crate) fn begin<R: Net + AllocGlobal>(
+        rt: &R,
+        clock: &'a C,
+        events: usize,
+    ) -> Result<Turns<'a, C>, ToolFault> {
+        Ok(Turns {
+            clock,
+            begun: called(Instant::now(clock))?,
+            poll: called(Poll::new(rt))?,
+            events: Events::with_capacity(rt.alloc(), events)?,
+        })
+    }
+
+    /// Where sockets are registered.
+    pub(crate) fn registry(&self) -> &Registry {
+        self.poll.registry()
+    }
+
+    /// Waits until a socket is ready, but no longer than this, and returns how many milliseconds have passed since the beginning.
+    pub(crate) fn wait(&mut self, most_ms: u64) -> Result<u64, ToolFault> {
+        self.poll(most_ms)?;
+        if self.events.is_empty() {
+            // A wait that a signal cuts off ends so too. The process may have been stopped: nobody is silent who was not asked.
+            self.poll(0)?;
+        }
+        let passed = called(self.begun.elapsed(self.clock))?;
+        Ok(u64::try_from(passed.as_millis()).unwrap_or(u64::MAX))
+    }
+
+    fn poll(&mut self, most_ms: u64) -> Result<(), ToolFault> {
+        let most = Duration::from_millis(most_ms);
+        called(self.poll.poll(&mut self.events, Some(most)))
+    }
+
+    /// What the last wait has found ready.
+    pub(crate) fn events(&self) -> &Events<Global> {
+        &self.events
+    }
+}
+
+/// What a call of the system about sockets or the clock gives, or its fault.
+pub(crate) fn called<T>(done: io::Result<T>) -> Result<T, ToolFault> {
+    match done {
+        Ok(value) => Ok(value),
+        Err(error) => Err(system_fault(error, ToolFault::Socket(error))),
+    }
+}
