@@ -116,7 +116,8 @@ where
 
     // Waits until something is ready or due, and does it.
     fn turn<W: CountedWrite>(&mut self, out: &mut W) -> Result<(), ToolFault> {
-        let now_ms = self.turns.wait(self.patience_ms())?;
+        let most_ms = self.patience_ms();
+        let now_ms = self.turns.wait(most_ms)?;
         self.note();
         self.accept(now_ms, out)?;
         self.play(now_ms);

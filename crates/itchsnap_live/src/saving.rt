@@ -30,9 +30,9 @@ pub(crate) fn save<R: Files + AllocGlobal, B: OrderBook>(
     folder: &str,
     market: &Market<B>,
     next: u64,
-    record: &mut Recording<R::File>,
+    recording: &mut Recording<R::File>,
 ) -> Result<(), ToolFault>
-    ensures { OnOk result (IsFlushed record.new) }
+    ensures { OnOk result (IsFlushed recording.new) }
 {
     let messages = next.saturating_sub(1);
     let Some(next) = Seq::new(next) else {
@@ -41,7 +41,7 @@ pub(crate) fn save<R: Files + AllocGlobal, B: OrderBook>(
     if snapshot_len(market) >= u128::from(GREATEST_SEQ) {
         return Err(ToolFault::TooMany);
     }
-    if let Err(error) = record.flush() {
+    if let Err(error) = recording.flush() {
         return Err(ToolFault::Write(error));
     }
     let path = format!(in rt.alloc(); "{folder}/{messages}.snap")?;
