@@ -15,8 +15,8 @@ from concurrent.futures import ThreadPoolExecutor
 from pathlib import Path
 
 from common import differs, split
-from live import (ENDED, LOGIN, Feed, acceptance, answer, connect, day_of, fetch, large_server, live, number_of, packet, plays, received, sends,
-                  told)
+from living import (ENDED, LOGIN, Feed, acceptance, answer, connect, day_of, fetch, large_server, live, number_of, packet, plays, received, sends,
+                    told)
 
 PLACES = 64
 PORT = 5100
