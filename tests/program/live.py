@@ -1,11 +1,8 @@
-"""Runs of `live`, `follow` and `feed`: a feed that is lost and comes back, clients of all kinds, records, snapshots, and the three in
-a row.
+"""Runs of `live`: a feed that is lost and comes back, clients of all kinds, records and snapshots.
 
 RUNS has a function for each run, named for what it shows; it is given the program, and yields what differs.
 """
 import contextlib
-import os
-import queue
 import re
 import resource
 import select
@@ -13,241 +10,14 @@ import signal
 import socket
 import struct
 import subprocess
-import tempfile
 import threading
 import time
 from pathlib import Path
 
-import large
 from common import differs, ended_in, split
-
-LOGIN = b"\0\x2fLuser  secret    " + b" " * 10 + b"1".rjust(20)
-WORDS = "--user", "user", "--pass", "secret"
-ENDED, BEAT, CLIENT_BEAT = b"\0\x01Z", b"\0\x01H", b"\0\x01R"
-# How long a process may take to start, and to do what is waited for.
-PATIENCE = 60
-SILENCE = 15
-
-
-def acceptance(first, session=b"  ITCHSNAP"):
-    return b"\0\x1fA" + session + b"%20d" % first
-
-
-def packet(block):
-    """The packet of a message."""
-    return struct.pack(">H", len(block) - 1) + b"S" + block[2:]
-
-
-def answer(snapshot):
-    """What a login for all messages is answered."""
-    return acceptance(1) + b"".join(map(packet, split(snapshot))) + ENDED
-
-
-def number_in(login):
-    return max(1, int(login[-20:]))
-
-
-def session_in(login):
-    return login[-30:-20]
-
-
-def block_in(peer):
-    """A whole block that a peer sends, or what there is before its end."""
-    block = received(peer, 2)
-    return block + received(peer, int.from_bytes(block, "big")) if len(block) == 2 else block
-
-
-def received(peer, count=None):
-    """So many bytes of a peer, or all that it sends before its end."""
-    pieces, left = [], float("inf") if count is None else count
-    while left > 0 and (piece := peer.recv(int(min(left, 1 << 16)))):
-        pieces.append(piece)
-        left -= len(piece)
-    return b"".join(pieces)
-
-
-class Feed:
-    """A server of a feed: each connection is one of these scripts, called with the socket and the login; the last one goes on for ever.
-    `logins` has what was asked, and `closing` is set once it is to end."""
-
-    def __init__(self, *scripts):
-        self.scripts, self.logins, self.closing = scripts, [], threading.Event()
-        self.listener = socket.create_server(("127.0.0.1", 0))
-        self.port = self.listener.getsockname()[1]
-        self.threads = [threading.Thread(target=self.accept)]
-        self.threads[0].start()
-
-    def accept(self):
-        with contextlib.suppress(OSError):
-            while True:
-                peer, _ = self.listener.accept()
-                self.threads.append(threading.Thread(target=self.play, args=(peer,)))
-                self.threads[-1].start()
-
-    def play(self, peer):
-        peer.settimeout(PATIENCE)
-        with peer, contextlib.suppress(OSError):
-            login = block_in(peer)
-            self.logins.append(login)
-            self.scripts[min(len(self.logins), len(self.scripts)) - 1](peer, login)
-
-    def __enter__(self):
-        return self
-
-    def __exit__(self, *_):
-        self.closing.set()
-        self.listener.shutdown(socket.SHUT_RDWR)
-        self.listener.close()
-
-    def asked(self):
-        return [number_in(login) for login in self.logins]
-
-
-def plays(day, until=None, then=b"", held=b"", wait=None):
-    """A script: what is asked of these messages, up to number `until`, then these bytes. After `wait` it sends `held` and closes."""
-    blocks = split(day)
-
-    def script(peer, login):
-        first = number_in(login)
-        peer.sendall(acceptance(first) + b"".join(map(packet, blocks[first - 1:until])) + then)
-        if wait:
-            while not wait.wait(0.5):
-                peer.sendall(BEAT)
-        peer.sendall(held)
-
-    return script
-
-
-def sends(data):
-    """A script: these bytes, and the end of the connection."""
-    return lambda peer, login: peer.sendall(data)
-
-
-class Running:
-    """A command that says on standard error that it is there, and what becomes of it. Its words and its lines are kept."""
-
-    def __init__(self, program, *words, listens=True, **environment):
-        self.process = subprocess.Popen([program, *map(str, words)], stdout=subprocess.PIPE, stderr=subprocess.PIPE, stdin=subprocess.DEVNULL,
-                                        env={**os.environ, **environment})
-        self.lines, self.arrived, self.output = [], threading.Condition(), []
-        self.readers = [threading.Thread(target=self.read_lines), threading.Thread(target=self.read_output)]
-        for reader in self.readers:
-            reader.start()
-        self.listens, self.port = listens, None
-
-    def read_lines(self):
-        for line in self.process.stderr:
-            with self.arrived:
-                self.lines.append(line.decode())
-                self.arrived.notify_all()
-
-    def read_output(self):
-        while piece := self.process.stdout.read1(1 << 16):
-            self.output.append(piece)
-
-    def said(self, pattern, seconds=PATIENCE):
-        """The line that begins so, once it is there."""
-        def found():
-            return next((line for line in self.lines if re.match(pattern, line)), None)
-        with self.arrived:
-            self.arrived.wait_for(lambda: found() or self.process.poll() is not None, seconds)
-            return found()
-
-    def count(self):
-        """How many lines were written so far."""
-        return b"".join(self.output).count(b"\n")
-
-    def has_lines(self, count):
-        """Waits for so many lines."""
-        begun = time.monotonic()
-        while self.count() < count and time.monotonic() < begun + PATIENCE:
-            time.sleep(0.02)
-
-    def __enter__(self):
-        if self.listens:
-            line = self.said("listening on ")
-            self.port = int(line.rsplit(":", 1)[1]) if line else 0
-        return self
-
-    def __exit__(self, *_):
-        self.process.kill()
-        self.process.wait()
-        for reader in self.readers:
-            reader.join()
-        self.process.stdout.close()
-        self.process.stderr.close()
-
-    def ended(self, seconds=PATIENCE):
-        """The status, the output, and the lines of standard error but the one about the port."""
-        self.process.wait(seconds)
-        for reader in self.readers:
-            reader.join()
-        return self.process.returncode, b"".join(self.output), [it for it in self.lines if not it.startswith("listening on ")]
-
-
-def live(program, feed, *words, **environment):
-    return Running(program, "live", "--feed", f"127.0.0.1:{feed}", "--port", "0", *WORDS, *words, **environment)
-
-
-def follow(program, feed, glimpse, *words):
-    return Running(program, "follow", "--feed", f"127.0.0.1:{feed}", "--glimpse", f"127.0.0.1:{glimpse}", *WORDS, *words, listens=False)
-
-
-def feeding(program, file, *words):
-    return Running(program, "feed", file, "--port", "0", *WORDS, *words)
-
-
-def fetch(program, port, *words):
-    """The status and both outputs of a fetch."""
-    with tempfile.TemporaryDirectory() as folder:
-        return ended_in(folder, program, "fetch", "--port", str(port), *WORDS, *words)
-
-
-def connect(port, room=None):
-    """A connection, with this much room to receive."""
-    peer = socket.socket()
-    if room:
-        peer.setsockopt(socket.SOL_SOCKET, socket.SO_RCVBUF, room)
-    peer.settimeout(PATIENCE)
-    peer.connect(("127.0.0.1", port))
-    return peer
-
-
-def told(port, data):
-    """All that a client is told that says this, until its connection is closed."""
-    with connect(port) as peer:
-        peer.sendall(data)
-        with contextlib.suppress(ConnectionError):
-            return received(peer)
-    return b"reset"
-
-
-def day_of(count, symbols=20):
-    return large.orders(count, symbols=symbols)
-
-
-def snapshot_after(program, day, count):
-    with tempfile.TemporaryDirectory() as folder:
-        Path(folder, "day.itch").write_bytes(day)
-        return ended_in(folder, program, "snap", "day.itch", "--after", str(count))[1]
-
-
-def number_of(snapshot):
-    """The number in the End of Snapshot of these bytes, which have one as their last block."""
-    return int(snapshot[-20:])
-
-
-@contextlib.contextmanager
-def folder_with(**files):
-    with tempfile.TemporaryDirectory() as name:
-        for file, data in files.items():
-            Path(name, file).write_bytes(data)
-        yield Path(name)
-
-
-def has_commands(program):
-    """Whether a program has the commands that these runs are of."""
-    return subprocess.run([program, "live", "--help"], capture_output=True, timeout=PATIENCE).returncode == 0
+from living import (CLIENT_BEAT, ENDED, LOGIN, PATIENCE, SILENCE, WORDS, Feed, Running, acceptance, answer, block_in, connect, day_of,
+                    feeding, fetch, folder_with, large_server, live, number_of, packet, plays, received, sends, session_in, snapshot_after,
+                    told)
 
 
 def what_is_followed_is_served(program):
@@ -455,22 +225,10 @@ def each_client_is_told_what_it_asks(program):
         status, output, _ = server.ended()
     accepted = f"accepted at {number_of(wanted)}, {len(split(wanted))} packets"
     endings = [line.split(": ", 1)[1] for line in output.decode().splitlines()[before:]]
-    wanted = [accepted, "rejected A", "rejected S", "left", accepted, "left", accepted, accepted, "left"]
+    wanted = [accepted, "rejected A", "rejected S", "fault", accepted, "left", accepted, accepted, "left"]
     yield from differs("endings", (status, sorted(endings)), (0, sorted(wanted)))
     if "secret" in "".join(server.lines) + output.decode():
         yield "a password in a line"
-
-
-@contextlib.contextmanager
-def large_server(program):
-    """A server of a market of 8 MB, more than the system holds for a client, its answer, and an event that ends its feed."""
-    day, wanted = large.orders(200_000)
-    end = threading.Event()
-    with folder_with() as folder, Feed(plays(day, wait=end, held=ENDED)) as feed, live(program, feed.port, "--record", folder / "record") as server:
-        begun = time.monotonic()
-        while time.monotonic() < begun + 2 * PATIENCE and (folder / "record").stat().st_size < len(day):
-            time.sleep(0.2)
-        yield server, answer(wanted), end
 
 
 def a_client_that_takes_nothing_hinders_no_other(program):
@@ -513,7 +271,7 @@ def a_client_that_takes_nothing_hinders_no_other(program):
         end.set()
         status, output, _ = server.ended(120)
     endings = sorted(line.split(": ", 1)[1] for line in output.decode().splitlines() if "accepted" not in line)
-    yield from differs("endings", (status, endings), (0, ["cut off", "cut off", "left", "left"]))
+    yield from differs("endings", (status, endings), (0, ["cut off", "cut off", "fault", "left"]))
 
 
 def a_client_reads_to_the_end_before_it_is_closed(program):
@@ -667,155 +425,6 @@ def a_record_that_cannot_be_written_ends_it(program):
         yield from differs("the record", (folder / "record").read_bytes(), day[:room])
 
 
-def a_feed_is_played_from_the_number_asked(program):
-    """To each client by itself: from the first message, from a later one, and from the one after the last."""
-    day, _ = day_of(300)
-    blocks = split(day)
-    last = len(blocks)
-    rows = [(0, 1), (1, 1), (2, 2), (last - 1, last - 1), (last, last), (last + 1, last + 1)]
-    with folder_with(day=day) as folder, feeding(program, folder / "day", "--count", str(len(rows) + 3)) as server:
-        for asked, first in rows:
-            login = LOGIN[:-20] + b"%20d" % asked
-            yield from differs(f"from {asked}", told(server.port, login), acceptance(first) + b"".join(map(packet, blocks[first - 1:])) + ENDED)
-        for login, code in ((LOGIN[:-20] + b"%20d" % (last + 2), b"S"), (LOGIN.replace(b"secret", b"wrong "), b"A"), (b"\0\x01Q", b"")):
-            yield from differs(f"{login[-40:]!r}", told(server.port, login), b"\0\x02J" + code if code else b"")
-        status, output, lines = server.ended()
-    endings = [line.split(": ", 1)[1] for line in sorted(output.decode().splitlines())]
-    wanted = [f"accepted from {first}, {last + 1 - first} packets" for _, first in rows] + ["rejected S", "rejected A", "left"]
-    yield from differs("ended", (status, endings, lines), (0, wanted, []))
-
-
-def a_feed_stays_with_heartbeats(program):
-    """After the last message, and to a client that asks for the one after it, until it goes."""
-    day, _ = day_of(20)
-    blocks = split(day)
-    with folder_with(day=day) as folder, feeding(program, folder / "day", "--stay", "--count", "1") as server:
-        with connect(server.port) as peer:
-            peer.sendall(LOGIN)
-            whole = acceptance(1) + b"".join(map(packet, blocks))
-            yield from differs("messages", received(peer, len(whole)), whole)
-            begun = time.monotonic()
-            yield from differs("heartbeats", received(peer, 9), BEAT * 3)
-            if not 2.5 < time.monotonic() - begun < 8:
-                yield f"three heartbeats in {time.monotonic() - begun:.1f} seconds"
-        yield from differs("ended", server.ended()[:2], (0, f"connection 1: accepted from 1, {len(blocks)} packets\n".encode()))
-
-
-def a_feed_is_played_at_a_rate(program):
-    """200 messages at 100 a second take 2 seconds, and at ten times the clock the timestamps do."""
-    day, _ = day_of(180)
-    timed = b"".join(it[:7] + struct.pack(">Q", n * 50_000_000)[2:] + it[13:] for n, it in enumerate(split(day)))
-    for words, least, data in ((("--rate", "100"), 1.99, day), (("--clock", "5"), 1.99, timed), ((), 0, day)):
-        with folder_with(day=data) as folder, feeding(program, folder / "day", "--count", "1", *words) as server:
-            begun = time.monotonic()
-            got = told(server.port, LOGIN)
-            spent = time.monotonic() - begun
-            yield from differs(f"{words}", got, acceptance(1) + b"".join(map(packet, split(data))) + ENDED)
-            if not least - 0.1 <= spent < least + 10:
-                yield f"{words}: {spent:.2f} seconds"
-
-
-def a_feed_of_no_day_file_is_refused(program):
-    day, _ = day_of(5)
-    with folder_with(cut=day[:-3]) as folder:
-        words = "--port", "0", *WORDS
-        got = ended_in(folder, program, "feed", "cut", *words)
-        yield from differs("cut", (got[0], got[1], got[2].split(b":")[0]), (1, b"", b"itchsnap"))
-        got = ended_in(folder, program, "feed", "none", *words)
-        yield from differs("none", got, (3, b"", b"itchsnap: cannot open\n  none: No such file or directory (os error 2)\n"))
-
-
-def all_three_in_a_row(program):
-    """A feed that is played, a live server behind it, and another one behind that: what is fetched on the way is what `snap --after` says,
-    what is followed is the end of the file, and both records are the file."""
-    day, wanted = day_of(3000, symbols=100)
-    last = number_of(wanted)
-    with folder_with(day=day) as folder, contextlib.ExitStack() as held:
-        feed = held.enter_context(feeding(program, folder / "day", "--rate", "150"))
-        first = held.enter_context(live(program, feed.port, "--record", folder / "record", "--stay"))
-        first.said("feed: accepted")
-        tail = held.enter_context(follow(program, feed.port, first.port))
-        lines = held.enter_context(follow(program, feed.port, first.port, "--json"))
-        whole = held.enter_context(follow(program, feed.port, first.port, "--whole"))
-        second = held.enter_context(live(program, feed.port, "--glimpse", f"127.0.0.1:{first.port}", "--stay"))
-        for process in (tail, lines, whole, second):
-            process.said("feed: accepted")
-        seen = set()
-        for port in (first.port, second.port) * 4:
-            status, got, error = fetch(program, port)
-            if status != 0:
-                yield f"a fetch ended with {status}, {error!r}"
-                break
-            seen.add(number_of(got))
-            yield from differs(f"fetched at {number_of(got)}", got == snapshot_after(program, day, number_of(got) - 1), True)
-        if len(seen) < 2:
-            yield f"only {sorted(seen)} were fetched"
-        for process in (first, second):
-            process.said("feed: ended")
-        yield from differs("record", (folder / "record").read_bytes() == day, True)
-        yield from differs("at the end", fetch(program, second.port), (0, wanted, b""))
-        for name, process in (("blocks", tail), ("lines", lines), ("whole", whole)):
-            status, output, said = process.ended()
-            joined = int(re.search(r"joined at (\d+)", "".join(said))[1])
-            rest = b"".join(split(day)[joined - 1:])
-            if name == "lines":
-                shown = ended_in(folder, program, "show", "--json", "day")[1].splitlines(keepends=True)
-                rest = b"".join(shown[joined - 1:])
-            if name == "whole":
-                rest = b"".join(split(snapshot_after(program, day, joined - 1))[:-1]) + rest
-            yield from differs(name, (status, output == rest, 1 < joined < last), (0, True, True))
-            yield from differs(f"lines of {name}", said[-1], f"feed: ended at {last}\n")
-
-
-def a_follower_s_closed_pipe_ends_it_quietly(program):
-    day, wanted = day_of(500)
-    early = snapshot_after(program, day, 100)
-    hold = threading.Event()
-    with Feed(sends(answer(early))) as glimpse, Feed(plays(day, wait=hold)) as feed:
-        words = [program, "follow", "--feed", f"127.0.0.1:{feed.port}", "--glimpse", f"127.0.0.1:{glimpse.port}", *WORDS, "--json"]
-        with subprocess.Popen(words, stdout=subprocess.PIPE, stderr=subprocess.PIPE) as process:
-            process.stdout.readline()
-            process.stdout.close()
-            process.wait(PATIENCE)
-            error = process.stderr.read()
-        hold.set()
-        yield from differs("ended", (process.returncode, b"itchsnap" in error), (141, False))
-
-
-def an_address_in_use_is_a_failed_socket(program):
-    with socket.create_server(("127.0.0.1", 0)) as listener, folder_with(day=day_of(3)[0]) as folder:
-        port = listener.getsockname()[1]
-        error = f"itchsnap: socket failed\n  127.0.0.1:{port}: Address already in use (os error 98)\n".encode()
-        words = "--port", str(port), *WORDS
-        yield from differs("live", ended_in(folder, program, "live", "--feed", "127.0.0.1:9", *words), (3, b"", error))
-        yield from differs("feed", ended_in(folder, program, "feed", "day", *words), (3, b"", error))
-
-
-def an_unknown_host_cannot_be_opened(program):
-    quick = {"RES_OPTIONS": "timeout:1 attempts:1", "LOCALDOMAIN": ""}
-    with tempfile.TemporaryDirectory() as folder:
-        for words in (("live", "--feed", "no-such-host.invalid:9", "--port", "0"), ("follow", "--feed", "127.0.0.1:9", "--glimpse", "no-such-host.invalid:9")):
-            status, output, error = ended_in(folder, program, *words, *WORDS, **quick)
-            if (status, output) != (3, b"") or not error.startswith(b"itchsnap: cannot open\n  no-such-host.invalid:9: failed to lookup address information"):
-                yield f"{words}: {status}, {output!r}, {error!r}"
-
-
-def words_that_do_not_go_together_are_refused(program):
-    live_words = ["live", "--feed", "h:1", "--port", "0", *WORDS]
-    follow_words = ["follow", "--feed", "h:1", "--glimpse", "h:2", *WORDS]
-    feed_words = ["feed", "day", "--port", "0", *WORDS]
-    rows = [[*live_words, "--record", "r", "--glimpse", "h:2"], [*live_words, "--snapshots", "d"], [*live_words, "--every", "5"],
-            [*live_words, "--clients", "0"], [*live_words, "--clients", "1001"], [*live_words, "--feed", "h"], ["live", *WORDS, "--port", "0"],
-            [*follow_words, "--whole", "--json"], follow_words[:3] + list(WORDS), [*feed_words, "--rate", "5", "--clock", "2"], [*feed_words, "--rate", "0"],
-            ["feed", "-", "--port", "0", *WORDS], ["feed", "--port", "0", *WORDS], ["live", "--feed", "h:1", "--user", "user", "--port", "0"]]
-    rows += [["live", "--feed", place, "--port", "0", *WORDS] for place in ("", ":1", "h:0", "h:65536", "h:x", "::1:5", "[::1]", "[::1:5", "h:+5", "h:")]
-    with tempfile.TemporaryDirectory() as folder:
-        for words in rows:
-            status, output, error = ended_in(folder, program, *words)
-            if (status, output) != (2, b"") or not error.startswith(b"error: "):
-                yield f"{words}: {status}, {output!r}, {error!r}"
-
-
 RUNS = [
     what_is_followed_is_served,
     a_login_waits_for_a_market,
@@ -839,13 +448,4 @@ RUNS = [
     snapshots_are_written_on_the_way,
     a_folder_that_is_not_there_ends_it,
     a_record_that_cannot_be_written_ends_it,
-    a_feed_is_played_from_the_number_asked,
-    a_feed_stays_with_heartbeats,
-    a_feed_is_played_at_a_rate,
-    a_feed_of_no_day_file_is_refused,
-    all_three_in_a_row,
-    a_follower_s_closed_pipe_ends_it_quietly,
-    an_address_in_use_is_a_failed_socket,
-    an_unknown_host_cannot_be_opened,
-    words_that_do_not_go_together_are_refused,
 ]

@@ -9,6 +9,7 @@ use Rattle.itch_soup.specs.declared.packet.LoginRequest.{LoginRequest}
 use Rattle.itch_soup.specs.declared.server.ServerAct.{ServerAct}
 use Rattle.itch_soup.specs.declared.server.ServerAct.TheVariants as act
 use Rattle.itch_soup.specs.Servers.{server_answer}
+use Rattle.itch_live.specs.declared.gone.Gone.TheVariants as reason
 use Rattle.itch_live.specs.Guests as guests
 use Rattle.itch_live.specs.Guests.{Guest, whole, new_guest, is_waiting, login_in, after_act, answered_if, is_at}
 use Rattle.itch_live.specs.Seats.{Seats, guest_at, HearsBy, took_by, answered_seat, ticked_seat}
@@ -241,7 +242,7 @@ either_kept false g h n same there = inr there
 
 ticked_sent : (seats : Seats) (now number : ℕ) → Sent (map (ticked_seat now) seats) number → Sent seats number
 ticked_sent seats now number s =
-    by_case (mapped_sent Nothing (λ g. guests.ticked g now) (λ g n there. either_kept (nat_le 15000 (now - g.moved)) g (record g { gone = true }) n refl there) seats s.place number
+    by_case (mapped_sent Nothing (λ g. guests.ticked g now) (λ g n there. either_kept (nat_le 15000 (now - g.moved)) g (guests.gone_for reason.Silent g) n refl there) seats s.place number
     (guest_at seats s.place) s.guest refl (sym (at_mapped (ticked_seat now) seats s.place refl) ∙ s.there) s.is) where
       by_case : ⊥ ⊎ Sent seats number → Sent seats number
       by_case (inl never) = absurd never

@@ -14,6 +14,8 @@ pub mod Shutting
 pub mod Seated
 pub mod Present
 pub mod Eight
+pub mod Lengths
+pub mod Filling
 pub mod Memories
 pub mod Visits
 pub mod OneVisit

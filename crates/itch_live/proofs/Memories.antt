@@ -1,8 +1,11 @@
 -- What a desk holds in bytes.
-use Rattle.std.proofs.Common.{◌≡◌, ℕ, ◌+◌, ◌*◌, ◌≤◌, List, [], ◌∷◌, length, Option, None, Some, Ok, Err, refl, sym, ◌∙◌, subst, arith}
+use Rattle.std.proofs.Common.{◌≡◌, ℕ, ◌+◌, ◌*◌, ◌≤◌, max, List, [], ◌∷◌, length, Option, None, Some, Ok, Err, refl, sym, ap, ◌∙◌, subst, arith}
 use Rattle.std.specs.List.{sum_by}
 use Rattle.std.proofs.lemmas.List.Sums.{sum_by-cons}
 use Rattle.itch_frame.specs.declared.tally.Failures.{Failures}
+use Rattle.itch_codec.specs.Fields.{IsAlpha}
+use Rattle.itch_codec.specs.Widths.{IsSequence}
+use Rattle.itch_market.specs.GoodMarkets.{IsGood}
 use Rattle.itch_join.specs.Positions.{Position}
 use Rattle.itch_soup.specs.declared.login.ServerConfig.{ServerConfig}
 use Rattle.itch_live.specs.Guests.{new_guest}
@@ -10,11 +13,12 @@ use Rattle.itch_live.specs.Seats.{Seats, guest_at}
 use Rattle.itch_live.specs.Kept.{kept, kept_bytes}
 use Rattle.itch_live.specs.Follows.{Following}
 use Rattle.itch_live.specs.Desks.{Desk, shot_for, with_shot, answered_with, Call, Feeds, Admits, Hears, Answers, Takes, Ticks, Leaves, Event, Step, History}
-use Rattle.itch_live.specs.Memory.{splitter_bytes, clients, length_or, snapshot_bytes, held_bytes, most_bytes, IsWithin, AreWithin}
+use Rattle.itch_live.specs.Memory.{splitter_bytes, clients, length_or, snapshot_bytes, held_bytes, most_bytes, handed_at, handed_by, longest, messages_at, messages_by, most_messages, IsOfMarket, AreOfMarkets}
 use Rattle.itch_live.proofs.Places.{none_seated, no_guest}
 use Rattle.itch_live.proofs.Seated.{Holds, AllHold, one_guest, set_holds, all_tick, all_answer, all_hear, all_take}
-use Rattle.itch_live.proofs.Present.{kept_for}
+use Rattle.itch_live.proofs.Present.{kept_for, AreFitting, right_shot, configured, all_fit}
 use Rattle.itch_live.proofs.Eight.{at_most_eight}
+use Rattle.itch_live.proofs.Lengths.{whole_within}
 
 -- a snapshot has at most so many bytes
 abbrev pub IsShort : ℕ → Option ℕ → Option (List ℕ) → Type 0
@@ -43,19 +47,25 @@ short_kept most seats number all (Some bytes) there =
     let short : IsShort most r.guest.snapshot r.guest.told = all r.place r.guest r.there in
     subst (λ o. length_or o ≤ most) r.told_is (subst (λ n. IsShort most n r.guest.told) r.number_is short)
 
+-- the greater of two numbers is no more than a third
+max_first : (a b most : ℕ) → max a b ≤ most → a ≤ most
+max_first a b most h = omega arith
+
+max_second : (a b most : ℕ) → max a b ≤ most → b ≤ most
+max_second a b most h = omega arith
+
 module _ {W : Type 0} (contents : W → Option (List ℕ)) (failures : W → Failures) (most : ℕ) where
   abbrev AllShort : Desk → Type 0
   AllShort d = AllHold (IsShort most) d.seats
 
-  answered : (d : Desk) (count now : ℕ) (o : Option Position) → d.following.joining.state.joined ≡ o
-      → ((j : Position) → o ≡ Some j → (bytes : List ℕ) → shot_for d.config d.seats j.market j.next ≡ Some bytes → length bytes ≤ most) → AllShort d → AllShort (answered_with o d count now)
+  answered : (d : Desk) (count now : ℕ) (o : Option Position) → d.following.joining.state.joined ≡ o → handed_at o d ≤ most → AllShort d → AllShort (answered_with o d count now)
   answered d count now None there within all = all
   answered d count now (Some j) there within all = by_shot (shot_for d.config d.seats j.market j.next) refl where
     by_shot : (shot : Option (List ℕ)) → shot_for d.config d.seats j.market j.next ≡ shot → AllShort (with_shot shot d j.next count now)
     by_shot None none = all
-    by_shot (Some bytes) is = all_answer (IsShort most) (unsent most) bytes j.next now count d.seats (within j refl bytes is) all
+    by_shot (Some bytes) is = all_answer (IsShort most) (unsent most) bytes j.next now count d.seats (subst (λ shot. length_or shot ≤ most) is within) all
 
-  step : (d e : Desk) (call : Call W) → Step contents failures d call e → IsWithin most d call → AllShort d → AllShort e
+  step : (d e : Desk) (call : Call W) → Step contents failures d call e → handed_by d call ≤ most → AllShort d → AllShort e
   step d e (Feeds did) (f, doing, same) within all = subst AllShort (sym same) all
   step d e (Admits now (Ok (Some place))) (free, same) within all =
       subst AllShort (sym same)
@@ -71,11 +81,13 @@ module _ {W : Type 0} (contents : W → Option (List ℕ)) (failures : W → Fai
   step d e (Leaves place) same within all =
       subst AllShort (sym same) (set_holds (IsShort most) (unsent most) d.seats place None (λ g is. absurd (no_guest is)) all)
 
-  all_short : (config : ServerConfig) (begun : Following) (past : List (Event W)) (d : Desk) → History contents failures config begun past d → AreWithin most past → AllShort d
+  all_short : (config : ServerConfig) (begun : Following) (past : List (Event W)) (d : Desk) → History contents failures config begun past d → longest past ≤ most → AllShort d
   all_short config begun [] d (places, is) within = subst AllShort (sym is) (λ k g there. absurd (no_guest (sym (none_seated places k) ∙ there)))
-  all_short config begun (x ∷ past) d (took, before) (one, within) = step x.before d x.call took one (all_short config begun past x.before before within)
+  all_short config begun (x ∷ past) d (took, before) within =
+      step x.before d x.call took (max_first (handed_by x.before x.call) (longest past) most within)
+      (all_short config begun past x.before before (max_second (handed_by x.before x.call) (longest past) most within))
 
-  pub within_sum : (config : ServerConfig) (begun : Following) (past : List (Event W)) (d : Desk) → History contents failures config begun past d → AreWithin most past
+  pub within_sum : (config : ServerConfig) (begun : Following) (past : List (Event W)) (d : Desk) → History contents failures config begun past d → longest past ≤ most
       → held_bytes d ≤ most_bytes (length d.seats) most
   within_sum config begun past d history within =
       let all = all_short config begun past d history within in
@@ -84,3 +96,50 @@ module _ {W : Type 0} (contents : W → Option (List ℕ)) (failures : W → Fai
       sums (clients d.seats) (length d.seats) (snapshot_bytes d.seats) (length (kept d.seats)) (few_clients d.seats) each eight where
         sums : (c places bytes n : ℕ) → c ≤ places → bytes ≤ n * most → n ≤ 8 → splitter_bytes + c * splitter_bytes + bytes ≤ splitter_bytes + places * splitter_bytes + 8 * most
         sums c places bytes n few each eight = grind arith
+
+pub within_longest : {W : Type 0} (contents : W → Option (List ℕ)) (failures : W → Failures) (config : ServerConfig) (begun : Following) (past : List (Event W)) (d : Desk)
+    → History contents failures config begun past d → held_bytes d ≤ most_bytes (length d.seats) (longest past)
+within_longest contents failures config begun past d history = within_sum contents failures (longest past) config begun past d history (omega arith)
+
+-- bytes of snapshots by their messages -------------------------------------------
+
+module _ {W : Type 0} (contents : W → Option (List ℕ)) (failures : W → Failures) (config : ServerConfig) (text : IsAlpha 10 config.session) (most : ℕ) where
+  -- what is handed in is the snapshot of the present market
+  answer_short : (d : Desk) (o : Option Position) → d.config ≡ config → AreFitting d.config o d.seats → ((j : Position) → o ≡ Some j → IsGood j.market × IsSequence j.next)
+      → messages_at o ≤ most → handed_at o d ≤ 43 * most + 128
+  answer_short d None same fits markets few = omega arith
+  answer_short d (Some j) same fits markets few = by_shot (shot_for d.config d.seats j.market j.next) refl where
+    by_shot : (shot : Option (List ℕ)) → shot_for d.config d.seats j.market j.next ≡ shot → length_or shot ≤ 43 * most + 128
+    by_shot None none = omega arith
+    by_shot (Some bytes) is =
+        let of_market = markets j refl in
+        let whole_is = right_shot d.config d.seats j bytes fits is in
+        let short = whole_within j.market j.next d.config of_market.0 of_market.1 (subst (λ (c : ServerConfig). IsAlpha 10 c.session) (sym same) text) in
+        omega (arith, ap length whole_is, short, few)
+
+  call_short : (d : Desk) (call : Call W) → d.config ≡ config → AreFitting d.config d.following.joining.state.joined d.seats → IsOfMarket d call → messages_by d call ≤ most
+      → handed_by d call ≤ 43 * most + 128
+  call_short d (Feeds did) same fits market few = omega arith
+  call_short d (Admits now result) same fits market few = omega arith
+  call_short d (Hears place piece now count) same fits market few = omega arith
+  call_short d (Answers now count) same fits market few = answer_short d d.following.joining.state.joined same fits market few
+  call_short d (Takes place count now) same fits market few = omega arith
+  call_short d (Ticks now) same fits market few = omega arith
+  call_short d (Leaves place) same fits market few = omega arith
+
+  longest_by : (begun : Following) (past : List (Event W)) (d : Desk) → History contents failures config begun past d → AreOfMarkets past → most_messages past ≤ most
+      → longest past ≤ 43 * most + 128
+  longest_by begun [] d history markets few = omega arith
+  longest_by begun (x ∷ past) d (took, before) (market, markets) few =
+      let first =
+      call_short x.before x.call (configured contents failures config begun past x.before before) (all_fit contents failures config begun past x.before before) market
+      (max_first (messages_by x.before x.call) (most_messages past) most few) in
+      let rest = longest_by begun past x.before before markets (max_second (messages_by x.before x.call) (most_messages past) most few) in
+      both (handed_by x.before x.call) (longest past) first rest where
+        both : (a b : ℕ) → a ≤ 43 * most + 128 → b ≤ 43 * most + 128 → max a b ≤ 43 * most + 128
+        both a b one other = omega arith
+
+pub longest_within : {W : Type 0} (contents : W → Option (List ℕ)) (failures : W → Failures) (config : ServerConfig) (begun : Following) (past : List (Event W)) (d : Desk)
+    → IsAlpha 10 config.session → AreOfMarkets past → History contents failures config begun past d → longest past ≤ 43 * most_messages past + 128
+longest_within contents failures config begun past d text markets history =
+    longest_by contents failures config text (most_messages past) begun past d history markets (omega arith)

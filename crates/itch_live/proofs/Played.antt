@@ -19,8 +19,8 @@ use Rattle.itch_live.specs.declared.progress.Progress.{Progress}
 use Rattle.itch_live.specs.declared.progress.Progress.TheVariants as progress
 use Rattle.itch_live.specs.Guests.{login_in}
 use Rattle.itch_live.specs.Players as players
-use Rattle.itch_live.specs.Players.{Player, new_player, pending, plays, wanted, is_playing, is_idle, is_played, has_room, is_empty, heard, message_packet, HearsHeld}
-use Rattle.itch_live.specs.Plays.{Happening, Hears, Plays, Takes, Ticks, Ends, Leaves, Becomes, Event, History, sent_bytes, sent_by, handed_in, handed_by, without_heartbeats, Came, IsRefusal, IsFeed, IsTold, IsSentRight}
+use Rattle.itch_live.specs.Players.{Player, new_player, is_gone, pending, plays, wanted, is_playing, is_idle, is_played, after_end, has_room, is_empty, heard, message_packet, HearsHeld}
+use Rattle.itch_live.specs.Plays.{Happening, Hears, Plays, Takes, Ticks, Ends, Leaves, Becomes, Event, History, sent_bytes, sent_by, handed_in, handed_by, without_heartbeats, Came, IsNothing, IsRefusal, IsFeed, IsTold, IsSentRight}
 use Rattle.itch_live.proofs.Logins.{IsBefore, IsAcceptance, IsDecision, decides, stays_past}
 use Rattle.itch_live.proofs.Sound.{IsYes, login_packet}
 
@@ -59,14 +59,18 @@ negated : (b : Bool) → not b ≡ true → b ≡ false
 negated true h = absurd (subst IsYes (sym h) tt)
 negated false h = refl
 
-plays_only : (p : Progress) → plays p ≡ true → p ≡ progress.Playing
-plays_only progress.Waiting h = absurd (subst IsYes (sym h) tt)
-plays_only progress.Refused h = absurd (subst IsYes (sym h) tt)
-plays_only progress.Playing h = refl
-plays_only progress.Ended h = absurd (subst IsYes (sym h) tt)
+-- a client that is played its feed from some number on
+abbrev pub IsPlayed : Progress → Type 0
+IsPlayed at = (first : ℕ) × (at ≡ progress.Playing first)
 
-playing_is : (p : Player) → is_playing p ≡ true → p.progress ≡ progress.Playing
-playing_is p h = plays_only p.progress (both (plays p.progress) (not p.gone) h).0
+plays_only : (at : Progress) → plays at ≡ true → IsPlayed at
+plays_only progress.Waiting h = absurd (subst IsYes (sym h) tt)
+plays_only (progress.Refused code) h = absurd (subst IsYes (sym h) tt)
+plays_only (progress.Playing first) h = (first, refl)
+plays_only (progress.Ended first) h = absurd (subst IsYes (sym h) tt)
+
+playing_is : (p : Player) → is_playing p ≡ true → IsPlayed p.progress
+playing_is p h = plays_only p.progress (both (plays p.progress) (not (is_gone p)) h).0
 
 some_if : (b : Bool) (n : ℕ) → IsSome (if b then Some n else None) → b ≡ true
 some_if true n h = refl
@@ -74,7 +78,7 @@ some_if false n h = absurd (subst IsYes (sym h) tt)
 
 -- what is known of a client of whom a message is wanted
 pub record Wants (p : Player) : Type 0 where
-  pub playing : p.progress ≡ progress.Playing
+  pub playing : IsPlayed p.progress
   pub left : p.next ≤ p.session.total
   pub number : wanted p ≡ Some p.next
 
@@ -123,8 +127,9 @@ module _ (config : ServerConfig) (total : ℕ) where
     is = c.is;
   }
 
-  refused_before : (e : Event) (past : List Event) (bytes : List ℕ) → IsRefusal config total past bytes → IsRefusal config total (e ∷ past) bytes
-  refused_before e past bytes r = record { login = r.login; came = came_before e past r.login r.came; code = r.code; rejected = r.rejected; is = r.is }
+  refused_before : (e : Event) (past : List Event) (at : Progress) (bytes : List ℕ) → IsRefusal config total past at bytes → IsRefusal config total (e ∷ past) at bytes
+  refused_before e past at bytes r =
+      record { login = r.login; came = came_before e past r.login r.came; code = r.code; known = r.known; rejected = r.rejected; is = r.is }
 
   fed_before : (e : Event) (past : List Event) (next : ℕ) (at : Progress) (bytes : List ℕ) → handed_in (e ∷ past) ≡ handed_in past → IsFeed config total past next at bytes
       → IsFeed config total (e ∷ past) next at bytes
@@ -132,6 +137,7 @@ module _ (config : ServerConfig) (total : ℕ) where
     login = f.login;
     came = came_before e past f.login f.came;
     accepted = f.accepted;
+    known = f.known;
     packets = f.packets;
     played = f.played ∙ ap (λ ms. map is.SequencedData ms) (sym same);
     counted = f.counted ∙ ap (λ ms. first_asked f.login + length ms) (sym same);
@@ -143,15 +149,15 @@ module _ (config : ServerConfig) (total : ℕ) where
   -- what a client was told in all, by how far it has come
   abbrev pub Stands : List Event → ℕ → Progress → List ℕ → Type 0
   Stands past next progress.Waiting bytes = (bytes ≡ []) × (handed_in past ≡ [])
-  Stands past next progress.Refused bytes = IsRefusal config total past bytes
-  Stands past next progress.Playing bytes = IsFeed config total past next progress.Playing bytes
-  Stands past next progress.Ended bytes = IsFeed config total past next progress.Ended bytes
+  Stands past next (progress.Refused code) bytes = IsRefusal config total past (progress.Refused code) bytes
+  Stands past next (progress.Playing first) bytes = IsFeed config total past next (progress.Playing first) bytes
+  Stands past next (progress.Ended first) bytes = IsFeed config total past next (progress.Ended first) bytes
 
   stands_before : (e : Event) (past : List Event) (next : ℕ) (at : Progress) (bytes : List ℕ) → handed_in (e ∷ past) ≡ handed_in past → Stands past next at bytes → Stands (e ∷ past) next at bytes
   stands_before e past next progress.Waiting bytes same (none, nothing) = (none, same ∙ nothing)
-  stands_before e past next progress.Refused bytes same r = refused_before e past bytes r
-  stands_before e past next progress.Playing bytes same f = fed_before e past next progress.Playing bytes same f
-  stands_before e past next progress.Ended bytes same f = fed_before e past next progress.Ended bytes same f
+  stands_before e past next (progress.Refused code) bytes same r = refused_before e past (progress.Refused code) bytes r
+  stands_before e past next (progress.Playing first) bytes same f = fed_before e past next (progress.Playing first) bytes same f
+  stands_before e past next (progress.Ended first) bytes same f = fed_before e past next (progress.Ended first) bytes same f
 
   pub record IsSound (past : List Event) (p : Player) : Type 0 where
     pub config_is : p.session.config ≡ config
@@ -220,6 +226,7 @@ module _ (config : ServerConfig) (total : ℕ) where
           login = d.login;
           came = comes d.login d.is_login;
           accepted = verdict ∙ ap act.Accept first.0;
+          known = ap (λ n. Some n) first.0;
           packets = [];
           played = ap (λ ms. map is.SequencedData (ms ++ [])) (sym none.1);
           counted = omega (arith, first.0);
@@ -241,6 +248,7 @@ module _ (config : ServerConfig) (total : ℕ) where
           login = d.login;
           came = comes d.login d.is_login;
           code = code;
+          known = refl;
           rejected = judged_at _ _ _ _ d.login _ s.config_is s.total_is (sym d.verdict ∙ turns);
           is = ap (λ front. (front ++ []) ++ block (packet_spelling (is.LoginRejected code))) none.0;
         };
@@ -273,8 +281,9 @@ module _ (config : ServerConfig) (total : ℕ) where
       subst (λ x. IsSound (after past p (Hears piece now n)) x) (sym is) (idle _ past p _ refl refl refl refl (λ b. b) refl refl refl s)
 
   -- what a client that plays was told
-  feed_of : (past : List Event) (p : Player) → IsSound past p → p.progress ≡ progress.Playing → IsFeed config total past p.next progress.Playing (sent_bytes past ++ p.outbox)
-  feed_of past p s playing = subst (λ at. Stands past p.next at (sent_bytes past ++ p.outbox)) playing s.stands
+  feed_of : (past : List Event) (p : Player) → IsSound past p → (playing : IsPlayed p.progress)
+      → IsFeed config total past p.next (progress.Playing playing.0) (sent_bytes past ++ p.outbox)
+  feed_of past p s playing = subst (λ at. Stands past p.next at (sent_bytes past ++ p.outbox)) playing.1 s.stands
 
   plays_one : (past : List Event) (p : Player) (message : List ℕ) (now : ℕ) → Wants p → IsSound past p → IsSound (after past p (Plays message now)) (players.played p message now)
   plays_one past p message now w s =
@@ -284,10 +293,11 @@ module _ (config : ServerConfig) (total : ℕ) where
         config_is = s.config_is;
         total_is = s.total_is;
         fresh = s.fresh;
-        stands = subst (λ at. Stands (after past p (Plays message now)) (p.next + 1) at ((sent_bytes past ++ []) ++ (p.outbox ++ block (message_packet message)))) (sym w.playing) (record {
+        stands = subst (λ at. Stands (after past p (Plays message now)) (p.next + 1) at ((sent_bytes past ++ []) ++ (p.outbox ++ block (message_packet message)))) (sym w.playing.1) (record {
           login = f.login;
           came = came_before _ past f.login f.came;
           accepted = f.accepted;
+          known = f.known;
           packets = f.packets ++ is.SequencedData message ∷ [];
           played = without-append f.packets (is.SequencedData message ∷ []) ∙ ap (λ xs. xs ++ is.SequencedData message ∷ []) f.played
               ∙ sym (map-append is.SequencedData (handed_in past) (message ∷ []));
@@ -311,7 +321,7 @@ module _ (config : ServerConfig) (total : ℕ) where
   takes : (past : List Event) (p : Player) (count now : ℕ) → count ≤ length (pending p) → IsSound past p → IsSound (after past p (Takes count now)) (players.took p count now)
   takes past p count now fits s =
       either (after past p (Takes count now)) (nat_lt 0 count) _ _
-      (λ some. kept _ past p _ refl refl (λ b. b) refl refl (takes_some past p count p.gone (ltb-true 0 count some) fits) (append-nil (handed_in past)) s)
+      (λ some. kept _ past p _ refl refl (λ b. b) refl refl (takes_some past p count (is_gone p) (ltb-true 0 count some) fits) (append-nil (handed_in past)) s)
       (λ none. kept _ past p _ refl refl (λ b. b) refl refl (takes_none past p count (ltb-false 0 count none)) (append-nil (handed_in past)) s)
 
   -- a heartbeat
@@ -319,16 +329,17 @@ module _ (config : ServerConfig) (total : ℕ) where
       → IsSound (after past p (Ticks now)) (record p { outbox = p.outbox ++ block (packet_spelling is.ServerHeartbeat); sent = now })
   beats past p now due s =
       let playing = playing_is p (both (is_playing p) (is_empty p.outbox) (both (is_playing p && is_empty p.outbox) (nat_lt 1000 (now - p.sent)) due).0).0 in
-      let f = fed_before (record { before = p; happening = Ticks now }) past p.next progress.Playing (sent_bytes past ++ p.outbox) (append-nil (handed_in past)) (feed_of past p s playing) in
+      let f = fed_before (record { before = p; happening = Ticks now }) past p.next (progress.Playing playing.0) (sent_bytes past ++ p.outbox) (append-nil (handed_in past)) (feed_of past p s playing) in
       let told : Packet = is.LoginAccepted (acceptance config (first_asked f.login)) in
       record {
         config_is = s.config_is;
         total_is = s.total_is;
         fresh = s.fresh;
-        stands = subst (λ at. Stands (after past p (Ticks now)) p.next at ((sent_bytes past ++ []) ++ (p.outbox ++ block (packet_spelling is.ServerHeartbeat)))) (sym playing) (record {
+        stands = subst (λ at. Stands (after past p (Ticks now)) p.next at ((sent_bytes past ++ []) ++ (p.outbox ++ block (packet_spelling is.ServerHeartbeat)))) (sym playing.1) (record {
           login = f.login;
           came = f.came;
           accepted = f.accepted;
+          known = f.known;
           packets = f.packets ++ is.ServerHeartbeat ∷ [];
           played = without-append f.packets (is.ServerHeartbeat ∷ []) ∙ append-nil (without_heartbeats f.packets) ∙ f.played;
           counted = f.counted;
@@ -345,31 +356,32 @@ module _ (config : ServerConfig) (total : ℕ) where
 
   -- the end of the session
   ends_it : (past : List Event) (p : Player) (now : ℕ) → is_played p ≡ true → IsSound past p
-      → IsSound (after past p (Ends now)) (record p { outbox = p.outbox ++ block (packet_spelling is.EndOfSession); progress = progress.Ended; sent = now })
+      → IsSound (after past p (Ends now)) (record p { outbox = p.outbox ++ block (packet_spelling is.EndOfSession); progress = after_end p.progress; sent = now })
   ends_it past p now all s =
       let tests = both (is_playing p) (nat_lt p.session.total p.next) all in
       let playing = playing_is p tests.0 in
       let beyond = ltb-true p.session.total p.next tests.1 in
-      let f = fed_before (record { before = p; happening = Ends now }) past p.next progress.Playing (sent_bytes past ++ p.outbox) (append-nil (handed_in past)) (feed_of past p s playing) in
+      let f = fed_before (record { before = p; happening = Ends now }) past p.next (progress.Playing playing.0) (sent_bytes past ++ p.outbox) (append-nil (handed_in past)) (feed_of past p s playing) in
       let told : Packet = is.LoginAccepted (acceptance config (first_asked f.login)) in
       record {
         config_is = s.config_is;
         total_is = s.total_is;
-        fresh = λ b. absurd (never (sym playing ∙ s.fresh b));
-        stands = record {
+        fresh = λ b. absurd (never playing.0 (sym playing.1 ∙ s.fresh b));
+        stands = subst (λ at. Stands (after past p (Ends now)) p.next (after_end at) ((sent_bytes past ++ []) ++ (p.outbox ++ block (packet_spelling is.EndOfSession)))) (sym playing.1) (record {
           login = f.login;
           came = f.came;
           accepted = f.accepted;
+          known = f.known;
           packets = f.packets;
           played = f.played;
           counted = f.counted;
           within = f.within;
           ended = omega (arith, f.within, beyond, s.total_is);
           is = seam (sent_bytes past) p.outbox (block (packet_spelling is.EndOfSession)) ∙ ended_so told f.packets is.EndOfSession (sent_bytes past ++ p.outbox) f.is;
-        };
+        });
       } where
-        never : progress.Playing ≡ progress.Waiting → ⊥
-        never h = cc
+        never : (first : ℕ) → progress.Playing first ≡ progress.Waiting → ⊥
+        never first h = cc
 
   ends : (past : List Event) (p : Player) (now : ℕ) → IsSound past p → IsSound (after past p (Ends now)) (players.ended p now)
   ends past p now s =
@@ -387,11 +399,12 @@ module _ (config : ServerConfig) (total : ℕ) where
   sound begun [] p is = subst (λ x. IsSound [] x) (sym is) (new_sound begun)
   sound begun (x ∷ past) p (becomes, before) = step past x.before p x.happening becomes (sound begun past x.before before)
 
-  told_by : (past : List Event) (next : ℕ) (at : Progress) (bytes : List ℕ) → Stands past next at bytes → (bytes ≡ []) ⊎ IsRefusal config total past bytes ⊎ IsFeed config total past next at bytes
-  told_by past next progress.Waiting bytes s = inl s.0
-  told_by past next progress.Refused bytes s = inr (inl s)
-  told_by past next progress.Playing bytes s = inr (inr s)
-  told_by past next progress.Ended bytes s = inr (inr s)
+  told_by : (past : List Event) (next : ℕ) (at : Progress) (bytes : List ℕ) → Stands past next at bytes
+      → IsNothing at bytes ⊎ IsRefusal config total past at bytes ⊎ IsFeed config total past next at bytes
+  told_by past next progress.Waiting bytes s = inl (refl, s.0)
+  told_by past next (progress.Refused code) bytes s = inr (inl s)
+  told_by past next (progress.Playing first) bytes s = inr (inr s)
+  told_by past next (progress.Ended first) bytes s = inr (inr s)
 
   pub told_right : (begun : ℕ) (past : List Event) (p : Player) → History config total begun past p → IsTold config total past p (sent_bytes past ++ p.outbox)
   told_right begun past p history = told_by past p.next p.progress (sent_bytes past ++ p.outbox) (sound begun past p history).stands

@@ -9,7 +9,7 @@ use Rattle.itch_soup.specs.Servers.{first_asked, server_answer, server_after_pac
 use Rattle.itch_live.specs.Records.{between}
 use Rattle.itch_live.specs.Players as players
 use Rattle.itch_live.specs.Players.{Player, heard, is_idle, is_played}
-use Rattle.itch_live.specs.Plays.{Happening, Hears, Plays, Takes, Ticks, Ends, Leaves, Becomes, Event, History, sent_bytes, handed_in, handed_by, IsRefusal, IsFeed, IsOfFile, AreOfFile, IsToldOfFile, IsSentOfFile}
+use Rattle.itch_live.specs.Plays.{Happening, Hears, Plays, Takes, Ticks, Ends, Leaves, Becomes, Event, History, sent_bytes, handed_in, handed_by, IsNothing, IsRefusal, IsFeed, IsOfFile, AreOfFile, IsToldOfFile, IsSentOfFile}
 use Rattle.itch_live.proofs.Logins.{IsBefore, IsDecision, decides}
 use Rattle.itch_live.proofs.Recorded.{between_more, between_none}
 use Rattle.itch_live.proofs.Played.{wants, IsSound, sound, untold, told_right}
@@ -91,7 +91,7 @@ module _ (config : ServerConfig) (total : ℕ) (file : List (List ℕ)) where
     at_least n = omega arith
 
   with_file : (past : List Event) (p : Player) (bytes : List ℕ) → FromFile file past p
-      → (bytes ≡ []) ⊎ IsRefusal config total past bytes ⊎ IsFeed config total past p.next p.progress bytes → IsToldOfFile config total file past p bytes
+      → IsNothing p.progress bytes ⊎ IsRefusal config total past p.progress bytes ⊎ IsFeed config total past p.next p.progress bytes → IsToldOfFile config total file past p bytes
   with_file past p bytes goes (inl none) = inl none
   with_file past p bytes goes (inr (inl refusal)) = inr (inl refusal)
   with_file past p bytes goes (inr (inr f)) = inr (inr (record { feed = f; of_file = goes (first_asked f.login) f.counted (positive f.login) }))

@@ -4,6 +4,7 @@ use Rattle.itch_soup.specs.declared.packet.LoginRequest.{LoginRequest}
 use Rattle.itch_soup.specs.declared.server.ServerAct.{ServerAct}
 use Rattle.itch_soup.specs.declared.server.ServerAct.TheVariants as act
 use Rattle.itch_soup.specs.Servers.{server_answer, server_after_packet}
+use Rattle.itch_live.specs.declared.gone.Gone.TheVariants as reason
 use Rattle.itch_live.specs.Guests as guests
 use Rattle.itch_live.specs.Guests.{Guest, is_waiting, login_in, after_act, moved_by_words, answered_if}
 use Rattle.itch_live.specs.Seats.{Seats, guest_at, HearsBy, took_by, answered_seat, ticked_seat}
@@ -46,7 +47,7 @@ module _ (P : Option ℕ → Option (List ℕ) → Type 0) (none : (told : Optio
       (record g { taken = g.taken + count; moved = now; marked = g.taken + count }) (record g { taken = g.taken + count }) holds holds
 
   ticks : (now : ℕ) (g : Guest) → Holds P g → Holds P (guests.ticked g now)
-  ticks now g holds = either (nat_le 15000 (now - g.moved)) (record g { gone = true }) g holds holds
+  ticks now g holds = either (nat_le 15000 (now - g.moved)) (guests.gone_for reason.Silent g) g holds holds
 
   answers : (bytes : List ℕ) (next now : ℕ) → P (Some next) (Some bytes) → (g : Guest) → Holds P g → Holds P (answered_if bytes next now g)
   answers bytes next now right g holds = either (is_waiting g) (guests.answered g bytes next now) g right holds

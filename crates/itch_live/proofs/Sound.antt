@@ -11,7 +11,9 @@ use Rattle.itch_soup.specs.declared.server.ServerAct.{ServerAct}
 use Rattle.itch_soup.specs.declared.server.ServerAct.TheVariants as act
 use Rattle.itch_soup.specs.Servers.{judged, server_answer, server_after_packet}
 use Rattle.itch_soup.specs.Sending.{served}
-use Rattle.itch_live.specs.Guests.{Guest, whole, bytes_of, pending, is_waiting, new_guest, login_in, after_act, moved_by_words, answered, refusal}
+use Rattle.itch_live.specs.declared.gone.Gone.{Gone}
+use Rattle.itch_live.specs.declared.gone.Gone.TheVariants as reason
+use Rattle.itch_live.specs.Guests.{Guest, whole, bytes_of, is_gone, gone_for, pending, is_waiting, new_guest, login_in, after_act, moved_by_words, answered, refusal}
 use Rattle.itch_live.specs.Stories.{Happening, Hears, Answers, Takes, Ticks, Leaves, Becomes, sent_by, IsLogin}
 use Rattle.itch_live.proofs.Logins.{IsBefore, IsAcceptance, IsDecision, decides, stays_past, answered_whole, accepts_first}
 
@@ -85,8 +87,8 @@ module _ (config : ServerConfig) (P : List ℕ → Type 0) (so_far : List ℕ) (
     sent_is = s.sent_is ∙ ap (λ n. take n (bytes_of g.told)) (sym taken_same) ∙ ap (λ o. take h.taken (bytes_of o)) (sym told_same);
   }
 
-  -- a change of what is held, of the moments, or of whether it is gone
-  idle : (held : List ℕ) (gone : Bool) (moved marked : ℕ) → IsSound config P so_far g → IsSound config P so_far (record g { held = held; gone = gone; moved = moved; marked = marked })
+  -- a change of what is held, of the moments, or of why it is gone
+  idle : (held : List ℕ) (gone : Option Gone) (moved marked : ℕ) → IsSound config P so_far g → IsSound config P so_far (record g { held = held; gone = gone; moved = moved; marked = marked })
   idle held gone moved marked s = kept (record g { held = held; gone = gone; moved = moved; marked = marked }) refl refl (λ b. b) refl refl refl s
 
 either : (config : ServerConfig) (P : List ℕ → Type 0) (so_far : List ℕ) (b : Bool) (g h : Guest) → IsSound config P so_far g → IsSound config P so_far h
@@ -147,7 +149,7 @@ answered_by : (config : ServerConfig) (P : List ℕ → Type 0) (so_far : List �
     → IsSound config P so_far (if b then answered g bytes next now else g)
 answered_by config P so_far g bytes next now false waiting fits s = s
 answered_by config P so_far g bytes next now true waiting fits s =
-    let w = waits g.asked g.told g.gone waiting in
+    let w = waits g.asked g.told (is_gone g) waiting in
     record {
       config_is = s.config_is;
       total_is = s.total_is;
@@ -167,7 +169,7 @@ none_pending g count false h fits =
     omega arith
 
 none_pending_at : (g : Guest) (count : ℕ) → count ≤ length (pending g) → g.told ≡ None → count ≡ 0
-none_pending_at g count fits untold = none_pending g count g.gone untold fits
+none_pending_at g count fits untold = none_pending g count (is_gone g) untold fits
 
 takes_on : (g : Guest) (count : ℕ) (gone : Bool) → count ≤ length (if gone then [] else drop g.taken (bytes_of g.told))
     → take g.taken (bytes_of g.told) ++ take count (if gone then [] else drop g.taken (bytes_of g.told)) ≡ take (g.taken + count) (bytes_of g.told)
@@ -227,7 +229,7 @@ step config P so_far g h (Hears piece now n) (inr (hears, (held, take_is, inl (p
     nothing_more config P so_far h (subst (λ x. IsSound config P so_far x) (sym heard_is) (heard_by config P so_far g packet now (moved_by_words g now) _ refl
     (λ login code there rejected. refused login code (record { held = held; takes = take_is; payload = payload; block = block; spelled = subst (λ p. PacketSpells p payload Client) (login_packet packet login there) spelled }) rejected) s))
 step config P so_far g h (Hears piece now n) (inr (hears, (held, take_is, inl (payload, block, inr (fault, at, is))))) permits refused s =
-    nothing_more config P so_far h (subst (λ x. IsSound config P so_far x) (sym is) (idle config P so_far g [] true (moved_by_words g now) g.marked s))
+    nothing_more config P so_far h (subst (λ x. IsSound config P so_far x) (sym is) (idle config P so_far g [] (gone_for reason.Fault g).gone (moved_by_words g now) g.marked s))
 step config P so_far g h (Hears piece now n) (inr (hears, (held, take_is, inr (none, is)))) permits refused s =
     nothing_more config P so_far h (subst (λ x. IsSound config P so_far x) (sym is) (idle config P so_far g held g.gone g.moved g.marked s))
 step config P so_far g h (Answers m next now) is permits refused s =
@@ -236,12 +238,12 @@ step config P so_far g h (Answers m next now) is permits refused s =
     (λ login asked fits. subst P (sym (answered_whole config m next login fits)) (permits login asked (accepts_first config login fits))) s))
 step config P so_far g h (Takes count now) (fits, is) permits refused s =
     let none : g.told ≡ None → count ≡ 0 = none_pending_at g count fits in
-    let goes = takes_on g count g.gone fits in
+    let goes = takes_on g count (is_gone g) fits in
     subst (λ x. IsSound config P (so_far ++ take count (pending g)) x) (sym is)
     (either config P _ _ _ _
     (took_by config P so_far (take count (pending g)) g count now (g.taken + count) none goes s)
     (took_by config P so_far (take count (pending g)) g count g.moved g.marked none goes s))
 step config P so_far g h (Ticks now) is permits refused s =
-    nothing_more config P so_far h (subst (λ x. IsSound config P so_far x) (sym is) (either config P so_far _ _ _ (idle config P so_far g g.held true g.moved g.marked s) s))
+    nothing_more config P so_far h (subst (λ x. IsSound config P so_far x) (sym is) (either config P so_far _ _ _ (idle config P so_far g g.held (gone_for reason.Silent g).gone g.moved g.marked s) s))
 step config P so_far g h Leaves is permits refused s =
-    nothing_more config P so_far h (subst (λ x. IsSound config P so_far x) (sym is) (idle config P so_far g g.held true g.moved g.marked s))
+    nothing_more config P so_far h (subst (λ x. IsSound config P so_far x) (sym is) (idle config P so_far g g.held (gone_for reason.Left g).gone g.moved g.marked s))

@@ -1,6 +1,9 @@
 -- What a desk holds in bytes, beside the market of its feed and the words of its places.
-use Rattle.std.specs.Prelude.{◌≡◌, ℕ, ◌+◌, ◌*◌, ◌≤◌, List, [], ◌∷◌, length, Option, None, Some}
+use Rattle.std.specs.Prelude.{◌≡◌, ℕ, ◌+◌, ◌*◌, max, List, [], ◌∷◌, length, Option, None, Some}
 use Rattle.std.specs.List.{sum_by}
+use Rattle.itch_codec.specs.Widths.{IsSequence}
+use Rattle.itch_market.specs.GoodMarkets.{IsGood}
+use Rattle.itch_snapshot.specs.Snapshot.{snap}
 use Rattle.itch_join.specs.Positions.{Position}
 use Rattle.itch_live.specs.Seats.{Seats}
 use Rattle.itch_live.specs.Kept.{kept, kept_bytes, most_snapshots}
@@ -32,12 +35,39 @@ held_bytes d = splitter_bytes + clients d.seats * splitter_bytes + snapshot_byte
 abbrev pub most_bytes : ℕ → ℕ → ℕ
 most_bytes places most = splitter_bytes + places * splitter_bytes + most_snapshots * most
 
--- each snapshot that is handed in has at most so many bytes
-abbrev pub IsWithin : {W : Type 0} → ℕ → Desk → Call W → Type 0
-IsWithin most d (Answers now count) =
-    (j : Position) → d.following.joining.state.joined ≡ Some j → (bytes : List ℕ) → shot_for d.config d.seats j.market j.next ≡ Some bytes → length bytes ≤ most
-IsWithin most d other = Unit {0}
+-- how many bytes those who wait are handed, once there is a market
+abbrev pub handed_at : Option Position → Desk → ℕ
+handed_at None d = 0
+handed_at (Some j) d = length_or (shot_for d.config d.seats j.market j.next)
 
-abbrev pub AreWithin : {W : Type 0} → ℕ → List (Event W) → Type 0
-AreWithin most [] = Unit {0}
-AreWithin most (x ∷ past) = IsWithin most x.before x.call × AreWithin most past
+abbrev pub handed_by : {W : Type 0} → Desk → Call W → ℕ
+handed_by d (Answers now count) = handed_at d.following.joining.state.joined d
+handed_by d other = 0
+
+-- the bytes of the longest snapshot that was handed in
+abbrev pub longest : {W : Type 0} → List (Event W) → ℕ
+longest [] = 0
+longest (x ∷ past) = max (handed_by x.before x.call) (longest past)
+
+-- how many messages the snapshot of the present market has
+abbrev pub messages_at : Option Position → ℕ
+messages_at None = 0
+messages_at (Some j) = length (snap j.market)
+
+abbrev pub messages_by : {W : Type 0} → Desk → Call W → ℕ
+messages_by d (Answers now count) = messages_at d.following.joining.state.joined
+messages_by d other = 0
+
+-- the most messages of a snapshot that was handed in
+abbrev pub most_messages : {W : Type 0} → List (Event W) → ℕ
+most_messages [] = 0
+most_messages (x ∷ past) = max (messages_by x.before x.call) (most_messages past)
+
+-- what is handed in is of a market, and has a number, as each `Market` and each `Seq` does
+abbrev pub IsOfMarket : {W : Type 0} → Desk → Call W → Type 0
+IsOfMarket d (Answers now count) = (j : Position) → d.following.joining.state.joined ≡ Some j → IsGood j.market × IsSequence j.next
+IsOfMarket d other = Unit {0}
+
+abbrev pub AreOfMarkets : {W : Type 0} → List (Event W) → Type 0
+AreOfMarkets [] = Unit {0}
+AreOfMarkets (x ∷ past) = IsOfMarket x.before x.call × AreOfMarkets past

@@ -1,5 +1,6 @@
 -- One client of a feed that is played: what it has said, how far it has come, and what waits for its socket.
-use Rattle.std.specs.Prelude.{◌≡◌, ℕ, ◌+◌, ◌-◌, ◌&&◌, ◌||◌, nat_le, nat_lt, ◌==◌, ◌⊎◌, true, false, Bool, not, List, [], ◌++◌, length, drop, Option, None, Some, if◌then◌else◌}
+use Rattle.std.specs.Prelude.{◌≡◌, ℕ, ◌+◌, ◌-◌, ◌&&◌, ◌||◌, nat_le, nat_lt, ◌==◌, ◌⊎◌, true, false, Bool, not, List, [], ◌++◌, length, drop, Option, None, Some, is_some, if◌then◌else◌}
+use Rattle.std.specs.Option.{option_or}
 use Rattle.itch_frame.specs.Blocks.{IsBlock, IsBlockOf, block}
 use Rattle.itch_frame.specs.Cuts.{IsTake}
 use Rattle.itch_soup.specs.declared.login.ServerConfig.{ServerConfig}
@@ -9,19 +10,21 @@ use Rattle.itch_soup.specs.declared.server.ServerAct.{ServerAct}
 use Rattle.itch_soup.specs.declared.server.ServerAct.TheVariants as act
 use Rattle.itch_soup.specs.Packets.{packet_spelling}
 use Rattle.itch_soup.specs.Servers.{Server, new_server, acceptance}
+use Rattle.itch_live.specs.declared.gone.Gone.{Gone}
+use Rattle.itch_live.specs.declared.gone.Gone.TheVariants as reason
 use Rattle.itch_live.specs.declared.progress.Progress.{Progress}
 use Rattle.itch_live.specs.declared.progress.Progress.TheVariants.{Waiting, Refused, Playing, Ended}
 use Rattle.itch_live.specs.Guests.{Judges}
 
 -- a client: the bytes held of an unfinished packet, its session, how far it has come, the number of the next message, what waits for its socket,
--- whether it is gone, when it last said or took something, and when something was last sent
+-- why it is gone if it is, when it last said or took something, and when something was last sent
 pub record Player : Type 0 where
   pub held : List ℕ
   pub session : Server
   pub progress : Progress
   pub next : ℕ
   pub outbox : List ℕ
-  pub gone : Bool
+  pub gone : Option Gone
   pub moved : ℕ
   pub sent : ℕ
 
@@ -34,30 +37,53 @@ has_room bytes = nat_le (length bytes) 65536
 
 -- how many bytes may wait: what has room, a message, and then the end of the session
 abbrev pub most_pending : Progress → ℕ
-most_pending Ended = 131076
+most_pending (Ended first) = 131076
 most_pending progress = 131073
+
+abbrev pub is_gone : Player → Bool
+is_gone p = is_some p.gone
+
+-- it is gone for this reason, unless it was gone before
+abbrev pub gone_for : Gone → Player → Player
+gone_for why p = record p { gone = option_or p.gone (Some why) }
 
 -- what is still to be written
 abbrev pub pending : Player → List ℕ
-pending p = if p.gone then [] else p.outbox
+pending p = if is_gone p then [] else p.outbox
 
 abbrev pub plays : Progress → Bool
-plays Playing = true
+plays (Playing first) = true
 plays progress = false
 
 abbrev pub was_refused : Progress → Bool
-was_refused Refused = true
+was_refused (Refused code) = true
 was_refused progress = false
 
 -- nothing is sent after a refusal, nor after the end of the session
 abbrev pub is_last : Progress → Bool
-is_last Refused = true
-is_last Ended = true
+is_last (Refused code) = true
+is_last (Ended first) = true
 is_last progress = false
+
+-- the code with which its login was rejected
+abbrev pub rejection_of : Progress → Option ℕ
+rejection_of (Refused code) = Some code
+rejection_of progress = None
+
+-- the number from which its login was accepted
+abbrev pub first_of : Progress → Option ℕ
+first_of (Playing first) = Some first
+first_of (Ended first) = Some first
+first_of progress = None
+
+-- the session is ended, if it goes on
+abbrev pub after_end : Progress → Progress
+after_end (Playing first) = Ended first
+after_end progress = progress
 
 -- its login was accepted, the session goes on, and it is not gone
 abbrev pub is_playing : Player → Bool
-is_playing p = plays p.progress && not p.gone
+is_playing p = plays p.progress && not (is_gone p)
 
 -- its socket took all, and nothing comes after it
 abbrev pub has_all : Player → Bool
@@ -65,11 +91,11 @@ has_all p = is_last p.progress && is_empty p.outbox
 
 -- it has all, and the connection is to be closed once it closes it
 abbrev pub is_closing : Player → Bool
-is_closing p = not p.gone && has_all p
+is_closing p = not (is_gone p) && has_all p
 
 -- what it says no longer matters: it is gone, it was refused, or it has all
 abbrev pub is_deaf : Player → Bool
-is_deaf p = p.gone || was_refused p.progress || has_all p
+is_deaf p = is_gone p || was_refused p.progress || has_all p
 
 -- a heartbeat is due: nothing waits, and nothing was sent for more than 1,000 ms
 abbrev pub is_idle : Player → ℕ → Bool
@@ -81,7 +107,7 @@ wanted p = if is_playing p && nat_le p.next p.session.total && has_room p.outbox
 
 abbrev pub new_player : ServerConfig → ℕ → ℕ → Player
 new_player config total now =
-    record { held = []; session = new_server config total now; progress = Waiting; next = 0; outbox = []; gone = false; moved = now; sent = now }
+    record { held = []; session = new_server config total now; progress = Waiting; next = 0; outbox = []; gone = None; moved = now; sent = now }
 
 -- the client is told what its login has come to
 abbrev pub told : Player → Progress → List ℕ → ℕ → Player
@@ -89,11 +115,11 @@ told p progress packet now = record p { progress = progress; outbox = block pack
 
 -- what the session's answer to a packet makes of the client
 abbrev pub after_act : ServerAct → ℕ → Player → Player
-after_act (act.Accept n) now p = told (record p { next = n }) Playing (packet_spelling (is.LoginAccepted (acceptance p.session.config n))) now
-after_act (act.Reject code) now p = told p Refused (packet_spelling (is.LoginRejected code)) now
+after_act (act.Accept n) now p = told (record p { next = n }) (Playing n) (packet_spelling (is.LoginAccepted (acceptance p.session.config n))) now
+after_act (act.Reject code) now p = told p (Refused code) (packet_spelling (is.LoginRejected code)) now
 after_act act.Nothing now p = p
-after_act act.Close now p = record p { gone = true }
-after_act (act.Fault fault) now p = record p { gone = true }
+after_act act.Close now p = gone_for reason.Left p
+after_act (act.Fault fault) now p = gone_for reason.Fault p
 
 -- a packet was heard, or a block that is none
 abbrev pub heard : Player → Server → ServerAct → ℕ → Player
@@ -126,17 +152,17 @@ is_played p = is_playing p && nat_lt p.session.total p.next
 
 -- the session is ended, once all messages were handed in
 abbrev pub ended : Player → ℕ → Player
-ended p now = if is_played p then record p { outbox = p.outbox ++ block (packet_spelling is.EndOfSession); progress = Ended; sent = now } else p
+ended p now = if is_played p then record p { outbox = p.outbox ++ block (packet_spelling is.EndOfSession); progress = after_end p.progress; sent = now } else p
 
 -- its socket took the next bytes
 abbrev pub took : Player → ℕ → ℕ → Player
 took p count now = if nat_lt 0 count then record p { outbox = drop count p.outbox; moved = now; sent = now } else p
 
 abbrev pub left : Player → Player
-left p = record p { gone = true }
+left p = gone_for reason.Left p
 
--- one that has said nothing and taken nothing for 15,000 ms is gone; another is sent a heartbeat where one is due
+-- one that has said nothing and taken nothing for 15,000 ms is cut off; another is sent a heartbeat where one is due
 abbrev pub ticked : Player → ℕ → Player
 ticked p now =
-    if nat_le 15000 (now - p.moved) then left p else (
+    if nat_le 15000 (now - p.moved) then gone_for reason.Silent p else (
     if is_idle p now then record p { outbox = p.outbox ++ block (packet_spelling is.ServerHeartbeat); sent = now } else p)

@@ -9,9 +9,9 @@ use Rattle.itch_soup.specs.declared.server.ServerAct.TheVariants as act
 use Rattle.itch_soup.specs.Packets.{packet_spelling}
 use Rattle.itch_soup.specs.Servers.{judged, first_asked, acceptance}
 use Rattle.itch_live.specs.declared.progress.Progress.{Progress}
-use Rattle.itch_live.specs.declared.progress.Progress.TheVariants.{Ended}
+use Rattle.itch_live.specs.declared.progress.Progress.TheVariants.{Waiting, Ended}
 use Rattle.itch_live.specs.Players as players
-use Rattle.itch_live.specs.Players.{Player, new_player, wanted, pending}
+use Rattle.itch_live.specs.Players.{Player, new_player, wanted, pending, rejection_of, first_of}
 use Rattle.itch_live.specs.Records.{between}
 use Rattle.itch_live.specs.Stories.{IsLogin, IsBeginning}
 
@@ -69,12 +69,12 @@ without_heartbeats (packet ∷ packets) = packet ∷ without_heartbeats packets
 
 -- the end of the session, if it was ended
 abbrev pub ending : Progress → List Packet
-ending Ended = is.EndOfSession ∷ []
+ending (Ended first) = is.EndOfSession ∷ []
 ending progress = []
 
 -- it is ended only when the message after the last one would be the next
 abbrev pub IsAllPlayed : ℕ → ℕ → Progress → Type 0
-IsAllPlayed total next Ended = next ≡ total + 1
+IsAllPlayed total next (Ended first) = next ≡ total + 1
 IsAllPlayed total next progress = Unit {0}
 
 -- a login of the client that came
@@ -89,20 +89,23 @@ pub record Came (past : List Event) (login : LoginRequest) : Type 0 where
   pub heard : at.happening ≡ Hears piece now count
   pub is : IsLogin at.before.held piece count login
 
--- the rejection of a login that came
-pub record IsRefusal (config : ServerConfig) (total : ℕ) (past : List Event) (bytes : List ℕ) : Type 0 where
+-- the rejection of a login that came, with the code that is known of the client
+pub record IsRefusal (config : ServerConfig) (total : ℕ) (past : List Event) (progress : Progress) (bytes : List ℕ) : Type 0 where
   pub login : LoginRequest
   pub came : Came past login
   pub code : ℕ
+  pub known : rejection_of progress ≡ Some code
   pub rejected : (judged config total login).0 ≡ act.Reject code
   pub is : bytes ≡ block (packet_spelling (is.LoginRejected code))
 
--- The acceptance of a login that came, from the number on that it asks for; then the packets of the messages that were handed in, each once and in
--- order, with heartbeats between them; and then the end of the session, if it was ended. The client's next message is the one after those.
+-- The acceptance of a login that came, from the number on that it asks for, which is known of the client; then the packets of the messages that were
+-- handed in, each once and in order, with heartbeats between them; and then the end of the session, if it was ended. The client's next message is the
+-- one after those.
 pub record IsFeed (config : ServerConfig) (total : ℕ) (past : List Event) (next : ℕ) (progress : Progress) (bytes : List ℕ) : Type 0 where
   pub login : LoginRequest
   pub came : Came past login
   pub accepted : (judged config total login).0 ≡ act.Accept (first_asked login)
+  pub known : first_of progress ≡ Some (first_asked login)
   pub packets : List Packet
   pub played : without_heartbeats packets ≡ map is.SequencedData (handed_in past)
   pub counted : next ≡ first_asked login + length (handed_in past)
@@ -110,9 +113,13 @@ pub record IsFeed (config : ServerConfig) (total : ℕ) (past : List Event) (nex
   pub ended : IsAllPlayed total next progress
   pub is : bytes ≡ blocks (map packet_spelling (is.LoginAccepted (acceptance config (first_asked login)) ∷ packets ++ ending progress))
 
+-- its login has not been judged, and it is told nothing
+abbrev pub IsNothing : Progress → List ℕ → Type 0
+IsNothing progress bytes = (progress ≡ Waiting) × (bytes ≡ [])
+
 -- what a client is told in all: nothing, the rejection of its login, or the feed from the number on that it asked for
 abbrev pub IsTold : ServerConfig → ℕ → List Event → Player → List ℕ → Type 0
-IsTold config total past p bytes = (bytes ≡ []) ⊎ IsRefusal config total past bytes ⊎ IsFeed config total past p.next p.progress bytes
+IsTold config total past p bytes = IsNothing p.progress bytes ⊎ IsRefusal config total past p.progress bytes ⊎ IsFeed config total past p.next p.progress bytes
 
 -- what it was sent is the beginning of that, and no more
 abbrev pub IsSentRight : ServerConfig → ℕ → List Event → Player → Type 0
@@ -133,7 +140,8 @@ pub record IsFeedOfFile (config : ServerConfig) (total : ℕ) (file : List (List
   pub of_file : handed_in past ≡ between (first_asked feed.login) next file
 
 abbrev pub IsToldOfFile : ServerConfig → ℕ → List (List ℕ) → List Event → Player → List ℕ → Type 0
-IsToldOfFile config total file past p bytes = (bytes ≡ []) ⊎ IsRefusal config total past bytes ⊎ IsFeedOfFile config total file past p.next p.progress bytes
+IsToldOfFile config total file past p bytes =
+    IsNothing p.progress bytes ⊎ IsRefusal config total past p.progress bytes ⊎ IsFeedOfFile config total file past p.next p.progress bytes
 
 abbrev pub IsSentOfFile : ServerConfig → ℕ → List (List ℕ) → List Event → Player → Type 0
 IsSentOfFile config total file past p = (bytes : List ℕ) × IsToldOfFile config total file past p bytes × IsBeginning (sent_bytes past) bytes

@@ -1,8 +1,9 @@
 //! One client of a live server.
-ghost use Rattle.std.specs.Prelude.{◌≡◌, ◌≤◌, true, length, IfOk, option_map};
+ghost use Rattle.std.specs.Prelude.{◌≡◌, ℕ, ◌≤◌, true, length, IfOk, option_map};
 ghost use Rattle.std.specs.Option.{option_copied};
 ghost use Rattle.itch_live.specs.Guests as guests;
 
+use crate::gone::Gone;
 use crate::shot::Shot;
 use crate::told::Told;
 use itch_frame::Splitter;
@@ -29,7 +30,7 @@ pub struct Guest<A: Allocator> {
     asked: Option<LoginRequest>,
     told: Told<A>,
     taken: usize,
-    gone: bool,
+    gone: Option<Gone>,
     moved: u64,
     marked: usize,
 }
@@ -40,9 +41,9 @@ impl<A: Allocator> Model for Guest<A> {
 
     ghost Value = { guests.Guest };
 
-    ghost view = { λ g. record { held = g.splitter; session = g.session; asked = g.asked; told = guests.told_of g.told; snapshot = guests.snapshot_of g.told; taken = g.taken; gone = g.gone; moved = g.moved; marked = g.marked } };
+    ghost view = { λ g. record { held = g.splitter; session = g.session; asked = g.asked; told = guests.told_of g.told; rejection = guests.rejection_of g.told; snapshot = guests.snapshot_of g.told; taken = g.taken; gone = g.gone; moved = g.moved; marked = g.marked } };
 
-    ghost invariant = { λ g. g.taken ≤ length (guests.bytes_of (guests.told_of g.told)) };
+    ghost invariant = { λ g. (g.taken ≤ length (guests.bytes_of (guests.told_of g.told))) × guests.IsOneRefusal g.told };
 }
 
 impl<A: Allocator> Guest<A> {
@@ -56,7 +57,7 @@ impl<A: Allocator> Guest<A> {
             asked: None,
             told: Told::Nothing,
             taken: 0,
-            gone: false,
+            gone: None,
             moved: now_ms,
             marked: 0,
         })
@@ -103,7 +104,8 @@ impl<A: Allocator> Guest<A> {
                 self.taken = 0;
             }
             ServerAct::Nothing => {}
-            ServerAct::Close | ServerAct::Fault(_) => self.gone = true,
+            ServerAct::Close => self.go(Gone::Left),
+            ServerAct::Fault(_) => self.go(Gone::Fault),
         }
     }
 
@@ -111,7 +113,7 @@ impl<A: Allocator> Guest<A> {
     pub fn is_waiting(&self) -> bool
         ensures { result ≡ guests.is_waiting self.now }
     {
-        self.asked.is_some() && matches!(self.told, Told::Nothing) && !self.gone
+        self.asked.is_some() && matches!(self.told, Told::Nothing) && !self.is_gone()
     }
 
     /// Hands in the bytes that answer the login, at this moment: the snapshot of the market before the message of number `next`.
@@ -127,7 +129,7 @@ impl<A: Allocator> Guest<A> {
     pub fn pending(&self) -> &[u8]
         ensures { result.now ≡ guests.pending self.now }
     {
-        if self.gone {
+        if self.is_gone() {
             return &[];
         }
         &self.told.bytes()[self.taken..]
@@ -154,15 +156,24 @@ impl<A: Allocator> Guest<A> {
         ensures { self.new ≡ guests.ticked self.old now_ms }
     {
         if now_ms.saturating_sub(self.moved) >= SILENCE_MS {
-            self.leave();
+            self.go(Gone::Silent);
         }
     }
 
-    /// Takes note that the client is gone.
+    /// Takes note that the client is gone: it has left, unless it was gone before.
     pub fn leave(&mut self)
         ensures { self.new ≡ guests.left self.old }
     {
-        self.gone = true;
+        self.go(Gone::Left);
+    }
+
+    // The client is gone, for this reason unless it was gone before.
+    fn go(&mut self, reason: Gone)
+        ensures { self.new ≡ guests.gone_for reason self.old }
+    {
+        if self.gone.is_none() {
+            self.gone = Some(reason);
+        }
     }
 
     /// Whether the client has all that it is told: the sending half of its connection is to be shut down, and what it still
@@ -170,14 +181,30 @@ impl<A: Allocator> Guest<A> {
     pub fn is_closing(&self) -> bool
         ensures { result ≡ guests.is_closing self.now }
     {
-        !self.gone && self.has_all()
+        !self.is_gone() && self.has_all()
     }
 
     /// Whether the client is gone: its connection is to be closed.
     pub fn is_gone(&self) -> bool
+        ensures { result ≡ guests.is_gone self.now }
+    {
+        self.why_gone().is_some()
+    }
+
+    /// Why the client is gone, if it is: the first reason that there was.
+    pub fn why_gone(&self) -> Option<Gone>
         ensures { result ≡ self.now.gone }
     {
         self.gone
+    }
+
+    /// The code of the Login Rejected packet (SoupBinTCP 3.00) that the client is told, if its login was rejected: `A` where it is
+    /// not authorised, and `S` where what it asks for is not available.
+    pub fn rejection_code(&self) -> Option<u8>
+        ensures code { result ≡ self.now.rejection }
+        ensures told { (code : ℕ) → result ≡ Some code → self.now.told ≡ Some (guests.refusal code) }
+    {
+        self.told.rejection()
     }
 
     /// The number of the next message at which the snapshot that the client is sent was encoded.
@@ -205,7 +232,7 @@ impl<A: Allocator> Guest<A> {
         ensures { result ≡ guests.is_deaf self.now }
     {
         let refused = !matches!(self.told, Told::Nothing) && self.asked.is_none();
-        self.gone || refused || self.has_all()
+        self.is_gone() || refused || self.has_all()
     }
 }
 

@@ -2,9 +2,9 @@
 //!
 //! Each function here does nothing: its clauses are the laws, over every list of calls. They do not say that a peer sends or takes
 //! anything, that it is served before another one, or how long anything takes.
-ghost use Rattle.std.specs.Prelude.{◌≡◌, ℕ, ◌≤◌, List, ◌∷◌, ◌++◌, true, length};
+ghost use Rattle.std.specs.Prelude.{◌≡◌, ℕ, ◌+◌, ◌*◌, ◌≤◌, List, ◌∷◌, ◌++◌, true, length};
 ghost use Rattle.std.specs.List.{AllByRecursion};
-ghost use Rattle.itch_codec.specs.Fields.{AreBytes};
+ghost use Rattle.itch_codec.specs.Fields.{AreBytes, IsAlpha};
 ghost use Rattle.itch_market.specs.Content.{Content};
 ghost use Rattle.itch_market.specs.Wanted.{Wanted, has};
 ghost use Rattle.itch_join.specs.Rules.{rules_of, market_rules};
@@ -22,7 +22,7 @@ ghost use Rattle.itch_live.specs.Desks.{Desk, Event, History, sent_at};
 ghost use Rattle.itch_live.specs.Visits.{Visit, visit_at, IsVisit};
 ghost use Rattle.itch_live.specs.FeedDesks.{AreHonest, IsSentOfFeed, GoesOn};
 ghost use Rattle.itch_live.specs.Players.{Player};
-ghost use Rattle.itch_live.specs.Memory.{AreWithin, held_bytes, most_bytes};
+ghost use Rattle.itch_live.specs.Memory.{held_bytes, most_bytes, longest, most_messages, AreOfMarkets};
 ghost use Rattle.itch_live.specs.Plays as plays;
 
 use itch_frame::CountedWrite;
@@ -101,12 +101,15 @@ pub fn snapshots_kept<W: CountedWrite>()
         → History W.contents W.failures config begun past d → d.following.joining.state.joined ≡ Some j → kept_bytes d.seats j.next ≡ Some bytes → bytes ≡ whole j.market j.next config }
 {}
 
-/// What a desk holds beside the market of its feed and the words of its places, if each snapshot that is handed in has at most so
-/// many bytes: at most 65,537 bytes for the feed and for each place, and those of [`MOST_SNAPSHOTS`](crate::MOST_SNAPSHOTS)
-/// snapshots. [`shoot`](crate::shoot) bounds a snapshot's bytes by its messages.
+/// What a desk holds beside the market of its feed and the words of its places: at most 65,537 bytes for the feed and for each
+/// place, and [`MOST_SNAPSHOTS`](crate::MOST_SNAPSHOTS) times those of the longest snapshot that was handed in. That one has at most
+/// 43 bytes for each of its messages, and 128 for the rest, where its server's session, its market and its number are what the
+/// types of these say.
 pub fn memory_of_a_desk<W: CountedWrite>()
-    ensures { (most : ℕ) → (config : ServerConfig) → (begun : Following) → (past : List (Event W)) → (d : Desk) → History W.contents W.failures config begun past d
-        → AreWithin most past → held_bytes d ≤ most_bytes (length d.seats) most }
+    ensures held { (config : ServerConfig) → (begun : Following) → (past : List (Event W)) → (d : Desk) → History W.contents W.failures config begun past d
+        → held_bytes d ≤ most_bytes (length d.seats) (longest past) }
+    ensures snapshots { (config : ServerConfig) → (begun : Following) → (past : List (Event W)) → (d : Desk) → IsAlpha 10 config.session → AreOfMarkets past
+        → History W.contents W.failures config begun past d → longest past ≤ 43 * most_messages past + 128 }
 {}
 
 /// Whatever happens to a client of a played feed, in whatever order, and however little its socket takes at a time: what it was

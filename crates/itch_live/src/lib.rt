@@ -16,6 +16,7 @@
 
 mod desk;
 mod follower;
+mod gone;
 mod guest;
 mod kept;
 pub mod laws;
@@ -24,11 +25,13 @@ mod outbox;
 mod player;
 mod progress;
 mod seats;
+mod sheet;
 mod shot;
 mod told;
 
 pub use desk::{Desk, MOST_SNAPSHOTS};
 pub use follower::Follower;
+pub use gone::Gone;
 pub use guest::Guest;
 pub use news::{News, Source};
 pub use player::Player;

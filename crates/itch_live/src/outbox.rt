@@ -101,7 +101,7 @@ impl<A: Allocator> Outbox<A> {
 }
 
 // Adds bytes for which there is room.
-fn append<A: Allocator>(bytes: &mut Vec<u8, A>, part: &[u8])
+pub(crate) fn append<A: Allocator>(bytes: &mut Vec<u8, A>, part: &[u8])
     requires { vec_len bytes.old + length part.now ≤ vec_capacity bytes.old }
     ensures items { bytes.new.items ≡ bytes.old.items ++ part.now }
     ensures capacity { vec_capacity bytes.old ≤ vec_capacity bytes.new }

@@ -2,6 +2,7 @@
 ghost use Rattle.std.specs.Prelude.{◌≡◌, ◌≤◌, ◌<◌, ◌^◌, length, IfOk, IsSome};
 ghost use Rattle.itch_live.specs.Players as players;
 
+use crate::gone::Gone;
 use crate::guest::hear_payload;
 use crate::outbox::Outbox;
 use crate::progress::Progress;
@@ -29,7 +30,7 @@ pub struct Player<A: Allocator> {
     progress: Progress,
     next: u64,
     outbox: Outbox<A>,
-    gone: bool,
+    gone: Option<Gone>,
     moved: u64,
     sent: u64,
 }
@@ -66,7 +67,7 @@ impl<A: Allocator + Copy> Player<A> {
             progress: Progress::Waiting,
             next: 0,
             outbox: Outbox::new(alloc)?,
-            gone: false,
+            gone: None,
             moved: now_ms,
             sent: now_ms,
         })
@@ -100,14 +101,17 @@ impl<A: Allocator> Player<A> {
         match act {
             ServerAct::Accept { next } => {
                 let packet = self.session.accepted(next);
-                self.tell(Progress::Playing, &packet, now_ms);
-                self.next = next.value();
+                let first = next.value();
+                self.tell(Progress::Playing { first }, &packet, now_ms);
+                self.next = first;
             }
             ServerAct::Reject(code) => {
-                self.tell(Progress::Refused, &ServerSession::rejected(code), now_ms);
+                let packet = ServerSession::rejected(code);
+                self.tell(Progress::Refused { code }, &packet, now_ms);
             }
             ServerAct::Nothing => {}
-            ServerAct::Close | ServerAct::Fault(_) => self.gone = true,
+            ServerAct::Close => self.go(Gone::Left),
+            ServerAct::Fault(_) => self.go(Gone::Fault),
         }
     }
 
@@ -151,7 +155,7 @@ impl<A: Allocator> Player<A> {
     {
         if self.is_playing() && self.next > self.total {
             self.outbox.push(&ServerSession::end());
-            self.progress = Progress::Ended;
+            self.progress = after_end(self.progress);
             self.sent = now_ms;
         }
     }
@@ -162,7 +166,7 @@ impl<A: Allocator> Player<A> {
         ensures { self.new ≡ players.ticked self.old now_ms }
     {
         if now_ms.saturating_sub(self.moved) >= SILENCE_MS {
-            self.leave();
+            self.go(Gone::Silent);
         } else if self.is_idle(now_ms) {
             self.outbox.push(&ServerSession::heartbeat());
             self.sent = now_ms;
@@ -173,7 +177,7 @@ impl<A: Allocator> Player<A> {
     pub fn pending(&self) -> &[u8]
         ensures { result.now ≡ players.pending self.now }
     {
-        if self.gone {
+        if self.is_gone() {
             return &[];
         }
         self.outbox.bytes()
@@ -191,11 +195,20 @@ impl<A: Allocator> Player<A> {
         }
     }
 
-    /// Takes note that the client is gone.
+    /// Takes note that the client is gone: it has left, unless it was gone before.
     pub fn leave(&mut self)
         ensures { self.new ≡ players.left self.old }
     {
-        self.gone = true;
+        self.go(Gone::Left);
+    }
+
+    // The client is gone, for this reason unless it was gone before.
+    fn go(&mut self, reason: Gone)
+        ensures { self.new ≡ players.gone_for reason self.old }
+    {
+        if self.gone.is_none() {
+            self.gone = Some(reason);
+        }
     }
 
     /// Whether the client has its refusal, or all messages and the end of the session: the sending half of its connection is to be
@@ -203,20 +216,48 @@ impl<A: Allocator> Player<A> {
     pub fn is_closing(&self) -> bool
         ensures { result ≡ players.is_closing self.now }
     {
-        !self.gone && self.has_all()
+        !self.is_gone() && self.has_all()
     }
 
     /// Whether the client is gone: its connection is to be closed.
     pub fn is_gone(&self) -> bool
+        ensures { result ≡ players.is_gone self.now }
+    {
+        self.why_gone().is_some()
+    }
+
+    /// Why the client is gone, if it is: the first reason that there was.
+    pub fn why_gone(&self) -> Option<Gone>
         ensures { result ≡ self.now.gone }
     {
         self.gone
     }
 
+    /// The code of the Login Rejected packet (SoupBinTCP 3.00) that the client is told, if its login was rejected: `A` where it is
+    /// not authorised, and `S` where what it asks for is not available.
+    pub fn rejection_code(&self) -> Option<u8>
+        ensures { result ≡ players.rejection_of self.now.progress }
+    {
+        match self.progress {
+            Progress::Refused { code } => Some(code),
+            _ => None,
+        }
+    }
+
+    /// The number of the first message that the client is sent, if its login was accepted: the one that it asked for.
+    pub fn played_from(&self) -> Option<u64>
+        ensures { result ≡ players.first_of self.now.progress }
+    {
+        match self.progress {
+            Progress::Playing { first } | Progress::Ended { first } => Some(first),
+            _ => None,
+        }
+    }
+
     fn is_playing(&self) -> bool
         ensures { result ≡ players.is_playing self.now }
     {
-        matches!(self.progress, Progress::Playing) && !self.gone
+        matches!(self.progress, Progress::Playing { .. }) && !self.is_gone()
     }
 
     // Whether a heartbeat is due.
@@ -229,13 +270,26 @@ impl<A: Allocator> Player<A> {
     fn has_all(&self) -> bool
         ensures { result ≡ players.has_all self.now }
     {
-        matches!(self.progress, Progress::Refused | Progress::Ended) && self.outbox.is_empty()
+        matches!(
+            self.progress,
+            Progress::Refused { .. } | Progress::Ended { .. }
+        ) && self.outbox.is_empty()
     }
 
     // Whether what the client says no longer matters.
     fn is_deaf(&self) -> bool
         ensures { result ≡ players.is_deaf self.now }
     {
-        self.gone || matches!(self.progress, Progress::Refused) || self.has_all()
+        self.is_gone() || matches!(self.progress, Progress::Refused { .. }) || self.has_all()
+    }
+}
+
+// How far one has come whose session is ended.
+fn after_end(progress: Progress) -> Progress
+    ensures { result ≡ players.after_end progress }
+{
+    match progress {
+        Progress::Playing { first } => Progress::Ended { first },
+        other => other,
     }
 }

@@ -5,10 +5,10 @@
 pub(crate) enum Progress {
     /// No login was accepted yet.
     Waiting,
-    /// Its login was rejected.
-    Refused,
-    /// Its login was accepted, and the session goes on.
-    Playing,
-    /// All messages were handed in, and the end of the session after them.
-    Ended,
+    /// Its login was rejected with this code.
+    Refused { code: u8 },
+    /// Its login was accepted from this number on, and the session goes on.
+    Playing { first: u64 },
+    /// The same, and all messages were handed in, and the end of the session after them.
+    Ended { first: u64 },
 }

@@ -1,15 +1,15 @@
 //! The packets of a snapshot, encoded once for all clients that are sent it.
-ghost use Rattle.std.specs.Prelude.{◌≡◌, ◌≤◌, ◌+◌, ◌*◌, length, IfOk};
+ghost use Rattle.std.specs.Prelude.{◌≡◌, ◌<◌, ◌≤◌, ◌+◌, ◌-◌, ◌*◌, ◌^◌, [], length, IfOk};
 ghost use Rattle.itch_snapshot.specs.Snapshot.{snap};
 ghost use Rattle.itch_live.specs.Guests.{whole};
 
+use crate::sheet::Sheet;
 use itch_book::OrderBook;
 use itch_codec::Seq;
-use itch_frame::Counted;
 use itch_market::Market;
 use itch_snapshot::snapshot_len;
 use itch_soup::{ServerConfig, write_session};
-use std::alloc::{AllocError, Allocator};
+use std::alloc::AllocError;
 use std::rc::Rc;
 
 /// The encoded packets of a snapshot, shared by the clients that are sent it.
@@ -25,8 +25,8 @@ const AROUND: u128 = 128;
 /// The bytes that answer a login for all messages: its acceptance, the market's snapshot with its End of Snapshot, and the end
 /// of the session.
 ///
-/// Their memory is taken at once, 43 bytes for each message and 128 for the rest, and is not exceeded. A snapshot for which 2^64
-/// bytes would not do is refused as one for which there is no memory.
+/// Their memory is taken at once, 43 bytes for each message and 128 for the rest, which is always enough. A snapshot for which
+/// 2^64 bytes would not do is refused as one for which there is no memory.
 pub fn shoot<B: OrderBook>(
     alloc: B::Alloc,
     market: &Market<B>,
@@ -36,27 +36,42 @@ pub fn shoot<B: OrderBook>(
     ensures bytes { IfOk result (λ bytes. bytes.items ≡ whole market.now next config.now) }
     ensures room { IfOk result (λ bytes. length bytes.items ≤ 43 * length (snap market.now) + 128) }
 {
+    recall_length(market, next, config);
     let messages = snapshot_len(market).min(1 << 64);
     let Ok(room) = usize::try_from(LONGEST * messages + AROUND) else {
         return Err(AllocError);
     };
-    let mut out = Counted::new(Vec::with_capacity(alloc, room)?);
+    let sheet = Sheet::new(alloc, room)?;
+    Ok(fill(sheet, market, next, config))
+}
+
+// Does nothing at run time. It tells a proof how many bytes there are at most.
+#[tactic(auto, using(crate::proofs::Lengths::whole_within))]
+fn recall_length<B: OrderBook>(market: &Market<B>, next: Seq, config: &ServerConfig)
+    ensures { length (whole market.now next config.now) ≤ 43 * length (snap market.now) + 128 }
+{
+    market.recall_invariant();
+    config.session.recall_invariant();
+    let _number = next.value();
+}
+
+// Fills a sheet that has room for all.
+fn fill<B: OrderBook>(
+    mut sheet: Sheet<B::Alloc>,
+    market: &Market<B>,
+    next: Seq,
+    config: &ServerConfig,
+) -> Vec<u8, B::Alloc>
+    requires empty { sheet.bytes.items ≡ [] }
+    requires room { length (whole market.now next config.now) ≤ sheet.room }
+    requires few { length (snap market.now) < 10 ^ 19 - 1 }
+    ensures { result.items ≡ whole market.now next config.now }
+{
     let Some(first) = Seq::new(1) else {
         unreachable!()
     };
-    match write_session(&mut out, market, next, config, first) {
-        Ok(_) => within(out.into_inner(), room),
-        Err(_) => Err(AllocError),
+    match write_session(&mut sheet, market, next, config, first) {
+        Ok(_) => sheet.into_bytes(),
+        Err(_) => unreachable!(),
     }
-}
-
-// These bytes, unless they are more than the memory that was taken for them.
-fn within<A: Allocator>(bytes: Vec<u8, A>, room: usize) -> Result<Vec<u8, A>, AllocError>
-    ensures same { IfOk result (λ all. all ≡ bytes) }
-    ensures room { IfOk result (λ all. length all.items ≤ room) }
-{
-    if bytes.len() > room {
-        return Err(AllocError);
-    }
-    Ok(bytes)
 }

@@ -27,6 +27,16 @@ impl<A: Allocator> Told<A> {
         }
     }
 
+    /// The code with which its login is rejected.
+    pub(crate) fn rejection(&self) -> Option<u8>
+        ensures { result ≡ guests.rejection_of self.now }
+    {
+        match self {
+            Told::Refusal(bytes) => Some(bytes[3]),
+            _ => None,
+        }
+    }
+
     /// The number of the next message at which the snapshot was encoded.
     pub(crate) fn snapshot(&self) -> Option<u64>
         ensures { result ≡ guests.snapshot_of self.now }

@@ -1,9 +1,31 @@
 -- The line of a connection that has ended.
-use Rattle.std.specs.Prelude.{ℕ, List, [], ◌∷◌, ◌++◌, codes, decimal}
+use Rattle.std.specs.Prelude.{ℕ, Bool, true, false, List, [], ◌∷◌, ◌++◌, Option, None, Some, codes, decimal}
+use Rattle.itch_live.specs.declared.gone.Gone.{Gone}
+use Rattle.itch_live.specs.declared.gone.Gone.TheVariants as gone
 use Rattle.itchsnap_live.specs.declared.departure.Departure.{Departure}
 use Rattle.itchsnap_live.specs.declared.departure.Departure.TheVariants.{Answered, Played, Rejected, Left, Fault, CutOff}
 
--- how a connection ended
+-- how the connection of a client ended that is gone for this reason
+abbrev pub of_gone : Gone → Departure
+of_gone gone.Left = Left
+of_gone gone.Fault = Fault
+of_gone gone.Silent = CutOff
+
+-- why a connection is to be closed, if it is: its client is gone; its socket has failed; or it is over, since the client sends no more and waits for
+-- nothing
+abbrev pub ending : Option Gone → Bool → Bool → Option Gone
+ending (Some reason) failed over = Some reason
+ending None true over = Some gone.Fault
+ending None false true = Some gone.Left
+ending None false false = None
+
+-- how a connection ended: a client that was rejected, or served, was so whatever came later
+abbrev pub departure_of : Option ℕ → Option Departure → Gone → Departure
+departure_of (Some code) served reason = Rejected code
+departure_of None (Some served) reason = served
+departure_of None None reason = of_gone reason
+
+-- the words of that
 abbrev pub departure_words : Departure → List ℕ
 departure_words (Answered next packets) = codes "accepted at " ++ decimal next ++ codes ", " ++ decimal packets ++ codes " packets"
 departure_words (Played from packets) = codes "accepted from " ++ decimal from ++ codes ", " ++ decimal packets ++ codes " packets"

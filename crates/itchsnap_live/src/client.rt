@@ -1,40 +1,24 @@
 //! A client that is served a snapshot.
 
-use crate::departure::Departure;
+use crate::departure::{Departure, departure_of};
 use crate::feed_side::SHARE;
 use crate::link::Link;
-use crate::told::{Verdict, verdict_in};
 use itch_book::OrderBook;
 use itch_live::Desk;
 use mio::event::Event;
-
-/// What a client was told, as far as its line says it.
-#[derive(Clone, Copy)]
-enum Answer {
-    Nothing,
-    /// A snapshot of so many packets, whose End has this number.
-    Whole { next: u64, packets: u64 },
-    /// A rejection with this code.
-    Refusal(u8),
-}
 
 /// The connection of the client at a place of a desk.
 #[derive(Drop)]
 pub(crate) struct ClientSide {
     link: Link,
-    answer: Answer,
-    // How it is gone, once it is.
-    gone: Option<Departure>,
+    // How its connection has ended once it has all of the snapshot that it is sent.
+    answer: Option<Departure>,
 }
 
 impl ClientSide {
     /// A client that has connected.
     pub(crate) fn new(link: Link) -> ClientSide {
-        ClientSide {
-            link,
-            answer: Answer::Nothing,
-            gone: None,
-        }
+        ClientSide { link, answer: None }
     }
 
     pub(crate) fn number(&self) -> u64 {
@@ -53,7 +37,7 @@ impl ClientSide {
 
     /// Takes note that it is answered with a snapshot of so many packets, whose End has this number.
     pub(crate) fn note_answer(&mut self, next: u64, packets: u64) {
-        self.answer = Answer::Whole { next, packets };
+        self.answer = Some(Departure::Answered { next, packets });
     }
 
     /// Reads what it has said, as far as the buffer goes.
@@ -66,19 +50,12 @@ impl ClientSide {
     ) {
         let count = self.link.read(buffer);
         hand_on(desk, place, &buffer[..count], now_ms);
-        self.look(desk, place, Departure::Left);
     }
 
     /// Writes what is pending, up to a share. Once it has all, the sending half of the connection is ended.
     pub(crate) fn tell<B: OrderBook>(&mut self, desk: &mut Desk<B>, place: usize, now_ms: u64) {
         let pending = desk.pending(place);
-        let part = &pending[..pending.len().min(SHARE)];
-        if matches!(self.answer, Answer::Nothing)
-            && let Some(Verdict::Rejected(code)) = verdict_in(part)
-        {
-            self.answer = Answer::Refusal(code);
-        }
-        let count = self.link.write(part);
+        let count = self.link.write(&pending[..pending.len().min(SHARE)]);
         desk.took(place, count, now_ms);
         if let Some(guest) = desk.guest(place)
             && guest.is_closing()
@@ -87,52 +64,23 @@ impl ClientSide {
         }
     }
 
-    /// Takes note of what the moment has made of it.
-    pub(crate) fn tick<B: OrderBook>(&mut self, desk: &Desk<B>, place: usize) {
-        self.look(desk, place, Departure::CutOff);
-    }
-
-    // Takes note that it is gone, if it is: for this reason.
-    fn look<B: OrderBook>(&mut self, desk: &Desk<B>, place: usize, reason: Departure) {
-        if let Some(guest) = desk.guest(place)
-            && guest.is_gone()
-            && self.gone.is_none()
-        {
-            self.gone = Some(reason);
-        }
-    }
-
-    /// How its connection ended, once it is to be closed. One that has all is answered or rejected, whatever came later.
+    /// How its connection ended, once it is to be closed. A client that sends no more is told all that it asked for before.
     pub(crate) fn departure<B: OrderBook>(
         &self,
         desk: &Desk<B>,
         place: usize,
     ) -> Option<Departure> {
-        let ended = self.ending(desk, place)?;
-        Some(match self.answer {
-            Answer::Refusal(code) => Departure::Rejected(code),
-            Answer::Whole { next, packets } if self.link.has_all() => {
-                Departure::Answered { next, packets }
-            }
-            _ => ended,
-        })
-    }
-
-    // Why its connection is to be closed, if it is. A client that sends no more is told all that it asked for before.
-    fn ending<B: OrderBook>(&self, desk: &Desk<B>, place: usize) -> Option<Departure> {
-        let waits = match desk.guest(place) {
-            Some(guest) => guest.is_waiting() || !guest.pending().is_empty(),
-            None => false,
+        let Some(guest) = desk.guest(place) else {
+            return Some(Departure::Fault);
         };
-        if self.gone.is_some() {
-            self.gone
-        } else if self.link.has_failed() {
-            Some(Departure::Fault)
-        } else if self.link.has_ended() && !waits {
-            Some(Departure::Left)
+        let waits = guest.is_waiting() || !guest.pending().is_empty();
+        let gone = self.link.ending(guest.why_gone(), waits)?;
+        let served = if self.link.has_all() {
+            self.answer
         } else {
             None
-        }
+        };
+        Some(departure_of(guest.rejection_code(), served, gone))
     }
 }
 

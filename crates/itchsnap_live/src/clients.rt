@@ -202,15 +202,10 @@ impl Clients {
     }
 
     // The number of the client at a place, and how its connection ended, once it is to be closed.
-    fn departure<B: OrderBook>(
-        &mut self,
-        desk: &Desk<B>,
-        place: usize,
-    ) -> Option<(u64, Departure)> {
-        let Some(Some(client)) = self.seats.get_mut(place) else {
+    fn departure<B: OrderBook>(&self, desk: &Desk<B>, place: usize) -> Option<(u64, Departure)> {
+        let Some(Some(client)) = self.seats.get(place) else {
             return None;
         };
-        client.tick(desk, place);
         let departure = client.departure(desk, place)?;
         Some((client.number(), departure))
     }

@@ -2,12 +2,13 @@
 ghost use Rattle.std.specs.Prelude.{◌≡◌, ◌≤◌, ◌++◌, length, codes, decimal};
 ghost use Rattle.arrayvec.specs.ArrayVec.{array_vec_len};
 ghost use Rattle.itch_commands.specs.Outputs.{WritesText};
-ghost use Rattle.itchsnap_live.specs.Departures.{departure_line, departure_words};
+ghost use Rattle.itchsnap_live.specs.Departures.{departure_line, departure_of, departure_words};
 
 use crate::line::{push, push_number};
 use arrayvec::ArrayVec;
 use itch_commands::{ToolFault, write_text};
 use itch_frame::CountedWrite;
+use itch_live::Gone;
 
 /// How a client's connection ended.
 #[derive(Clone, Copy, Debug, PartialEq, Eq)]
@@ -18,12 +19,38 @@ pub enum Departure {
     Played { from: u64, packets: u64 },
     /// Its login was rejected with this code.
     Rejected(u8),
-    /// It logged out, or closed its connection, before it had all.
+    /// It logged out, or sent no more, before it had all.
     Left,
     /// It broke the protocol, or its socket failed.
     Fault,
     /// It was silent or took too little for 15 seconds.
     CutOff,
+}
+
+impl From<Gone> for Departure {
+    ghost use Rattle.itchsnap_live.specs.Departures.{of_gone};
+
+    ghost from_gives = { λ gone departure. departure ≡ of_gone gone };
+
+    fn from(gone: Gone) -> Departure {
+        match gone {
+            Gone::Left => Departure::Left,
+            Gone::Fault => Departure::Fault,
+            Gone::Silent => Departure::CutOff,
+        }
+    }
+}
+
+/// How the connection of a client ended that is gone for this reason: a client that was rejected with a code, or was served, was so
+/// whatever came later.
+pub fn departure_of(code: Option<u8>, served: Option<Departure>, gone: Gone) -> Departure
+    ensures { result ≡ departure_of code served gone }
+{
+    match (code, served) {
+        (Some(code), _) => Departure::Rejected(code),
+        (None, Some(served)) => served,
+        (None, None) => Departure::from(gone),
+    }
 }
 
 /// Writes the line of a connection.

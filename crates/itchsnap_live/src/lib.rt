@@ -31,10 +31,9 @@ mod route;
 mod saving;
 mod socket;
 mod step;
-mod told;
 mod turns;
 
-pub use departure::{Departure, write_departure};
+pub use departure::{Departure, departure_of, write_departure};
 pub use follow::{Following, follow_feed};
 pub use live::{Serving, serve_live};
 pub use pace::is_due;

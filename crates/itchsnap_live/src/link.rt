@@ -1,7 +1,9 @@
 //! The connection of a client.
-ghost use Rattle.std.specs.Prelude.{◌≤◌, length};
+ghost use Rattle.std.specs.Prelude.{◌≡◌, ◌≤◌, ◌&&◌, not, length};
+ghost use Rattle.itchsnap_live.specs.Departures.{ending};
 
 use crate::socket::{Got, Socket};
+use itch_live::Gone;
 use mio::event::Event;
 
 /// The connection of a client, and how far it has ended.
@@ -80,18 +82,21 @@ impl Link {
         }
     }
 
-    /// Whether the client sends no more.
-    pub(crate) fn has_ended(&self) -> bool {
-        self.has_ended
-    }
-
     /// Whether the client has all that it is told: the sending half is ended.
     pub(crate) fn has_all(&self) -> bool {
         self.has_all
     }
 
-    /// Whether a read or a write has failed.
-    pub(crate) fn has_failed(&self) -> bool {
-        self.has_failed
+    /// Why the connection is to be closed, if it is: its client is gone, its socket has failed, or it sends no more and waits for
+    /// nothing.
+    pub(crate) fn ending(&self, gone: Option<Gone>, waits: bool) -> Option<Gone>
+        ensures { result ≡ ending gone self.now.has_failed (self.now.has_ended && not waits) }
+    {
+        match gone {
+            Some(gone) => Some(gone),
+            None if self.has_failed => Some(Gone::Fault),
+            None if self.has_ended && !waits => Some(Gone::Left),
+            None => None,
+        }
     }
 }

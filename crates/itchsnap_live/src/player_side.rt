@@ -1,13 +1,12 @@
 //! A client that a day file is played to.
 
-use crate::departure::Departure;
+use crate::departure::{Departure, departure_of};
 use crate::feed_side::SHARE;
 use crate::link::Link;
 use crate::pace::is_due;
 use crate::playback::Playback;
-use crate::told::{Verdict, verdict_in};
 use itch_commands::ToolFault;
-use itch_live::Player;
+use itch_live::{Gone, Player};
 use itchsnap_cli::words::Pace;
 use mio::event::Event;
 use std::alloc::Global;
@@ -50,9 +49,6 @@ pub(crate) struct PlayerSide<F: Read + Drop> {
     // How many messages were handed in, and how that ended in the last turn.
     count: u64,
     played: Played,
-    verdict: Option<Verdict>,
-    // How it is gone, once it is.
-    gone: Option<Departure>,
 }
 
 impl<F: Read + Drop> PlayerSide<F> {
@@ -65,8 +61,6 @@ impl<F: Read + Drop> PlayerSide<F> {
             start: None,
             count: 0,
             played: Played::All,
-            verdict: None,
-            gone: None,
         }
     }
 
@@ -102,14 +96,12 @@ impl<F: Read + Drop> PlayerSide<F> {
         }
         self.tell(now_ms);
         self.player.tick(now_ms);
-        self.look(Departure::CutOff);
     }
 
     // Reads what it has said, as far as the buffer goes.
     fn hear(&mut self, now_ms: u64, buffer: &mut [u8]) {
         let count = self.link.read(buffer);
         hand_on(&mut self.player, &buffer[..count], now_ms);
-        self.look(Departure::Left);
     }
 
     // Hands in the messages that are due.
@@ -138,56 +130,37 @@ impl<F: Read + Drop> PlayerSide<F> {
     // Writes what is pending, up to a share. Once it has all, the sending half of the connection is ended.
     fn tell(&mut self, now_ms: u64) {
         let pending = self.player.pending();
-        let part = &pending[..pending.len().min(SHARE)];
-        if self.verdict.is_none() {
-            self.verdict = verdict_in(part);
-        }
-        let count = self.link.write(part);
+        let count = self.link.write(&pending[..pending.len().min(SHARE)]);
         self.player.took(count, now_ms);
         if self.player.is_closing() {
             self.link.end_sending();
         }
     }
 
-    // Takes note that it is gone, if it is: for this reason.
-    fn look(&mut self, reason: Departure) {
-        if self.player.is_gone() && self.gone.is_none() {
-            self.gone = Some(reason);
-        }
-    }
-
-    /// How its connection ended, once it is to be closed. A client that leaves a feed was played to up to there.
+    /// How its connection ended, once it is to be closed. A client that sends no more is played to as long as it wants a message.
     pub(crate) fn departure(&self) -> Option<Departure> {
-        let ended = self.ending()?;
-        Some(match self.verdict {
-            Some(Verdict::Rejected(code)) => Departure::Rejected(code),
-            Some(Verdict::Accepted(from)) if self.link.has_all() || ended == Departure::Left => {
-                Departure::Played {
-                    from,
-                    packets: self.count,
-                }
-            }
-            _ => ended,
-        })
+        if matches!(self.played, Played::Failed) {
+            return Some(Departure::Fault);
+        }
+        let waits = self.player.wanted().is_some() || !self.player.pending().is_empty();
+        let gone = self.link.ending(self.player.why_gone(), waits)?;
+        let code = self.player.rejection_code();
+        Some(departure_of(code, self.served(), gone))
     }
 
-    // Why its connection is to be closed, if it is. A client that sends no more is played to as long as it wants a message. One whose
-    // socket fails while it is played to has left: it closed its connection before it had read all.
-    fn ending(&self) -> Option<Departure> {
-        let waits = self.player.wanted().is_some() || !self.player.pending().is_empty();
-        if matches!(self.played, Played::Failed) {
-            Some(Departure::Fault)
-        } else if self.gone.is_some() {
-            self.gone
-        } else if self.link.has_failed() {
-            Some(match self.verdict {
-                Some(_) => Departure::Left,
-                None => Departure::Fault,
-            })
-        } else if self.link.has_ended() && !waits {
-            Some(Departure::Left)
-        } else {
-            None
+    // How its connection ended if it was played to for as long as it wished. One whose socket has failed closed its connection before it had
+    // read all.
+    fn served(&self) -> Option<Departure> {
+        let wished = match self.player.why_gone() {
+            Some(Gone::Fault | Gone::Silent) => self.link.has_all(),
+            Some(Gone::Left) | None => true,
+        };
+        match self.player.played_from() {
+            Some(from) if wished => Some(Departure::Played {
+                from,
+                packets: self.count,
+            }),
+            _ => None,
         }
     }
 }

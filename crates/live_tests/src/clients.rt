@@ -7,7 +7,7 @@ use crate::messages::{
 use crate::steps::{Brought, Standing, Step, check, desk_of, take_steps};
 use itch_book::{IndexedBook, OrderBook};
 use itch_frame::testing::FuseWriter;
-use itch_live::{Desk, laws};
+use itch_live::{Desk, Gone, laws};
 use std::alloc::Global;
 use std::process::Abort;
 use std::test::Fail;
@@ -45,7 +45,7 @@ const TWO_CLIENTS: &[Step<'static>] = &[
         \0\x16SG                   3\0\x01Z",
     ),
     Step::Hear(0, LOGOUT),
-    Step::Stands(0, Standing::Gone),
+    Step::Stands(0, Standing::Gone(Gone::Left)),
     Step::Pending(0, b""),
     Step::Stands(1, Standing::There),
     Step::Leave(0),
@@ -97,32 +97,43 @@ const REFUSED: &[Step<'static>] = &[
     Step::Hear(0, CLIENT_HEARTBEAT),
     Step::Answer,
     Step::Pending(0, REFUSED_USER),
+    Step::Rejected(0, Some(b'A')),
     Step::Take(0, 4),
     Step::Stands(0, Standing::Closing),
+    Step::Rejected(0, Some(b'A')),
     Step::Leave(0),
+    Step::Rejected(0, None),
     Step::Admit(Some(0)),
     Step::Hear(0, LOGIN_2),
     Step::Answer,
     Step::Pending(0, REFUSED_SESSION),
+    Step::Rejected(0, Some(b'S')),
     Step::Admit(Some(1)),
+    Step::Rejected(1, None),
     Step::Hear(1, LOGIN_OTHER),
     Step::Pending(1, REFUSED_SESSION),
     Step::Leave(1),
     Step::Admit(Some(1)),
     Step::Hear(1, b"\0\x01Q"),
-    Step::Stands(1, Standing::Gone),
+    Step::Stands(1, Standing::Gone(Gone::Fault)),
     Step::Leave(1),
     Step::Admit(Some(1)),
     Step::Hear(1, LOGIN),
     Step::Hear(1, LOGIN),
-    Step::Stands(1, Standing::Gone),
+    Step::Stands(1, Standing::Gone(Gone::Fault)),
+    Step::Rejected(1, None),
     Step::Answer,
     Step::Pending(1, b""),
     Step::Leave(1),
     Step::Admit(Some(1)),
     Step::Hear(1, LOGOUT),
-    Step::Stands(1, Standing::Gone),
+    Step::Stands(1, Standing::Gone(Gone::Left)),
     Step::Pending(0, REFUSED_SESSION),
+    Step::At(15_000),
+    Step::Tick,
+    Step::Stands(1, Standing::Gone(Gone::Left)),
+    Step::Stands(0, Standing::Gone(Gone::Silent)),
+    Step::Rejected(0, Some(b'S')),
 ];
 
 #[test]
@@ -142,7 +153,7 @@ const CUT_OFF: &[Step<'static>] = &[
     Step::Stands(0, Standing::There),
     Step::At(15_000),
     Step::Tick,
-    Step::Stands(0, Standing::Gone),
+    Step::Stands(0, Standing::Gone(Gone::Silent)),
     Step::Leave(0),
     Step::Answer,
     Step::At(29_999),
@@ -152,7 +163,7 @@ const CUT_OFF: &[Step<'static>] = &[
     Step::Hear(1, CLIENT_HEARTBEAT),
     Step::At(30_000),
     Step::Tick,
-    Step::Stands(1, Standing::Gone),
+    Step::Stands(1, Standing::Gone(Gone::Silent)),
     Step::Leave(1),
     Step::Admit(Some(0)),
     Step::Hear(0, LOGIN),
@@ -166,7 +177,7 @@ const CUT_OFF: &[Step<'static>] = &[
     Step::Stands(0, Standing::Closing),
     Step::At(55_000),
     Step::Tick,
-    Step::Stands(0, Standing::Gone),
+    Step::Stands(0, Standing::Gone(Gone::Silent)),
 ];
 
 #[test]

@@ -1,8 +1,8 @@
 //! A client of a played feed: what it is sent, byte by byte, and when it is cut off.
 use crate::equal::{holds_in, same_in};
 use crate::messages::{CLIENT_HEARTBEAT, LOGIN, LOGIN_2, LOGIN_OTHER, LOGIN_WRONG, LOGOUT};
-use crate::steps::{Standing, config};
-use itch_live::{Player, laws};
+use crate::steps::{Standing, config, how_it_stands};
+use itch_live::{Gone, Player, laws};
 use std::alloc::{Allocator, Global};
 use std::process::Abort;
 use std::test::Fail;
@@ -29,20 +29,14 @@ enum Turn<'a> {
     /// The socket takes so many bytes.
     Take(usize),
     Stands(Standing),
+    /// Its login was rejected with this code, or with none.
+    Rejected(Option<u8>),
+    /// It is played to from this number on, or is not.
+    From(Option<u64>),
     Leave,
 }
 
 static LONG: [u8; 65_534] = [b'x'; 65_534];
-
-fn stands<A: Allocator>(player: &Player<A>) -> Standing {
-    if player.is_gone() {
-        Standing::Gone
-    } else if player.is_closing() {
-        Standing::Closing
-    } else {
-        Standing::There
-    }
-}
 
 // The client says this. Returns how many bytes were taken.
 fn hear<A: Allocator>(player: &mut Player<A>, bytes: &[u8], now: u64) -> usize {
@@ -90,7 +84,12 @@ fn take_turn<A: Allocator>(
         Turn::Pending(want) => same_in(rt, at, player.pending(), want),
         Turn::Waits(want) => same_in(rt, at, player.pending().len(), want),
         Turn::Take(count) => holds_in(rt, at, take(player, count, now)),
-        Turn::Stands(want) => same_in(rt, at, stands(player), want),
+        Turn::Stands(want) => {
+            let stands = how_it_stands(player.is_gone(), player.why_gone(), player.is_closing());
+            same_in(rt, at, stands, want);
+        }
+        Turn::Rejected(want) => same_in(rt, at, player.rejection_code(), want),
+        Turn::From(want) => same_in(rt, at, player.played_from(), want),
         Turn::Leave => player.leave(),
     }
     now
@@ -110,7 +109,9 @@ fn check<A: Allocator + Copy>(rt: &impl Abort, memory: A, turns: &[Turn<'_>]) ->
 const ALL: &[Turn<'static>] = &[
     Turn::Wanted(None),
     Turn::Hear(CLIENT_HEARTBEAT),
+    Turn::From(None),
     Turn::Hear(LOGIN),
+    Turn::From(Some(1)),
     Turn::Pending(b"\0\x1fA  ITCHSNAP                   1"),
     Turn::Wanted(Some(1)),
     Turn::Play(b"one"),
@@ -139,6 +140,7 @@ const ALL: &[Turn<'static>] = &[
     Turn::Pending(b"\0\x01H\0\x01S\0\x06Sthree\0\x01Z"),
     Turn::Take(17),
     Turn::Stands(Standing::Closing),
+    Turn::From(Some(1)),
     Turn::At(9_000),
     Turn::Tick,
     Turn::Hear(LOGIN),
@@ -149,7 +151,7 @@ const ALL: &[Turn<'static>] = &[
     Turn::Stands(Standing::Closing),
     Turn::At(18_001),
     Turn::Tick,
-    Turn::Stands(Standing::Gone),
+    Turn::Stands(Standing::Gone(Gone::Silent)),
 ];
 
 #[test]
@@ -171,7 +173,8 @@ const FROM_3: &[Turn<'static>] = &[
     Turn::Play(b"three"),
     Turn::Pending(b"\0\x06Sthree"),
     Turn::Hear(LOGOUT),
-    Turn::Stands(Standing::Gone),
+    Turn::Stands(Standing::Gone(Gone::Left)),
+    Turn::From(Some(3)),
     Turn::Pending(b""),
     Turn::End,
     Turn::Pending(b""),
@@ -179,6 +182,8 @@ const FROM_3: &[Turn<'static>] = &[
 
 const FROM_4: &[Turn<'static>] = &[
     Turn::Hear(LOGIN_4),
+    Turn::From(Some(4)),
+    Turn::Rejected(None),
     Turn::Pending(b"\0\x1fA  ITCHSNAP                   4"),
     Turn::Wanted(None),
     Turn::Take(33),
@@ -192,7 +197,7 @@ const FROM_4: &[Turn<'static>] = &[
     Turn::Tick,
     Turn::Pending(b"\0\x01H"),
     Turn::Hear(LOGIN),
-    Turn::Stands(Standing::Gone),
+    Turn::Stands(Standing::Gone(Gone::Fault)),
 ];
 
 #[test]
@@ -213,18 +218,25 @@ const WRONG: &[Turn<'static>] = &[
     Turn::Pending(b"\0\x02JA"),
     Turn::Take(4),
     Turn::Stands(Standing::Closing),
+    Turn::Rejected(Some(b'A')),
+    Turn::From(None),
     Turn::At(3_000),
     Turn::Tick,
     Turn::Pending(b""),
 ];
 
-const BEYOND: &[Turn<'static>] = &[Turn::Hear(LOGIN_5), Turn::Pending(b"\0\x02JS")];
+const BEYOND: &[Turn<'static>] = &[
+    Turn::Rejected(None),
+    Turn::Hear(LOGIN_5),
+    Turn::Pending(b"\0\x02JS"),
+    Turn::Rejected(Some(b'S')),
+];
 
 const OTHER: &[Turn<'static>] = &[Turn::Hear(LOGIN_OTHER), Turn::Pending(b"\0\x02JS")];
 
 const NONSENSE: &[Turn<'static>] = &[
     Turn::Hear(b"\0\x01Q"),
-    Turn::Stands(Standing::Gone),
+    Turn::Stands(Standing::Gone(Gone::Fault)),
     Turn::Hear(LOGIN),
     Turn::Pending(b""),
     Turn::Wanted(None),
@@ -256,16 +268,25 @@ const SILENT: &[Turn<'static>] = &[
     Turn::Stands(Standing::There),
     Turn::At(59_997),
     Turn::Tick,
-    Turn::Stands(Standing::Gone),
+    Turn::Stands(Standing::Gone(Gone::Silent)),
+    Turn::Leave,
+    Turn::Stands(Standing::Gone(Gone::Silent)),
     Turn::Wanted(None),
 ];
 
-const NO_LOGIN: &[Turn<'static>] = &[Turn::At(15_000), Turn::Tick, Turn::Stands(Standing::Gone)];
+const NO_LOGIN: &[Turn<'static>] = &[
+    Turn::At(15_000),
+    Turn::Tick,
+    Turn::Stands(Standing::Gone(Gone::Silent)),
+];
 
 const LEFT: &[Turn<'static>] = &[
     Turn::Hear(LOGIN),
     Turn::Leave,
-    Turn::Stands(Standing::Gone),
+    Turn::Stands(Standing::Gone(Gone::Left)),
+    Turn::At(15_000),
+    Turn::Tick,
+    Turn::Stands(Standing::Gone(Gone::Left)),
     Turn::Wanted(None),
     Turn::Pending(b""),
 ];

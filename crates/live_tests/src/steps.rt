@@ -4,7 +4,7 @@ use itch_book::OrderBook;
 use itch_codec::Alpha;
 use itch_frame::testing::FuseWriter;
 use itch_join::{JoinFault, Joiner};
-use itch_live::{Desk, Follower, News};
+use itch_live::{Desk, Follower, Gone, News};
 use itch_soup::{Credentials, ServerConfig, Tick};
 use std::alloc::{AllocError, Global};
 use std::process::Abort;
@@ -37,6 +37,8 @@ pub(crate) enum Step<'a> {
     Tick,
     /// A client is there, is closing, or is gone.
     Stands(usize, Standing),
+    /// The login of a client was rejected with this code, or with none.
+    Rejected(usize, Option<u8>),
     /// The connection of a client is closed.
     Leave(usize),
     /// Exactly this was recorded.
@@ -65,7 +67,7 @@ pub(crate) enum Standing {
     Free,
     There,
     Closing,
-    Gone,
+    Gone(Gone),
 }
 
 /// What news is.
@@ -131,12 +133,26 @@ pub(crate) fn desk_of<B: OrderBook>(
     Desk::new(memory, config(rt), follower, places)
 }
 
+/// How a client stands that has its place.
+pub(crate) fn how_it_stands(is_gone: bool, why: Option<Gone>, is_closing: bool) -> Standing {
+    match why {
+        Some(reason) if is_gone => Standing::Gone(reason),
+        None if is_closing => Standing::Closing,
+        _ => Standing::There,
+    }
+}
+
 fn stands_at<B: OrderBook>(desk: &Desk<B>, place: usize) -> Standing {
     match desk.guest(place) {
         None => Standing::Free,
-        Some(guest) if guest.is_gone() => Standing::Gone,
-        Some(guest) if guest.is_closing() => Standing::Closing,
-        Some(_) => Standing::There,
+        Some(guest) => how_it_stands(guest.is_gone(), guest.why_gone(), guest.is_closing()),
+    }
+}
+
+fn rejection_at<B: OrderBook>(desk: &Desk<B>, place: usize) -> Option<u8> {
+    match desk.guest(place) {
+        None => None,
+        Some(guest) => guest.rejection_code(),
     }
 }
 
@@ -201,6 +217,7 @@ pub(crate) fn take_step<B: OrderBook>(
         Step::Take(place, count) => holds_in(rt, at, take(desk, place, count, now)),
         Step::Tick => desk.tick(now),
         Step::Stands(place, want) => same_in(rt, at, stands_at(desk, place), want),
+        Step::Rejected(place, want) => same_in(rt, at, rejection_at(desk, place), want),
         Step::Leave(place) => desk.leave(place),
         Step::Recorded(want) => same_in(rt, at, record.written(), want),
     }

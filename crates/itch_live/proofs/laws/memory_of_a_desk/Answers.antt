@@ -1,5 +1,9 @@
-use Rattle.itch_live.proofs.Memories.{within_sum}
+use Rattle.itch_live.proofs.Memories.{within_longest, longest_within}
 use Rattle.itch_live.proofs.laws.memory_of_a_desk.Goals as goal
 
-pub returns : goal.returns
-returns g c = λ most config begun past d h within. within_sum g.W.CountedWrite.contents g.W.CountedWrite.failures most config begun past d h within
+pub returns-clause-held : goal.returns-clause-held
+returns-clause-held g c = λ config begun past d history. within_longest g.W.CountedWrite.contents g.W.CountedWrite.failures config begun past d history
+
+pub returns-clause-snapshots : goal.returns-clause-snapshots
+returns-clause-snapshots g c = λ config begun past d text markets history.
+    longest_within g.W.CountedWrite.contents g.W.CountedWrite.failures config begun past d text markets history

@@ -1,0 +1,54 @@
+//! Memory for as many bytes as are to come.
+ghost use Rattle.std.specs.Prelude.{◌≡◌, ◌<◌, ◌≤◌, ◌∷◌, [], Some, vec_len, vec_capacity, IfOk};
+
+use crate::outbox::append;
+use itch_frame::CountedWrite;
+use itch_frame::tally::Failures;
+use std::alloc::{AllocError, Allocator};
+use std::io;
+
+/// Bytes that are written into memory for so many. A write fails only once it is full.
+#[derive(Drop)]
+pub(crate) struct Sheet<A: Allocator> {
+    bytes: Vec<u8, A>,
+    room: usize,
+    failures: Failures,
+    ghost within: { vec_len bytes ≤ room },
+    ghost held: { room ≤ vec_capacity bytes },
+    ghost full: { 0 < failures.count → room ≤ vec_len bytes },
+}
+
+impl<A: Allocator> Sheet<A> {
+    /// An empty sheet, with memory for so many bytes.
+    pub(crate) fn new(alloc: A, room: usize) -> Result<Sheet<A>, AllocError>
+        ensures { IfOk result (λ sheet. (sheet.bytes.items ≡ []) × (sheet.room ≡ room)) }
+    {
+        Ok(Sheet {
+            bytes: Vec::with_capacity(alloc, room)?,
+            room,
+            failures: Failures::none(),
+        })
+    }
+
+    pub(crate) fn into_bytes(self) -> Vec<u8, A>
+        ensures { result ≡ self.bytes }
+    {
+        self.bytes
+    }
+}
+
+impl<A: Allocator> CountedWrite for Sheet<A> {
+    // The room stands before the bytes, so that no write changes it.
+    ghost contents = { λ s. Some (s.room ∷ s.bytes.items) };
+
+    ghost failures = { λ s. s.failures };
+
+    fn write_some(&mut self, buf: &[u8]) -> io::Result<usize> {
+        let count = buf.len().min(self.room - self.bytes.len());
+        if count == 0 && !buf.is_empty() {
+            return Err(self.failures.add(io::Error::from(io::ErrorKind::WriteZero)));
+        }
+        append(&mut self.bytes, &buf[..count]);
+        Ok(count)
+    }
+}

@@ -1,0 +1,136 @@
+"""Runs of `live` with many clients at once, with a feed that is cut at every byte, and with a reader of packets that nobody here wrote.
+
+RUNS has a function for each run, named for what it shows; it is given the program, and yields what differs.
+"""
+import collections
+import contextlib
+import shutil
+import socket
+import struct
+import subprocess
+import tempfile
+import threading
+import time
+from concurrent.futures import ThreadPoolExecutor
+from pathlib import Path
+
+from common import differs, split
+from living import (ENDED, LOGIN, Feed, acceptance, answer, connect, day_of, fetch, large_server, live, number_of, packet, plays, received, sends,
+                    told)
+
+PLACES = 64
+PORT = 5100
+
+
+def told_at_a_byte_a_second(port, seconds):
+    """What a client is told that takes a byte a second, for so long at most."""
+    got = b""
+    with connect(port, 4096) as peer, contextlib.suppress(OSError):
+        peer.sendall(LOGIN)
+        for _ in range(seconds):
+            if not (byte := peer.recv(1)):
+                break
+            got += byte
+            time.sleep(1)
+    return got
+
+
+def sixty_four_clients_at_once(program):
+    """One never reads, one takes a byte a second, one sends nonsense, one logs in and leaves, and sixty have their 8 MB meanwhile."""
+    fast = PLACES - 4
+    with large_server(program) as (server, whole, end), contextlib.ExitStack() as held, ThreadPoolExecutor(PLACES) as clients:
+        never = held.enter_context(connect(server.port, 4096))
+        never.sendall(LOGIN)
+        slow = clients.submit(told_at_a_byte_a_second, server.port, 60)
+        nonsense = clients.submit(told, server.port, b"\0\x05?abcd")
+        with connect(server.port) as peer:
+            peer.sendall(LOGIN)
+        answers = [clients.submit(told, server.port, LOGIN) for _ in range(fast)]
+        right = sum(it.result() == whole for it in answers)
+        yield from differs("clients with their answer", right, fast)
+        yield from differs("nonsense is told", nonsense.result(), b"")
+        if not whole.startswith(slow.result()):
+            yield "a client that takes a byte a second was told something else"
+        with contextlib.suppress(OSError):
+            got = received(never)
+            if len(got) == len(whole):
+                yield "a client that never read was told all"
+        end.set()
+        status, output, _ = server.ended(120)
+    ends = collections.Counter(line.split(": ", 1)[1].split(" at ")[0] for line in output.decode().splitlines())
+    # One that leaves with something unread resets its connection, which is a fault of its socket.
+    gone = ends.pop("left", 0) + ends.pop("fault", 0)
+    yield from differs("endings", (status, gone, ends), (0, 2, collections.Counter({"accepted": fast, "cut off": 2})))
+
+
+def is_asked_again(program, day, scripts):
+    """A feed that plays these scripts one after the other, and then all: the record has each message once."""
+    with tempfile.TemporaryDirectory() as folder:
+        record = Path(folder, "record.itch")
+        with Feed(*scripts, plays(day, then=ENDED)) as feed, live(program, feed.port, "--record", record) as server:
+            status, _, lines = server.ended(3 * len(scripts) + 60)
+        yield from differs("status", status, 0)
+        yield from differs("connections", len(feed.logins), len(scripts) + 1)
+        yield from differs("record", record.read_bytes() == day, True)
+        yield from differs("last line", lines[-1:], [f"feed: ended at {len(split(day)) + 1}\n"])
+
+
+def a_feed_is_cut_at_every_byte_of_an_acceptance(program):
+    day, _ = day_of(50)
+    whole = acceptance(1)
+    yield from is_asked_again(program, day, [sends(whole[:count]) for count in range(len(whole) + 1)])
+
+
+def a_feed_is_cut_at_every_byte_of_a_packet(program):
+    """The packet of an added order: the messages before it are played once, and it is asked for at each connection."""
+    day, _ = day_of(50)
+    blocks = split(day)
+    place = next(place for place, block in enumerate(blocks) if block[2:3] == b"A")
+    whole = packet(blocks[place])
+    yield from is_asked_again(program, day, [plays(day, until=place, then=whole[:count]) for count in range(len(whole))])
+
+
+def captured(pieces):
+    """A capture of these pieces of a connection, each with whether the server sent it: Ethernet, IPv4 and TCP without checksums."""
+    capture = struct.pack("<IHHiIII", 0xA1B2C3D4, 2, 4, 0, 0, 1 << 18, 1)
+    sent = {True: 1, False: 1}
+    for is_server, data in pieces:
+        for at in range(0, len(data), 1400):
+            part = data[at:at + 1400]
+            ports = (PORT, 40000) if is_server else (40000, PORT)
+            tcp = struct.pack(">HHIIBBHHH", *ports, sent[is_server], sent[not is_server], 5 << 4, 0x18, 65535, 0, 0)
+            ip = struct.pack(">BBHHHBBH4s4s", 0x45, 0, 40 + len(part), 0, 0, 64, 6, 0, socket.inet_aton("127.0.0.1"), socket.inet_aton("127.0.0.1"))
+            frame = bytes(12) + b"\x08\0" + ip + tcp + part
+            capture += struct.pack("<IIII", 0, 0, len(frame), len(frame)) + frame
+            sent[is_server] += len(part)
+    return capture
+
+
+def wireshark_reads_the_packets(program):
+    """Wireshark's dissector of SoupBinTCP finds the packets of a client's session: its login, and what it is told."""
+    if not (tshark := shutil.which("tshark")):
+        print("there is no tshark on the path: what Wireshark makes of a session is not looked at")
+        return
+    day, wanted = day_of(50)
+    end = threading.Event()
+    with Feed(plays(day, wait=end)) as feed, live(program, feed.port) as server:
+        while number_of(fetch(program, server.port)[1]) < number_of(wanted):
+            time.sleep(0.05)
+        session = [(False, LOGIN), (True, told(server.port, LOGIN))]
+        end.set()
+    with tempfile.TemporaryDirectory() as folder:
+        file = Path(folder, "session.pcap")
+        file.write_bytes(captured(session))
+        found = subprocess.run([tshark, "-r", file, "-d", f"tcp.port=={PORT},soupbintcp", "-T", "fields", "-E", "occurrence=a", "-E", "aggregator=,",
+                                "-e", "soupbintcp.packet_type"], capture_output=True, text=True, timeout=60).stdout
+    types = [it.strip("'") for it in found.replace("\n", ",").split(",") if it]
+    yield from differs("types of packets", types, ["L", "A", *["S"] * len(split(wanted)), "Z"])
+    yield from differs("told", session[1][1], answer(wanted))
+
+
+RUNS = [
+    sixty_four_clients_at_once,
+    a_feed_is_cut_at_every_byte_of_an_acceptance,
+    a_feed_is_cut_at_every_byte_of_a_packet,
+    wireshark_reads_the_packets,
+]
