@@ -1,6 +1,7 @@
 /* bench.c: how long the calls take on a day file.
  *
- *   bench DAY    three rounds of: the whole file at once, message by message, look-ups, and calls that are refused at once */
+ *   bench DAY    three rounds of: the whole file at once, message by message, all blocks in one call, look-ups, all price
+ *                 levels, and calls that are refused at once */
 #define _POSIX_C_SOURCE 199309L
 #include "itchsnap.h"
 
@@ -38,6 +39,33 @@ static uint64_t apply_all(itchsnap_handle *market, const uint8_t *day, size_t le
         count++;
     }
     return count;
+}
+
+/* The price levels of all locates of the directory. */
+static uint64_t list_levels(itchsnap_handle *market) {
+    static uint16_t locates[65536];
+    static itchsnap_price_level levels[65536];
+    size_t count = itchsnap_locates(market, locates, 65536).len;
+    uint64_t found = 0;
+    for (size_t k = 0; k < count; k++) {
+        found += itchsnap_levels(market, locates[k], true, levels, 65536).len;
+        found += itchsnap_levels(market, locates[k], false, levels, 65536).len;
+    }
+    return found;
+}
+
+static void blocks_of(const uint8_t *day, size_t len) {
+    itchsnap_handle market = ITCHSNAP_NONE;
+    if (itchsnap_market_new(&market).code != ITCHSNAP_OK) {
+        exit(1);
+    }
+    double begun = now();
+    itchsnap_applied applied = itchsnap_market_apply_blocks(&market, day, len);
+    report("apply_blocks, a message", now() - begun, applied.count);
+    begun = now();
+    uint64_t levels = list_levels(&market);
+    report("itchsnap_levels, a level", now() - begun, levels);
+    itchsnap_free(&market);
 }
 
 static void round_of(const uint8_t *day, size_t len) {
@@ -96,6 +124,7 @@ int main(int argc, char **argv) {
     }
     fclose(file);
     for (int k = 0; k < 3; k++) {
+        blocks_of(day, len);
         round_of(day, len);
     }
     free(day);

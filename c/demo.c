@@ -121,6 +121,63 @@ static void print_book(itchsnap_handle *market, uint16_t locate) {
     }
 }
 
+/* The levels and the orders of a locate, listed, are those that are looked up one after another. */
+static void list(itchsnap_handle *market, uint16_t locate) {
+    itchsnap_order none;
+    size_t count = itchsnap_orders(market, locate, &none, 0).len, at = 0;
+    itchsnap_order *orders = malloc((count + 1) * sizeof *orders);
+    must(orders != NULL, "out of memory");
+    must(itchsnap_orders(market, locate, orders, count).code == ITCHSNAP_OK, "the orders of a locate");
+    for (int side = 0; side < 2; side++) {
+        bool buy = side == 0;
+        itchsnap_price_level no_level;
+        size_t levels = itchsnap_levels(market, locate, buy, &no_level, 0).len;
+        itchsnap_price_level *listed = malloc((levels + 1) * sizeof *listed);
+        must(listed != NULL, "out of memory");
+        must(itchsnap_levels(market, locate, buy, listed, levels).code == ITCHSNAP_OK, "the levels of a side");
+        must(at == count || levels == 0 || orders[at].reference == itchsnap_best(market, locate, buy).reference, "the best order");
+        itchsnap_price price = itchsnap_next_price(market, locate, buy, false, 0);
+        for (size_t k = 0; k < levels; k++) {
+            itchsnap_level_total total = itchsnap_level(market, locate, buy, listed[k].price);
+            must(price.price == listed[k].price && total.orders == listed[k].orders && total.shares_low == listed[k].shares_low, "a level");
+            for (uint64_t left = total.orders; left > 0; left--, at++) {
+                must(orders[at].price == price.price && orders[at].buy == buy && orders[at].locate == locate, "an order of a level");
+            }
+            price = itchsnap_next_price(market, locate, buy, true, price.price);
+        }
+        must(price.code == ITCHSNAP_ABSENT, "the last level");
+        free(listed);
+    }
+    must(at == count, "the last order");
+    free(orders);
+}
+
+/* All blocks of a day file at once, in two pieces, leave the same market, whose directory has these locates. */
+static void apply_blocks(buffer day, uint64_t count, buffer snapshot) {
+    itchsnap_handle market = ITCHSNAP_NONE;
+    must(itchsnap_market_new(&market).code == ITCHSNAP_OK, "a new market");
+    size_t half = day.len / 2;
+    itchsnap_applied first = itchsnap_market_apply_blocks(&market, day.bytes, half);
+    must(first.code == ITCHSNAP_OK || first.code == ITCHSNAP_TRUNCATED, "the first blocks");
+    size_t taken = half - (size_t)first.detail;
+    itchsnap_applied rest = itchsnap_market_apply_blocks(&market, day.bytes + taken, day.len - taken);
+    must(rest.code == ITCHSNAP_OK && first.count + rest.count == count, "the other blocks");
+    buffer again = snapshot_of(&market, count + 1);
+    must(same(again, snapshot), "the snapshot after the blocks");
+    free(again.bytes);
+    uint16_t none;
+    size_t len = itchsnap_locates(&market, &none, 0).len;
+    uint16_t *locates = malloc((len + 1) * sizeof *locates);
+    must(locates != NULL, "out of memory");
+    must(itchsnap_locates(&market, locates, len).code == ITCHSNAP_OK, "the locates");
+    for (size_t k = 0; k < len; k++) {
+        must(itchsnap_stock(&market, locates[k]).code == ITCHSNAP_OK, "the stock of a locate");
+        list(&market, locates[k]);
+    }
+    free(locates);
+    itchsnap_free(&market);
+}
+
 /* The whole file at once: the same count, the same snapshot, and the same market as itself. */
 static void whole_file(buffer day, uint64_t count, buffer snapshot) {
     itchsnap_outcome checked = itchsnap_check(day.bytes, day.len);
@@ -277,6 +334,7 @@ int main(int argc, char **argv) {
         print_book(&market, locate);
     }
     buffer snapshot = snapshot_of(&market, count + 1);
+    apply_blocks(day, count, snapshot);
     whole_file(day, count, snapshot);
     parts(&market, day, count + 1, snapshot.len);
     load(snapshot, count + 1);

@@ -151,6 +151,18 @@ itchsnap_loaded itchsnap_market_load(itchsnap_handle *handle, const uint8_t *sna
 /* Applies the message of a payload; if it is refused, the market is as it was. Codes: 0 to 23, OUT_OF_MEMORY. */
 itchsnap_answer itchsnap_market_apply(itchsnap_handle *handle, const uint8_t *payload, size_t len);
 
+typedef struct {
+    uint64_t count; /* the messages that were applied */
+    uint64_t detail;
+    uint32_t code;
+} itchsnap_applied;
+
+/* Applies the messages of blocks, as a day file has them, in order and up to the first that is not taken; the market left is that
+ * of the messages before it. OK: the bytes end after a block, or at an empty one, after which nothing is read. TRUNCATED: they end
+ * within a block, detail being its bytes that are there; in a piece of a day file these are the beginning of the next piece. Codes:
+ * 0 to 33, OUT_OF_MEMORY. */
+itchsnap_applied itchsnap_market_apply_blocks(itchsnap_handle *handle, const uint8_t *blocks, size_t len);
+
 /* Look-ups: in a market, or in that of a joiner that has joined; otherwise they return WRONG_HANDLE -------- */
 
 typedef struct {
@@ -197,9 +209,36 @@ typedef struct {
 itchsnap_count itchsnap_order_count(itchsnap_handle *handle);
 
 typedef struct {
-    size_t len; /* OK and NO_ROOM: the bytes of the snapshot */
+    size_t len; /* OK and NO_ROOM: the bytes of the snapshot, or the items of the list */
     uint32_t code;
 } itchsnap_written;
+
+/* Lists: each is written to the front of out, which has room for len items; a call with length 0 returns their number. Codes: OK,
+ * or the first that fits of OUT_OF_MEMORY, NO_ROOM. */
+
+/* The locates of the directory, rising. */
+itchsnap_written itchsnap_locates(itchsnap_handle *handle, uint16_t *out, size_t len);
+
+/* The live orders of a locate: bids before asks, each side by priority. The code of each is OK. */
+itchsnap_written itchsnap_orders(itchsnap_handle *handle, uint16_t locate, itchsnap_order *out, size_t len);
+
+typedef struct {
+    uint64_t shares_low; /* the sum of the shares: its lower 64 bits */
+    uint64_t shares_high;
+    uint64_t orders;
+    uint32_t price; /* with four implied decimals */
+} itchsnap_price_level;
+
+/* The price levels of a locate and side, the best price first. */
+itchsnap_written itchsnap_levels(itchsnap_handle *handle, uint16_t locate, bool buy, itchsnap_price_level *out, size_t len);
+
+typedef struct {
+    uint8_t stock[8]; /* padded with spaces */
+    uint32_t code;
+} itchsnap_stock_name;
+
+/* The stock that a locate has in the directory. Codes: OK, ABSENT. */
+itchsnap_stock_name itchsnap_stock(itchsnap_handle *handle, uint16_t locate);
 
 /* Writes the canonical snapshot to the front of out, closed with next as the number of the first message that it does not
  * contain. A call with length 0 returns the length. Codes: OK, or the first that fits of NO_NUMBER, TOO_MANY_MESSAGES,

@@ -137,6 +137,68 @@ static void files(void) {
     itchsnap_free(&market);
 }
 
+static void blocks(void) {
+    itchsnap_handle market = ITCHSNAP_NONE;
+    text file = {{0}, 0};
+    add_block(&file, directory(1, "AAPL    "));
+    add_block(&file, order(1, 1, 'B', 5));
+    itchsnap_applied applied = itchsnap_market_apply_blocks(&market, file.bytes, file.len);
+    must(applied.code == ITCHSNAP_WRONG_HANDLE && applied.count == 0 && applied.detail == 0, "WRONG_HANDLE of blocks");
+    must(itchsnap_market_new(&market).code == ITCHSNAP_OK, "a new market");
+    applied = itchsnap_market_apply_blocks(&market, file.bytes, file.len - 1);
+    must(applied.code == ITCHSNAP_TRUNCATED && applied.count == 1 && applied.detail == 37, "TRUNCATED blocks");
+    applied = itchsnap_market_apply_blocks(&market, file.bytes + 41, 38);
+    must(applied.code == ITCHSNAP_OK && applied.count == 1 && applied.detail == 0, "the rest of the blocks");
+    applied = itchsnap_market_apply_blocks(&market, file.bytes, file.len);
+    must(applied.code == ITCHSNAP_DUPLICATE_REFERENCE && applied.count == 1, "a block that is refused");
+    must(itchsnap_order_count(&market).count == 1, "the order before it");
+    file.len = 0;
+    add_block(&file, cancel(1, 1, 6));
+    applied = itchsnap_market_apply_blocks(&market, file.bytes, file.len);
+    must(applied.code == ITCHSNAP_TOO_MANY_SHARES && applied.count == 0 && applied.detail == 5, "the detail of a block");
+    file.bytes[0] = file.bytes[1] = 0;
+    applied = itchsnap_market_apply_blocks(&market, file.bytes, file.len);
+    must(applied.code == ITCHSNAP_OK && applied.count == 0, "an empty block");
+    applied = itchsnap_market_apply_blocks(&market, file.bytes, 0);
+    must(applied.code == ITCHSNAP_OK && applied.count == 0, "no block");
+    itchsnap_free(&market);
+}
+
+static void lists(void) {
+    itchsnap_handle market = ITCHSNAP_NONE;
+    uint16_t locates[2] = {7, 7};
+    itchsnap_order orders[3];
+    itchsnap_price_level levels[2];
+    must(itchsnap_locates(&market, locates, 2).code == ITCHSNAP_WRONG_HANDLE, "WRONG_HANDLE of locates");
+    must(itchsnap_orders(&market, 1, orders, 3).code == ITCHSNAP_WRONG_HANDLE, "WRONG_HANDLE of orders");
+    must(itchsnap_levels(&market, 1, true, levels, 2).code == ITCHSNAP_WRONG_HANDLE, "WRONG_HANDLE of levels");
+    must(itchsnap_stock(&market, 1).code == ITCHSNAP_WRONG_HANDLE, "WRONG_HANDLE of a stock");
+    must(itchsnap_market_new(&market).code == ITCHSNAP_OK, "a new market");
+    must(itchsnap_locates(&market, locates, 0).code == ITCHSNAP_OK && locates[0] == 7, "no locates");
+    answers(apply(&market, directory(9, "MSFT    ")), ITCHSNAP_OK, 0, "a directory entry");
+    answers(apply(&market, directory(1, "AAPL    ")), ITCHSNAP_OK, 0, "a directory entry");
+    answers(apply(&market, order(1, 1, 'S', 5)), ITCHSNAP_OK, 0, "an order");
+    answers(apply(&market, order(1, 2, 'B', 6)), ITCHSNAP_OK, 0, "an order");
+    answers(apply(&market, order(1, 3, 'B', 7)), ITCHSNAP_OK, 0, "an order");
+    itchsnap_written written = itchsnap_locates(&market, locates, 1);
+    must(written.code == ITCHSNAP_NO_ROOM && written.len == 2 && locates[0] == 7, "NO_ROOM for locates");
+    written = itchsnap_locates(&market, locates, 2);
+    must(written.code == ITCHSNAP_OK && written.len == 2 && locates[0] == 1 && locates[1] == 9, "the locates");
+    must(itchsnap_stock(&market, 2).code == ITCHSNAP_ABSENT, "ABSENT of a stock");
+    must(memcmp(itchsnap_stock(&market, 9).stock, "MSFT    ", 8) == 0, "the stock");
+    written = itchsnap_orders(&market, 1, orders, 2);
+    must(written.code == ITCHSNAP_NO_ROOM && written.len == 3, "NO_ROOM for orders");
+    written = itchsnap_orders(&market, 1, orders, 3);
+    must(written.code == ITCHSNAP_OK && written.len == 3, "the orders");
+    must(orders[0].reference == 2 && orders[1].reference == 3 && orders[2].reference == 1 && orders[2].code == ITCHSNAP_OK, "their priority");
+    must(itchsnap_orders(&market, 9, orders, 3).len == 0, "the orders of a locate without one");
+    must(itchsnap_levels(&market, 1, true, levels, 0).code == ITCHSNAP_NO_ROOM, "NO_ROOM for levels");
+    written = itchsnap_levels(&market, 1, true, levels, 2);
+    must(written.code == ITCHSNAP_OK && written.len == 1, "the levels");
+    must(levels[0].price == 1500000 && levels[0].shares_low == 13 && levels[0].shares_high == 0 && levels[0].orders == 2, "a level");
+    itchsnap_free(&market);
+}
+
 static void handles(void) {
     uint8_t out[1];
     itchsnap_handle market = ITCHSNAP_NONE;
@@ -267,6 +329,8 @@ int main(void) {
     payloads();
     rules();
     files();
+    blocks();
+    lists();
     handles();
     joiners();
     new_sessions();

@@ -93,6 +93,10 @@ def a_snapshot_is_kept_from_a_terminal(program):
         status, shown, error = on_terminal([program, *words])
         if (status, shown) != (2, b"") or not error.startswith(b"error: a snapshot is not written to a terminal"):
             yield f"{words[0]}: status {status}, {shown!r}, {error!r}"
+    with tempfile.TemporaryDirectory() as folder:
+        got = on_terminal([program, "snap", OPENING, "--output", f"{folder}/out.snap"])
+        if got != (0, b"", b"") or os.listdir(folder) != ["out.snap"]:
+            yield f"to a file: {got}, {os.listdir(folder)}"
 
 
 def lines_are_shown_on_a_terminal(program):
@@ -209,7 +213,7 @@ def no_progress_is_shown_of_a_small_file(program):
 
 # The program, but that each part with locate 2 is refused its memory.
 FAILS_AT_2 = """#!/bin/sh
-[ "$2 $3" != "examples/opening.itch --only" ] || [ "$4" != 2 ] || { echo "itchsnap: out of memory" >&2; exit 4; }
+[ "$3 $4" != "examples/opening.itch --only" ] || [ "$5" != 2 ] || { echo "itchsnap: out of memory" >&2; exit 4; }
 exec "$(dirname "$0")/program" "$@"
 """
 

@@ -254,6 +254,52 @@ static void play_market(const day *of, list wanted) {
     itchsnap_free(&market);
 }
 
+/* What a market lists. */
+static void list_all(itchsnap_handle *market, const day *of) {
+    uint16_t *locates = own((of->feed.count + 1) * sizeof *locates);
+    itchsnap_order *orders = own((of->feed.count + 1) * sizeof *orders);
+    itchsnap_price_level *levels = own((of->feed.count + 1) * sizeof *levels);
+    size_t room = (size_t)of->feed.count + 1;
+    itchsnap_written listed;
+    do {
+        listed = itchsnap_locates(market, locates, room);
+    } while (!granted(listed.code, ITCHSNAP_OK, "the locates"));
+    uint64_t live = itchsnap_order_count(market).count;
+    for (size_t k = 0; k < listed.len; k++) {
+        itchsnap_written written, level;
+        do {
+            written = itchsnap_orders(market, locates[k], orders, room);
+        } while (!granted(written.code, ITCHSNAP_OK, "the orders of a locate"));
+        do {
+            level = itchsnap_levels(market, locates[k], true, levels, room);
+        } while (!granted(level.code, ITCHSNAP_OK, "the levels of a side"));
+        must(level.len == 0 || levels[0].price == orders[0].price, "the best bid");
+        live -= written.len;
+    }
+    must(live == 0, "the orders of all locates");
+    __real_free(locates);
+    __real_free(orders);
+    __real_free(levels);
+}
+
+/* All blocks at once; where memory is refused, the next call goes on after those that were applied. */
+static void play_blocks(const day *of, list wanted) {
+    itchsnap_handle market = ITCHSNAP_NONE;
+    while (!granted(itchsnap_market_new(&market).code, ITCHSNAP_OK, "a new market")) {
+    }
+    uint64_t taken = 0;
+    itchsnap_applied applied;
+    do {
+        size_t at = of->feed.ends[taken];
+        applied = itchsnap_market_apply_blocks(&market, of->feed.file.bytes + at, of->feed.file.len - at);
+        taken += applied.count;
+    } while (!granted(applied.code, ITCHSNAP_OK, "blocks"));
+    must(taken == of->feed.count, "the count of blocks");
+    list_all(&market, of);
+    see_snapshot(&market, of, wanted);
+    itchsnap_free(&market);
+}
+
 /* A snapshot file that is loaded; where it is refused, the place is that of the message which memory was refused for. */
 static void play_load(const day *of, list wanted) {
     const messages *whole = &of->end;
@@ -388,6 +434,7 @@ int main(int argc, char **argv) {
     list lists[] = {all, some, none};
     for (size_t k = 0; k < 3; k++) {
         play(play_market, &of, lists[k]);
+        play(play_blocks, &of, lists[k]);
         play(play_load, &of, lists[k]);
         play(play_file, &of, lists[k]);
         play(play_joiner, &of, lists[k]);

@@ -2,10 +2,11 @@
 
 use crate::equal::{same, same_in};
 use itch_codec::CodecFault;
-use itch_commands::{Source, ToolFault, status, system_fault};
+use itch_commands::{Expected, Source, ToolFault, Unmet, status, system_fault};
 use itch_frame::FrameFault;
 use itch_market::{Refusal, ReplayEnd, Stop};
 use itch_snapshot::SnapFault;
+use std::alloc::Global;
 use std::io;
 use std::test::Fail;
 
@@ -54,6 +55,12 @@ fn every_fault_has_its_line_and_status(rt: HostRuntime) -> Result<(), Fail> {
             "second: only 0 messages",
             1,
         ),
+        (
+            ToolFault::Unmet(Unmet::More { expected: 2 }),
+            "more than 2 messages",
+            1,
+        ),
+        (ToolFault::Unmet(Unmet::NoEnd), "no end of messages", 1),
         (ToolFault::Write(error), "write failed", 3),
         (ToolFault::OutOfMemory, "out of memory", 4),
         (
@@ -73,6 +80,69 @@ fn every_fault_has_its_line_and_status(rt: HostRuntime) -> Result<(), Fail> {
     same(&rt, status(&Err(ToolFault::Write(error))), 3);
     same(&rt, status(&Ok(true)), 0);
     same(&rt, status(&Ok(false)), 1);
+    Ok(())
+}
+
+// How a file of so many messages whose last system event is this one differs from what is expected, in words.
+fn difference(
+    alloc: Global,
+    expected: Expected,
+    count: u64,
+    event: Option<u8>,
+) -> Result<String, Fail> {
+    match expected.check(count, event) {
+        Ok(()) => Ok(String::from_str(alloc, "none")?),
+        Err(fault) => Ok(format!(in alloc; "{fault}")?),
+    }
+}
+
+#[test]
+fn a_file_is_as_expected_or_not(rt: HostRuntime) -> Result<(), Fail> {
+    let exactly = |count, end| Expected { count, end };
+    let cases = [
+        (exactly(None, false), 0, None, "none"),
+        (exactly(None, true), 7, Some(b'C'), "none"),
+        (
+            exactly(None, true),
+            7,
+            Some(b'M'),
+            "itchsnap: no end of messages",
+        ),
+        (exactly(None, true), 7, None, "itchsnap: no end of messages"),
+        (exactly(Some(7), false), 7, None, "none"),
+        (exactly(Some(7), true), 7, Some(b'C'), "none"),
+        (
+            exactly(Some(8), false),
+            7,
+            Some(b'C'),
+            "itchsnap: only 7 messages",
+        ),
+        (
+            exactly(Some(6), false),
+            7,
+            Some(b'C'),
+            "itchsnap: more than 6 messages",
+        ),
+        (
+            exactly(Some(6), true),
+            7,
+            None,
+            "itchsnap: more than 6 messages",
+        ),
+        (
+            exactly(Some(7), true),
+            7,
+            Some(b'E'),
+            "itchsnap: no end of messages",
+        ),
+    ];
+    for (expected, count, event, wanted) in cases {
+        same(
+            &rt,
+            difference(rt.alloc(), expected, count, event)?.as_str(),
+            wanted,
+        );
+    }
     Ok(())
 }
 

@@ -57,11 +57,15 @@ fn requests_are_read(rt: HostRuntime) -> Result<(), Fail> {
         ),
         (
             "check -",
-            "Check { file: None, limit: Limit { after: None, until: None }, form: Text }",
+            "Check { file: None, limit: Limit { after: None, until: None }, expected: Expected { count: None, end: false }, form: Text }",
         ),
         (
             "check day.itch",
-            "Check { file: Some(\"day.itch\"), limit: Limit { after: None, until: None }, form: Text }",
+            "Check { file: Some(\"day.itch\"), limit: Limit { after: None, until: None }, expected: Expected { count: None, end: false }, form: Text }",
+        ),
+        (
+            "check --expect 007 --ended --after 5",
+            "Check { file: None, limit: Limit { after: Some(5), until: None }, expected: Expected { count: Some(7), end: true }, form: Text }",
         ),
         (
             "show day.itch",
@@ -135,7 +139,7 @@ fn requests_are_read(rt: HostRuntime) -> Result<(), Fail> {
         ),
         (
             "check --json",
-            "Check { file: None, limit: Limit { after: None, until: None }, form: Json }",
+            "Check { file: None, limit: Limit { after: None, until: None }, expected: Expected { count: None, end: false }, form: Json }",
         ),
         (
             "book 1 --json",
@@ -172,9 +176,49 @@ fn requests_are_read(rt: HostRuntime) -> Result<(), Fail> {
     ];
     for (line, request) in cases {
         let words = words(rt.alloc(), line)?;
-        let wanted = format!(in rt.alloc(); "Files {{ request: {request}, progress: false }}")?;
+        let wanted = format!(in rt.alloc();
+            "Files {{ request: {request}, progress: false, output: None }}"
+        )?;
         let found = asked(rt.alloc(), words.as_slice())?;
         same_in(&rt, line, found.as_str(), wanted.as_str());
+    }
+    Ok(())
+}
+
+// Where the words of a line send a snapshot, if they are no usage fault. Standard output is a terminal, where none is written.
+fn sent_to(alloc: Global, line: &str) -> Result<Option<String>, Fail> {
+    let words = words(alloc, line)?;
+    match read_job(alloc, words.as_slice(), true, None) {
+        Ok(job) => Ok(Some(String::from_str(alloc, job.output().unwrap_or("nowhere"))?)),
+        Err(_) => Ok(None),
+    }
+}
+
+#[test]
+fn a_snapshot_is_sent_to_a_file(rt: HostRuntime) -> Result<(), Fail> {
+    let cases = [
+        ("snap day.itch --output out.snap", "out.snap"),
+        ("canon --output=./- day.snap", "./-"),
+        (
+            "join a.snap day.itch --only 1 --output out.snap",
+            "out.snap",
+        ),
+        (
+            "fetch --port 1 --user u --pass p --output out.snap",
+            "out.snap",
+        ),
+        ("check day.itch", "nowhere"),
+    ];
+    for (line, path) in cases {
+        let found = sent_to(rt.alloc(), line)?;
+        holds_in(&rt, line, found.is_some_and(|found| found.as_str() == path));
+    }
+    for line in [
+        "snap day.itch",
+        "snap --output - day.itch",
+        "canon --check --output out.snap",
+    ] {
+        holds_in(&rt, line, sent_to(rt.alloc(), line)?.is_none());
     }
     Ok(())
 }
@@ -205,7 +249,7 @@ fn times_are_read(rt: HostRuntime) -> Result<(), Fail> {
         let wanted = format!(in rt.alloc();
             "Files {{ request: Show {{ file: Some(\"day.itch\"), kind: Day(Limit {{ after: Some(5), \
              until: Some({nanoseconds}) }}), form: Text, filters: Filters {{ only: None, stocks: None, types: None, reference: None }} }}, \
-             progress: false }}"
+             progress: false, output: None }}"
         )?;
         let found = asked(rt.alloc(), words.as_slice())?;
         same_in(&rt, time, found.as_str(), wanted.as_str());
@@ -407,7 +451,7 @@ fn a_check_is_asked_for(rt: HostRuntime) -> Result<(), Fail> {
         let words = words(rt.alloc(), line)?;
         let wanted = format!(in rt.alloc();
             "Files {{ request: Check {{ file: Some(\"day.itch\"), limit: Limit {{ after: None, until: None }}, \
-             form: Text }}, progress: {progress} }}"
+             expected: Expected {{ count: None, end: false }}, form: Text }}, progress: {progress}, output: None }}"
         )?;
         let found = asked(rt.alloc(), words.as_slice())?;
         same_in(&rt, line, found.as_str(), wanted.as_str());

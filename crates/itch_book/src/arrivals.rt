@@ -68,6 +68,13 @@ impl<A: Allocator + Copy> Arrivals<A> {
         self.is_settled = true;
     }
 
+    /// Has the orders of these references read into the processor's cache, where there are many orders.
+    pub(crate) fn look_ahead(&mut self, references: &[u64])
+        ensures { self.new ≡ self.old }
+    {
+        self.references.look_ahead(references);
+    }
+
     /// The number of orders.
     pub(crate) fn len(&self) -> usize
         ensures { result ≡ length self.now.orders }

@@ -105,6 +105,14 @@ pub trait OrderBook: Drop {
     fn settle(&mut self)
         ensures { orders self.new ≡ orders self.old };
 
+    /// Tells the book that these references are asked for next, so that it may look at their orders ahead. No order changes, and no
+    /// memory is taken.
+    fn look_ahead(&mut self, references: &[u64])
+        ensures { orders self.new ≡ orders self.old }
+    {
+        let _references = references;
+    }
+
     // The list is in snapshot order, each order has a reference of its own, shares, and a locate.
     ghost is_book: { (b : Self) → IsBook (orders b) };
 }

@@ -22,6 +22,12 @@ use std::mem::size_of;
 // Two orders to a cache line of 64 bytes.
 const _: () = prove!(size_of::<Arrived>() == 32);
 
+// How many orders are looked at ahead at once.
+const AHEAD: usize = 16;
+
+// Fewer orders than this lie in a processor's cache anyway.
+const MANY: usize = 1 << 14;
+
 /// The orders under their references.
 ///
 /// They stand side by side, and a table has the place of each. So a look-up reads an entry of the table and the order, and
@@ -30,6 +36,8 @@ const _: () = prove!(size_of::<Arrived>() == 32);
 pub(crate) struct References<A: Allocator = Global> {
     places: Table<A>,
     orders: Vec<Arrived, A>,
+    // What was last looked at ahead. Nothing is made of it; but what nobody keeps, a compiler need not read.
+    seen: u64,
 }
 
 impl<A: Allocator> Model for References<A> {
@@ -52,6 +60,7 @@ impl<A: Allocator> References<A> {
         References {
             places: Table::new(alloc),
             orders: Vec::new(alloc),
+            seen: 0,
         }
     }
 
@@ -86,6 +95,17 @@ impl<A: Allocator> References<A> {
         }
     }
 
+    /// Has the orders of the first of these references read into the processor's cache, where there are more than fit there
+    /// anyway. So it waits for memory once, and not for each in turn when messages change them.
+    pub(crate) fn look_ahead(&mut self, references: &[u64])
+        ensures { self.new ≡ self.old }
+    {
+        if self.orders.len() >= MANY {
+            let places = places_of(&self.places, references);
+            self.seen = seen_at(&self.orders, &places);
+        }
+    }
+
     /// Puts the orders in snapshot order where they stand.
     pub(crate) fn settle(&mut self)
         requires { IsApart (values_of self.old.entries) }
@@ -95,6 +115,26 @@ impl<A: Allocator> References<A> {
         sort(&mut self.orders);
         write_places(&mut self.places, &self.orders);
     }
+}
+
+// The places of the first references in the table. Those that it does not have are given the first place.
+fn places_of<A: Allocator>(table: &Table<A>, references: &[u64]) -> [u32; AHEAD] {
+    let mut places = [0; AHEAD];
+    for (place, reference) in places.iter_mut().zip(references) {
+        *place = table.get(*reference).unwrap_or(0);
+    }
+    places
+}
+
+// Something of each order at these places, so that all of them have to be read.
+fn seen_at(orders: &[Arrived], places: &[u32; AHEAD]) -> u64 {
+    let mut seen = 0;
+    for place in places {
+        if let Some(arrived) = orders.get(*place as usize) {
+            seen ^= arrived.order.reference;
+        }
+    }
+    seen
 }
 
 // The order of a reference that has one, and its place: the one that is given, if the order stands there.

@@ -89,6 +89,14 @@ impl<A: Allocator + Copy> OrderBook for SettledBook<A> {
             .replace(original, place, reference, shares, price)
     }
 
+    // Has the orders of the references read into the processor's cache, where there are many.
+    fn look_ahead(&mut self, references: &[u64])
+        ensures orders { self.new.arrivals.orders ≡ self.old.arrivals.orders }
+        ensures settled { self.new.arrivals.is_settled ≡ self.old.arrivals.is_settled }
+    {
+        self.arrivals.look_ahead(references)
+    }
+
     // Puts the orders in snapshot order.
     fn settle(&mut self)
         ensures orders { self.new.arrivals.orders ≡ self.old.arrivals.orders }

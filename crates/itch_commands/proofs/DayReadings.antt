@@ -112,6 +112,7 @@ module _ {R : Type 0} (remaining : R → Option (List ℕ)) (failures : R → Fa
         by_fault (tool.Open file error) h counted leaves = absurd h
         by_fault tool.BadUser h counted leaves = absurd h
         by_fault tool.BadPassword h counted leaves = absurd h
+        by_fault (tool.Unmet unmet) h counted leaves = absurd h
         by_fault tool.BadLocates h counted leaves = absurd h
         by_fault tool.TooMany h counted leaves = absurd h
         by_fault (tool.Soup fault) h counted leaves = absurd h

@@ -1,6 +1,7 @@
 pub mod PartReadings
 pub mod DayReadings
 pub mod Outputs
+pub mod Expectations
 pub mod ShownLines
 pub mod FailedWrites
 pub mod Snapshots

@@ -21,6 +21,15 @@ use Rattle.itch_commands.specs.Readings.{TakesEarly, TakesPart, TakesNext, Takes
 use Rattle.itch_commands.specs.declared.fault.Source.{Source}
 use Rattle.itch_commands.specs.declared.limit.Limit.{Limit}
 
+-- only where a time is given, a message is late
+pub late_given : (until : Option ℕ) (message : Message) → is_late until message ≡ true → IsSome until
+late_given None message late = cc
+late_given (Some time) message late = refl
+
+-- a message that is late is so by the time that is given
+pub late_until : (limit : Limit) (full : Bool) (m n : Content) (old new : Option (List ℕ)) → TakesNext limit full m old new (Ok false) n → IsSome limit.until
+late_until limit full m n old new (same, (p, off, (clean, late))) = late_given limit.until (message_of p) late
+
 -- fewer messages than may come are fewer than are wanted
 pub before_most : (wanted : Option ℕ) (count : ℕ) → count < most_of wanted → IfSome wanted (λ most. count < most)
 before_most None count within = tt
@@ -33,11 +42,6 @@ all_wanted (Some most) count all few = ap Some (sym all)
 
 pub is_given : (wanted : Option ℕ) (most : ℕ) → wanted ≡ Some most → IsSome wanted
 is_given wanted most is = subst IsSome (sym is) refl
-
--- only where a time is given, a message is late
-pub late_given : (until : Option ℕ) (message : Message) → is_late until message ≡ true → IsSome until
-late_given None message late = cc
-late_given (Some time) message late = refl
 
 -- these messages were applied, and the market that they leave is good
 pub record SoFar (limit : Limit) (m : Content) (old new : Option (List ℕ)) (count : ℕ) (n : Content) : Type 0 where

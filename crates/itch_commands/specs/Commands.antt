@@ -9,6 +9,7 @@ use Rattle.itch_commands.specs.Books.{ReadsEntry, ReadsListed, books_of, lines_a
 use Rattle.itch_commands.specs.Canons.{ChecksSnap, canonical_line}
 use Rattle.itch_commands.specs.Choices.{Chosen}
 use Rattle.itch_commands.specs.Comparing.{ReadsBoth, PartsAt}
+use Rattle.itch_commands.specs.Expectations.{Meets}
 use Rattle.itch_commands.specs.FirstDifferences.{FindsFirst, first_line}
 use Rattle.itch_commands.specs.Forms.{count_line_of, verdict_line}
 use Rattle.itch_commands.specs.Joining.{Start, ReadsStart, ReadsFeed, HasRoom, joined, joined_market, joined_next}
@@ -17,6 +18,7 @@ use Rattle.itch_commands.specs.Files.{ReadsFile}
 use Rattle.itch_commands.specs.Showing.{IfFound, closed_lines, closed_found}
 use Rattle.itch_commands.specs.Stocks.{ReadsStocks, has_one_of, only_stocks}
 use Rattle.itch_commands.specs.Readings.{From, ReadsDay, ReadsSnap, Then}
+use Rattle.itch_commands.specs.declared.expected.Expected.{Expected}
 use Rattle.itch_commands.specs.declared.form.BookForm.{BookForm}
 use Rattle.itch_commands.specs.declared.form.BookForm.TheVariants.{Text}
 use Rattle.itch_commands.specs.declared.form.Form.{Form}
@@ -25,9 +27,10 @@ use Rattle.itch_commands.specs.declared.kind.FileKind.{FileKind}
 use Rattle.itch_commands.specs.declared.limit.Limit.{Limit}
 
 module _ {R W : Type 0} (remaining : R → Option (List ℕ)) (failed_reads : R → Failures) (contents : W → Option (List ℕ)) (failed_writes : W → Failures) where
-  -- `check`: the number of the messages of a day file, or of its part
-  abbrev pub Checks : Form → Limit → From R (List (List ℕ)) → W → Result Bool ToolFault → W → Type 0
-  Checks form limit from = Outputs contents failed_writes (from (ReadsDay remaining failed_reads Only limit)) (count_line_of form) (λ _. true)
+  -- `check`: the number of the messages of a day file, or of its part, which is as expected
+  abbrev pub Checks : Form → Limit → Expected → From R (List (List ℕ)) → W → Result Bool ToolFault → W → Type 0
+  Checks form limit expected from =
+      Outputs contents failed_writes (from (λ old new. Meets expected (ReadsDay remaining failed_reads Only limit old new))) (count_line_of form) (λ _. true)
 
   -- `snap`: the snapshot after the messages of a day file, or of its part; cut down to a set, if there is one
   abbrev pub Snaps : Limit → Option Wanted → From R (List (List ℕ)) → W → Result Bool ToolFault → W → Type 0

@@ -19,4 +19,5 @@ pub mod Commands
 pub mod Locates
 pub mod Stocks
 pub mod Requests
+pub mod Expectations
 pub mod Endings

@@ -26,7 +26,7 @@ use Rattle.itch_commands.specs.Stocks.{names_of}
 -- the path of the file that a fault of a request names; none if it is standard input
 abbrev pub file_of : Request → Source → Option (List ℕ)
 file_of (Snap file limit selection) source = option_map (λ path. path.now) file
-file_of (Check file limit form) source = option_map (λ path. path.now) file
+file_of (Check file limit expected form) source = option_map (λ path. path.now) file
 file_of (Show file kind form filters) source = option_map (λ path. path.now) file
 file_of (Canon file check) source = option_map (λ path. path.now) file
 file_of (Book selection depth file kind form) source = option_map (λ path. path.now) file
@@ -90,7 +90,7 @@ module _ {R W : Type 0} (remaining : R → Option (List ℕ)) (failed_reads : R 
   -- what a request over the blocks of one file reads, writes and returns, with the set of the locates that are wanted, if not all are
   abbrev pub Performs : Request → Option Wanted → Reading R → Reading R → W → Result Bool ToolFault → W → Type 0
   Performs (Snap file limit selection) set old new = PerformsSnap limit selection set old new
-  Performs (Check file limit form) set old new = Checks remaining failed_reads contents failed_writes form limit (FromBlocks old new)
+  Performs (Check file limit expected form) set old new = Checks remaining failed_reads contents failed_writes form limit expected (FromBlocks old new)
   Performs (Show file kind form filters) set old new = ShowsFile kind form set filters old new
   Performs (Canon file false) set old new = WritesCanon remaining failed_reads contents failed_writes (FromBlocks old new)
   Performs (Canon file true) set old new = ChecksCanon remaining failed_reads contents failed_writes (FromBlocks old new)

@@ -1,12 +1,14 @@
 //! `check`: whether a file follows the order rules.
 ghost use Rattle.std.specs.Prelude.{◌≡◌, None, true};
 ghost use Rattle.itch_commands.specs.Commands.{Checks};
+ghost use Rattle.itch_commands.specs.Expectations.{nothing};
 ghost use Rattle.itch_commands.specs.Forms.{count_line};
 ghost use Rattle.itch_commands.specs.Limits.{counted};
 ghost use Rattle.itch_commands.specs.Outputs.{WritesOutput};
 ghost use Rattle.itch_commands.specs.Readings.{FromBlocks, FromReader};
 ghost use Rattle.itch_commands.specs.declared.form.Form.TheVariants.{Text};
 
+use crate::expected::Expected;
 use crate::fault::{Source, ToolFault};
 use crate::form::Form;
 use crate::limit::Limit;
@@ -25,23 +27,33 @@ pub fn check<R: CountedRead + Drop, A: Allocator + Copy, W: CountedWrite>(
     reader: R,
     out: &mut W,
 ) -> Result<bool, ToolFault>
-    ensures { Checks R.remaining R.failures W.contents W.failures Text (counted None) (FromReader reader) out.old result out.new }
+    ensures { Checks R.remaining R.failures W.contents W.failures Text (counted None) nothing (FromReader reader) out.old result out.new }
 {
     let mut reader = BlockReader::new(alloc, reader)?;
-    check_blocks(alloc, &mut reader, Limit::whole(), Form::Text, out)
+    check_blocks(
+        alloc,
+        &mut reader,
+        Limit::whole(),
+        Expected::nothing(),
+        Form::Text,
+        out,
+    )
 }
 
 /// The same over a reader of blocks, for any part of the file, and in any form. The reader is left where the reading ended.
+///
+/// What was read has to be as expected too: otherwise `Short` or `Unmet`, and nothing is written.
 pub fn check_blocks<R: CountedRead, B: Allocator, A: Allocator + Copy, W: CountedWrite>(
     alloc: A,
     reader: &mut BlockReader<R, B>,
     limit: Limit,
+    expected: Expected,
     form: Form,
     out: &mut W,
 ) -> Result<bool, ToolFault>
-    ensures { Checks R.remaining R.failures W.contents W.failures form limit (FromBlocks reader.old reader.new) out.old result out.new }
+    ensures { Checks R.remaining R.failures W.contents W.failures form limit expected (FromBlocks reader.old reader.new) out.old result out.new }
 {
-    check_over::<R, B, Book<A>, W>(alloc, reader, limit, form, out)
+    check_over::<R, B, Book<A>, W>(alloc, reader, limit, expected, form, out)
 }
 
 // The same with any book of orders.
@@ -49,13 +61,15 @@ fn check_over<R: CountedRead, A: Allocator, B: OrderBook, W: CountedWrite>(
     alloc: B::Alloc,
     reader: &mut BlockReader<R, A>,
     limit: Limit,
+    expected: Expected,
     form: Form,
     out: &mut W,
 ) -> Result<bool, ToolFault>
-    ensures { Checks R.remaining R.failures W.contents W.failures form limit (FromBlocks reader.old reader.new) out.old result out.new }
+    ensures { Checks R.remaining R.failures W.contents W.failures form limit expected (FromBlocks reader.old reader.new) out.old result out.new }
 {
     let mut market: Market<B> = Market::new(alloc);
     let count = read_market(reader, &mut market, limit, Source::Only)?;
+    expected.check(count, market.phase())?;
     write_count(count, form, out)
 }
 

@@ -3,6 +3,7 @@ ghost use Rattle.std.specs.Prelude.{◌≡◌, ◌≢◌};
 ghost use Rattle.std.specs.IoError.{error_kind};
 ghost use Rattle.itch_commands.specs.Statuses.{frame_status, refusal_status, stop_status, snapshot_status, soup_status, status_of, exit_status};
 
+use crate::expected::Unmet;
 use itch_frame::FrameFault;
 use itch_market::{Refusal, ReplayEnd, Stop};
 use itch_snapshot::SnapFault;
@@ -23,13 +24,15 @@ pub enum Source {
     Snapshot,
     /// The file with the password of a login.
     PasswordFile,
+    /// The file that a snapshot is written to.
+    Output,
 }
 
 impl fmt::Display for Source {
     // The words before the reason of a fault.
     fn fmt<W: fmt::Write>(&self, f: &mut fmt::Formatter<W>) -> fmt::Result {
         f.write_str(match self {
-            Source::Only | Source::PasswordFile => "",
+            Source::Only | Source::PasswordFile | Source::Output => "",
             Source::First => "first: ",
             Source::Second => "second: ",
             Source::Snapshot => "snapshot: ",
@@ -49,6 +52,8 @@ pub enum ToolFault {
     Snap { file: Source, fault: SnapFault },
     /// A file has only this many messages, fewer than are wanted.
     Short { file: Source, count: u64 },
+    /// A file follows the order rules, and is not what it was expected to be.
+    Unmet(Unmet),
     /// The directory has no such locate.
     UnknownLocate,
     /// The directory has no entry with such a stock.
@@ -85,7 +90,7 @@ impl ToolFault {
             ToolFault::Write(_) | ToolFault::Open { .. } => 3,
             ToolFault::OutOfMemory => 4,
             ToolFault::BadUser | ToolFault::BadPassword | ToolFault::BadLocates => 2,
-            ToolFault::TooMany => 1,
+            ToolFault::TooMany | ToolFault::Unmet(_) => 1,
             ToolFault::Soup(fault) => soup_status(fault),
             ToolFault::Socket(_) => 3,
         }
@@ -173,6 +178,7 @@ impl fmt::Display for ToolFault {
             }
             ToolFault::Snap { file, fault } => write!(f, "{file}{fault}"),
             ToolFault::Short { file, count } => write!(f, "{file}only {count} messages"),
+            ToolFault::Unmet(unmet) => write!(f, "{unmet}"),
             ToolFault::UnknownLocate => f.write_str("unknown locate"),
             ToolFault::UnknownStock => f.write_str("unknown stock"),
             ToolFault::Write(_) => f.write_str("write failed"),

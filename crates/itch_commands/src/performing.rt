@@ -36,7 +36,12 @@ pub fn perform<R: CountedRead, B: Allocator, A: Allocator + Copy, W: CountedWrit
             selection,
             ..
         } => snap_selected(alloc, limit, selection, only, reader, out),
-        Request::Check { limit, form, .. } => check_blocks(alloc, reader, limit, form, out),
+        Request::Check {
+            limit,
+            expected,
+            form,
+            ..
+        } => check_blocks(alloc, reader, limit, expected, form, out),
         Request::Show {
             kind,
             form,

@@ -1,7 +1,7 @@
 //! A day file, or the part of it that is wanted, read into a market.
-ghost use Rattle.std.specs.Prelude.{◌≡◌, MatchResult, None, Some};
+ghost use Rattle.std.specs.Prelude.{◌≡◌, MatchResult, IfSome, IfNone, None, Some};
 ghost use Rattle.itch_frame.specs.Reading.{bytes_left};
-ghost use Rattle.itch_market.specs.Replays.{Counts, LeavesReaderFirst};
+ghost use Rattle.itch_market.specs.Replays.{Counts, LeavesReaderFirst, step_of};
 ghost use Rattle.itch_commands.specs.Readings.{ReadsMarket, CountsRead, LeavesDay, TakesNext, TakesPayload, stopped};
 
 use crate::fault::{Source, ToolFault};
@@ -9,7 +9,7 @@ use crate::limit::Limit;
 use itch_book::OrderBook;
 use itch_codec::{MOST_MESSAGES, decode};
 use itch_frame::{BlockReader, CountedRead};
-use itch_market::{Market, ReplayEnd, Stop, next_message};
+use itch_market::{Market, NotTaken, ReplayEnd, Stop, look_ahead, next_message};
 use std::alloc::Allocator;
 
 /// Applies the messages of a day file to a market, or of the part of it that is wanted, and returns how many there are.
@@ -29,6 +29,13 @@ pub fn read_market<R: CountedRead, A: Allocator, B: OrderBook>(
     market.recall_invariant();
     let most = limit.most();
     for count in 0..most {
+        look_ahead(reader, market, count);
+        match read_at_hand(reader, market, count == MOST_MESSAGES, limit) {
+            Some(Ok(true)) => continue,
+            Some(Ok(false)) => return Ok(count),
+            Some(Err(why)) => return stopped(Stop::from(why), limit.after, file, count),
+            None => {}
+        }
         match read_next(reader, market, count == MOST_MESSAGES, limit) {
             Ok(true) => {}
             Ok(false) => return Ok(count),
@@ -54,7 +61,32 @@ pub(crate) fn read_settled<R: CountedRead, A: Allocator, B: OrderBook>(
     read
 }
 
-// Applies the next message, unless there were as many as may be (`is_full`), and returns true; or returns false if it is late.
+// Applies the next message if it lies at hand, and returns true; or returns false if it is late. Where none lies at hand, or where there
+// were as many as may be (`is_full`), nothing changes.
+#[inline(always)]
+fn read_at_hand<R: CountedRead, A: Allocator, B: OrderBook>(
+    reader: &mut BlockReader<R, A>,
+    market: &mut Market<B>,
+    is_full: bool,
+    limit: Limit,
+) -> Option<Result<bool, NotTaken>>
+    ensures step { IfSome result (λ taken. TakesNext limit is_full market.old (bytes_left R.remaining reader.old) (bytes_left R.remaining reader.new) (step_of taken) market.new) }
+    ensures failures { IfSome result (λ taken. R.failures reader.new.reader ≡ R.failures reader.old.reader) }
+    ensures reader { IfSome result (λ taken. MatchResult (step_of taken) (λ _. LeavesReaderFirst reader.old 1 None reader.new) (λ stop. LeavesReaderFirst reader.old 0 (Some stop) reader.new)) }
+    ensures none { IfNone result ((reader.new ≡ reader.old) × (market.new ≡ market.old)) }
+{
+    if is_full {
+        return None;
+    }
+    let payload = reader.next_at_hand()?;
+    if payload.is_empty() {
+        return Some(Err(NotTaken::Ended));
+    }
+    Some(take(market, payload, limit))
+}
+
+// The same of a message that may have to be read.
+#[inline(never)]
 fn read_next<R: CountedRead, A: Allocator, B: OrderBook>(
     reader: &mut BlockReader<R, A>,
     market: &mut Market<B>,
@@ -67,19 +99,32 @@ fn read_next<R: CountedRead, A: Allocator, B: OrderBook>(
     ensures reader { MatchResult result (λ _. LeavesReaderFirst reader.old 1 None reader.new) (λ stop. LeavesReaderFirst reader.old 0 (Some stop) reader.new) }
 {
     let payload = next_message(reader, is_full)?;
-    take(market, payload, limit)
+    match take(market, payload, limit) {
+        Ok(is_early) => Ok(is_early),
+        Err(why) => Err(Stop::from(why)),
+    }
 }
 
 // Applies the message of a payload, and returns true; or returns false if it is late.
-fn take<B: OrderBook>(market: &mut Market<B>, payload: &[u8], limit: Limit) -> Result<bool, Stop>
-    ensures { TakesPayload limit market.old payload.now result market.new }
+#[inline(always)]
+fn take<B: OrderBook>(
+    market: &mut Market<B>,
+    payload: &[u8],
+    limit: Limit,
+) -> Result<bool, NotTaken>
+    ensures { TakesPayload limit market.old payload.now (step_of result) market.new }
 {
-    let message = decode(payload)?;
+    let message = match decode(payload) {
+        Ok(message) => message,
+        Err(fault) => return Err(NotTaken::Undecoded(fault)),
+    };
     if limit.is_late(&message) {
         return Ok(false);
     }
-    market.apply(&message)?;
-    Ok(true)
+    match market.apply(&message) {
+        Ok(()) => Ok(true),
+        Err(why) => Err(NotTaken::Refused(why)),
+    }
 }
 
 // What a stop after this many messages returns: the end of the file is none, unless more messages are wanted.

@@ -2,6 +2,7 @@
 ghost use Rattle.std.specs.Prelude.{◌≡◌, ◌↔◌, Some, IsNone, IfSome, option_map, codes};
 ghost use Rattle.itch_commands.specs.Requests.{file_of, is_binary, only_of};
 
+use crate::expected::Expected;
 use crate::fault::Source;
 use crate::filters::Filters;
 use crate::form::{BookForm, Form, ShowForm};
@@ -18,10 +19,11 @@ pub enum Request<'a> {
         limit: Limit,
         selection: Selection<'a>,
     },
-    /// Check that a file follows the order rules, and count its messages.
+    /// Check that a file follows the order rules and is as expected, and count its messages.
     Check {
         file: Option<&'a str>,
         limit: Limit,
+        expected: Expected,
         form: Form,
     },
     /// Show each message of a file as a line, or those that are chosen.

@@ -1,10 +1,11 @@
 -- What happens to the known bytes when some of those in a buffer are passed over.
-use Rattle.std.proofs.Common.{◌≡◌, ℕ, List, ◌++◌, take, drop, Bool, true, false, sym, ap, subst, ◌∙◌, append_assoc, Option, Some, None}
+use Rattle.std.proofs.Common.{◌≡◌, ℕ, List, ◌++◌, take, drop, Bool, true, false, sym, ap, subst, ◌∙◌, append_assoc, Option, Some, None, IfSome, length}
 use Rattle.std.specs.Prelude.{if◌then◌else◌, ◌==◌}
 use Rattle.std.specs.declared.io.buffered.BufReader.{BufReader}
 use Rattle.std.specs.Io.Buffered.{reader_buffer, reader_capacity, reader_inner, reader_remaining}
 use Rattle.std.specs.Io.KnownBytes.{prepend_known, Consumes}
 use Rattle.std.proofs.lemmas.List.{take-append-drop}
+use Rattle.std.proofs.Math.Seq.{take-append_seam}
 
 -- the first n bytes of a buffer go, if any are known: a buffer of no size has none
 passed : (is_none : Bool) (ahead : List ℕ) (rest : Option (List ℕ)) (n : ℕ)
@@ -21,3 +22,10 @@ passed_over remaining old new n buffer inner capacity =
     subst (λ (left : Option (List ℕ)). Consumes (reader_remaining remaining old) left (take n (reader_buffer old)))
     (λ i. if sym capacity i == 0 then None else prepend_known (sym buffer i) (remaining (sym inner i)))
     (passed (reader_capacity old == 0) (reader_buffer old) (remaining (reader_inner old)) n)
+
+-- the bytes of a buffer are the first of those that are left
+pub come_next : (is_none : Bool) (ahead : List ℕ) (rest : Option (List ℕ))
+    → IfSome (if is_none then None else prepend_known ahead rest) (λ all. take (length ahead) all ≡ ahead)
+come_next true ahead rest = tt
+come_next false ahead None = tt
+come_next false ahead (Some bytes) = take-append_seam ahead bytes

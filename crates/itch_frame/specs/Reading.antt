@@ -1,5 +1,5 @@
 -- What contracts see of a reader of blocks.
-use Rattle.std.specs.Prelude.{◌≡◌, ℕ, ◌<◌, ◌⊎◌, List, [], ◌++◌, length, Option, None, Some, Result, Ok, Err, IfSome}
+use Rattle.std.specs.Prelude.{◌≡◌, ◌≢◌, ℕ, ◌<◌, ◌⊎◌, List, [], ◌++◌, length, Option, None, Some, Result, Ok, Err, IfSome}
 use Rattle.std.specs.Borrow.{Bor}
 use Rattle.std.specs.Io.KnownBytes.{prepend_known, Keeps, Consumes, IsAtEnd}
 use Rattle.itch_frame.specs.Blocks.{IsPayload, block, Open}
@@ -73,3 +73,9 @@ module _ {R : Type 0} (remaining : R → Option (List ℕ)) (failures : R → Fa
 abbrev pub StaysEnded : {R : Type 0} → Reading R → Result (Option (Bor (List ℕ))) FrameFault → Reading R → Type 0
 StaysEnded old r new =
     (old.stage ≡ Ended → (r ≡ Ok None) × (new ≡ old)) × (old.stage ≡ Cut → (r ≡ Err (Truncated (length old.held))) × (new ≡ old))
+
+module _ {R : Type 0} (remaining : R → Option (List ℕ)) (failures : R → Failures) where
+  -- what a call that asks for a block at hand may return, and leave
+  abbrev pub NextAtHand : Reading R → Option (Bor (List ℕ)) → Reading R → Type 0
+  NextAtHand old (Some p) new = NextBlock remaining failures old (Ok (Some p)) new × (old.stage ≢ Ended) × (old.stage ≢ Cut)
+  NextAtHand old None new = new ≡ old

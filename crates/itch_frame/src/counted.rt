@@ -44,6 +44,13 @@ pub trait CountedRead {
         let _buf = buf;
         None
     }
+
+    /// The bytes that come next, as far as they lie at hand. A reader may always return none of them.
+    fn at_hand(&self) -> &[u8]
+        ensures { IfSome (remaining self.now) (λ rest. take (length result.now) rest ≡ result.now) }
+    {
+        &[]
+    }
 }
 
 /// A writer that counts its failures.

@@ -1,7 +1,7 @@
 //! Blocks from a reader.
-ghost use Rattle.std.specs.Prelude.{◌≡◌, ℕ, ◌+◌, ◌-◌, ◌<◌, ◌≤◌, List, [], ◌++◌, length, take, drop, vec_len, IfOk, true, false};
+ghost use Rattle.std.specs.Prelude.{◌≡◌, ℕ, ◌+◌, ◌-◌, ◌<◌, ◌≤◌, List, [], ◌++◌, length, take, drop, vec_len, IfOk, IfSome, true, false};
 ghost use Rattle.std.specs.Io.KnownBytes.{prepend_known, Keeps, Consumes, IsAtEnd};
-ghost use Rattle.itch_frame.specs.Blocks.{IsBlock, IsBlockOf};
+ghost use Rattle.itch_frame.specs.Blocks.{IsBlockOf};
 ghost use Rattle.itch_frame.specs.Counting.{CountsErr};
 ghost use Rattle.itch_frame.specs.Needs.{need};
 
@@ -55,7 +55,7 @@ impl<R: CountedRead, A: Allocator> BlockReader<R, A> {
     ghost use types.Logic.{sem};
     ghost use Rattle.std.specs.Prelude.{◌≡◌, [], IfOk};
     ghost use Rattle.std.specs.Io.BufRead.{Rests};
-    ghost use Rattle.itch_frame.specs.Reading.{NextBlock, NextMessage, StaysEnded};
+    ghost use Rattle.itch_frame.specs.Reading.{NextBlock, NextAtHand, NextMessage, StaysEnded};
     ghost use Rattle.itch_frame.specs.contracts.reader.BlockReader.{the_row as reader_row};
 
     /// A reader of blocks, from the first byte of `reader` on. It allocates all its memory here, 65,537 bytes.
@@ -105,6 +105,28 @@ impl<R: CountedRead, A: Allocator> BlockReader<R, A> {
         }
     }
 
+    /// The payload of the next block, if all of it lies at hand and nothing of it is held. The block returned before is dropped then;
+    /// `None` changes nothing.
+    ///
+    /// It reads nothing, so it has no faults. A caller that has so many blocks to read that each step counts asks for the next one here
+    /// first, and then, if there is none, [`BlockReader::next_block`].
+    #[inline(always)]
+    pub fn next_at_hand(&mut self) -> Option<&[u8]>
+        ensures* next { sem 𝓛 (Rests (reader_row R.row A.row R.CountedRead A.Allocator) self.entry (λ new.
+            NextAtHand R.remaining R.failures self.old result new)) }
+    {
+        match self.stage {
+            Stage::Ended | Stage::Cut => return None,
+            Stage::Given => self.len = 0,
+            Stage::Going => {}
+        }
+        if !take_block(&mut self.reader, &mut self.buffer, &mut self.len) {
+            return None;
+        }
+        self.stage = Stage::Given;
+        Some(&self.buffer[2..self.len])
+    }
+
     /// The payload of the next message, or `None` where the messages end: at the end of input, or at an empty block, which is
     /// read too. The message returned before is dropped.
     ///
@@ -119,6 +141,16 @@ impl<R: CountedRead, A: Allocator> BlockReader<R, A> {
             Some(payload) if !payload.is_empty() => Ok(Some(payload)),
             _ => Ok(None),
         }
+    }
+}
+
+impl<R: CountedRead, A: Allocator> BlockReader<R, A> {
+    /// The bytes that the reader has at hand: what comes after the block at hand.
+    #[inline(always)]
+    pub fn at_hand(&self) -> &[u8]
+        ensures { IfSome (R.remaining self.now.reader) (λ rest. take (length result.now) rest ≡ result.now) }
+    {
+        self.reader.at_hand()
     }
 }
 
@@ -159,7 +191,8 @@ fn take_block<R: CountedRead>(reader: &mut R, buffer: &mut [u8], len: &mut usize
     ensures room { length buffer.new ≡ length buffer.old }
     ensures begun { result ≡ true → len.old ≡ 0 }
     ensures within { result ≡ true → len.new ≤ length buffer.new }
-    ensures block { result ≡ true → IsBlock (take len.new buffer.new) }
+    ensures whole { result ≡ true → IsBlockOf (take (len.new - 2) (drop 2 buffer.new)) (take len.new buffer.new) }
+    ensures needed { result ≡ true → len.new ≤ need (take len.new buffer.new) }
     ensures bytes { result ≡ true → Consumes (R.remaining reader.old) (R.remaining reader.new) (take len.new buffer.new) }
     ensures none { result ≡ false → (reader.new ≡ reader.old) × (buffer.new ≡ buffer.old) × (len.new ≡ len.old) }
     ensures count { R.failures reader.new ≡ R.failures reader.old }

@@ -4,14 +4,17 @@ use Rattle.std.proofs.lemmas.Bool.Decides.{nat_tests}
 use Rattle.std.proofs.KnownBytes.{Consumes-nil}
 use Rattle.itch_codec.specs.Messages.{message_of}
 use Rattle.itch_frame.specs.Blocks.{IsFull}
+use Rattle.itch_frame.specs.declared.tally.Failures.{Failures}
 use Rattle.itch_frame.proofs.BlockLemmas.{consumed_more, each-push}
+use Rattle.itch_market.specs.declared.not_taken.NotTaken.{NotTaken}
+use Rattle.itch_market.specs.declared.not_taken.NotTaken.TheVariants.{Ended, Undecoded, Refused}
 use Rattle.itch_market.specs.declared.stop.Stop.{Stop}
 use Rattle.itch_market.specs.Content.{Content, laid}
 use Rattle.itch_market.specs.Effects.{effect}
 use Rattle.itch_market.specs.GoodMarkets.{IsGood}
 use Rattle.itch_market.specs.Runs.{after}
 use Rattle.itch_market.specs.Stops.{cause}
-use Rattle.itch_market.specs.Replays.{Fits, Halts, Step, Takes, Replays, ReplaysFirst}
+use Rattle.itch_market.specs.Replays.{Fits, Halts, Step, Takes, Replays, ReplaysFirst, Counts, stop_of}
 use Rattle.itch_market.proofs.GoodMarkets.{effect_good}
 use Rattle.itch_market.proofs.LaidMarkets.{effect-laid}
 use Rattle.itch_market.proofs.Causes.{cause-laid, halts-laid, no_reason, none_more, after_more}
@@ -84,3 +87,9 @@ going_halts m old mid new count n k stop going (same, halts) =
 -- or it was to take no more
 pub going_short : (m : Content) (old new : Option (List ℕ)) (count : ℕ) (n : Content) → Going m old new count n → ReplaysFirst count m old new count None n
 going_short m old new count n going = (refl, going.few, going.payloads, going.takes, going.counted)
+
+-- a message that lies at hand fails no read
+pub nothing_failed : (why : NotTaken) (old new : Failures) → new ≡ old → Counts (stop_of why) old new
+nothing_failed Ended old new same = same
+nothing_failed (Undecoded fault) old new same = same
+nothing_failed (Refused why) old new same = same

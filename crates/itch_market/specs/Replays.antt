@@ -15,6 +15,8 @@ use Rattle.itch_market.specs.declared.refusal.Refusal.{Refusal}
 use Rattle.itch_market.specs.declared.refusal.Refusal.TheVariants.{UnknownLocate, StockMismatch, ZeroShares, DuplicateRef, UnknownRef, LocateMismatch, TooManyShares, UnexpectedEnd, OutOfMemory}
 use Rattle.itch_market.specs.declared.stop.Stop.{Stop}
 use Rattle.itch_market.specs.declared.stop.Stop.TheVariants.{End, Frame, Codec, Rule, TooManyMessages}
+use Rattle.itch_market.specs.declared.not_taken.NotTaken.{NotTaken}
+use Rattle.itch_market.specs.declared.not_taken.NotTaken.TheVariants.{Ended as NoMore, Undecoded, Refused}
 use Rattle.itch_market.specs.Content.{Content, laid}
 use Rattle.itch_market.specs.Reasons.{reason}
 use Rattle.itch_market.specs.Effects.{effect, takes_memory}
@@ -127,6 +129,16 @@ pub record Takes (m : Content) (old new : Option (List ℕ)) (payloads : List (L
   pub none : NoCause m payloads
   pub fits : AllByRecursion Fits payloads
   pub left : n ≡ laid (after m (map message_of payloads))
+
+-- why a message that lies at hand is not taken, as a stop
+abbrev pub stop_of : NotTaken → Stop
+stop_of NoMore = End
+stop_of (Undecoded f) = Codec f
+stop_of (Refused why) = Rule why
+
+abbrev pub step_of : {X : Type 0} → Result X NotTaken → Result X Stop
+step_of (Ok done) = Ok done
+step_of (Err why) = Err (stop_of why)
 
 -- some messages are applied, and then the replay stops
 abbrev pub Replays : Content → Option (List ℕ) → Option (List ℕ) → ℕ → Stop → Content → Type 0

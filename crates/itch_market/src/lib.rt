@@ -13,6 +13,7 @@
 //! ```
 #![tactic(auto)]
 
+mod ahead;
 mod equality;
 mod halts;
 pub mod laws;
@@ -20,6 +21,7 @@ mod locate_set;
 mod locates;
 mod market;
 mod messages;
+mod not_taken;
 mod positions;
 mod refusal;
 mod replaying;
@@ -27,12 +29,14 @@ mod securities;
 mod security;
 mod stop;
 
+pub use ahead::look_ahead;
 pub use equality::same_message;
 pub use halts::Halts;
 pub use locate_set::LocateSet;
 pub use locates::Locates;
 pub use market::Market;
 pub use messages::next_message;
+pub use not_taken::NotTaken;
 pub use positions::Positions;
 pub use refusal::Refusal;
 pub use replaying::{replay, replay_first};

@@ -12,6 +12,7 @@ mod actions;
 mod plain;
 mod rules;
 
+use crate::ahead::references_in;
 use crate::locates::Locates;
 use crate::refusal::Refusal;
 use crate::securities::Securities;
@@ -106,6 +107,14 @@ impl<B: OrderBook> Market<B> {
         ensures { self.new ≡ self.old }
     {
         self.book.settle();
+    }
+
+    /// Tells the market's book which orders are asked for next, if these are the blocks of the messages that come next. Nothing
+    /// changes, and no memory is taken.
+    pub fn look_ahead(&mut self, blocks: &[u8])
+        ensures { self.new ≡ self.old }
+    {
+        self.book.look_ahead(&references_in(blocks));
     }
 
     /// The live orders.

@@ -114,9 +114,13 @@ fn action_message(header: Header, stock: Alpha<8>, action: Action) -> TradingAct
     }
 }
 
-// The next of them, if there are any.
+// The next of them, if there are any. Once there are none, they are not asked again.
 pub(crate) fn next_state<'m>(states: &mut Option<States<'_>>) -> Option<Message<'m>>
     ensures { MatchOption result ((listed states.old ≡ []) × (listed states.new ≡ [])) (λ x. listed states.old ≡ x ∷ listed states.new) }
 {
-    states.as_mut()?.take_first()
+    let message = states.as_mut()?.take_first();
+    if message.is_none() {
+        *states = None;
+    }
+    message
 }

@@ -25,6 +25,10 @@ impl<'a> DeviceName<'a> {
                 Some(path) => DeviceName::Path(path),
                 None => DeviceName::Input,
             },
+            (Some(job), Device::Output) => match job.output() {
+                Some(path) => DeviceName::Path(path),
+                None => DeviceName::Output,
+            },
             (Some(Job::Serve { address, .. }), Device::Socket) => DeviceName::Address(*address),
             (Some(Job::Live(live)), Device::Socket) => DeviceName::Address(live.address),
             (Some(Job::Feed(feed)), Device::Socket) => DeviceName::Address(feed.address),

@@ -9,6 +9,7 @@ mod explaining;
 mod failed;
 mod live;
 mod opened;
+mod output;
 mod packed;
 mod password;
 mod run;

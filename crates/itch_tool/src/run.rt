@@ -3,6 +3,7 @@ ghost use Rattle.itch_commands.specs.Requests.{IsOverOne};
 
 use crate::live::{run_feed, run_follow, run_live};
 use crate::opened::open;
+use crate::output::Output;
 use crate::sockets::{run_fetch, run_serve};
 use itch_commands::compare::{compare_blocks, compare_first_blocks};
 use itch_commands::join::{join_blocks, join_stocks};
@@ -27,7 +28,11 @@ where
     R: Net<Listener = TcpListener, Stream = TcpStream>,
 {
     match job {
-        Job::Files { request, progress } => run_request(rt, *request, *progress),
+        Job::Files {
+            request,
+            progress,
+            output,
+        } => run_request(rt, *request, *progress, *output),
         Job::Serve {
             file,
             kind,
@@ -40,7 +45,8 @@ where
             server,
             login,
             from,
-        } => run_fetch(rt, server, login, *from),
+            output,
+        } => run_fetch(rt, server, login, *from, *output),
         Job::Live(words) => run_live(rt, words),
         Job::Follow(words) => run_follow(rt, words),
         Job::Feed(words) => run_feed(rt, words),
@@ -57,17 +63,32 @@ fn print_completions<R: Print + AllocGlobal>(rt: &R, shell: Shell) -> Result<boo
     }
 }
 
+// Performs a request, with its output in the file of a path, or on standard output.
 fn run_request<R: Files + Input + Print + Eprint + AllocGlobal + Clock>(
     rt: &R,
     request: Request<'_>,
     progress: bool,
+    output: Option<&str>,
+) -> Result<bool, ToolFault> {
+    let Some(path) = output else {
+        return request_to(rt, request, progress, io::writer(rt));
+    };
+    let (output, file) = Output::create(rt, path)?;
+    output.finish(rt, request_to(rt, request, progress, file))
+}
+
+fn request_to<R: Files + Input + Eprint + AllocGlobal + Clock, W: Write + Drop>(
+    rt: &R,
+    request: Request<'_>,
+    progress: bool,
+    writer: W,
 ) -> Result<bool, ToolFault> {
     let alloc = rt.alloc();
     let only = match request.only() {
         Some(list) => Some(read_locates(alloc, list)?),
         None => None,
     };
-    let Ok(buffered) = BufWriter::with_capacity(alloc, PIECE, io::writer(rt)) else {
+    let Ok(buffered) = BufWriter::with_capacity(alloc, PIECE, writer) else {
         return Err(ToolFault::OutOfMemory);
     };
     let mut out = Counted::new(buffered);

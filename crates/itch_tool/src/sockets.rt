@@ -1,6 +1,7 @@
 //! The two ends of a session over sockets.
 
 use crate::opened::open;
+use crate::output::Output;
 use crate::password::read_password;
 use itch_codec::Seq;
 use itch_commands::{FileKind, Source, ToolFault, system_fault};
@@ -48,15 +49,33 @@ where
 }
 
 /// Fetches the snapshot that a server has, or its messages from a number on. It waits until the server answers, unless there is a
-/// time limit.
+/// time limit. What is fetched is written to the file of a path, or to standard output.
 pub fn run_fetch<R>(
     rt: &R,
     server: &Server<'_>,
     login: &LoginWords<'_>,
     from: Option<Seq>,
+    output: Option<&str>,
 ) -> Result<bool, ToolFault>
 where
     R: Files + Print + AllocGlobal + Net<Stream = TcpStream>,
+{
+    let Some(path) = output else {
+        return fetch_to(rt, server, login, from, io::writer(rt));
+    };
+    let (output, file) = Output::create(rt, path)?;
+    output.finish(rt, fetch_to(rt, server, login, from, file))
+}
+
+fn fetch_to<R, W: Write + Drop>(
+    rt: &R,
+    server: &Server<'_>,
+    login: &LoginWords<'_>,
+    from: Option<Seq>,
+    writer: W,
+) -> Result<bool, ToolFault>
+where
+    R: Files + AllocGlobal + Net<Stream = TcpStream>,
 {
     let login = read_login(rt, login, Source::PasswordFile)?;
     let stream = connect(rt, server)?;
@@ -64,7 +83,7 @@ where
         return Err(ToolFault::OutOfMemory);
     };
     let mut reader = BlockReader::new(rt.alloc(), Buffered::new(buffered))?;
-    let Ok(buffered) = BufWriter::with_capacity(rt.alloc(), PIECE, io::writer(rt)) else {
+    let Ok(buffered) = BufWriter::with_capacity(rt.alloc(), PIECE, writer) else {
         return Err(ToolFault::OutOfMemory);
     };
     let mut out = Counted::new(buffered);

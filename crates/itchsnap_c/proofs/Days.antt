@@ -43,6 +43,7 @@ use Rattle.itch_commands.specs.declared.fault.ToolFault.TheVariants as tool
 use Rattle.itch_commands.proofs.Comparisons.{taken_good, taken_few}
 use Rattle.itchsnap_c.specs.declared.answers.Written.{Written}
 use Rattle.itchsnap_c.specs.Files.{market_of, outcome, RefusesDay, refused_day}
+use Rattle.itchsnap_c.specs.Blocks.{IsOfBlocks}
 use Rattle.itchsnap_c.specs.Codes.{stop_answer}
 use Rattle.itchsnap_c.specs.Snapshots.{is_listed, Writes, Puts, Closes, Spells}
 
@@ -108,6 +109,7 @@ day_refused after m n day bytes new tool.OutOfMemory first known reads counts = 
 day_refused after m n day bytes new (tool.Open file error) first known reads counts = absurd reads
 day_refused after m n day bytes new tool.BadUser first known reads counts = absurd reads
 day_refused after m n day bytes new tool.BadPassword first known reads counts = absurd reads
+day_refused after m n day bytes new (tool.Unmet unmet) first known reads counts = absurd reads
 day_refused after m n day bytes new tool.BadLocates first known reads counts = absurd reads
 day_refused after m n day bytes new tool.TooMany first known reads counts = absurd reads
 day_refused after m n day bytes new (tool.Soup fault) first known reads counts = absurd reads
@@ -187,3 +189,11 @@ snapshot_refused day old new fault known reads decided counts =
       by_fault (snap_fault.Rule place why) reads is counts = by_rule place why reads is (stop_decided (Rule why) refl)
       by_fault snap_fault.AfterEnd reads is counts = inl (is tt)
       by_fault snap_fault.TooManyMessages reads is counts = inl (is tt)
+
+-- what stops a replay of blocks in memory is of the blocks, or memory is refused
+pub of_blocks : (bytes : List ℕ) (m : Content) (known : Option (List ℕ)) (count : ℕ) (stop : Stop) → known ≡ Some bytes → IfSome known (λ b. IsDecided stop → Stops m b count stop)
+    → Counts stop no_failures no_failures → IsOfBlocks bytes m count stop
+of_blocks bytes m known count stop are stops counts = by_cause (stop_decided stop counts) (subst (λ o. IfSome o (λ b. IsDecided stop → Stops m b count stop)) are stops) where
+  by_cause : IsDecided stop ⊎ (stop ≡ Rule OutOfMemory) → (IsDecided stop → Stops m bytes count stop) → IsOfBlocks bytes m count stop
+  by_cause (inl sure) is = inl (sure, is sure)
+  by_cause (inr memory) is = inr memory

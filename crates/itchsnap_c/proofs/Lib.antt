@@ -2,3 +2,4 @@ pub mod Joining
 pub mod Values
 pub mod Pointers
 pub mod Days
+pub mod ListedSoFar

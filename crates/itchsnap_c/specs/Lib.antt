@@ -1,7 +1,9 @@
+pub mod Blocks
 pub mod Codes
 pub mod JoinCodes
 pub mod Files
 pub mod Joiners
+pub mod Listings
 pub mod Lookups
 pub mod Markets
 pub mod Objects

@@ -20,11 +20,11 @@ is_listed locates locate = list_any (nat_eq locate) locates
 abbrev pub unwritten : ℕ → Written
 unwritten code = record { len = 0; code = code }
 
--- the bytes are at the front of the memory, or it is too short and left as it was
-abbrev pub Copies : List ℕ → List ℕ → Written → List ℕ → Type 0
-Copies bytes old written new =
-    ((written ≡ record { len = length bytes; code = 0 }) × (length bytes ≤ length old) × (new ≡ bytes ++ drop (length bytes) old))
-    ⊎ ((written ≡ record { len = length bytes; code = 49 }) × (length old < length bytes) × (new ≡ old))
+-- the bytes, or other items, are at the front of the memory, or it is too short and left as it was
+abbrev pub Copies : {T : Type 0} → List T → List T → Written → List T → Type 0
+Copies items old written new =
+    ((written ≡ record { len = length items; code = 0 }) × (length items ≤ length old) × (new ≡ items ++ drop (length items) old))
+    ⊎ ((written ≡ record { len = length items; code = 49 }) × (length old < length items) × (new ≡ old))
 
 -- the bytes are made, unless memory is refused, and then copied
 abbrev pub Writes : List ℕ → List ℕ → Written → List ℕ → Type 0
@@ -54,7 +54,7 @@ abbrev pub Spells : Content → Content → ℕ → Result (Vec ℕ Global) ℕ 
 Spells m cut next (Ok bytes) = IsNumber next × (length (snap m) < 10 ^ 19) × (bytes.items ≡ canon cut ++ closing next)
 Spells m cut next (Err code) = Closes m next (Err code) ⊎ ((code ≡ 48) × IsNumber next × (length (snap m) < 10 ^ 19))
 
--- the bytes are copied, where there are any
-abbrev pub Stores : Result (Vec ℕ Global) ℕ → List ℕ → Written → List ℕ → Type 0
-Stores (Ok bytes) old written new = Copies bytes.items old written new
+-- the bytes, or other items, are copied, where there are any
+abbrev pub Stores : {T : Type 0} → Result (Vec T Global) ℕ → List T → Written → List T → Type 0
+Stores (Ok items) old written new = Copies items.items old written new
 Stores (Err code) old written new = (written ≡ unwritten code) × (new ≡ old)

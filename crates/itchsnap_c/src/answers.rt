@@ -60,11 +60,45 @@ pub struct Count {
     pub code: u32,
 }
 
+/// The total of a price level, with its price.
+#[repr(C)]
+#[derive(Clone, Copy, Drop)]
+pub struct PriceLevel {
+    /// The sum of the shares, of which these are the lower 64 bits.
+    pub shares_low: u64,
+    /// The upper 64 bits of the sum.
+    pub shares_high: u64,
+    /// How many orders there are.
+    pub orders: u64,
+    /// With four implied decimals.
+    pub price: u32,
+}
+
+/// A stock of the directory.
+#[repr(C)]
+#[derive(Clone, Copy, Drop)]
+pub struct Stock {
+    /// Its name, padded with spaces.
+    pub stock: [u8; 8],
+    pub code: u32,
+}
+
+/// How blocks were applied.
+#[repr(C)]
+#[derive(Clone, Copy, Drop)]
+pub struct Applied {
+    /// How many messages were applied.
+    pub count: u64,
+    /// As in `Answer`, of what comes after them.
+    pub detail: u64,
+    pub code: u32,
+}
+
 /// What was written into a caller's memory.
 #[repr(C)]
 #[derive(Clone, Copy, Drop)]
 pub struct Written {
-    /// How many bytes the snapshot has, if it was written or there is no room for it.
+    /// How many bytes or items there are, if they were written or there is no room for them.
     pub len: usize,
     pub code: u32,
 }

@@ -18,6 +18,7 @@
 ghost use Rattle.std.specs.Prelude.{◌≡◌};
 
 pub mod answers;
+pub mod blocks;
 pub mod client;
 mod codes;
 pub mod files;
@@ -25,6 +26,7 @@ pub mod handle;
 mod join_codes;
 pub mod joiner;
 mod kept;
+pub mod listings;
 pub mod lookups;
 mod loose;
 pub mod market;

@@ -85,13 +85,13 @@ pub extern "C" fn itchsnap_order_count(alloc: Global, handle: &mut Handle) -> Co
     })
 }
 
-fn side_of(buy: bool) -> Side
+pub(crate) fn side_of(buy: bool) -> Side
     ensures { result ≡ side_of buy }
 {
     if buy { Side::Buy } else { Side::Sell }
 }
 
-fn order_answer(order: Option<&Order>) -> BookOrder
+pub(crate) fn order_answer(order: Option<&Order>) -> BookOrder
     ensures { result ≡ order_answer (option_copied order.entry) }
 {
     let Some(order) = order else {

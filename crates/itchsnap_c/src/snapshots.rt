@@ -142,12 +142,12 @@ pub(crate) fn set_of(alloc: Global, locates: &[u16]) -> Option<LocateSet<Global>
     Some(set)
 }
 
-// Writes the bytes to the front of `out`.
-fn put(bytes: &Result<Vec<u8>, u32>, out: &mut [u8]) -> Written
-    ensures { Stores bytes.now out.old result out.new }
+/// Writes bytes or items to the front of `out`.
+pub(crate) fn put<T: Copy>(items: &Result<Vec<T>, u32>, out: &mut [T]) -> Written
+    ensures { Stores items.now out.old result out.new }
 {
-    match bytes {
-        Ok(bytes) => copy(bytes.as_slice(), out),
+    match items {
+        Ok(items) => copy(items.as_slice(), out),
         Err(code) => Written {
             len: 0,
             code: *code,
@@ -155,13 +155,13 @@ fn put(bytes: &Result<Vec<u8>, u32>, out: &mut [u8]) -> Written
     }
 }
 
-fn copy(bytes: &[u8], out: &mut [u8]) -> Written
-    ensures { Copies bytes.now out.old result out.new }
+fn copy<T: Copy>(items: &[T], out: &mut [T]) -> Written
+    ensures { Copies items.now out.old result out.new }
 {
-    let len = bytes.len();
+    let len = items.len();
     if len > out.len() {
         return Written { len, code: NO_ROOM };
     }
-    out[..len].copy_from_slice(bytes);
+    out[..len].copy_from_slice(items);
     Written { len, code: 0 }
 }

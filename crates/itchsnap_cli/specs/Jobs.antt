@@ -10,7 +10,7 @@ use Rattle.itchsnap_cli.specs.declared.words.live.FollowForm.TheVariants as form
 use Rattle.itchsnap_cli.specs.declared.words.session.Password.{Password}
 use Rattle.itchsnap_cli.specs.declared.words.session.Password.TheVariants.{Word, File}
 use Rattle.itch_commands.specs.declared.fault.Source.{Source}
-use Rattle.itch_commands.specs.declared.fault.Source.TheVariants.{Only, First, Second, Snapshot, PasswordFile}
+use Rattle.itch_commands.specs.declared.fault.Source.TheVariants.{Only, First, Second, Snapshot, PasswordFile, Output}
 use Rattle.itch_commands.specs.Requests as requests
 use Rattle.itch_commands.specs.Requests.{is_binary}
 
@@ -30,6 +30,7 @@ live_file live First = Some live.feed.words.now
 live_file live Second = password_file live.feed_login.password
 live_file live Snapshot = option_map (λ s. s.folder.now) live.snapshots
 live_file live PasswordFile = password_file live.login.password
+live_file live Output = None
 live_file live Only = begun_with (option_map (λ path. path.now) live.«record») (option_map (λ (place : Place). place.words.now) live.glimpse)
 
 -- what a fault names so where a feed is followed
@@ -39,14 +40,23 @@ follow_file follow PasswordFile = password_file follow.login.password
 follow_file follow Only = Some follow.glimpse.words.now
 follow_file follow Second = Some follow.glimpse.words.now
 follow_file follow Snapshot = Some follow.glimpse.words.now
+follow_file follow Output = Some follow.glimpse.words.now
+
+-- the path of the file that a snapshot is written to, if one is named
+abbrev pub output_of : Job → Option (List ℕ)
+output_of (Files request progress output) = option_map (λ path. path.now) output
+output_of (Fetch server login from output) = option_map (λ path. path.now) output
+output_of job = None
 
 -- the path of the file that a fault of a job names so; none where it is standard input
 abbrev pub file_of : Job → Source → Option (List ℕ)
-file_of (Files request progress) source = requests.file_of request source
+file_of (Files request progress output) Output = option_map (λ path. path.now) output
+file_of (Files request progress output) source = requests.file_of request source
 file_of (Serve file kind address login count progress) PasswordFile = password_file login.password
 file_of (Serve file kind address login count progress) source = option_map (λ path. path.now) file
-file_of (Fetch server login from) PasswordFile = password_file login.password
-file_of (Fetch server login from) source = None
+file_of (Fetch server login from output) PasswordFile = password_file login.password
+file_of (Fetch server login from output) Output = option_map (λ path. path.now) output
+file_of (Fetch server login from output) source = None
 file_of (Live live) source = live_file live source
 file_of (Follow follow) source = follow_file follow source
 file_of (Feed feed) PasswordFile = password_file feed.login.password
@@ -61,9 +71,9 @@ is_blocks form.Whole = true
 
 -- the jobs whose output is a snapshot or a day file, which are no text
 abbrev pub writes_snapshot : Job → Bool
-writes_snapshot (Files request progress) = is_binary request
+writes_snapshot (Files request progress output) = is_binary request
 writes_snapshot (Serve file kind address login count progress) = false
-writes_snapshot (Fetch server login from) = true
+writes_snapshot (Fetch server login from output) = true
 writes_snapshot (Live live) = false
 writes_snapshot (Follow follow) = is_blocks follow.form
 writes_snapshot (Feed feed) = false

@@ -6,8 +6,9 @@
 //! ```
 //! // of `itchsnap check day.itch`
 //! let job = read_job(alloc, words.as_slice(), false, None)?;
-//! let request = Request::Check { file: Some("day.itch"), limit: Limit::whole(), form: Form::Text };
-//! assert_eq!(job, Job::Files { request, progress: false });
+//! let expected = Expected::nothing();
+//! let request = Request::Check { file: Some("day.itch"), limit: Limit::whole(), expected, form: Form::Text };
+//! assert_eq!(job, Job::Files { request, progress: false, output: None });
 //! ```
 
 mod arguments;

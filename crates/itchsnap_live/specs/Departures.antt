@@ -11,13 +11,12 @@ of_gone gone.Left = Left
 of_gone gone.Fault = Fault
 of_gone gone.Silent = CutOff
 
--- why a connection is to be closed, if it is: its client is gone; its socket has failed; or it is over, since the client sends no more and waits for
--- nothing
+-- why a connection is to be closed, if it is: its client is gone, or it is over. It is said of it whether the client sends no more: then it has left
 abbrev pub ending : Option Gone → Bool → Bool → Option Gone
-ending (Some reason) failed over = Some reason
-ending None true over = Some gone.Fault
-ending None false true = Some gone.Left
-ending None false false = None
+ending (Some reason) ended over = Some reason
+ending None ended false = None
+ending None true true = Some gone.Left
+ending None false true = Some gone.Fault
 
 -- how a connection ended: a client that was rejected, or served, was so whatever came later
 abbrev pub departure_of : Option ℕ → Option Departure → Gone → Departure

@@ -1,5 +1,5 @@
 -- What a follower does about the news of its feed.
-use Rattle.std.specs.Prelude.{ℕ, ◌-◌, Bool, true, false, Option, None, Some, Result, Ok, Err}
+use Rattle.std.specs.Prelude.{ℕ, ◌-◌, true, false, Option, None, Some, Result, Ok, Err}
 use Rattle.itch_frame.specs.declared.fault.FrameFault.{FrameFault}
 use Rattle.itch_frame.specs.declared.fault.FrameFault.TheVariants as frame
 use Rattle.itch_market.specs.declared.stop.Stop.{Stop}

@@ -1,5 +1,5 @@
 //! The connection of a client.
-ghost use Rattle.std.specs.Prelude.{◌≡◌, ◌≤◌, ◌&&◌, not, length};
+ghost use Rattle.std.specs.Prelude.{◌≡◌, ◌≤◌, ◌&&◌, ◌||◌, not, length};
 ghost use Rattle.itchsnap_live.specs.Departures.{ending};
 
 use crate::socket::{Got, Socket};
@@ -88,15 +88,16 @@ impl Link {
     }
 
     /// Why the connection is to be closed, if it is: its client is gone, its socket has failed, or it sends no more and waits for
-    /// nothing.
+    /// nothing. A client that sends no more has left, also where its socket fails afterwards.
     pub(crate) fn ending(&self, gone: Option<Gone>, waits: bool) -> Option<Gone>
-        ensures { result ≡ ending gone self.now.has_failed (self.now.has_ended && not waits) }
+        ensures { result ≡ ending gone self.now.has_ended (self.now.has_failed || (self.now.has_ended && not waits)) }
     {
+        let is_over = self.has_failed || (self.has_ended && !waits);
         match gone {
             Some(gone) => Some(gone),
-            None if self.has_failed => Some(Gone::Fault),
-            None if self.has_ended && !waits => Some(Gone::Left),
-            None => None,
+            None if !is_over => None,
+            None if self.has_ended => Some(Gone::Left),
+            None => Some(Gone::Fault),
         }
     }
 }

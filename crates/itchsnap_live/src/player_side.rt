@@ -29,12 +29,10 @@ struct Start {
 /// What has become of playing to a client in a turn.
 #[derive(Clone, Copy, PartialEq, Eq)]
 enum Played {
-    /// All that it asked for and has room for was handed in.
-    All,
+    /// What it has room for was handed in, or as much as one turn allows.
+    Due,
     /// The next message is not due yet.
     Early,
-    /// There is more to hand in at once.
-    More,
     /// The file cannot be read on.
     Failed,
 }
@@ -60,7 +58,7 @@ impl<F: Read + Drop> PlayerSide<F> {
             playback,
             start: None,
             count: 0,
-            played: Played::All,
+            played: Played::Due,
         }
     }
 
@@ -73,9 +71,11 @@ impl<F: Read + Drop> PlayerSide<F> {
         self.link.note(event);
     }
 
-    /// Whether there is something to do before anything else is ready.
+    /// Whether there is something to do before anything else is ready: to read, to write, or to hand in, since what was handed in before
+    /// may have gone out meanwhile.
     pub(crate) fn is_busy(&self) -> bool {
-        matches!(self.played, Played::More) || self.link.is_busy(!self.player.pending().is_empty())
+        let wants = self.player.wanted().is_some() && !self.is_early();
+        wants || self.link.is_busy(!self.player.pending().is_empty())
     }
 
     /// Whether a message is at hand that is not due yet.
@@ -108,10 +108,10 @@ impl<F: Read + Drop> PlayerSide<F> {
     fn play(&mut self, pace: Pace, now_ms: u64) -> Result<Played, ToolFault> {
         for _ in 0..MESSAGES {
             let Some(number) = self.player.wanted() else {
-                return Ok(Played::All);
+                return Ok(Played::Due);
             };
             if !self.playback.move_to(number, MESSAGES)? {
-                return Ok(Played::More);
+                return Ok(Played::Due);
             }
             let time = self.playback.time();
             if !is_due_from(&mut self.start, pace, number, time, now_ms) {
@@ -124,7 +124,7 @@ impl<F: Read + Drop> PlayerSide<F> {
             self.player.play(message, now_ms);
             self.count = self.count.saturating_add(1);
         }
-        Ok(Played::More)
+        Ok(Played::Due)
     }
 
     // Writes what is pending, up to a share. Once it has all, the sending half of the connection is ended.

@@ -1,5 +1,5 @@
 //! Snapshots of the market as it is, in files of a folder.
-ghost use Rattle.std.specs.Prelude.{◌≡◌, ◌<◌, ◌-◌, ◌%◌, ◌==◌, ◌&&◌, ◌^◌, nat_lt, length, OnOk};
+ghost use Rattle.std.specs.Prelude.{◌≡◌, ◌<◌, ◌^◌, length, OnOk};
 ghost use Rattle.itch_snapshot.specs.Snapshot.{snap};
 ghost use Rattle.itchsnap_live.specs.Recordings.{IsFlushed};
 ghost use Rattle.itchsnap_live.specs.Savings.{is_wanted};

@@ -60,6 +60,11 @@ impl<T: Read, A: Allocator> CountedRead for Buffered<T, A> {
         self.counted.inner.consume(size);
         Some(size)
     }
+
+    #[inline(always)]
+    fn at_hand(&self) -> &[u8] {
+        self.counted.inner.buffer()
+    }
 }
 
 // Copies as many bytes as there are and as fit, and returns how many.

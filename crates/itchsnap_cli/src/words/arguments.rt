@@ -22,6 +22,11 @@ pub enum Argument {
     Stock,
     Json,
     Progress,
+    // Where a snapshot goes.
+    Output,
+    // What the file of `check` is expected to be.
+    Expect,
+    Ended,
     // The files of `compare`, and its flag.
     First,
     Second,
@@ -80,6 +85,9 @@ impl Argument {
                 "Keep only the locates with these stocks, such as AAPL,MSFT",
             ),
             Argument::Progress => progress(alloc),
+            Argument::Output => output(alloc),
+            Argument::Expect => expect(alloc),
+            Argument::Ended => ended(alloc),
             Argument::First => named(alloc, "A", "The first file; `-` for standard input"),
             Argument::Second => named(alloc, "B", "The second file, or `-`"),
             Argument::Earliest => earliest(alloc),
@@ -228,6 +236,30 @@ fn progress<'a>(alloc: Global) -> Arg<'a> {
     Arg::new(alloc, "progress")
         .long("progress")
         .help("Show every 64 MiB, on standard error, how much was read so far")
+        .action(ArgAction::SetTrue)
+}
+
+fn output<'a>(alloc: Global) -> Arg<'a> {
+    Arg::new(alloc, "output")
+        .long("output")
+        .value_name("PATH")
+        .help(
+            "Write to this file, which gets its name once it is whole, and not to standard output",
+        )
+}
+
+fn expect<'a>(alloc: Global) -> Arg<'a> {
+    Arg::new(alloc, "expect")
+        .long("expect")
+        .value_name("N")
+        .help("Refuse a file that does not have exactly N messages")
+        .value_parser(clap::value_parser!(u64).range(0..=MOST_COUNTED))
+}
+
+fn ended<'a>(alloc: Global) -> Arg<'a> {
+    Arg::new(alloc, "ended")
+        .long("ended")
+        .help("Refuse a file whose last system event is not End of Messages")
         .action(ArgAction::SetTrue)
 }
 

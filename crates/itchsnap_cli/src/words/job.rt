@@ -1,13 +1,13 @@
 //! What the program is asked to do: a request over files, one end of a session, or the completions of a shell.
 ghost use Rattle.std.specs.Prelude.{◌≡◌, option_map};
-ghost use Rattle.itchsnap_cli.specs.Jobs.{file_of, follow_file, live_file, password_file, writes_snapshot};
+ghost use Rattle.itchsnap_cli.specs.Jobs.{file_of, follow_file, live_file, output_of, password_file, writes_snapshot};
 
 use crate::words::commands::{command, usage_fault};
 use crate::words::completions::Shell;
 use crate::words::live::{
     FeedWords, FollowForm, FollowWords, LiveWords, read_feed, read_follow, read_live,
 };
-use crate::words::request::{read_kind, read_path, read_request};
+use crate::words::request::{read_kind, read_output, read_path, read_request};
 use crate::words::session::{
     LoginWords, Password, Server, read_address, read_from, read_login, read_number, read_server,
 };
@@ -17,13 +17,15 @@ use itch_commands::{FileKind, Request, Source};
 use std::alloc::Global;
 use std::net::SocketAddr;
 
-/// What the command line asks for; with `progress`, standard error shows how much was read so far.
+/// What the command line asks for. With `progress`, standard error shows how much was read so far; with `output`, a snapshot is
+/// written to the file of that path, and otherwise to standard output.
 #[derive(Clone, Copy, Debug, PartialEq, Eq)]
 pub enum Job<'a> {
     /// A request over files and standard streams.
     Files {
         request: Request<'a>,
         progress: bool,
+        output: Option<&'a str>,
     },
     /// Serve the market of a file, or of standard input where none is named, to `count` connections. The port 0 is a free one.
     Serve {
@@ -39,6 +41,7 @@ pub enum Job<'a> {
         server: Server<'a>,
         login: LoginWords<'a>,
         from: Option<Seq>,
+        output: Option<&'a str>,
     },
     /// Follow a live feed, and serve the snapshot of its present market.
     Live(LiveWords<'a>),
@@ -57,6 +60,7 @@ impl<'a> Job<'a> {
         ensures { option_map (λ path. path.now) result ≡ file_of self.now source }
     {
         match (self, source) {
+            (Job::Files { .. } | Job::Fetch { .. }, Source::Output) => self.output(),
             (Job::Files { request, .. }, _) => request.file(source),
             (Job::Serve { login, .. } | Job::Fetch { login, .. }, Source::PasswordFile) => {
                 password_file(login)
@@ -67,6 +71,16 @@ impl<'a> Job<'a> {
             (Job::Feed(feed), Source::PasswordFile) => password_file(&feed.login),
             (Job::Feed(feed), _) => Some(feed.file),
             (Job::Fetch { .. } | Job::Completions(_), _) => None,
+        }
+    }
+
+    /// The path of the file that a snapshot is written to, if one is named.
+    pub fn output(&self) -> Option<&'a str>
+        ensures { option_map (λ path. path.now) result ≡ output_of self.now }
+    {
+        match *self {
+            Job::Files { output, .. } | Job::Fetch { output, .. } => output,
+            _ => None,
         }
     }
 }
@@ -86,7 +100,7 @@ fn live_file<'a>(live: &LiveWords<'a>, source: Source) -> Option<&'a str>
         },
         (Source::Only, Some(path), _) => Some(path),
         (Source::Only, None, Some(glimpse)) => Some(glimpse.words),
-        (Source::Only, None, None) => None,
+        (Source::Only, None, None) | (Source::Output, _, _) => None,
     }
 }
 
@@ -134,27 +148,34 @@ pub fn read_job<'a>(
     password: Option<&'a str>,
 ) -> Result<Job<'a>, Error> {
     let matches = command(alloc)?.try_get_matches_from(words)?;
-    let job = match matches.subcommand() {
-        Some(("serve", options)) => read_serve(alloc, options, password)?,
-        Some(("fetch", options)) => Job::Fetch {
-            server: read_server(alloc, options)?,
-            login: read_login(alloc, options, password)?,
-            from: read_from(alloc, options)?,
-        },
-        Some(("live", options)) => Job::Live(read_live(alloc, options, password)?),
-        Some(("follow", options)) => Job::Follow(read_follow(alloc, options, password)?),
-        Some(("feed", options)) => Job::Feed(read_feed(alloc, options, password)?),
-        Some(("completions", options)) => Job::Completions(read_shell(alloc, options)?),
-        Some((_, options)) => Job::Files {
-            request: read_request(alloc, &matches)?,
-            progress: options.get_flag("progress"),
-        },
-        None => return Err(usage_fault(alloc, "a command is missing")?),
-    };
-    if terminal && writes_snapshot(&job) {
+    let job = read_matched(alloc, &matches, password)?;
+    if terminal && needs_a_file(&job) {
         return Err(usage_fault(alloc, terminal_fault(&job))?);
     }
     Ok(job)
+}
+
+// What the matched words ask for.
+fn read_matched<'a>(
+    alloc: Global,
+    matches: &ArgMatches<'a>,
+    password: Option<&'a str>,
+) -> Result<Job<'a>, Error> {
+    match matches.subcommand() {
+        Some(("serve", options)) => read_serve(alloc, options, password),
+        Some(("fetch", options)) => read_fetch(alloc, options, password),
+        Some(("live", options)) => Ok(Job::Live(read_live(alloc, options, password)?)),
+        Some(("follow", options)) => Ok(Job::Follow(read_follow(alloc, options, password)?)),
+        Some(("feed", options)) => Ok(Job::Feed(read_feed(alloc, options, password)?)),
+        Some(("completions", options)) => Ok(Job::Completions(read_shell(alloc, options)?)),
+        Some((_, options)) => read_files(alloc, matches, options),
+        None => Err(usage_fault(alloc, "a command is missing")?),
+    }
+}
+
+// Whether standard output gets a snapshot or a day file, which are not shown on a terminal.
+fn needs_a_file(job: &Job<'_>) -> bool {
+    job.output().is_none() && writes_snapshot(job)
 }
 
 fn terminal_fault(job: &Job<'_>) -> &'static str {
@@ -162,8 +183,33 @@ fn terminal_fault(job: &Job<'_>) -> &'static str {
         Job::Follow(_) => {
             "messages are not written to a terminal: redirect the output, or give --json"
         }
-        _ => "a snapshot is not written to a terminal: redirect the output",
+        _ => "a snapshot is not written to a terminal: redirect the output, or give --output",
     }
+}
+
+fn read_files<'a>(
+    alloc: Global,
+    matches: &ArgMatches<'a>,
+    options: &ArgMatches<'a>,
+) -> Result<Job<'a>, Error> {
+    Ok(Job::Files {
+        request: read_request(alloc, matches)?,
+        progress: options.get_flag("progress"),
+        output: read_output(alloc, options)?,
+    })
+}
+
+fn read_fetch<'a>(
+    alloc: Global,
+    options: &ArgMatches<'a>,
+    password: Option<&'a str>,
+) -> Result<Job<'a>, Error> {
+    Ok(Job::Fetch {
+        server: read_server(alloc, options)?,
+        login: read_login(alloc, options, password)?,
+        from: read_from(alloc, options)?,
+        output: read_output(alloc, options)?,
+    })
 }
 
 fn read_serve<'a>(

@@ -4,7 +4,7 @@ use crate::words::commands::usage_fault;
 use crate::words::time::read_time;
 use clap::{ArgMatches, Error};
 use itch_commands::{
-    BookForm, FileKind, Filters, Form, Limit, Request, Selection, ShowForm, path_of,
+    BookForm, Expected, FileKind, Filters, Form, Limit, Request, Selection, ShowForm, path_of,
 };
 use std::alloc::Global;
 
@@ -17,6 +17,7 @@ pub fn read_request<'a>(alloc: Global, matches: &ArgMatches<'a>) -> Result<Reque
         Some(("check", options)) => Ok(Request::Check {
             file: read_path(options, "FILE"),
             limit: read_limit(alloc, options)?,
+            expected: read_expected(alloc, options)?,
             form: read_form(options),
         }),
         Some(("show", options)) => read_show(alloc, options),
@@ -36,6 +37,14 @@ fn read_snap<'a>(alloc: Global, options: &ArgMatches<'a>) -> Result<Request<'a>,
         file: read_path(options, "FILE"),
         limit: read_limit(alloc, options)?,
         selection: read_selection(alloc, options)?,
+    })
+}
+
+// What a file is expected to be, after `--expect` and `--ended`.
+fn read_expected<'a>(alloc: Global, options: &ArgMatches<'a>) -> Result<Expected, Error> {
+    Ok(Expected {
+        count: read_count(alloc, options, "expect", "--expect takes decimal digits")?,
+        end: options.get_flag("ended"),
     })
 }
 
@@ -201,6 +210,15 @@ pub fn read_kind<'a>(alloc: Global, options: &ArgMatches<'a>) -> Result<FileKind
         )?);
     }
     Ok(FileKind::Snapshot)
+}
+
+/// The path of the file that a snapshot is written to, or none if that is standard output. `canon --check` writes no snapshot.
+pub fn read_output<'a>(alloc: Global, options: &ArgMatches<'a>) -> Result<Option<&'a str>, Error> {
+    let path = path_of(options.get_str("output"));
+    if path.is_some() && options.get_flag("check") {
+        return Err(usage_fault(alloc, "--check excludes --output: it writes no snapshot")?);
+    }
+    Ok(path)
 }
 
 // The form of a count or a verdict.

@@ -1,0 +1,16 @@
+-- What a command knows of a file that was read, and is as expected or not.
+use Rattle.std.proofs.Common.{◌≡◌, ℕ, List, map, Option, sym, ap, ◌∙◌}
+use Rattle.itch_codec.specs.Messages.{message_of}
+use Rattle.itch_market.specs.Content.{Content}
+use Rattle.itch_market.specs.Runs.{run}
+use Rattle.itch_commands.specs.Expectations.{unmet, unmet_of}
+use Rattle.itch_commands.specs.declared.expected.Expected.{Expected}
+use Rattle.itch_commands.specs.declared.limit.Limit.{Limit}
+use Rattle.itch_commands.proofs.DayReadings.{Applied}
+
+-- what the number of the messages and the last event differ in, the messages differ in
+pub same_unmet : (expected : Expected) (limit : Limit) (bytes new : Option (List ℕ)) (count : ℕ) (n : Content) (applied : Applied limit bytes new count n) (event : Option ℕ)
+    → event ≡ n.event → unmet_of expected applied.payloads ≡ unmet expected count event
+same_unmet expected limit bytes new count n applied event is =
+    ap (λ k. unmet expected k (Content.event (run (map message_of applied.payloads)))) applied.counted
+    ∙ ap (λ e. unmet expected count e) (sym (is ∙ ap Content.event applied.left))
