@@ -254,6 +254,14 @@ static void play_market(const day *of, list wanted) {
     itchsnap_free(&market);
 }
 
+/* The same of a call that gives memory back where that is granted: then it does as it says even if it was not. */
+static bool granted_or_kept(uint32_t code, const char *what) {
+    bool was_refused = refused;
+    refused = false;
+    must(code == ITCHSNAP_OK || (was_refused && code == ITCHSNAP_OUT_OF_MEMORY), what);
+    return code == ITCHSNAP_OK;
+}
+
 /* What a market lists. */
 static void list_all(itchsnap_handle *market, const day *of) {
     uint16_t *locates = own((of->feed.count + 1) * sizeof *locates);
@@ -263,7 +271,7 @@ static void list_all(itchsnap_handle *market, const day *of) {
     itchsnap_written listed;
     do {
         listed = itchsnap_locates(market, locates, room);
-    } while (!granted(listed.code, ITCHSNAP_OK, "the locates"));
+    } while (!granted_or_kept(listed.code, "the locates"));
     uint64_t live = itchsnap_order_count(market).count;
     for (size_t k = 0; k < listed.len; k++) {
         itchsnap_written written, level;
