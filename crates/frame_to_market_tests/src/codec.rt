@@ -2,7 +2,7 @@
 use crate::equal::{has_words, holds_in, same};
 use itch_codec::{
     AddOrder, Alpha, AlphaFault, AttributedAddOrder, BrokenTrade, CodecFault, CrossTrade,
-    Directory, Header, Message, OperationalHalt, OrderCancel, OrderDelete, OrderExecuted,
+    Directory, Encoder, Header, Message, OperationalHalt, OrderCancel, OrderDelete, OrderExecuted,
     OrderExecutedWithPrice, OrderReplace, ParticipantPosition, RegSho, Seq, Side, Stamp,
     StockDirectory, SystemEvent, Trade, TradingAction, Undecoded, decode, encode, number20,
     read_number20,
@@ -55,6 +55,7 @@ fn execution(rt: &impl Abort) -> OrderExecuted {
 // The message is spelled by these bytes.
 fn is_spelled(rt: &impl Abort, bytes: &[u8], message: &Message<'_>) {
     same(rt, encode(message).bytes(), bytes);
+    same(rt, Encoder::new().encode(message), bytes);
 }
 
 // This is read off these bytes.
@@ -147,6 +148,30 @@ fn states_of_stocks(rt: HostRuntime) {
             mode: b'N',
             state: b'A',
         }),
+    );
+}
+
+#[test]
+fn an_encoder_starts_each_message_anew(rt: HostRuntime) {
+    let mut encoder = Encoder::new();
+    let delete = OrderDelete {
+        header: header(&rt, 1),
+        reference: 1,
+    };
+    same(
+        &rt,
+        encoder.encode(&Message::AddOrder(order(&rt, 1))),
+        ADD_ORDER,
+    );
+    same(
+        &rt,
+        encoder.encode(&Message::OrderDelete(delete)),
+        ORDER_DELETE,
+    );
+    same(
+        &rt,
+        encoder.encode(&Message::AddOrder(order(&rt, 1))),
+        ADD_ORDER,
     );
 }
 

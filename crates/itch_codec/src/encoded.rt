@@ -1,6 +1,5 @@
 //! The bytes of a message.
 ghost use Rattle.std.specs.Prelude.{◌≡◌};
-ghost use Rattle.itch_codec.specs.Fields.{AreBytes};
 
 use crate::fields::Buffer;
 use std::marker::Model;
@@ -48,8 +47,7 @@ impl<'a> Encoded<'a> {
     }
 
     pub(crate) fn kept(payload: &'a [u8]) -> Encoded<'a>
-        ensures bytes { result ≡ payload.entry.now }
-        ensures wide { AreBytes payload.entry.now }
+        ensures { result ≡ payload.entry.now }
     {
         Encoded {
             form: Form::Kept(payload),

@@ -1,9 +1,11 @@
 //! Payloads from messages.
-ghost use Rattle.std.specs.Prelude.{◌≡◌};
+ghost use Rattle.std.specs.Prelude.{◌≡◌, MatchOption};
+ghost use Rattle.itch_codec.specs.Fields.{AreBytes};
 ghost use Rattle.itch_codec.specs.Widths.{IsMessage};
 ghost use Rattle.itch_codec.specs.Messages.{Spells, spelling};
 
 use crate::encoded::Encoded;
+use crate::fields::Buffer;
 use crate::message::Message;
 
 /// The bytes of a message, as it is spelled in the feed.
@@ -15,32 +17,73 @@ pub fn encode<'a>(message: &Message<'a>) -> Encoded<'a>
     ensures spells { Spells message.now result }
     ensures fits { IsMessage message.now }
 {
-    write(message)
+    let mut room = Buffer::new();
+    match spell(message, &mut room) {
+        None => Encoded::built(room),
+        Some(payload) => Encoded::kept(payload),
+    }
 }
 
+/// Encodes messages one after the other in the same place, so that their bytes are not moved. It takes no memory.
+#[derive(Drop)]
+pub struct Encoder {
+    room: Buffer,
+}
+
+impl Encoder {
+    /// An encoder, with room for any message that is decoded.
+    pub fn new() -> Encoder {
+        Encoder {
+            room: Buffer::new(),
+        }
+    }
+
+    /// The bytes of a message, as [`encode`] returns them.
+    #[inline(always)]
+    pub fn encode<'a>(&'a mut self, message: &Message<'a>) -> &'a [u8]
+        ensures bytes { result.now ≡ spelling message.now }
+        ensures fits { IsMessage message.now }
+    {
+        match spell(message, &mut self.room) {
+            None => self.room.as_slice(),
+            Some(payload) => payload,
+        }
+    }
+}
+
+// Spells a message in this place; or returns its payload, if that is kept whole.
 #[tactic(auto, unfolding(crate::specs::Messages::spelling))]
-fn write<'a>(message: &Message<'a>) -> Encoded<'a>
-    ensures bytes { result ≡ spelling message.now }
+fn spell<'a>(message: &Message<'a>, out: &mut Buffer) -> Option<&'a [u8]>
+    ensures bytes { MatchOption result (out.new.items ≡ spelling message.now) (λ payload. payload.now ≡ spelling message.now) }
     ensures fits { IsMessage message.now }
 {
     match message {
-        Message::SystemEvent(m) => Encoded::built(m.encode()),
-        Message::StockDirectory(m) => Encoded::built(m.encode()),
-        Message::TradingAction(m) => Encoded::built(m.encode()),
-        Message::RegSho(m) => Encoded::built(m.encode()),
-        Message::Halt(m) => Encoded::built(m.encode()),
-        Message::Position(m) => Encoded::built(m.encode()),
-        Message::AddOrder(m) => Encoded::built(m.encode()),
-        Message::AttributedAddOrder(m) => Encoded::built(m.encode()),
-        Message::OrderExecuted(m) => Encoded::built(m.encode()),
-        Message::OrderExecutedWithPrice(m) => Encoded::built(m.encode()),
-        Message::OrderCancel(m) => Encoded::built(m.encode()),
-        Message::OrderDelete(m) => Encoded::built(m.encode()),
-        Message::OrderReplace(m) => Encoded::built(m.encode()),
-        Message::Trade(m) => Encoded::built(m.encode()),
-        Message::CrossTrade(m) => Encoded::built(m.encode()),
-        Message::BrokenTrade(m) => Encoded::built(m.encode()),
-        Message::End { next } => Encoded::built(next.encode()),
-        Message::Other(m) => Encoded::kept(m.payload()),
+        Message::SystemEvent(m) => m.spell(out),
+        Message::StockDirectory(m) => m.spell(out),
+        Message::TradingAction(m) => m.spell(out),
+        Message::RegSho(m) => m.spell(out),
+        Message::Halt(m) => m.spell(out),
+        Message::Position(m) => m.spell(out),
+        Message::AddOrder(m) => m.spell(out),
+        Message::AttributedAddOrder(m) => m.spell(out),
+        Message::OrderExecuted(m) => m.spell(out),
+        Message::OrderExecutedWithPrice(m) => m.spell(out),
+        Message::OrderCancel(m) => m.spell(out),
+        Message::OrderDelete(m) => m.spell(out),
+        Message::OrderReplace(m) => m.spell(out),
+        Message::Trade(m) => m.spell(out),
+        Message::CrossTrade(m) => m.spell(out),
+        Message::BrokenTrade(m) => m.spell(out),
+        Message::End { next } => next.spell(out),
+        Message::Other(m) => return Some(kept(m.payload())),
     }
+    None
+}
+
+// A payload as it is.
+fn kept(payload: &[u8]) -> &[u8]
+    ensures bytes { result.now ≡ payload.now }
+    ensures wide { AreBytes payload.now }
+{
+    payload
 }

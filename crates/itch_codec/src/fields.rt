@@ -114,6 +114,7 @@ fn side_of(byte: u8) -> Side
     if byte == b'B' { Side::Buy } else { Side::Sell }
 }
 
+#[inline(always)]
 fn put(out: &mut Buffer, bytes: &[u8])
     requires { array_vec_len out.old + length bytes.now ≤ 48 }
     ensures bytes { out.new.items ≡ out.old.items ++ bytes.now }
@@ -123,6 +124,7 @@ fn put(out: &mut Buffer, bytes: &[u8])
     out.try_extend_from_slice(bytes).unwrap();
 }
 
+#[inline(always)]
 #[tactic(auto, unfolding(crate::specs::Numbers::be))]
 pub(crate) fn put_u16(out: &mut Buffer, number: u16)
     requires { array_vec_len out.old + 2 ≤ 48 }
@@ -133,6 +135,7 @@ pub(crate) fn put_u16(out: &mut Buffer, number: u16)
     put(out, &number.to_be_bytes());
 }
 
+#[inline(always)]
 #[tactic(auto, unfolding(crate::specs::Numbers::be))]
 pub(crate) fn put_u32(out: &mut Buffer, number: u32)
     requires { array_vec_len out.old + 4 ≤ 48 }
@@ -143,6 +146,7 @@ pub(crate) fn put_u32(out: &mut Buffer, number: u32)
     put(out, &number.to_be_bytes());
 }
 
+#[inline(always)]
 #[tactic(auto, unfolding(crate::specs::Numbers::be))]
 pub(crate) fn put_u48(out: &mut Buffer, number: u64)
     requires small { number < 2 ^ 48 }
@@ -155,6 +159,7 @@ pub(crate) fn put_u48(out: &mut Buffer, number: u64)
     put(out, &bytes);
 }
 
+#[inline(always)]
 #[tactic(auto, unfolding(crate::specs::Numbers::be))]
 pub(crate) fn put_u64(out: &mut Buffer, number: u64)
     requires { array_vec_len out.old + 8 ≤ 48 }
@@ -165,6 +170,7 @@ pub(crate) fn put_u64(out: &mut Buffer, number: u64)
     put(out, &number.to_be_bytes());
 }
 
+#[inline(always)]
 pub(crate) fn put_code(out: &mut Buffer, byte: u8)
     requires { array_vec_len out.old < 48 }
     ensures bytes { out.new.items ≡ out.old.items ++ byte ∷ [] }
@@ -174,6 +180,7 @@ pub(crate) fn put_code(out: &mut Buffer, byte: u8)
     out.push(byte);
 }
 
+#[inline(always)]
 pub(crate) fn put_codes<const N: usize>(out: &mut Buffer, bytes: [u8; N])
     requires { array_vec_len out.old + N ≤ 48 }
     ensures bytes { out.new.items ≡ out.old.items ++ bytes.entry }
@@ -183,6 +190,7 @@ pub(crate) fn put_codes<const N: usize>(out: &mut Buffer, bytes: [u8; N])
     put(out, &bytes);
 }
 
+#[inline(always)]
 pub(crate) fn put_text<const N: usize>(out: &mut Buffer, text: &Alpha<N>)
     requires { array_vec_len out.old + N ≤ 48 }
     ensures bytes { out.new.items ≡ out.old.items ++ text.now }
@@ -192,6 +200,7 @@ pub(crate) fn put_text<const N: usize>(out: &mut Buffer, text: &Alpha<N>)
     put(out, text.bytes());
 }
 
+#[inline(always)]
 pub(crate) fn put_side(out: &mut Buffer, side: Side)
     requires { array_vec_len out.old < 48 }
     ensures bytes { out.new.items ≡ out.old.items ++ side_byte side ∷ [] }

@@ -78,18 +78,18 @@ impl Header {
     }
 
     // The message's first byte and its header.
+    #[inline(always)]
     #[tactic(auto, using(crate::proofs::Joining::joining), unfolding(crate::specs::Fields::joined))]
-    pub(crate) fn encode(&self, kind: u8) -> Buffer
-        ensures bytes { result.items ≡ kind ∷ joined (with_header []) (header_values self.now []) }
-        ensures len { array_vec_len result ≡ 11 }
+    pub(crate) fn begin(&self, kind: u8, out: &mut Buffer)
+        ensures bytes { out.new.items ≡ kind ∷ joined (with_header []) (header_values self.now []) }
+        ensures len { array_vec_len out.new ≡ 11 }
         ensures fits { IsHeader self.now }
     {
-        let mut out = Buffer::new();
+        out.clear();
         out.push(kind);
-        put_u16(&mut out, self.locate);
-        put_u16(&mut out, self.tracking);
-        put_u48(&mut out, self.stamp.value());
-        out
+        put_u16(out, self.locate);
+        put_u16(out, self.tracking);
+        put_u48(out, self.stamp.value());
     }
 
     // Appends the letter of the message's type and its header to a line that has the message's number so far.

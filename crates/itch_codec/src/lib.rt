@@ -44,7 +44,7 @@ mod words;
 pub use conversions::{OutOfRange, UnknownSide};
 pub use decoding::decode;
 pub use encoded::Encoded;
-pub use encoding::encode;
+pub use encoding::{Encoder, encode};
 pub use fault::CodecFault;
 pub use header::{Header, Stamp};
 pub use json_lines::{JsonText, json};

@@ -63,15 +63,15 @@ impl Seq {
     }
 
     // The End of Snapshot with this number.
+    #[inline(always)]
     #[tactic(auto, using(crate::proofs::Joining::joining), unfolding(crate::specs::Fields::joined))]
-    pub(crate) fn encode(self) -> Buffer
-        ensures bytes { result.items ≡ end_of_snapshot.kind ∷ joined end_of_snapshot.columns (Number self ∷ []) }
+    pub(crate) fn spell(self, out: &mut Buffer)
+        ensures bytes { out.new.items ≡ end_of_snapshot.kind ∷ joined end_of_snapshot.columns (Number self ∷ []) }
         ensures fits { IsSequence self }
     {
-        let mut out = Buffer::new();
+        out.clear();
         out.push(b'G');
-        put_codes(&mut out, number20(self.value()));
-        out
+        put_codes(out, number20(self.value()));
     }
 
     /// The number itself.

@@ -57,27 +57,28 @@ impl AddOrder {
     }
 
     // The fields of a new order, after this first byte.
+    #[inline(always)]
     #[tactic(auto, using(crate::proofs::Joining::joining), unfolding(crate::specs::Fields::joined))]
-    fn begin(&self, kind: u8) -> Buffer
-        ensures bytes { result.items ≡ kind ∷ joined (with_header (order_columns [])) (order_values self.now []) }
-        ensures len { array_vec_len result ≡ 36 }
+    fn begin(&self, kind: u8, out: &mut Buffer)
+        ensures bytes { out.new.items ≡ kind ∷ joined (with_header (order_columns [])) (order_values self.now []) }
+        ensures len { array_vec_len out.new ≡ 36 }
         ensures fits { IsAddOrder self.now }
     {
-        let mut out = self.header.encode(kind);
-        put_u64(&mut out, self.reference);
-        put_side(&mut out, self.side);
-        put_u32(&mut out, self.shares);
-        put_text(&mut out, &self.stock);
-        put_u32(&mut out, self.price);
-        out
+        self.header.begin(kind, out);
+        put_u64(out, self.reference);
+        put_side(out, self.side);
+        put_u32(out, self.shares);
+        put_text(out, &self.stock);
+        put_u32(out, self.price);
     }
 
+    #[inline(always)]
     #[tactic(auto, using(crate::proofs::Joining::joining), unfolding(crate::specs::Fields::joined))]
-    pub(crate) fn encode(&self) -> Buffer
-        ensures bytes { result.items ≡ add_order.kind ∷ joined add_order.columns (add_order_values self.now) }
+    pub(crate) fn spell(&self, out: &mut Buffer)
+        ensures bytes { out.new.items ≡ add_order.kind ∷ joined add_order.columns (add_order_values self.now) }
         ensures fits { IsAddOrder self.now }
     {
-        self.begin(b'A')
+        self.begin(b'A', out);
     }
 
     // The fields of a new order, after the letter of its type.
@@ -126,14 +127,14 @@ impl AttributedAddOrder {
         })
     }
 
+    #[inline(always)]
     #[tactic(auto, using(crate::proofs::Joining::joining), unfolding(crate::specs::Fields::joined))]
-    pub(crate) fn encode(&self) -> Buffer
-        ensures bytes { result.items ≡ attributed_add_order.kind ∷ joined attributed_add_order.columns (attributed_add_order_values self.now) }
+    pub(crate) fn spell(&self, out: &mut Buffer)
+        ensures bytes { out.new.items ≡ attributed_add_order.kind ∷ joined attributed_add_order.columns (attributed_add_order_values self.now) }
         ensures fits { IsAttributedAddOrder self.now }
     {
-        let mut out = self.order.begin(b'F');
-        put_text(&mut out, &self.attribution);
-        out
+        self.order.begin(b'F', out);
+        put_text(out, &self.attribution);
     }
 
     /// Appends the type and the fields to a line that has the message's number so far.
@@ -172,25 +173,26 @@ impl OrderExecuted {
     }
 
     // The fields of an execution, after this first byte.
+    #[inline(always)]
     #[tactic(auto, using(crate::proofs::Joining::joining), unfolding(crate::specs::Fields::joined))]
-    fn begin(&self, kind: u8) -> Buffer
-        ensures bytes { result.items ≡ kind ∷ joined (with_header (execution_columns [])) (execution_values self.now []) }
-        ensures len { array_vec_len result ≡ 31 }
+    fn begin(&self, kind: u8, out: &mut Buffer)
+        ensures bytes { out.new.items ≡ kind ∷ joined (with_header (execution_columns [])) (execution_values self.now []) }
+        ensures len { array_vec_len out.new ≡ 31 }
         ensures fits { IsOrderExecuted self.now }
     {
-        let mut out = self.header.encode(kind);
-        put_u64(&mut out, self.reference);
-        put_u32(&mut out, self.shares);
-        put_u64(&mut out, self.match_number);
-        out
+        self.header.begin(kind, out);
+        put_u64(out, self.reference);
+        put_u32(out, self.shares);
+        put_u64(out, self.match_number);
     }
 
+    #[inline(always)]
     #[tactic(auto, using(crate::proofs::Joining::joining), unfolding(crate::specs::Fields::joined))]
-    pub(crate) fn encode(&self) -> Buffer
-        ensures bytes { result.items ≡ order_executed.kind ∷ joined order_executed.columns (order_executed_values self.now) }
+    pub(crate) fn spell(&self, out: &mut Buffer)
+        ensures bytes { out.new.items ≡ order_executed.kind ∷ joined order_executed.columns (order_executed_values self.now) }
         ensures fits { IsOrderExecuted self.now }
     {
-        self.begin(b'E')
+        self.begin(b'E', out);
     }
 
     // The fields of an execution, after the letter of its type.
@@ -240,15 +242,15 @@ impl OrderExecutedWithPrice {
         }
     }
 
+    #[inline(always)]
     #[tactic(auto, using(crate::proofs::Joining::joining), unfolding(crate::specs::Fields::joined))]
-    pub(crate) fn encode(&self) -> Buffer
-        ensures bytes { result.items ≡ order_executed_with_price.kind ∷ joined order_executed_with_price.columns (order_executed_with_price_values self.now) }
+    pub(crate) fn spell(&self, out: &mut Buffer)
+        ensures bytes { out.new.items ≡ order_executed_with_price.kind ∷ joined order_executed_with_price.columns (order_executed_with_price_values self.now) }
         ensures fits { IsOrderExecutedWithPrice self.now }
     {
-        let mut out = self.execution.begin(b'C');
-        put_code(&mut out, self.printable);
-        put_u32(&mut out, self.price);
-        out
+        self.execution.begin(b'C', out);
+        put_code(out, self.printable);
+        put_u32(out, self.price);
     }
 
     /// Appends the type and the fields to a line that has the message's number so far.
@@ -285,15 +287,15 @@ impl OrderCancel {
         }
     }
 
+    #[inline(always)]
     #[tactic(auto, using(crate::proofs::Joining::joining), unfolding(crate::specs::Fields::joined))]
-    pub(crate) fn encode(&self) -> Buffer
-        ensures bytes { result.items ≡ order_cancel.kind ∷ joined order_cancel.columns (order_cancel_values self.now) }
+    pub(crate) fn spell(&self, out: &mut Buffer)
+        ensures bytes { out.new.items ≡ order_cancel.kind ∷ joined order_cancel.columns (order_cancel_values self.now) }
         ensures fits { IsOrderCancel self.now }
     {
-        let mut out = self.header.encode(b'X');
-        put_u64(&mut out, self.reference);
-        put_u32(&mut out, self.shares);
-        out
+        self.header.begin(b'X', out);
+        put_u64(out, self.reference);
+        put_u32(out, self.shares);
     }
 
     /// Appends the type and the fields to a line that has the message's number so far.
@@ -327,14 +329,14 @@ impl OrderDelete {
         }
     }
 
+    #[inline(always)]
     #[tactic(auto, using(crate::proofs::Joining::joining), unfolding(crate::specs::Fields::joined))]
-    pub(crate) fn encode(&self) -> Buffer
-        ensures bytes { result.items ≡ order_delete.kind ∷ joined order_delete.columns (order_delete_values self.now) }
+    pub(crate) fn spell(&self, out: &mut Buffer)
+        ensures bytes { out.new.items ≡ order_delete.kind ∷ joined order_delete.columns (order_delete_values self.now) }
         ensures fits { IsOrderDelete self.now }
     {
-        let mut out = self.header.encode(b'D');
-        put_u64(&mut out, self.reference);
-        out
+        self.header.begin(b'D', out);
+        put_u64(out, self.reference);
     }
 
     /// Appends the type and the fields to a line that has the message's number so far.
@@ -375,17 +377,17 @@ impl OrderReplace {
         }
     }
 
+    #[inline(always)]
     #[tactic(auto, using(crate::proofs::Joining::joining), unfolding(crate::specs::Fields::joined))]
-    pub(crate) fn encode(&self) -> Buffer
-        ensures bytes { result.items ≡ order_replace.kind ∷ joined order_replace.columns (order_replace_values self.now) }
+    pub(crate) fn spell(&self, out: &mut Buffer)
+        ensures bytes { out.new.items ≡ order_replace.kind ∷ joined order_replace.columns (order_replace_values self.now) }
         ensures fits { IsOrderReplace self.now }
     {
-        let mut out = self.header.encode(b'U');
-        put_u64(&mut out, self.original);
-        put_u64(&mut out, self.reference);
-        put_u32(&mut out, self.shares);
-        put_u32(&mut out, self.price);
-        out
+        self.header.begin(b'U', out);
+        put_u64(out, self.original);
+        put_u64(out, self.reference);
+        put_u32(out, self.shares);
+        put_u32(out, self.price);
     }
 
     /// Appends the type and the fields to a line that has the message's number so far.

@@ -33,14 +33,14 @@ impl SystemEvent {
         }
     }
 
+    #[inline(always)]
     #[tactic(auto, using(crate::proofs::Joining::joining), unfolding(crate::specs::Fields::joined))]
-    pub(crate) fn encode(&self) -> Buffer
-        ensures bytes { result.items ≡ system_event.kind ∷ joined system_event.columns (system_event_values self.now) }
+    pub(crate) fn spell(&self, out: &mut Buffer)
+        ensures bytes { out.new.items ≡ system_event.kind ∷ joined system_event.columns (system_event_values self.now) }
         ensures fits { IsSystemEvent self.now }
     {
-        let mut out = self.header.encode(b'S');
-        put_code(&mut out, self.code);
-        out
+        self.header.begin(b'S', out);
+        put_code(out, self.code);
     }
 
     /// Appends the type and the fields to a line that has the message's number so far.
@@ -100,6 +100,7 @@ impl Directory {
         })
     }
 
+    #[inline(always)]
     #[tactic(auto, using(crate::proofs::Joining::joining), unfolding(crate::specs::Fields::joined))]
     fn put(&self, out: &mut Buffer)
         requires { array_vec_len out.old ≡ 11 }
@@ -164,14 +165,14 @@ impl StockDirectory {
         })
     }
 
+    #[inline(always)]
     #[tactic(auto, using(crate::proofs::Joining::joining), unfolding(crate::specs::Fields::joined))]
-    pub(crate) fn encode(&self) -> Buffer
-        ensures bytes { result.items ≡ stock_directory.kind ∷ joined stock_directory.columns (stock_directory_values self.now) }
+    pub(crate) fn spell(&self, out: &mut Buffer)
+        ensures bytes { out.new.items ≡ stock_directory.kind ∷ joined stock_directory.columns (stock_directory_values self.now) }
         ensures fits { IsStockDirectory self.now }
     {
-        let mut out = self.header.encode(b'R');
-        self.entry.put(&mut out);
-        out
+        self.header.begin(b'R', out);
+        self.entry.put(out);
     }
 
     /// Appends the type and the fields to a line that has the message's number so far.
@@ -213,17 +214,17 @@ impl TradingAction {
         })
     }
 
+    #[inline(always)]
     #[tactic(auto, using(crate::proofs::Joining::joining), unfolding(crate::specs::Fields::joined))]
-    pub(crate) fn encode(&self) -> Buffer
-        ensures bytes { result.items ≡ trading_action.kind ∷ joined trading_action.columns (trading_action_values self.now) }
+    pub(crate) fn spell(&self, out: &mut Buffer)
+        ensures bytes { out.new.items ≡ trading_action.kind ∷ joined trading_action.columns (trading_action_values self.now) }
         ensures fits { IsTradingAction self.now }
     {
-        let mut out = self.header.encode(b'H');
-        put_text(&mut out, &self.stock);
-        put_code(&mut out, self.state);
-        put_code(&mut out, self.reserved);
-        put_codes(&mut out, self.reason);
-        out
+        self.header.begin(b'H', out);
+        put_text(out, &self.stock);
+        put_code(out, self.state);
+        put_code(out, self.reserved);
+        put_codes(out, self.reason);
     }
 
     /// Appends the type and the fields to a line that has the message's number so far.
@@ -262,15 +263,15 @@ impl RegSho {
         })
     }
 
+    #[inline(always)]
     #[tactic(auto, using(crate::proofs::Joining::joining), unfolding(crate::specs::Fields::joined))]
-    pub(crate) fn encode(&self) -> Buffer
-        ensures bytes { result.items ≡ reg_sho.kind ∷ joined reg_sho.columns (reg_sho_values self.now) }
+    pub(crate) fn spell(&self, out: &mut Buffer)
+        ensures bytes { out.new.items ≡ reg_sho.kind ∷ joined reg_sho.columns (reg_sho_values self.now) }
         ensures fits { IsRegSho self.now }
     {
-        let mut out = self.header.encode(b'Y');
-        put_text(&mut out, &self.stock);
-        put_code(&mut out, self.action);
-        out
+        self.header.begin(b'Y', out);
+        put_text(out, &self.stock);
+        put_code(out, self.action);
     }
 
     /// Appends the type and the fields to a line that has the message's number so far.
@@ -310,16 +311,16 @@ impl OperationalHalt {
         })
     }
 
+    #[inline(always)]
     #[tactic(auto, using(crate::proofs::Joining::joining), unfolding(crate::specs::Fields::joined))]
-    pub(crate) fn encode(&self) -> Buffer
-        ensures bytes { result.items ≡ operational_halt.kind ∷ joined operational_halt.columns (operational_halt_values self.now) }
+    pub(crate) fn spell(&self, out: &mut Buffer)
+        ensures bytes { out.new.items ≡ operational_halt.kind ∷ joined operational_halt.columns (operational_halt_values self.now) }
         ensures fits { IsOperationalHalt self.now }
     {
-        let mut out = self.header.encode(b'h');
-        put_text(&mut out, &self.stock);
-        put_code(&mut out, self.market_code);
-        put_code(&mut out, self.action);
-        out
+        self.header.begin(b'h', out);
+        put_text(out, &self.stock);
+        put_code(out, self.market_code);
+        put_code(out, self.action);
     }
 
     /// Appends the type and the fields to a line that has the message's number so far.
@@ -365,18 +366,18 @@ impl ParticipantPosition {
         })
     }
 
+    #[inline(always)]
     #[tactic(auto, using(crate::proofs::Joining::joining), unfolding(crate::specs::Fields::joined))]
-    pub(crate) fn encode(&self) -> Buffer
-        ensures bytes { result.items ≡ participant_position.kind ∷ joined participant_position.columns (participant_position_values self.now) }
+    pub(crate) fn spell(&self, out: &mut Buffer)
+        ensures bytes { out.new.items ≡ participant_position.kind ∷ joined participant_position.columns (participant_position_values self.now) }
         ensures fits { IsParticipantPosition self.now }
     {
-        let mut out = self.header.encode(b'L');
-        put_text(&mut out, &self.mpid);
-        put_text(&mut out, &self.stock);
-        put_code(&mut out, self.primary_market_maker);
-        put_code(&mut out, self.mode);
-        put_code(&mut out, self.state);
-        out
+        self.header.begin(b'L', out);
+        put_text(out, &self.mpid);
+        put_text(out, &self.stock);
+        put_code(out, self.primary_market_maker);
+        put_code(out, self.mode);
+        put_code(out, self.state);
     }
 
     /// Appends the type and the fields to a line that has the message's number so far.

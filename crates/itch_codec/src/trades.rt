@@ -45,19 +45,19 @@ impl Trade {
         })
     }
 
+    #[inline(always)]
     #[tactic(auto, using(crate::proofs::Joining::joining), unfolding(crate::specs::Fields::joined))]
-    pub(crate) fn encode(&self) -> Buffer
-        ensures bytes { result.items ≡ trade.kind ∷ joined trade.columns (trade_values self.now) }
+    pub(crate) fn spell(&self, out: &mut Buffer)
+        ensures bytes { out.new.items ≡ trade.kind ∷ joined trade.columns (trade_values self.now) }
         ensures fits { IsTrade self.now }
     {
-        let mut out = self.header.encode(b'P');
-        put_u64(&mut out, self.reference);
-        put_side(&mut out, self.side);
-        put_u32(&mut out, self.shares);
-        put_text(&mut out, &self.stock);
-        put_u32(&mut out, self.price);
-        put_u64(&mut out, self.match_number);
-        out
+        self.header.begin(b'P', out);
+        put_u64(out, self.reference);
+        put_side(out, self.side);
+        put_u32(out, self.shares);
+        put_text(out, &self.stock);
+        put_u32(out, self.price);
+        put_u64(out, self.match_number);
     }
 
     /// Appends the type and the fields to a line that has the message's number so far.
@@ -105,18 +105,18 @@ impl CrossTrade {
         })
     }
 
+    #[inline(always)]
     #[tactic(auto, using(crate::proofs::Joining::joining), unfolding(crate::specs::Fields::joined))]
-    pub(crate) fn encode(&self) -> Buffer
-        ensures bytes { result.items ≡ cross_trade.kind ∷ joined cross_trade.columns (cross_trade_values self.now) }
+    pub(crate) fn spell(&self, out: &mut Buffer)
+        ensures bytes { out.new.items ≡ cross_trade.kind ∷ joined cross_trade.columns (cross_trade_values self.now) }
         ensures fits { IsCrossTrade self.now }
     {
-        let mut out = self.header.encode(b'Q');
-        put_u64(&mut out, self.shares);
-        put_text(&mut out, &self.stock);
-        put_u32(&mut out, self.price);
-        put_u64(&mut out, self.match_number);
-        put_code(&mut out, self.cross_type);
-        out
+        self.header.begin(b'Q', out);
+        put_u64(out, self.shares);
+        put_text(out, &self.stock);
+        put_u32(out, self.price);
+        put_u64(out, self.match_number);
+        put_code(out, self.cross_type);
     }
 
     /// Appends the type and the fields to a line that has the message's number so far.
@@ -153,14 +153,14 @@ impl BrokenTrade {
         }
     }
 
+    #[inline(always)]
     #[tactic(auto, using(crate::proofs::Joining::joining), unfolding(crate::specs::Fields::joined))]
-    pub(crate) fn encode(&self) -> Buffer
-        ensures bytes { result.items ≡ broken_trade.kind ∷ joined broken_trade.columns (broken_trade_values self.now) }
+    pub(crate) fn spell(&self, out: &mut Buffer)
+        ensures bytes { out.new.items ≡ broken_trade.kind ∷ joined broken_trade.columns (broken_trade_values self.now) }
         ensures fits { IsBrokenTrade self.now }
     {
-        let mut out = self.header.encode(b'B');
-        put_u64(&mut out, self.match_number);
-        out
+        self.header.begin(b'B', out);
+        put_u64(out, self.match_number);
     }
 
     /// Appends the type and the fields to a line that has the message's number so far.

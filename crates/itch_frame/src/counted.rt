@@ -135,6 +135,7 @@ impl<T: Write> CountedWrite for Counted<T> {
 
     ghost failures = { λ c. c.failures };
 
+    #[inline(always)]
     fn write_some(&mut self, buf: &[u8]) -> io::Result<usize> {
         match self.inner.write(buf) {
             Ok(count) if count > 0 || buf.is_empty() => Ok(count),

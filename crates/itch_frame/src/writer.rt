@@ -7,6 +7,7 @@ use crate::fault::FrameFault;
 use byteorder::{BigEndian, ByteOrder};
 
 /// Writes the block of a payload.
+#[inline(always)]
 pub fn write_block<W: CountedWrite>(writer: &mut W, payload: &[u8]) -> Result<(), FrameFault>
     ensures { WriteBlock W.contents W.failures writer.old payload.now result writer.new }
 {
@@ -22,6 +23,7 @@ pub fn write_block<W: CountedWrite>(writer: &mut W, payload: &[u8]) -> Result<()
 /// Writes bytes as they are: a part of something of which `before` bytes were written before.
 ///
 /// The only fault is `Write`, which says how much of the whole was written.
+#[inline(always)]
 pub fn write_part<W: CountedWrite>(
     writer: &mut W,
     bytes: &[u8],

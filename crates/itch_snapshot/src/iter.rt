@@ -107,6 +107,7 @@ impl<'a, B: OrderBook> Iterator for SnapshotIter<'a, B> {
 
     ghost remaining = { item_count (λ s. s) };
 
+    #[inline(always)]
     fn next(&mut self) -> Option<Message<'a>> {
         if let Some(code) = self.event.take() {
             let header = header_at(0);

@@ -10,6 +10,7 @@ use itch_book::Placed;
 use itch_codec::{AddOrder, Alpha, AttributedAddOrder, Header, Message, Stamp};
 
 // The header of a snapshot's message.
+#[inline(always)]
 pub(crate) fn header_at(locate: u16) -> Header
     ensures { result ≡ header_at locate }
 {
@@ -21,6 +22,7 @@ pub(crate) fn header_at(locate: u16) -> Header
 }
 
 // The order with the stock of its locate.
+#[inline(always)]
 pub(crate) fn named(stock: Alpha<8>, placed: Option<Placed<'_>>) -> Option<NamedOrder>
     ensures { result ≡ named stock placed.entry }
 {
@@ -33,6 +35,7 @@ pub(crate) fn named(stock: Alpha<8>, placed: Option<Placed<'_>>) -> Option<Named
 }
 
 // The message of a live order.
+#[inline(always)]
 pub(crate) fn order_message<'a>(named: NamedOrder) -> Message<'a>
     ensures { result ≡ order_part named.stock named.order }
 {

@@ -12,7 +12,7 @@ ghost use Rattle.itch_snapshot.specs.Writes.{WritesClosed, WritesSnapshot};
 use crate::fault::SnapFault;
 use crate::iter::SnapshotIter;
 use itch_book::OrderBook;
-use itch_codec::{Message, Seq, encode};
+use itch_codec::{Encoder, Message, Seq};
 use itch_frame::{CountedWrite, FrameFault, write_block};
 use itch_market::{LocateSet, Market};
 
@@ -59,20 +59,25 @@ pub fn write_snapshot_of<'a, W: CountedWrite, B: OrderBook>(
     ensures { WritesClosed W.contents W.failures (snap (cut_to set.entry market.now)) next writer.old result writer.new }
 {
     market.recall_invariant();
+    let mut encoder = Encoder::new();
     let mut count = 0u64;
     for message in SnapshotIter::of(market, set) {
-        write_message(writer, &message)?;
+        write_message(writer, &mut encoder, &message)?;
         count += 1;
     }
-    write_message(writer, &Message::End { next })?;
+    write_message(writer, &mut encoder, &Message::End { next })?;
     Ok(count + 1)
 }
 
 // Writes the block of a message's spelling.
-fn write_message<W: CountedWrite>(writer: &mut W, message: &Message<'_>) -> Result<(), FrameFault>
+#[inline(always)]
+fn write_message<W: CountedWrite>(
+    writer: &mut W,
+    encoder: &mut Encoder,
+    message: &Message<'_>,
+) -> Result<(), FrameFault>
     ensures block { WriteBlock W.contents W.failures writer.old (spelling message.now) result writer.new }
     ensures fits { IsMessage message.now }
 {
-    let payload = encode(message);
-    write_block(writer, payload.bytes())
+    write_block(writer, encoder.encode(message))
 }

@@ -1,4 +1,4 @@
-use Rattle.std.proofs.Common.{ℕ, ◌≤◌, take, sym, subst, arith}
+use Rattle.std.proofs.Common.{ℕ, take, sym, subst, arith}
 use Rattle.itch_frame.specs.Blocks.{IsBlock}
 use Rattle.itch_frame.proofs.SplitterLemmas.{first_needed}
 use Rattle.itch_frame.proofs.first.first_block.Goals as goal
