@@ -1,9 +1,9 @@
 //! Messages of TotalView-ITCH 5.0, and the End of Snapshot of GLIMPSE 5.0.
 //!
-//! [`decode`] makes a [`Message`] of a payload, or returns its first fault; [`encode`] spells a message. A payload that is
-//! decoded and encoded again has the same bytes, except for the padding of End of Snapshot. Types that are not decoded are kept whole, as
-//! [`Undecoded`]. [`show`] makes a line of text of a message,
-//! [`show_named`] one with its codes as characters, and [`json`] a line of JSON. Only [`line`], which makes a string, allocates.
+//! [`decode`] makes a [`Message`] of a payload, or returns its first fault; [`encode`] spells a message, and an [`Encoder`] spells many
+//! in the same place. A payload that is decoded and encoded again has the same bytes, except for the padding of End of Snapshot. Types
+//! that are not decoded are kept whole, as [`Undecoded`]. [`show`] makes a line of text of a message, [`show_named`] one with its codes
+//! as characters, and [`json`] a line of JSON. Only [`line`], which makes a string, allocates.
 //!
 //! Every value is valid: an [`Alpha`] is printable, a [`Seq`] is from 1 to 10^19, a [`Stamp`] fits its six bytes.
 //! `laws` states what holds of every payload and every message.
