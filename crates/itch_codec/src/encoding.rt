@@ -40,7 +40,7 @@ impl Encoder {
 
     /// The bytes of a message, as [`encode`] returns them.
     #[inline(always)]
-    pub fn encode<'a>(&'a mut self, message: &Message<'a>) -> &'a [u8]
+    pub fn encode<'s, 'a: 's>(&'s mut self, message: &Message<'a>) -> &'s [u8]
         ensures bytes { result.now ≡ spelling message.now }
         ensures fits { IsMessage message.now }
     {
