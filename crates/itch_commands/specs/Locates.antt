@@ -1,5 +1,5 @@
 -- Lists of locates and of ranges of them, as text.
-use Rattle.std.specs.Prelude.{◌≡◌, ℕ, ◌<◌, ◌≤◌, ◌⊎◌, Bool, nat_lt, not, ◌&&◌, List, [], ◌∷◌, ◌++◌, ⊤, Result, Ok, Err}
+use Rattle.std.specs.Prelude.{◌≡◌, ℕ, ◌<◌, ◌≤◌, ◌⊎◌, ◌==◌, Bool, nat_lt, not, ◌&&◌, cond, List, [], ◌∷◌, ◌++◌, ⊤, Option, Some, None, Result, Ok, Err}
 use Rattle.std.specs.List.{list_any}
 use Rattle.std.specs.Str.Parse.{IsNumeral, digits_value}
 use Rattle.itch_market.specs.Wanted.{Wanted, has}
@@ -16,6 +16,11 @@ abbrev pub IsRange : List ℕ → ℕ × ℕ → Type 0
 IsRange text range =
     (IsLocate text range.0 × (range.1 ≡ range.0))
     ⊎ ((low : List ℕ) × (high : List ℕ) × (text ≡ low ++ 45 ∷ high) × IsLocate low range.0 × IsLocate high range.1 × (range.0 ≤ range.1))
+
+-- the path of the file that has a list, where the words for it are an at sign and this path
+abbrev pub list_file : List ℕ → Option (List ℕ)
+list_file [] = None
+list_file (first ∷ path) = cond (first == 64) (Some path) None
 
 -- the locate is in the range
 abbrev pub is_in : ℕ → ℕ × ℕ → Bool

@@ -8,6 +8,8 @@ use Rattle.itch_commands.specs.declared.fault.ToolFault.TheVariants.{OutOfMemory
 use Rattle.itch_commands.specs.declared.filters.Filters.{Filters}
 use Rattle.itch_commands.specs.declared.fault.Source.{Source}
 use Rattle.itch_commands.specs.declared.fault.Source.TheVariants.{Second, Snapshot}
+use Rattle.itch_commands.specs.declared.fault.Source.TheVariants as source
+use Rattle.itch_commands.specs.Locates.{list_file}
 use Rattle.itch_commands.specs.declared.request.Request.{Request}
 use Rattle.itch_commands.specs.declared.request.Request.TheVariants.{Snap, Check, Show, Canon, Compare, CompareFirst, Book, Join}
 use Rattle.itch_commands.specs.Choices.{Chosen, chosen_by}
@@ -23,19 +25,19 @@ use Rattle.itch_commands.specs.Readings.{FromBlocks}
 use Rattle.itch_commands.specs.Showing.{Shows}
 use Rattle.itch_commands.specs.Stocks.{names_of}
 
--- the path of the file that a fault of a request names; none if it is standard input
-abbrev pub file_of : Request → Source → Option (List ℕ)
-file_of (Snap file limit selection) source = option_map (λ path. path.now) file
-file_of (Check file limit expected form) source = option_map (λ path. path.now) file
-file_of (Show file kind form filters) source = option_map (λ path. path.now) file
-file_of (Canon file check) source = option_map (λ path. path.now) file
-file_of (Book selection depth file kind form) source = option_map (λ path. path.now) file
-file_of (Compare first second kind form) Second = option_map (λ path. path.now) second
-file_of (Compare first second kind form) source = option_map (λ path. path.now) first
-file_of (CompareFirst first second limit form) Second = option_map (λ path. path.now) second
-file_of (CompareFirst first second limit form) source = option_map (λ path. path.now) first
-file_of (Join snapshot feed selection) Snapshot = option_map (λ path. path.now) snapshot
-file_of (Join snapshot feed selection) source = option_map (λ path. path.now) feed
+-- the path of the file that a request reads from its beginning on; none if it is standard input
+abbrev pub read_file_of : Request → Source → Option (List ℕ)
+read_file_of (Snap file limit selection) source = option_map (λ path. path.now) file
+read_file_of (Check file limit expected form) source = option_map (λ path. path.now) file
+read_file_of (Show file kind form filters) source = option_map (λ path. path.now) file
+read_file_of (Canon file check) source = option_map (λ path. path.now) file
+read_file_of (Book selection depth file kind form) source = option_map (λ path. path.now) file
+read_file_of (Compare first second kind form) Second = option_map (λ path. path.now) second
+read_file_of (Compare first second kind form) source = option_map (λ path. path.now) first
+read_file_of (CompareFirst first second limit form) Second = option_map (λ path. path.now) second
+read_file_of (CompareFirst first second limit form) source = option_map (λ path. path.now) first
+read_file_of (Join snapshot feed selection) Snapshot = option_map (λ path. path.now) snapshot
+read_file_of (Join snapshot feed selection) source = option_map (λ path. path.now) feed
 
 -- the list of the locates that are selected, if they are by a list
 abbrev pub list_of : Selection → Option (List ℕ)
@@ -50,6 +52,16 @@ only_of (Book selection depth file kind form) = list_of selection
 only_of (Join snapshot feed selection) = list_of selection
 only_of (Show file kind form filters) = option_map (λ list. list.now) filters.only
 only_of request = None
+
+-- the path of the file that has a list, if the words for it are an at sign and this path
+abbrev pub file_of_list : Option (List ℕ) → Option (List ℕ)
+file_of_list None = None
+file_of_list (Some words) = list_file words
+
+-- the path of the file that a fault of a request names; none if it is standard input
+abbrev pub file_of : Request → Source → Option (List ℕ)
+file_of request source.Locates = file_of_list (only_of request)
+file_of request other = read_file_of request other
 
 -- the requests whose output is a snapshot, not text
 abbrev pub is_binary : Request → Bool

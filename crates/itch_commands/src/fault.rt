@@ -26,13 +26,15 @@ pub enum Source {
     PasswordFile,
     /// The file that a snapshot is written to.
     Output,
+    /// The file that has the list of `--only`.
+    Locates,
 }
 
 impl fmt::Display for Source {
     // The words before the reason of a fault.
     fn fmt<W: fmt::Write>(&self, f: &mut fmt::Formatter<W>) -> fmt::Result {
         f.write_str(match self {
-            Source::Only | Source::PasswordFile | Source::Output => "",
+            Source::Only | Source::PasswordFile | Source::Output | Source::Locates => "",
             Source::First => "first: ",
             Source::Second => "second: ",
             Source::Snapshot => "snapshot: ",

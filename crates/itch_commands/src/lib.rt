@@ -50,7 +50,7 @@ pub use filters::Filters;
 pub use form::{BookForm, Form, ShowForm};
 pub use kind::{FileKind, file_market};
 pub use limit::Limit;
-pub use locates::read_locates;
+pub use locates::{list_file, read_locates};
 pub use order_book::Book;
 pub use performing::perform;
 pub use reading::read_market;

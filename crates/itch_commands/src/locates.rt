@@ -1,7 +1,7 @@
 //! Lists of locates, as text.
-ghost use Rattle.std.specs.Prelude.{◌≡◌, ◌≤◌, ◌||◌, ◌⊎◌, ℕ, IfOk, IfErr, MatchResult};
+ghost use Rattle.std.specs.Prelude.{◌≡◌, ◌≤◌, ◌||◌, ◌⊎◌, ℕ, IfOk, IfErr, MatchResult, option_map};
 ghost use Rattle.itch_market.specs.Wanted.{has};
-ghost use Rattle.itch_commands.specs.Locates.{IsLocate, IsRange, is_in, ReadsLocates};
+ghost use Rattle.itch_commands.specs.Locates.{IsLocate, IsRange, is_in, list_file, ReadsLocates};
 
 use crate::fault::ToolFault;
 use itch_market::LocateSet;
@@ -24,6 +24,14 @@ pub fn read_locates<A: Allocator + Copy>(alloc: A, text: &str) -> Result<LocateS
     }
     insert(&mut set, rest)?;
     Ok(set)
+}
+
+/// The path of the file that has a list, where the words for it are `@` and this path.
+pub fn list_file(words: &str) -> Option<&str>
+    ensures { option_map (λ path. path.now) result ≡ list_file words.now }
+{
+    let (before, path) = words.split_once('@')?;
+    if before.is_empty() { Some(path) } else { None }
 }
 
 // Reads a locate or a range, and inserts what it is.

@@ -1,6 +1,6 @@
 //! What the program is asked to do over files.
 ghost use Rattle.std.specs.Prelude.{◌≡◌, ◌↔◌, Some, IsNone, IfSome, option_map, codes};
-ghost use Rattle.itch_commands.specs.Requests.{file_of, is_binary, only_of};
+ghost use Rattle.itch_commands.specs.Requests.{file_of, read_file_of, is_binary, only_of};
 
 use crate::expected::Expected;
 use crate::fault::Source;
@@ -8,6 +8,7 @@ use crate::filters::Filters;
 use crate::form::{BookForm, Form, ShowForm};
 use crate::kind::FileKind;
 use crate::limit::Limit;
+use crate::locates::list_file;
 use crate::selection::Selection;
 
 /// What the program is asked to do. A file is its path, or none for standard input; a limit says which part of it is wanted.
@@ -72,6 +73,16 @@ impl<'a> Request<'a> {
     /// The path of the file that a fault names, or none if that is standard input.
     pub fn file(&self, source: Source) -> Option<&'a str>
         ensures { option_map (λ path. path.now) result ≡ file_of self.now source }
+    {
+        match source {
+            Source::Locates => list_file(self.only()?),
+            _ => self.read_file(source),
+        }
+    }
+
+    // The same of the files that are read from their beginning on.
+    fn read_file(&self, source: Source) -> Option<&'a str>
+        ensures { option_map (λ path. path.now) result ≡ read_file_of self.now source }
     {
         match *self {
             Request::Snap { file, .. }

@@ -8,6 +8,7 @@
 mod explaining;
 mod failed;
 mod live;
+mod locate_list;
 mod opened;
 mod output;
 mod packed;

@@ -2,14 +2,14 @@
 ghost use Rattle.itch_commands.specs.Requests.{IsOverOne};
 
 use crate::live::{run_feed, run_follow, run_live};
+use crate::locate_list::read_only;
 use crate::opened::open;
 use crate::output::Output;
 use crate::sockets::{run_fetch, run_serve};
 use itch_commands::compare::{compare_blocks, compare_first_blocks};
 use itch_commands::join::{join_blocks, join_stocks};
 use itch_commands::{
-    FileKind, Form, Limit, Request, Selection, Source, ToolFault, perform, read_locates,
-    system_fault,
+    FileKind, Form, Limit, Request, Selection, Source, ToolFault, perform, system_fault,
 };
 use itch_frame::{BlockReader, Buffered, Counted, CountedWrite};
 use itch_market::LocateSet;
@@ -85,7 +85,7 @@ fn request_to<R: Files + Input + Eprint + AllocGlobal + Clock, W: Write + Drop>(
 ) -> Result<bool, ToolFault> {
     let alloc = rt.alloc();
     let only = match request.only() {
-        Some(list) => Some(read_locates(alloc, list)?),
+        Some(words) => Some(read_only(rt, words)?),
         None => None,
     };
     let Ok(buffered) = BufWriter::with_capacity(alloc, PIECE, writer) else {

@@ -10,7 +10,7 @@ use Rattle.itchsnap_cli.specs.declared.words.live.FollowForm.TheVariants as form
 use Rattle.itchsnap_cli.specs.declared.words.session.Password.{Password}
 use Rattle.itchsnap_cli.specs.declared.words.session.Password.TheVariants.{Word, File}
 use Rattle.itch_commands.specs.declared.fault.Source.{Source}
-use Rattle.itch_commands.specs.declared.fault.Source.TheVariants.{Only, First, Second, Snapshot, PasswordFile, Output}
+use Rattle.itch_commands.specs.declared.fault.Source.TheVariants.{Only, First, Second, Snapshot, PasswordFile, Output, Locates}
 use Rattle.itch_commands.specs.Requests as requests
 use Rattle.itch_commands.specs.Requests.{is_binary}
 
@@ -31,6 +31,7 @@ live_file live Second = password_file live.feed_login.password
 live_file live Snapshot = option_map (λ s. s.folder.now) live.snapshots
 live_file live PasswordFile = password_file live.login.password
 live_file live Output = None
+live_file live Locates = None
 live_file live Only = begun_with (option_map (λ path. path.now) live.«record») (option_map (λ (place : Place). place.words.now) live.glimpse)
 
 -- what a fault names so where a feed is followed
@@ -41,6 +42,7 @@ follow_file follow Only = Some follow.glimpse.words.now
 follow_file follow Second = Some follow.glimpse.words.now
 follow_file follow Snapshot = Some follow.glimpse.words.now
 follow_file follow Output = Some follow.glimpse.words.now
+follow_file follow Locates = Some follow.glimpse.words.now
 
 -- the path of the file that a snapshot is written to, if one is named
 abbrev pub output_of : Job → Option (List ℕ)

@@ -190,10 +190,9 @@ fn depth<'a>(alloc: Global) -> Arg<'a> {
 }
 
 fn only<'a>(alloc: Global) -> Arg<'a> {
-    Arg::new(alloc, "only")
-        .long("only")
-        .value_name("LIST")
-        .help("Keep only these locates, such as 1-40,77")
+    Arg::new(alloc, "only").long("only").value_name("LIST").help(
+        "Keep only these locates, such as 1-40,77, or those that a file lists, such as @FILE",
+    )
 }
 
 fn stock<'a>(alloc: Global, help: &'a str) -> Arg<'a> {

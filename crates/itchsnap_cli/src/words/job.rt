@@ -100,7 +100,7 @@ fn live_file<'a>(live: &LiveWords<'a>, source: Source) -> Option<&'a str>
         },
         (Source::Only, Some(path), _) => Some(path),
         (Source::Only, None, Some(glimpse)) => Some(glimpse.words),
-        (Source::Only, None, None) | (Source::Output, _, _) => None,
+        (Source::Only, None, None) | (Source::Output | Source::Locates, _, _) => None,
     }
 }
 
