@@ -8,7 +8,7 @@ use itch_commands::book::book_stocks;
 use itch_commands::join::join_stocks;
 use itch_commands::snap::snap_stocks;
 use itch_commands::{
-    Book, BookForm, FileKind, Limit, Source, ToolFault, file_market, stock_locates,
+    Book, BookForm, FeedPart, FileKind, Limit, Source, ToolFault, file_market, stock_locates,
 };
 use itch_frame::testing::PieceReader;
 use itch_frame::{BlockReader, CountedRead, CountedWrite};
@@ -45,7 +45,7 @@ pub(super) fn joined_of_stocks<R: CountedRead + Drop, S: CountedRead + Drop, W: 
 ) -> Result<bool, ToolFault> {
     let mut snapshot = BlockReader::new(alloc, snapshot)?;
     let mut feed = BlockReader::new(alloc, feed)?;
-    join_stocks(alloc, &mut snapshot, &mut feed, "AAPL", out)
+    join_stocks(alloc, &mut snapshot, &mut feed, FeedPart::whole(), "AAPL", out)
 }
 
 // The locates of the directory of a day file that have one of these stocks.

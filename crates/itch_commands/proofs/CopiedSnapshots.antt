@@ -86,6 +86,7 @@ module _ (old mid new : Option (List ℕ)) (load : Load) (count : ℕ) (copy : L
   copied_refused tool.BadUser n more h = absurd h
   copied_refused tool.BadPassword n more h = absurd h
   copied_refused (tool.Unmet unmet) n more h = absurd h
+  copied_refused (tool.Misfit misfit) n more h = absurd h
   copied_refused tool.BadLocates n more h = absurd h
   copied_refused tool.TooMany n more h = absurd h
   copied_refused (tool.Soup fault) n more h = absurd h
@@ -139,6 +140,7 @@ module _ {R : Type 0} (remaining : R → Option (List ℕ)) (failures : R → Fa
   refused_before new tool.BadUser n copy h counts = absurd h
   refused_before new tool.BadPassword n copy h counts = absurd h
   refused_before new (tool.Unmet unmet) n copy h counts = absurd h
+  refused_before new (tool.Misfit misfit) n copy h counts = absurd h
   refused_before new tool.BadLocates n copy h counts = absurd h
   refused_before new tool.TooMany n copy h counts = absurd h
   refused_before new (tool.Soup fault) n copy h counts = absurd h
@@ -162,6 +164,7 @@ module _ {R : Type 0} (remaining : R → Option (List ℕ)) (failures : R → Fa
     refused_after tool.BadUser h counts = absurd h
     refused_after tool.BadPassword h counts = absurd h
     refused_after (tool.Unmet unmet) h counts = absurd h
+    refused_after (tool.Misfit misfit) h counts = absurd h
     refused_after tool.BadLocates h counts = absurd h
     refused_after tool.TooMany h counts = absurd h
     refused_after (tool.Soup fault) h counts = absurd h

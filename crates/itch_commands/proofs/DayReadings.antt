@@ -1,8 +1,9 @@
 -- What a command knows of the day file that it read.
 use Rattle.std.proofs.Common.{◌≡◌, ℕ, ◌-◌, ◌^◌, ◌≤◌, List, map, length, Option, None, Some, IfSome, Ok, Err, sym, subst, inl, inr, arith}
 use Rattle.std.specs.List.{AllByRecursion}
+use Rattle.std.specs.Io.KnownBytes.{Consumes}
 use Rattle.itch_codec.specs.Messages.{message_of}
-use Rattle.itch_frame.specs.Blocks.{Ends}
+use Rattle.itch_frame.specs.Blocks.{blocks, Ends}
 use Rattle.itch_frame.specs.Reading.{Reading, bytes_left, EndsHere}
 use Rattle.itch_frame.specs.declared.tally.Failures.{Failures}
 use Rattle.itch_market.specs.Content.{Content, empty, laid}
@@ -10,7 +11,7 @@ use Rattle.itch_market.specs.Runs.{run}
 use Rattle.itch_market.specs.declared.stop.Stop.{Stop}
 use Rattle.itch_market.specs.declared.stop.Stop.TheVariants.{End}
 use Rattle.itch_market.specs.Stops.{Stops}
-use Rattle.itch_market.specs.Replays.{Fits, Takes, IsDecided}
+use Rattle.itch_market.specs.Replays.{Fits, IsDecided}
 use Rattle.itch_market.proofs.ReplayedFiles.{replays_stop}
 use Rattle.itch_commands.specs.declared.fault.ToolFault.{ToolFault}
 use Rattle.itch_commands.specs.declared.fault.ToolFault.TheVariants as tool
@@ -42,11 +43,11 @@ is_cut limit count rest None (inr (inl (before, (p, off, late)))) = absurd off.1
 is_cut limit count rest (Some more) (inr (inl (before, (p, off, late)))) = inr (inl (before, (p, more, off.1, off.0, late)))
 is_cut limit count rest new (inr (inr (whole, ends))) = inr (inr (whole, rest_ends rest new ends))
 
-pub is_part : (limit : Limit) (n : Content) (bytes mid new : Option (List ℕ)) (ps : List (List ℕ)) → Takes empty bytes mid ps n → IsEnough limit (length ps) mid new
+pub is_part : (limit : Limit) (bytes mid new : Option (List ℕ)) (ps : List (List ℕ)) → Consumes bytes mid (blocks ps) → IsEnough limit (length ps) mid new
     → IfSome bytes (λ b. IsPart limit b ps)
-is_part limit n None mid new ps takes enough = tt
-is_part limit n (Some b) None new ps takes enough = absurd takes.bytes
-is_part limit n (Some b) (Some rest) new ps takes enough = (rest, takes.bytes, is_cut limit (length ps) rest new enough)
+is_part limit None mid new ps off enough = tt
+is_part limit (Some b) None new ps off enough = absurd off
+is_part limit (Some b) (Some rest) new ps off enough = (rest, off, is_cut limit (length ps) rest new enough)
 
 -- where the part of the file that is wanted was read
 pub read_done : (file : Source) (limit : Limit) (bytes new : Option (List ℕ)) (start : Content) (count : ℕ) (n : Content) → start ≡ empty
@@ -58,7 +59,7 @@ read_done file limit bytes new start count n first reads = from_empty (subst (λ
       record {
         payloads = ps;
         taken = record { full = takes.full; taken = takes.none; few = omega (arith, counted, few); early = early };
-        part = is_part limit n bytes mid new ps takes ends;
+        part = is_part limit bytes mid new ps takes.bytes ends;
         leaves = (mid, takes.bytes, ends);
         left = takes.left;
         counted = counted;
@@ -113,6 +114,7 @@ module _ {R : Type 0} (remaining : R → Option (List ℕ)) (failures : R → Fa
         by_fault tool.BadUser h counted leaves = absurd h
         by_fault tool.BadPassword h counted leaves = absurd h
         by_fault (tool.Unmet unmet) h counted leaves = absurd h
+        by_fault (tool.Misfit misfit) h counted leaves = absurd h
         by_fault tool.BadLocates h counted leaves = absurd h
         by_fault tool.TooMany h counted leaves = absurd h
         by_fault (tool.Soup fault) h counted leaves = absurd h

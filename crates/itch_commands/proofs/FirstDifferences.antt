@@ -89,7 +89,7 @@ module _ {R : Type 0} (remaining : R → Option (List ℕ)) (failures : R → Fa
   day_of limit old new mid count p n takes enough uncounted leaves =
       let ends : IsEnough limit (length p) mid (bytes_left remaining new) = subst (λ k. IsEnough limit k mid (bytes_left remaining new)) (sym takes.1) enough in (
         (applied limit (bytes_left remaining old) mid count p n takes).taken,
-        is_part limit n (bytes_left remaining old) mid (bytes_left remaining new) p takes.0 ends,
+        is_part limit (bytes_left remaining old) mid (bytes_left remaining new) p takes.0.bytes ends,
         (mid, takes.0.bytes, ends),
         uncounted,
         subst (λ k. LeavesDay (Ok k) limit old new) (sym takes.1) leaves,

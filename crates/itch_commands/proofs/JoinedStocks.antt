@@ -62,23 +62,23 @@ module _ {W : Type 0} (contents : W → Option (List ℕ)) (failures : W → Fai
         ),
       )
 
-module _ {W : Type 0} (contents : W → Option (List ℕ)) (failures : W → Failures) (starts : Result Start ToolFault → Type 0) (untouched : Type 0)
+module _ {W : Type 0} (contents : W → Option (List ℕ)) (failures : W → Failures) (before : ℕ) (starts : Result Start ToolFault → Type 0) (untouched : Type 0)
     (follows : Start → Result (List (List ℕ)) ToolFault → Type 0) (names : List (List ℕ)) (old new : W) (result : Result Bool ToolFault) where
   abbrev Joins : Type 0
   Joins =
-      Outputs contents failures (ReadsStocks (λ (both : Start × List (List ℕ)). Content.securities (joined_market both.0 both.1)) names (HasRoom (Then starts untouched follows)))
-      (λ both. closed_bytes (only_stocks names (joined_market both.0 both.1), joined_next both.0 both.1)) (λ _. true) old result new
+      Outputs contents failures (ReadsStocks (λ (both : Start × List (List ℕ)). Content.securities (joined_market before both.0 both.1)) names (HasRoom before (Then starts untouched follows)))
+      (λ both. closed_bytes (only_stocks names (joined_market before both.0 both.1), joined_next before both.0 both.1)) (λ _. true) old result new
 
   -- the feed is refused
   pub stocks_fail : (fault : ToolFault) (start : Start) → result ≡ Err fault → starts (Ok start) → follows start (Err fault) → new ≡ old → Joins
   stocks_fail fault start is read refused same = inl (fault, is, inl (inl (inr (start, read, refused))), same)
 
   -- or both are read
-  pub stocks_joined : (start : Start) (payloads : List (List ℕ)) (s : State) → starts (Ok start) → follows start (Ok payloads) → IsAfter start payloads s
+  pub stocks_joined : (start : Start) (payloads : List (List ℕ)) (s : State) → starts (Ok start) → follows start (Ok payloads) → IsAfter before start payloads s
       → WritesStocks contents failures names (position_of s) old result new → Joins
   stocks_joined start payloads s read fed after writes = by_room writes where
     m : Content
-    m = joined_market start payloads
+    m = joined_market before start payloads
 
     left : Content
     left = Position.market (position_of s)
@@ -89,7 +89,7 @@ module _ {W : Type 0} (contents : W → Option (List ℕ)) (failures : W → Fai
     same_listings : Content.securities left ≡ Content.securities m
     same_listings = ap Content.securities after.market
 
-    same_bytes : closed_bytes (only_stocks names left, Position.next (position_of s)) ≡ closed_bytes (only_stocks names m, joined_next start payloads)
+    same_bytes : closed_bytes (only_stocks names left, Position.next (position_of s)) ≡ closed_bytes (only_stocks names m, joined_next before start payloads)
     same_bytes =
         ap (λ listings. canon (only (has_one_of listings names) left) ++ closing (Position.next (position_of s))) same_listings
         ∙ ap (λ bytes. bytes ++ closing (Position.next (position_of s))) (only_bytes (has_one_of (Content.securities m) names) m left same_snap)

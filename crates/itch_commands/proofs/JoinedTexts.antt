@@ -27,6 +27,7 @@ module _ {W : Type 0} (contents : W → Option (List ℕ)) (failures : W → Fai
   text_fails xs ys old new tool.BadUser h = absurd h
   text_fails xs ys old new tool.BadPassword h = absurd h
   text_fails xs ys old new (tool.Unmet unmet) h = absurd h
+  text_fails xs ys old new (tool.Misfit misfit) h = absurd h
   text_fails xs ys old new tool.BadLocates h = absurd h
   text_fails xs ys old new tool.TooMany h = absurd h
   text_fails xs ys old new (tool.Soup f) h = absurd h
@@ -54,6 +55,7 @@ module _ {W : Type 0} (contents : W → Option (List ℕ)) (failures : W → Fai
   text_then xs ys old mid new (Err tool.BadUser) first h = absurd h
   text_then xs ys old mid new (Err tool.BadPassword) first h = absurd h
   text_then xs ys old mid new (Err (tool.Unmet unmet)) first h = absurd h
+  text_then xs ys old mid new (Err (tool.Misfit misfit)) first h = absurd h
   text_then xs ys old mid new (Err tool.BadLocates) first h = absurd h
   text_then xs ys old mid new (Err tool.TooMany) first h = absurd h
   text_then xs ys old mid new (Err (tool.Soup f)) first h = absurd h

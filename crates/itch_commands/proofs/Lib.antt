@@ -20,6 +20,7 @@ pub mod SoughtStocks
 pub mod JoinerSteps
 pub mod FeedsTaken
 pub mod FeedStops
+pub mod FeedReadings
 pub mod Joinings
 pub mod JoinedStocks
 pub mod JoinedTexts

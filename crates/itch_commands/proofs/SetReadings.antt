@@ -184,5 +184,5 @@ module _ (wanted : ℕ → Bool) where
       subst (λ k. Same k (only wanted (runs.after m (map message_of ps)))) (sym (seen_follows n ps clean cut.follows).1) cut.same
 
   -- from a number on
-  pub from_so : (number : ℕ) (ps : List (List ℕ)) → from_number number (seen ps) ≡ seen (from_number number ps)
-  from_so number ps = drop-map (as_read wanted) (number - 1) ps
+  pub from_so : (before number : ℕ) (ps : List (List ℕ)) → from_number before number (seen ps) ≡ seen (from_number before number ps)
+  from_so before number ps = drop-map (as_read wanted) (number - 1 - before) ps

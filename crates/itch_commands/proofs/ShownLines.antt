@@ -268,6 +268,7 @@ module _ {R W : Type 0} (contents : W → Option (List ℕ)) (failures : W → F
   shown_ends old mid new count now then out on out' found tool.BadUser shown is before (p, next, none) counts leaves = absurd none
   shown_ends old mid new count now then out on out' found tool.BadPassword shown is before (p, next, none) counts leaves = absurd none
   shown_ends old mid new count now then out on out' found (tool.Unmet unmet) shown is before (p, next, none) counts leaves = absurd none
+  shown_ends old mid new count now then out on out' found (tool.Misfit misfit) shown is before (p, next, none) counts leaves = absurd none
   shown_ends old mid new count now then out on out' found tool.BadLocates shown is before (p, next, none) counts leaves = absurd none
   shown_ends old mid new count now then out on out' found tool.TooMany shown is before (p, next, none) counts leaves = absurd none
   shown_ends old mid new count now then out on out' found (tool.Soup f) shown is before (p, next, none) counts leaves = absurd none

@@ -19,6 +19,7 @@ use Rattle.itch_commands.specs.Showing.{IfFound, closed_lines, closed_found}
 use Rattle.itch_commands.specs.Stocks.{ReadsStocks, has_one_of, only_stocks}
 use Rattle.itch_commands.specs.Readings.{From, ReadsDay, ReadsSnap, Then}
 use Rattle.itch_commands.specs.declared.expected.Expected.{Expected}
+use Rattle.itch_commands.specs.declared.feed_part.FeedPart.{FeedPart}
 use Rattle.itch_commands.specs.declared.form.BookForm.{BookForm}
 use Rattle.itch_commands.specs.declared.form.BookForm.TheVariants.{Text}
 use Rattle.itch_commands.specs.declared.form.Form.{Form}
@@ -87,15 +88,15 @@ module _ {R S W : Type 0} (remaining : R → Option (List ℕ)) (failed_reads : 
   ComparesFirst form limit first second =
       Outputs contents failed_writes (first (λ a b. second (λ c d. FindsFirst remaining failed_reads remaining_then failed_then limit a b c d))) (first_line form) is_none
 
-  -- `join`: the snapshot after a snapshot and the feed that continues after it, with payloads read in this way
-  abbrev pub Joins : (List ℕ → List ℕ) → From R (Start × List (List ℕ)) → From S (Start × List (List ℕ)) → W → Result Bool ToolFault → W → Type 0
-  Joins read snapshot feed =
+  -- `join`: the snapshot after a snapshot and the part that is wanted of the feed that continues after it, with payloads read in this way
+  abbrev pub Joins : (List ℕ → List ℕ) → FeedPart → From R (Start × List (List ℕ)) → From S (Start × List (List ℕ)) → W → Result Bool ToolFault → W → Type 0
+  Joins read part snapshot feed =
       Outputs contents failed_writes (snapshot (λ a b. feed (λ c d.
-      HasRoom (Then (ReadsStart read remaining failed_reads a b) (d ≡ c) (ReadsFeed read remaining_then failed_then c d))))) (λ both. closed_bytes (joined both)) (λ _. true)
+      HasRoom part.before (Then (ReadsStart read remaining failed_reads a b) (d ≡ c) (ReadsFeed read remaining_then failed_then part c d))))) (λ both. closed_bytes (joined part.before both)) (λ _. true)
 
   -- `join --stock`: the same cut down to the locates that have one of these stocks, each of which the directory has in the end
-  abbrev pub JoinsStocks : (List ℕ → List ℕ) → List (List ℕ) → From R (Start × List (List ℕ)) → From S (Start × List (List ℕ)) → W → Result Bool ToolFault → W → Type 0
-  JoinsStocks read names snapshot feed =
+  abbrev pub JoinsStocks : (List ℕ → List ℕ) → FeedPart → List (List ℕ) → From R (Start × List (List ℕ)) → From S (Start × List (List ℕ)) → W → Result Bool ToolFault → W → Type 0
+  JoinsStocks read part names snapshot feed =
       Outputs contents failed_writes (snapshot (λ a b. feed (λ c d.
-      ReadsStocks (λ (both : Start × List (List ℕ)). Content.securities (joined_market both.0 both.1)) names (HasRoom (Then (ReadsStart read remaining failed_reads a b) (d ≡ c) (ReadsFeed read remaining_then failed_then c d))))))
-      (λ both. closed_bytes (only_stocks names (joined_market both.0 both.1), joined_next both.0 both.1)) (λ _. true)
+      ReadsStocks (λ (both : Start × List (List ℕ)). Content.securities (joined_market part.before both.0 both.1)) names (HasRoom part.before (Then (ReadsStart read remaining failed_reads a b) (d ≡ c) (ReadsFeed read remaining_then failed_then part c d))))))
+      (λ both. closed_bytes (only_stocks names (joined_market part.before both.0 both.1), joined_next part.before both.0 both.1)) (λ _. true)

@@ -1,13 +1,13 @@
 -- A joiner in which nothing waits: while it reads a snapshot, and after it has joined.
-use Rattle.std.specs.Prelude.{◌≡◌, ℕ, ◌+◌, ◌-◌, ◌<◌, ◌≤◌, ◌^◌, ◌==◌, ◌⊎◌, true, false, Bool, List, map, length, ⊤, Option, Some, None, Result, Ok, Err}
+use Rattle.std.specs.Prelude.{◌≡◌, ℕ, ◌+◌, ◌-◌, ◌<◌, ◌≤◌, ◌^◌, ◌==◌, ◌⊎◌, ◌≢◌, true, false, Bool, List, map, length, ⊤, Option, Some, None, IsSome, Result, Ok, Err}
 use Rattle.std.specs.FinMap as finite
 use Rattle.itch_codec.specs.Widths.{IsSequence}
+use Rattle.itch_frame.specs.Reading.{Reading as Blocks, bytes_left}
 use Rattle.itch_frame.specs.declared.tally.Failures.{Failures}
 use Rattle.itch_market.specs.Content.{Content, empty, laid}
 use Rattle.itch_market.specs.GoodMarkets.{IsGood}
-use Rattle.itch_market.specs.Replays.{TakesOne, TakesOff}
+use Rattle.itch_market.specs.Replays.{TakesOne, TakesOff, LeavesReaderFirst}
 use Rattle.itch_market.specs.declared.refusal.Refusal.TheVariants as why
-use Rattle.itch_market.specs.declared.stop.ReplayEnd.{ReplayEnd}
 use Rattle.itch_market.specs.declared.stop.Stop.{Stop}
 use Rattle.itch_market.specs.declared.stop.Stop.TheVariants as stop
 use Rattle.itch_snapshot.specs.declared.fault.SnapFault.{SnapFault}
@@ -20,9 +20,15 @@ use Rattle.itch_join.specs.declared.fault.JoinFault.{JoinFault}
 use Rattle.itch_join.specs.declared.fault.JoinFault.TheVariants as join
 use Rattle.itch_commands.specs.declared.fault.ToolFault.{ToolFault}
 use Rattle.itch_commands.specs.declared.fault.ToolFault.TheVariants as tool
-use Rattle.itch_commands.specs.AsRead.{ReadsAs, HaltsAs}
-use Rattle.itch_commands.specs.Joining.{Start, IsOfMessage, EndsFeed, joined_market, joined_next}
+use Rattle.itch_commands.specs.declared.fault.Source.TheVariants.{Only}
+use Rattle.itch_commands.specs.declared.feed_part.FeedPart.{FeedPart}
+use Rattle.itch_commands.specs.declared.feed_part.Misfit.TheVariants.{Late}
+use Rattle.itch_commands.specs.declared.limit.Limit.{Limit}
+use Rattle.itch_commands.specs.AsRead.{ReadsAs}
+use Rattle.itch_commands.specs.FeedParts.{number_after, part_of}
+use Rattle.itch_commands.specs.Joining.{Start, IsNotLate, IsOfMessage, HaltsFeed, EndsFeed, LateFeed, TakesWanted, joined_market, joined_next}
 use Rattle.itch_commands.specs.Outputs.{WritesOutput, closed_bytes}
+use Rattle.itch_commands.specs.Readings.{LateNext, LeavesDay}
 use Rattle.itch_commands.specs.Stocks.{IsStockFault, are_known, only_stocks}
 
 -- the market that a half-read snapshot leaves
@@ -69,15 +75,18 @@ FeedsOne number old payload (Ok done) new =
     ((number < old.next) × (new ≡ old)) ⊎ ((old.next ≡ number) × TakesOne old.market payload (Ok done) new.market × (new.next ≡ number + 1))
 FeedsOne number old payload (Err why) new = (old.next ≡ number) × TakesOne old.market payload (Err why) old.market
 
--- what the block after `count` others of a feed does: its message is taken, or the reading stops
-abbrev pub FeedStep : (List ℕ → List ℕ) → ℕ → Position → Option (List ℕ) → Option (List ℕ) → Result (Unit {0}) Stop → Position → Type 0
-FeedStep read count old before after (Ok done) new =
-    (payload : List ℕ) × TakesOff before after payload × ((count == 10 ^ 19 - 1) ≡ false) × FeedsOne (count + 1) old (read payload) (Ok done) new
-FeedStep read count old before after (Err why) new = (IsOfMessage why → old.next ≤ count + 1) × HaltsAs read (count == 10 ^ 19 - 1) old.market before after why
+-- what the block of the message with this number of a feed does: it is taken, or it is late, or the reading stops
+abbrev pub FeedStep : (List ℕ → List ℕ) → Limit → ℕ → Position → Option (List ℕ) → Option (List ℕ) → Result Bool Stop → Position → Type 0
+FeedStep read limit number old before after (Ok true) new =
+    (payload : List ℕ) × TakesOff before after payload × ((number == 10 ^ 19) ≡ false) × IsNotLate limit payload × FeedsOne number old (read payload) (Ok tt) new
+FeedStep read limit number old before after (Ok false) new = (new ≡ old) × LateNext limit before after
+FeedStep read limit number old before after (Err why) new =
+    (IsOfMessage why → old.next ≤ number) × HaltsFeed read limit (number == 10 ^ 19) old.market before after why
 
--- a joiner stays joined after a message, and is left as it was at the end of the feed
-abbrev pub StaysJoined : State → Result (Unit {0}) Stop → State → Type 0
-StaysJoined old (Ok done) new = IsJoined new
+-- a joiner stays joined after a message, and is left as it was at a message that is late, and at the end of the feed
+abbrev pub StaysJoined : State → Result Bool Stop → State → Type 0
+StaysJoined old (Ok true) new = IsJoined new
+StaysJoined old (Ok false) new = new ≡ old
 StaysJoined old (Err stop.End) new = new ≡ old
 StaysJoined old (Err why) new = ⊤
 
@@ -128,24 +137,44 @@ abbrev pub StartsJoiner : (Result Start ToolFault → Type 0) → Result (Unit {
 StartsJoiner reads (Ok done) now = reads (Ok (start_of (position_of now))) × IsJoined now × IsStart (start_of (position_of now))
 StartsJoiner reads (Err fault) now = reads (Err fault)
 
--- the joiner has taken these payloads of a feed
-pub record IsAfter (start : Start) (payloads : List (List ℕ)) (s : State) : Type 0 where
+-- the joiner has taken these payloads of a feed that begins after this many messages of its day
+pub record IsAfter (before : ℕ) (start : Start) (payloads : List (List ℕ)) (s : State) : Type 0 where
   pub joined : IsJoined s
-  pub good : IsGood (joined_market start payloads)
-  pub market : Position.market (position_of s) ≡ laid (joined_market start payloads)
-  pub next : Position.next (position_of s) ≡ joined_next start payloads
+  pub good : IsGood (joined_market before start payloads)
+  pub market : Position.market (position_of s) ≡ laid (joined_market before start payloads)
+  pub next : Position.next (position_of s) ≡ joined_next before start payloads
 
--- a joiner was given the messages of a feed, as far as they were taken
-abbrev pub DeliversAll : (List ℕ → List ℕ) → Start → Option (List ℕ) → Option (List ℕ) → ReplayEnd → State → Type 0
-DeliversAll read start before after end now =
-    (payloads : List (List ℕ)) × (length payloads ≡ end.count) × EndsFeed read start before after payloads end.stop
-    × (end.stop ≡ stop.End → IsAfter start (map read payloads) now)
+-- a joiner was given the messages of a feed that are wanted, or as many as were taken
+abbrev pub DeliversAll : (List ℕ → List ℕ) → FeedPart → Start → Option (List ℕ) → Option (List ℕ) → Result ℕ ToolFault → List (List ℕ) → State → Type 0
+DeliversAll read part start before after (Ok reached) payloads now =
+    (part.before + length payloads ≡ reached) × TakesWanted read part start before after payloads × IsAfter part.before start (map read payloads) now
+DeliversAll read part start before after (Err (tool.Stopped at end)) payloads now =
+    (at ≡ Only) × (end.stop ≢ stop.End) × (part.before + length payloads ≡ end.count) × EndsFeed read part start before after payloads end.stop
+DeliversAll read part start before after (Err (tool.Short at count)) payloads now =
+    (at ≡ Only) × IsSome (part_of part start.1).after × (part.before + length payloads ≡ count) × EndsFeed read part start before after payloads stop.End
+DeliversAll read part start before after (Err (tool.Misfit (Late number))) payloads now =
+    (number < start.1) × (number_after part.before payloads ≡ number) × LateFeed read part start before after payloads
+DeliversAll read part start before after (Err fault) payloads now = ⊥
+
+-- where that leaves the reader of blocks
+abbrev pub LeavesFeed : {R : Type 0} → Limit → Result ℕ ToolFault → Blocks R → List (List ℕ) → Blocks R → Type 0
+LeavesFeed limit (Ok reached) old payloads new = LeavesDay (Ok (length payloads)) limit old new
+LeavesFeed limit (Err (tool.Stopped at end)) old payloads new = LeavesReaderFirst old (length payloads) (Some end.stop) new
+LeavesFeed limit (Err (tool.Short at count)) old payloads new = LeavesReaderFirst old (length payloads) (Some stop.End) new
+LeavesFeed limit (Err (tool.Misfit (Late number))) old payloads new = LeavesReaderFirst old (length payloads + 1) None new
+LeavesFeed limit (Err fault) old payloads new = ⊥
+
+-- what of a feed was delivered, and where that leaves its reader
+abbrev pub FeedsAll : {R : Type 0} → (R → Option (List ℕ)) → (List ℕ → List ℕ) → FeedPart → Start → Blocks R → Blocks R → Result ℕ ToolFault → State → Type 0
+FeedsAll remaining read part start old new result now =
+    (payloads : List (List ℕ)) × DeliversAll read part start (bytes_left remaining old) (bytes_left remaining new) result payloads now
+    × LeavesFeed (part_of part start.1) result old payloads new
 
 -- a joiner has the market of the feed that was read
-abbrev pub FeedsJoiner : (Start → Result (List (List ℕ)) ToolFault → Type 0) → Position → Result (Unit {0}) ToolFault → State → Type 0
-FeedsJoiner reads old (Ok done) now =
-    (payloads : List (List ℕ)) × reads (start_of old) (Ok payloads) × IsAfter (start_of old) payloads now
-FeedsJoiner reads old (Err fault) now = reads (start_of old) (Err fault)
+abbrev pub FeedsJoiner : ℕ → (Start → Result (List (List ℕ)) ToolFault → Type 0) → Position → Result (Unit {0}) ToolFault → State → Type 0
+FeedsJoiner before reads old (Ok done) now =
+    (payloads : List (List ℕ)) × reads (start_of old) (Ok payloads) × IsAfter before (start_of old) payloads now
+FeedsJoiner before reads old (Err fault) now = reads (start_of old) (Err fault)
 
 module _ {W : Type 0} (contents : W → Option (List ℕ)) (failures : W → Failures) where
   -- the snapshot of a market is written if it has room for its End of Snapshot

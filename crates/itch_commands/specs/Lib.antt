@@ -13,6 +13,7 @@ pub mod FirstDifferences
 pub mod Forms
 pub mod Books
 pub mod AsRead
+pub mod FeedParts
 pub mod Joining
 pub mod Joiners
 pub mod Commands

@@ -36,8 +36,8 @@ read_file_of (Compare first second kind form) Second = option_map (λ path. path
 read_file_of (Compare first second kind form) source = option_map (λ path. path.now) first
 read_file_of (CompareFirst first second limit form) Second = option_map (λ path. path.now) second
 read_file_of (CompareFirst first second limit form) source = option_map (λ path. path.now) first
-read_file_of (Join snapshot feed selection) Snapshot = option_map (λ path. path.now) snapshot
-read_file_of (Join snapshot feed selection) source = option_map (λ path. path.now) feed
+read_file_of (Join snapshot feed part selection) Snapshot = option_map (λ path. path.now) snapshot
+read_file_of (Join snapshot feed part selection) source = option_map (λ path. path.now) feed
 
 -- the list of the locates that are selected, if they are by a list
 abbrev pub list_of : Selection → Option (List ℕ)
@@ -49,7 +49,7 @@ list_of (Stocks names) = None
 abbrev pub only_of : Request → Option (List ℕ)
 only_of (Snap file limit selection) = list_of selection
 only_of (Book selection depth file kind form) = list_of selection
-only_of (Join snapshot feed selection) = list_of selection
+only_of (Join snapshot feed part selection) = list_of selection
 only_of (Show file kind form filters) = option_map (λ list. list.now) filters.only
 only_of request = None
 
@@ -67,14 +67,14 @@ file_of request other = read_file_of request other
 abbrev pub is_binary : Request → Bool
 is_binary (Snap file limit selection) = true
 is_binary (Canon file false) = true
-is_binary (Join snapshot feed selection) = true
+is_binary (Join snapshot feed part selection) = true
 is_binary request = false
 
 -- a request over one file
 abbrev pub IsOverOne : Request → Type 0
 IsOverOne (Compare first second kind form) = ⊥
 IsOverOne (CompareFirst first second limit form) = ⊥
-IsOverOne (Join snapshot feed selection) = ⊥
+IsOverOne (Join snapshot feed part selection) = ⊥
 IsOverOne request = ⊤
 
 module _ {R W : Type 0} (remaining : R → Option (List ℕ)) (failed_reads : R → Failures) (contents : W → Option (List ℕ)) (failed_writes : W → Failures) where
@@ -109,4 +109,4 @@ module _ {R W : Type 0} (remaining : R → Option (List ℕ)) (failed_reads : R 
   Performs (Book selection depth file kind form) set old new = PerformsBook form selection set depth kind old new
   Performs (Compare first second kind form) set old new = λ out result written. ⊥
   Performs (CompareFirst first second limit form) set old new = λ out result written. ⊥
-  Performs (Join snapshot feed selection) set old new = λ out result written. ⊥
+  Performs (Join snapshot feed part selection) set old new = λ out result written. ⊥

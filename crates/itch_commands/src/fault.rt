@@ -4,6 +4,7 @@ ghost use Rattle.std.specs.IoError.{error_kind};
 ghost use Rattle.itch_commands.specs.Statuses.{frame_status, refusal_status, stop_status, snapshot_status, soup_status, status_of, exit_status};
 
 use crate::expected::Unmet;
+use crate::feed_part::Misfit;
 use itch_frame::FrameFault;
 use itch_market::{Refusal, ReplayEnd, Stop};
 use itch_snapshot::SnapFault;
@@ -56,6 +57,8 @@ pub enum ToolFault {
     Short { file: Source, count: u64 },
     /// A file follows the order rules, and is not what it was expected to be.
     Unmet(Unmet),
+    /// A snapshot and a feed are not joined.
+    Misfit(Misfit),
     /// The directory has no such locate.
     UnknownLocate,
     /// The directory has no entry with such a stock.
@@ -92,7 +95,7 @@ impl ToolFault {
             ToolFault::Write(_) | ToolFault::Open { .. } => 3,
             ToolFault::OutOfMemory => 4,
             ToolFault::BadUser | ToolFault::BadPassword | ToolFault::BadLocates => 2,
-            ToolFault::TooMany | ToolFault::Unmet(_) => 1,
+            ToolFault::TooMany | ToolFault::Unmet(_) | ToolFault::Misfit(_) => 1,
             ToolFault::Soup(fault) => soup_status(fault),
             ToolFault::Socket(_) => 3,
         }
@@ -181,6 +184,7 @@ impl fmt::Display for ToolFault {
             ToolFault::Snap { file, fault } => write!(f, "{file}{fault}"),
             ToolFault::Short { file, count } => write!(f, "{file}only {count} messages"),
             ToolFault::Unmet(unmet) => write!(f, "{unmet}"),
+            ToolFault::Misfit(misfit) => write!(f, "{misfit}"),
             ToolFault::UnknownLocate => f.write_str("unknown locate"),
             ToolFault::UnknownStock => f.write_str("unknown stock"),
             ToolFault::Write(_) => f.write_str("write failed"),

@@ -6,6 +6,7 @@ ghost use Rattle.itch_join.specs.Positions.{Position};
 ghost use Rattle.itch_join.specs.States.{new as fresh};
 ghost use Rattle.itch_commands.specs.AsRead.{as_read, read_by};
 ghost use Rattle.itch_commands.specs.Commands.{Joins};
+ghost use Rattle.itch_commands.specs.FeedParts.{whole};
 ghost use Rattle.itch_commands.specs.Joiners.{IsJoined, WritesRoom, position_of};
 ghost use Rattle.itch_commands.specs.Readings.{FromBlocks, FromReader};
 
@@ -14,6 +15,7 @@ mod start;
 mod stocks;
 
 use crate::fault::ToolFault;
+use crate::feed_part::FeedPart;
 use crate::order_book::Book;
 use crate::writing::write_closed;
 use feed::read_feed;
@@ -49,11 +51,11 @@ pub fn join<R: CountedRead + Drop, S: CountedRead + Drop, A: Allocator + Copy, W
     only: Option<LocateSet<A>>,
     out: &mut W,
 ) -> Result<bool, ToolFault>
-    ensures { Joins R.remaining R.failures S.remaining S.failures W.contents W.failures (read_by only) (FromReader snapshot) (FromReader feed) out.old result out.new }
+    ensures { Joins R.remaining R.failures S.remaining S.failures W.contents W.failures (read_by only) whole (FromReader snapshot) (FromReader feed) out.old result out.new }
 {
     let mut snapshot = BlockReader::new(alloc, snapshot)?;
     let mut feed = BlockReader::new(alloc, feed)?;
-    join_blocks(alloc, &mut snapshot, &mut feed, only, out)
+    join_blocks(alloc, &mut snapshot, &mut feed, FeedPart::whole(), only, out)
 }
 
 /// The same over readers of blocks, which are left where the reading ended: that of the snapshot after its End of Snapshot.
@@ -69,14 +71,15 @@ pub fn join_blocks<
     alloc: A,
     snapshot: &mut BlockReader<R, B>,
     feed: &mut BlockReader<S, C>,
+    part: FeedPart,
     only: Option<LocateSet<A>>,
     out: &mut W,
 ) -> Result<bool, ToolFault>
-    ensures { Joins R.remaining R.failures S.remaining S.failures W.contents W.failures (read_by only) (FromBlocks snapshot.old snapshot.new) (FromBlocks feed.old feed.new)
+    ensures { Joins R.remaining R.failures S.remaining S.failures W.contents W.failures (read_by only) part (FromBlocks snapshot.old snapshot.new) (FromBlocks feed.old feed.new)
         out.old result out.new }
 {
     let mut joiner: Joiner<Book<A>> = new_joiner(alloc, only);
-    join_with(&mut joiner, snapshot, feed, out)
+    join_with(&mut joiner, snapshot, feed, part, out)
 }
 
 // A joiner in which nothing may wait.
@@ -102,14 +105,15 @@ fn join_with<
     joiner: &mut Joiner<D>,
     snapshot: &mut BlockReader<R, B>,
     feed: &mut BlockReader<S, C>,
+    part: FeedPart,
     out: &mut W,
 ) -> Result<bool, ToolFault>
     requires { joiner.old.state ≡ fresh }
-    ensures { Joins R.remaining R.failures S.remaining S.failures W.contents W.failures (as_read (has joiner.old.set)) (FromBlocks snapshot.old snapshot.new)
+    ensures { Joins R.remaining R.failures S.remaining S.failures W.contents W.failures (as_read (has joiner.old.set)) part (FromBlocks snapshot.old snapshot.new)
         (FromBlocks feed.old feed.new) out.old result out.new }
 {
     read_start(snapshot, joiner)?;
-    read_feed(feed, joiner)?;
+    read_feed(feed, joiner, part)?;
     joiner.settle_market();
     write_joined(joiner, out)
 }

@@ -41,10 +41,10 @@ pub fn restricted_reading()
     ensures follows { (wanted : ℕ → Bool) → (ps : List (List ℕ)) → AllByRecursion AreBytes ps → NoCause empty ps → NoCause empty (map (as_read wanted) ps) }
     ensures leaves { (wanted : ℕ → Bool) → (ps : List (List ℕ)) → AllByRecursion AreBytes ps → NoCause empty ps
         → run (map message_of (map (as_read wanted) ps)) ≡ cut wanted (run (map message_of ps)) }
-    ensures feed_follows { (wanted : ℕ → Bool) → (m n : Content) → (number : ℕ) → (ps : List (List ℕ)) → IsGood m → IsGood n → Same n (cut wanted m) → AllByRecursion AreBytes (from_number number ps)
-        → NoCause m (from_number number ps) → NoCause n (from_number number (map (as_read wanted) ps)) }
-    ensures joined { (wanted : ℕ → Bool) → (m n : Content) → (number : ℕ) → (ps : List (List ℕ)) → IsGood m → IsGood n → Same n (cut wanted m) → AllByRecursion AreBytes (from_number number ps)
-        → NoCause m (from_number number ps) → Same (joined_market (n, number) (map (as_read wanted) ps)) (cut wanted (joined_market (m, number) ps)) }
+    ensures feed_follows { (wanted : ℕ → Bool) → (m n : Content) → (before number : ℕ) → (ps : List (List ℕ)) → IsGood m → IsGood n → Same n (cut wanted m) → AllByRecursion AreBytes (from_number before number ps)
+        → NoCause m (from_number before number ps) → NoCause n (from_number before number (map (as_read wanted) ps)) }
+    ensures joined { (wanted : ℕ → Bool) → (m n : Content) → (before number : ℕ) → (ps : List (List ℕ)) → IsGood m → IsGood n → Same n (cut wanted m) → AllByRecursion AreBytes (from_number before number ps)
+        → NoCause m (from_number before number ps) → Same (joined_market before (n, number) (map (as_read wanted) ps)) (cut wanted (joined_market before (m, number) ps)) }
 {}
 
 /// Without filters each message is shown, as a line. Where no order is followed and no stock is looked for, what chooses the messages

@@ -4,6 +4,7 @@ ghost use Rattle.itch_commands.specs.Requests.{file_of, read_file_of, is_binary,
 
 use crate::expected::Expected;
 use crate::fault::Source;
+use crate::feed_part::FeedPart;
 use crate::filters::Filters;
 use crate::form::{BookForm, Form, ShowForm};
 use crate::kind::FileKind;
@@ -65,6 +66,7 @@ pub enum Request<'a> {
     Join {
         snapshot: Option<&'a str>,
         feed: Option<&'a str>,
+        part: FeedPart,
         selection: Selection<'a>,
     },
 }

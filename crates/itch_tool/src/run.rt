@@ -9,7 +9,7 @@ use crate::sockets::{run_fetch, run_serve};
 use itch_commands::compare::{compare_blocks, compare_first_blocks};
 use itch_commands::join::{join_blocks, join_stocks};
 use itch_commands::{
-    FileKind, Form, Limit, Request, Selection, Source, ToolFault, perform, system_fault,
+    FeedPart, FileKind, Form, Limit, Request, Selection, Source, ToolFault, perform, system_fault,
 };
 use itch_frame::{BlockReader, Buffered, Counted, CountedWrite};
 use itch_market::LocateSet;
@@ -133,11 +133,12 @@ fn answer<R: Files + Input + Eprint + AllocGlobal + Clock, W: CountedWrite>(
         Request::Join {
             snapshot,
             feed,
+            part,
             selection,
         } => {
             let snapshot = open(rt, snapshot, Source::Snapshot, progress)?;
             let feed = open(rt, feed, Source::Only, progress)?;
-            join_over(alloc, snapshot, feed, selection, only, out)
+            join_over(alloc, snapshot, feed, part, selection, only, out)
         }
         _ => {
             let file = open(rt, request.file(Source::Only), Source::Only, progress)?;
@@ -179,6 +180,7 @@ fn join_over<A: Allocator + Copy, R: Read + Drop, W: CountedWrite>(
     alloc: A,
     snapshot: R,
     feed: R,
+    part: FeedPart,
     selection: Selection<'_>,
     only: Option<LocateSet<A>>,
     out: &mut W,
@@ -186,8 +188,8 @@ fn join_over<A: Allocator + Copy, R: Read + Drop, W: CountedWrite>(
     let mut snapshot = blocks(alloc, snapshot)?;
     let mut feed = blocks(alloc, feed)?;
     match selection {
-        Selection::Stocks(names) => join_stocks(alloc, &mut snapshot, &mut feed, names, out),
-        _ => join_blocks(alloc, &mut snapshot, &mut feed, only, out),
+        Selection::Stocks(names) => join_stocks(alloc, &mut snapshot, &mut feed, part, names, out),
+        _ => join_blocks(alloc, &mut snapshot, &mut feed, part, only, out),
     }
 }
 

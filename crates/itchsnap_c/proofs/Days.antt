@@ -110,6 +110,7 @@ day_refused after m n day bytes new (tool.Open file error) first known reads cou
 day_refused after m n day bytes new tool.BadUser first known reads counts = absurd reads
 day_refused after m n day bytes new tool.BadPassword first known reads counts = absurd reads
 day_refused after m n day bytes new (tool.Unmet unmet) first known reads counts = absurd reads
+day_refused after m n day bytes new (tool.Misfit misfit) first known reads counts = absurd reads
 day_refused after m n day bytes new tool.BadLocates first known reads counts = absurd reads
 day_refused after m n day bytes new tool.TooMany first known reads counts = absurd reads
 day_refused after m n day bytes new (tool.Soup fault) first known reads counts = absurd reads

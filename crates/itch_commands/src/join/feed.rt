@@ -1,78 +1,122 @@
 //! The feed that continues after a snapshot.
-ghost use Rattle.std.specs.Prelude.{◌≡◌, ◌<◌, ◌≤◌, ◌-◌, ◌+◌, ◌^◌, None, Some, OnOk, MatchResult};
+ghost use Rattle.std.specs.Prelude.{◌≡◌, ◌<◌, ◌≤◌, ◌^◌, ◌+◌, None, Some, true, false, OnOk, MatchResult};
 ghost use Rattle.itch_frame.specs.Reading.{bytes_left};
 ghost use Rattle.itch_market.specs.Replays.{Counts, LeavesReaderFirst};
 ghost use Rattle.itch_market.specs.Wanted.{has};
 ghost use Rattle.itch_join.specs.Positions.{Position};
 ghost use Rattle.itch_commands.specs.AsRead.{as_read};
-ghost use Rattle.itch_commands.specs.Joiners.{IsJoined, IsStart, DeliversAll, start_of, IsOfFeed, FeedsOne, FeedStep, FeedsJoiner, StaysJoined, position_of, feed_stop};
-ghost use Rattle.itch_commands.specs.Joining.{ReadsFeed};
+ghost use Rattle.itch_commands.specs.FeedParts.{misfit_of};
+ghost use Rattle.itch_commands.specs.Joiners.{IsJoined, IsStart, FeedsAll, start_of, IsOfFeed, FeedsOne, FeedStep, FeedsJoiner, StaysJoined, position_of, feed_stop};
+ghost use Rattle.itch_commands.specs.Joining.{IsNotLate, ReadsFeed};
+ghost use Rattle.itch_commands.specs.Limits.{IsLate};
+ghost use Rattle.itch_commands.specs.Readings.{CountsRead};
 
 use crate::fault::{Source, ToolFault};
+use crate::feed_part::{FeedPart, Misfit};
+use crate::limit::Limit;
+use crate::reading::stopped;
 use itch_book::OrderBook;
-use itch_codec::MOST_MESSAGES;
+use itch_codec::{MOST_MESSAGES, decode};
 use itch_frame::{BlockReader, CountedRead};
 use itch_join::{Cause, JoinFault, Joiner};
-use itch_market::{Refusal, ReplayEnd, Stop, next_message};
+use itch_market::{Refusal, Stop, next_message};
 use std::alloc::Allocator;
 
-/// Delivers the messages of a feed to a joiner that has joined, numbered from 1, up to the first that is not taken.
+/// Delivers the messages of a feed that are wanted to a joiner that has joined, up to the first that is not taken.
 pub fn read_feed<R: CountedRead, A: Allocator, B: OrderBook>(
     reader: &mut BlockReader<R, A>,
     joiner: &mut Joiner<B>,
+    part: FeedPart,
 ) -> Result<(), ToolFault>
     requires joined { IsJoined joiner.old.state }
     requires start { IsStart (start_of (position_of joiner.old.state)) }
-    ensures { FeedsJoiner (ReadsFeed (as_read (has joiner.old.set)) R.remaining R.failures reader.old reader.new) (position_of joiner.old.state) result joiner.new.state }
+    ensures { FeedsJoiner part.before (ReadsFeed (as_read (has joiner.old.set)) R.remaining R.failures part reader.old reader.new) (position_of joiner.old.state) result joiner.new.state }
 {
-    match deliver(reader, joiner) {
-        ReplayEnd {
-            stop: Stop::End,
-            ..
-        } => Ok(()),
-        end => Err(ToolFault::Stopped {
-            file: Source::Only,
-            end,
-        }),
+    if let Some(misfit) = part.misfit(joiner.next().unwrap()) {
+        return Err(ToolFault::Misfit(misfit));
+    }
+    match deliver(reader, joiner, part) {
+        Ok(_reached) => Ok(()),
+        Err(fault) => Err(fault),
     }
 }
 
+// Delivers them to a joiner that the feed fits to, and returns the number of the last one that was wanted.
 fn deliver<R: CountedRead, A: Allocator, B: OrderBook>(
     reader: &mut BlockReader<R, A>,
     joiner: &mut Joiner<B>,
-) -> ReplayEnd
+    part: FeedPart,
+) -> Result<u64, ToolFault>
     requires joined { IsJoined joiner.old.state }
     requires start { IsStart (start_of (position_of joiner.old.state)) }
-    ensures steps { DeliversAll (as_read (has joiner.old.set)) (start_of (position_of joiner.old.state)) (bytes_left R.remaining reader.old) (bytes_left R.remaining reader.new) result joiner.new.state }
-    ensures failures { Counts result.stop (R.failures reader.old.reader) (R.failures reader.new.reader) }
-    ensures reader { LeavesReaderFirst reader.old result.count (Some result.stop) reader.new }
+    requires fits { misfit_of part (Position.next (position_of joiner.old.state)) ≡ None }
+    ensures feeds { FeedsAll R.remaining (as_read (has joiner.old.set)) part (start_of (position_of joiner.old.state)) reader.old reader.new result joiner.new.state }
+    ensures failures { CountsRead result (R.failures reader.old.reader) (R.failures reader.new.reader) }
 {
-    for count in 0..u64::MAX {
-        if let Err(stop) = deliver_next(reader, joiner, count) {
-            return ReplayEnd { count, stop };
+    let limit = part.wanted(joiner.next().unwrap());
+    let most = limit.most();
+    for count in 0..most {
+        let number = part.before + count + 1;
+        match deliver_next(reader, joiner, number, part.limit) {
+            Ok(true) => {}
+            Ok(false) => return late_at(number, joiner.next().unwrap()),
+            Err(stop) => return stopped(stop, limit.after, Source::Only, number - 1),
         }
     }
-    unreachable!()
+    Ok(part.before + most)
 }
 
-// Delivers the next message, after `count` others.
+// What a message with this number returns that is late: the number of the one before, unless it is below the joiner's next one.
+fn late_at(number: u64, next: u64) -> Result<u64, ToolFault>
+    requires { 0 < number }
+    ensures { MatchResult result (λ last. (last + 1 ≡ number) × (next ≤ number)) (λ fault. (fault ≡ ToolFault.Misfit (Misfit.Late number)) × (number < next)) }
+{
+    if number < next {
+        Err(ToolFault::Misfit(Misfit::Late { number }))
+    } else {
+        Ok(number - 1)
+    }
+}
+
+// Delivers the next message, which has this number, and returns true; or returns false if it is late.
 fn deliver_next<R: CountedRead, A: Allocator, B: OrderBook>(
     reader: &mut BlockReader<R, A>,
     joiner: &mut Joiner<B>,
-    count: u64,
-) -> Result<(), Stop>
-    requires room { count ≤ 10 ^ 19 - 1 }
+    number: u64,
+    limit: Limit,
+) -> Result<bool, Stop>
+    requires some { 0 < number }
+    requires room { number ≤ 10 ^ 19 }
     requires joined { IsJoined joiner.old.state }
-    requires number { count < Position.next (position_of joiner.old.state) }
-    ensures step { FeedStep (as_read (has joiner.old.set)) count (position_of joiner.old.state) (bytes_left R.remaining reader.old) (bytes_left R.remaining reader.new) result (position_of joiner.new.state) }
+    requires number { number ≤ Position.next (position_of joiner.old.state) }
+    ensures step { FeedStep (as_read (has joiner.old.set)) limit number (position_of joiner.old.state) (bytes_left R.remaining reader.old) (bytes_left R.remaining reader.new)
+        result (position_of joiner.new.state) }
     ensures joined { StaysJoined joiner.old.state result joiner.new.state }
     ensures set { joiner.new.set ≡ joiner.old.set }
     ensures failures { MatchResult result (λ _. R.failures reader.new.reader ≡ R.failures reader.old.reader)
         (λ stop. Counts stop (R.failures reader.old.reader) (R.failures reader.new.reader)) }
     ensures reader { MatchResult result (λ _. LeavesReaderFirst reader.old 1 None reader.new) (λ stop. LeavesReaderFirst reader.old 0 (Some stop) reader.new) }
 {
-    let payload = next_message(reader, count == MOST_MESSAGES)?;
-    deliver_message(joiner, payload, count + 1)
+    let payload = next_message(reader, number > MOST_MESSAGES)?;
+    if is_late(limit, payload) {
+        return Ok(false);
+    }
+    deliver_message(joiner, payload, number)?;
+    Ok(true)
+}
+
+// Whether the message of a payload is at the time where a part ends, or later.
+fn is_late(limit: Limit, payload: &[u8]) -> bool
+    ensures late { result ≡ true → IsLate limit payload.now }
+    ensures early { result ≡ false → IsNotLate limit payload.now }
+{
+    if limit.until.is_none() {
+        return false;
+    }
+    match decode(payload) {
+        Ok(message) => limit.is_late(&message),
+        Err(_fault) => false,
+    }
 }
 
 // Delivers the message with this number.

@@ -11,6 +11,7 @@ ghost use Rattle.itch_commands.specs.Readings.{FromBlocks};
 ghost use Rattle.itch_commands.specs.Stocks.{names_of};
 
 use crate::fault::ToolFault;
+use crate::feed_part::FeedPart;
 use crate::join::feed::read_feed;
 use crate::join::new_joiner;
 use crate::join::start::read_start;
@@ -43,14 +44,15 @@ pub fn join_stocks<
     alloc: A,
     snapshot: &mut BlockReader<R, B>,
     feed: &mut BlockReader<S, C>,
+    part: FeedPart,
     names: &str,
     out: &mut W,
 ) -> Result<bool, ToolFault>
-    ensures { JoinsStocks R.remaining R.failures S.remaining S.failures W.contents W.failures (read_by None) (names_of names.now) (FromBlocks snapshot.old snapshot.new)
+    ensures { JoinsStocks R.remaining R.failures S.remaining S.failures W.contents W.failures (read_by None) part (names_of names.now) (FromBlocks snapshot.old snapshot.new)
         (FromBlocks feed.old feed.new) out.old result out.new }
 {
     let mut joiner: Joiner<Book<A>> = new_joiner(alloc, None);
-    join_with(alloc, &mut joiner, snapshot, feed, names, out)
+    join_with(alloc, &mut joiner, snapshot, feed, part, names, out)
 }
 
 // The same with a joiner that has taken nothing.
@@ -66,15 +68,16 @@ fn join_with<
     joiner: &mut Joiner<D>,
     snapshot: &mut BlockReader<R, B>,
     feed: &mut BlockReader<S, C>,
+    part: FeedPart,
     names: &str,
     out: &mut W,
 ) -> Result<bool, ToolFault>
     requires { joiner.old.state ≡ fresh }
-    ensures { JoinsStocks R.remaining R.failures S.remaining S.failures W.contents W.failures (as_read (has joiner.old.set)) (names_of names.now) (FromBlocks snapshot.old snapshot.new)
+    ensures { JoinsStocks R.remaining R.failures S.remaining S.failures W.contents W.failures (as_read (has joiner.old.set)) part (names_of names.now) (FromBlocks snapshot.old snapshot.new)
         (FromBlocks feed.old feed.new) out.old result out.new }
 {
     read_start(snapshot, joiner)?;
-    read_feed(feed, joiner)?;
+    read_feed(feed, joiner, part)?;
     joiner.settle_market();
     write_stocks(alloc, joiner, names, out)
 }

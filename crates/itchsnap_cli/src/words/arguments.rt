@@ -42,9 +42,10 @@ pub enum Argument {
     Types,
     Reference,
     Names,
-    // The files of `join`.
+    // The files of `join`, and the number of the feed's first message.
     Joined,
     Feed,
+    FirstNumber,
     // What `book` prints.
     Locate,
     BookStock,
@@ -108,6 +109,7 @@ impl Argument {
                 "The snapshot, read up to its End of Snapshot; `-` for standard input",
             ),
             Argument::Feed => named(alloc, "FEED", "The feed, from its first message on, or `-`"),
+            Argument::FirstNumber => first_number(alloc),
             Argument::Locate => locate(alloc),
             Argument::BookStock => stock(
                 alloc,
@@ -149,6 +151,14 @@ fn until<'a>(alloc: Global) -> Arg<'a> {
         .long("until")
         .value_name("TIME")
         .help("Stop before the first message at TIME or later, such as 10:30")
+}
+
+fn first_number<'a>(alloc: Global) -> Arg<'a> {
+    Arg::new(alloc, "from")
+        .long("from")
+        .value_name("M")
+        .help("The number in its day of the first message of FEED, if not 1")
+        .value_parser(clap::value_parser!(u64).range(1..=MOST_COUNTED))
 }
 
 fn snapshot<'a>(alloc: Global) -> Arg<'a> {

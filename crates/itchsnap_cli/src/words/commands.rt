@@ -81,6 +81,9 @@ const COMMANDS: [Entry; 13] = [
         takes: &[
             Argument::Joined,
             Argument::Feed,
+            Argument::FirstNumber,
+            Argument::After,
+            Argument::Until,
             Argument::Only,
             Argument::Stock,
             Argument::Output,

@@ -4,7 +4,7 @@ use crate::words::commands::usage_fault;
 use crate::words::time::read_time;
 use clap::{ArgMatches, Error};
 use itch_commands::{
-    BookForm, Expected, FileKind, Filters, Form, Limit, Request, Selection, ShowForm, path_of,
+    BookForm, Expected, FeedPart, FileKind, Filters, Form, Limit, Request, Selection, ShowForm, path_of,
 };
 use std::alloc::Global;
 
@@ -79,7 +79,17 @@ fn read_join<'a>(alloc: Global, options: &ArgMatches<'a>) -> Result<Request<'a>,
     Ok(Request::Join {
         snapshot,
         feed,
+        part: read_part(alloc, options)?,
         selection: read_selection(alloc, options)?,
+    })
+}
+
+// The part of a feed that is wanted, after `--from`, `--after` and `--until`.
+fn read_part<'a>(alloc: Global, options: &ArgMatches<'a>) -> Result<FeedPart, Error> {
+    let first = read_count(alloc, options, "from", "--from takes decimal digits")?;
+    Ok(FeedPart {
+        before: first.unwrap_or(1).saturating_sub(1),
+        limit: read_limit(alloc, options)?,
     })
 }
 

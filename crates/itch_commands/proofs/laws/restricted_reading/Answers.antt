@@ -15,10 +15,10 @@ pub returns-clause-leaves : goal.returns-clause-leaves
 returns-clause-leaves c = file_leaves
 
 pub returns-clause-feed_follows : goal.returns-clause-feed_follows
-returns-clause-feed_follows c = λ wanted m n number ps good fine same bytes none.
-    subst (NoCause n) (sym (from_so wanted number ps)) (feed_follows wanted m n (from_number number ps) good fine same bytes none)
+returns-clause-feed_follows c = λ wanted m n before number ps good fine same bytes none.
+    subst (NoCause n) (sym (from_so wanted before number ps)) (feed_follows wanted m n (from_number before number ps) good fine same bytes none)
 
 pub returns-clause-joined : goal.returns-clause-joined
-returns-clause-joined c = λ wanted m n number ps good fine same bytes none.
-    subst (λ qs. Same (after n (map message_of qs)) (only wanted (joined_market (m, number) ps))) (sym (from_so wanted number ps))
-    (feed_leaves wanted m n (from_number number ps) good fine same bytes none)
+returns-clause-joined c = λ wanted m n before number ps good fine same bytes none.
+    subst (λ qs. Same (after n (map message_of qs)) (only wanted (joined_market before (m, number) ps))) (sym (from_so wanted before number ps))
+    (feed_leaves wanted m n (from_number before number ps) good fine same bytes none)

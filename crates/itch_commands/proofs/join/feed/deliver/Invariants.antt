@@ -11,7 +11,7 @@ abbrev pub invariant-loop-count : goal.invariant-loop-count
 invariant-loop-count g l =
     let remaining = g.R.CountedRead.remaining in
     record {
-      going : Feeding (as_read (has l.initial.joiner.set)) (start_of (position_of l.initial.joiner.state)) (bytes_left remaining l.initial.reader) (bytes_left remaining l.reader) l.count (position_of l.joiner.state);
+      going : Feeding (as_read (has l.initial.joiner.set)) l.fn.part (start_of (position_of l.initial.joiner.state)) (bytes_left remaining l.initial.reader) (bytes_left remaining l.reader) l.count (position_of l.joiner.state);
       joined : IsJoined l.joiner.state;
       set : l.joiner.set ≡ l.initial.joiner.set;
       uncounted : g.R.CountedRead.failures l.reader.reader ≡ g.R.CountedRead.failures l.initial.reader.reader;

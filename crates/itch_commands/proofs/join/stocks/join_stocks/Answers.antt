@@ -11,9 +11,9 @@ returns g c =
     let names = names_of c.args.names.now in
     subst
     (λ (read : List ℕ → List ℕ). Outputs g.W.CountedWrite.contents g.W.CountedWrite.failures
-    (ReadsStocks (λ (both : Start × List (List ℕ)). Content.securities (joined_market both.0 both.1)) names
-    (HasRoom
+    (ReadsStocks (λ (both : Start × List (List ℕ)). Content.securities (joined_market c.args.part.before both.0 both.1)) names
+    (HasRoom c.args.part.before
     (Then (ReadsStart read g.R.CountedRead.remaining g.R.CountedRead.failures c.args.snapshot.now c.join_with.new.snapshot) (c.join_with.new.feed ≡ c.args.feed.now)
-    (ReadsFeed read g.S.CountedRead.remaining g.S.CountedRead.failures c.args.feed.now c.join_with.new.feed))))
-    (λ both. closed_bytes (only_stocks names (joined_market both.0 both.1), joined_next both.0 both.1)) (λ _. true) c.args.out.now c.join_with.result c.join_with.new.out)
+    (ReadsFeed read g.S.CountedRead.remaining g.S.CountedRead.failures c.args.part c.args.feed.now c.join_with.new.feed))))
+    (λ both. closed_bytes (only_stocks names (joined_market c.args.part.before both.0 both.1), joined_next c.args.part.before both.0 both.1)) (λ _. true) c.args.out.now c.join_with.result c.join_with.new.out)
     c.new_joiner-joiner.ensures.read c.join_with.ensures

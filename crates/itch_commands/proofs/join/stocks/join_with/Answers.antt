@@ -17,21 +17,21 @@ returns-in_err-read_start g c =
 pub returns : goal.returns
 returns g c =
     let starts = ReadsStart (as_read (has c.args.joiner.now.set)) g.R.CountedRead.remaining g.R.CountedRead.failures c.args.snapshot.now c.read_start.new.reader in
-    let follows = ReadsFeed (as_read (has c.args.joiner.now.set)) g.S.CountedRead.remaining g.S.CountedRead.failures c.args.feed.now c.read_feed.new.reader in
+    let follows = ReadsFeed (as_read (has c.args.joiner.now.set)) g.S.CountedRead.remaining g.S.CountedRead.failures c.args.part c.args.feed.now c.read_feed.new.reader in
     let start = start_of (position_of c.read_start.new.joiner.state) in
     let read = c.in_ok-read_start.ensures.start in
     let fed = c.in_ok-read_feed.ensures in
-    stocks_joined g.W.CountedWrite.contents g.W.CountedWrite.failures starts (c.read_feed.new.reader ≡ c.args.feed.now) follows (names_of c.args.names.now) c.args.out.now c.write_stocks.new.out c.write_stocks.result
+    stocks_joined g.W.CountedWrite.contents g.W.CountedWrite.failures c.args.part.before starts (c.read_feed.new.reader ≡ c.args.feed.now) follows (names_of c.args.names.now) c.args.out.now c.write_stocks.new.out c.write_stocks.result
     start fed.0 c.read_feed.new.joiner.state read.0
-    (feeds_along g.S.CountedRead.remaining g.S.CountedRead.failures _ _ c.args.feed.now c.read_feed.new.reader start (Ok fed.0) c.read_start.ensures.set fed.1) fed.2 (rw c.settle_market.ensures at c.write_stocks.ensures)
+    (feeds_along g.S.CountedRead.remaining g.S.CountedRead.failures _ _ c.args.part c.args.feed.now c.read_feed.new.reader start (Ok fed.0) c.read_start.ensures.set fed.1) fed.2 (rw c.settle_market.ensures at c.write_stocks.ensures)
 
 pub returns-in_err-read_feed : goal.returns-in_err-read_feed
 returns-in_err-read_feed g c =
     let p = err_from_is_err_and c.from_residual-in_err-read_feed.result c.from_residual-in_err-read_feed.ensures.1 in
     let starts = ReadsStart (as_read (has c.args.joiner.now.set)) g.R.CountedRead.remaining g.R.CountedRead.failures c.args.snapshot.now c.read_start.new.reader in
-    let follows = ReadsFeed (as_read (has c.args.joiner.now.set)) g.S.CountedRead.remaining g.S.CountedRead.failures c.args.feed.now c.read_feed.new.reader in
+    let follows = ReadsFeed (as_read (has c.args.joiner.now.set)) g.S.CountedRead.remaining g.S.CountedRead.failures c.args.part c.args.feed.now c.read_feed.new.reader in
     let start = start_of (position_of c.read_start.new.joiner.state) in
     let read = c.in_ok-read_start.ensures.start in
-    rw (p.1, p.2) (stocks_fail g.W.CountedWrite.contents g.W.CountedWrite.failures starts (c.read_feed.new.reader ≡ c.args.feed.now) follows (names_of c.args.names.now) c.args.out.now c.args.out.now _
+    rw (p.1, p.2) (stocks_fail g.W.CountedWrite.contents g.W.CountedWrite.failures c.args.part.before starts (c.read_feed.new.reader ≡ c.args.feed.now) follows (names_of c.args.names.now) c.args.out.now c.args.out.now _
     _ start refl read.0
-    (feeds_along g.S.CountedRead.remaining g.S.CountedRead.failures _ _ c.args.feed.now c.read_feed.new.reader start (Err _) c.read_start.ensures.set c.in_err-read_feed.ensures) refl)
+    (feeds_along g.S.CountedRead.remaining g.S.CountedRead.failures _ _ c.args.part c.args.feed.now c.read_feed.new.reader start (Err _) c.read_start.ensures.set c.in_err-read_feed.ensures) refl)

@@ -1,0 +1,34 @@
+-- Which messages of a day a feed has, and where a join ends.
+use Rattle.std.specs.Prelude.{ℕ, ◌+◌, ◌-◌, nat_le, nat_lt, if◌then◌else◌, List, length, Option, None, Some}
+use Rattle.itch_commands.specs.Limits.{counted}
+use Rattle.itch_commands.specs.declared.feed_part.FeedPart.{FeedPart}
+use Rattle.itch_commands.specs.declared.feed_part.Misfit.{Misfit}
+use Rattle.itch_commands.specs.declared.feed_part.Misfit.TheVariants.{Gap, Beyond}
+use Rattle.itch_commands.specs.declared.limit.Limit.{Limit}
+
+-- the whole of a feed that begins with the first message of its day
+abbrev pub whole : FeedPart
+whole = record { before = 0; limit = counted None }
+
+-- the number of the message after these, in a feed that begins after this many messages of its day
+abbrev pub number_after : ℕ → List (List ℕ) → ℕ
+number_after before payloads = before + length payloads + 1
+
+-- a snapshot of so many messages has more than are wanted
+abbrev pub beyond : Option ℕ → ℕ → Option Misfit
+beyond None held = None
+beyond (Some wanted) held = if nat_lt wanted held then Some (Beyond held wanted) else None
+
+-- Why no feed is joined to a snapshot whose next message has this number, if there is a reason: a message between the two is missing,
+-- or the snapshot has more messages than are wanted.
+abbrev pub misfit_of : FeedPart → ℕ → Option Misfit
+misfit_of part next = if nat_le next part.before then Some (Gap next part.before) else beyond part.limit.after (next - 1)
+
+-- how many messages of a feed are wanted that begins after this many others: none, where a snapshot of so many messages has them all
+abbrev pub wanted_of : Option ℕ → ℕ → ℕ → Option ℕ
+wanted_of None before held = None
+wanted_of (Some wanted) before held = Some (if nat_le wanted held then 0 else wanted - before)
+
+-- the part of the feed that is wanted after such a snapshot, counted from the feed's first message
+abbrev pub part_of : FeedPart → ℕ → Limit
+part_of part next = record { after = wanted_of part.limit.after part.before (next - 1); until = part.limit.until }
