@@ -1,12 +1,12 @@
-//! Feeds joined to snapshots for the set of all locates, which no words ask for.
+//! Feeds joined to snapshots for the set of all locates, which no words ask for, and parts of feeds.
 
 use super::blocks::*;
 use super::files::file;
 use crate::equal::{holds_in, same_in};
-use itch_commands::join::join;
-use itch_commands::laws;
+use itch_commands::join::{join, join_blocks};
+use itch_commands::{FeedPart, Limit, laws};
 use itch_frame::testing::{FuseWriter, PieceReader};
-use itch_frame::{CountedRead, CountedWrite};
+use itch_frame::{BlockReader, CountedRead, CountedWrite};
 use itch_market::LocateSet;
 use std::alloc::Global;
 use std::test::Fail;
@@ -63,6 +63,57 @@ fn join_goes_on_after_a_snapshot(rt: HostRuntime) -> Result<(), Fail> {
         let feed = PieceReader::new(feed.as_slice(), 5, None);
         let mut out = FuseWriter::new(alloc, 7, None);
         holds_in(&rt, case, is_joined(alloc, snapshot, feed, &mut out));
+        same_in(&rt, case, out.written(), wanted.as_slice());
+    }
+    Ok(())
+}
+
+// Whether the feed, which begins with the third message of its day, is joined to the snapshot up to the fourth.
+fn is_joined_in_part<R: CountedRead + Drop, S: CountedRead + Drop, W: CountedWrite>(
+    alloc: Global,
+    snapshot: R,
+    feed: S,
+    out: &mut W,
+) -> Result<bool, Fail> {
+    let part = FeedPart {
+        before: 2,
+        limit: Limit::counted(Some(4)),
+    };
+    let mut snapshot = BlockReader::new(alloc, snapshot)?;
+    let mut feed = BlockReader::new(alloc, feed)?;
+    Ok(matches!(join_blocks(alloc, &mut snapshot, &mut feed, part, None, out), Ok(true)))
+}
+
+// Snapshots, feeds from the third message on, and the snapshots after four messages.
+const JOINED_IN_PART: [(&[&str], &[&str], &[&str]); 3] = [
+    (
+        &[START, AAPL, END_3],
+        &[BUY_1, BUY_2_OF_200, BUY_1],
+        &[START, AAPL, BUY_1, BUY_2_OF_200, END_5],
+    ),
+    (
+        &[START, AAPL, BUY_1, END_4],
+        &[SHORT_AAPL, BUY_2_OF_200, "00"],
+        &[START, AAPL, BUY_1, BUY_2_OF_200, END_5],
+    ),
+    (
+        &[START, AAPL, BUY_1, BUY_2_OF_200, END_5],
+        &["00"],
+        &[START, AAPL, BUY_1, BUY_2_OF_200, END_5],
+    ),
+];
+
+#[test]
+fn join_goes_to_a_message_of_the_day(rt: HostRuntime) -> Result<(), Fail> {
+    let alloc = rt.alloc();
+    for (case, (snapshot, feed, wanted)) in JOINED_IN_PART.iter().enumerate() {
+        let snapshot = file(alloc, snapshot)?;
+        let feed = file(alloc, feed)?;
+        let wanted = file(alloc, wanted)?;
+        let snapshot = PieceReader::new(snapshot.as_slice(), 3, None);
+        let feed = PieceReader::new(feed.as_slice(), 5, None);
+        let mut out = FuseWriter::new(alloc, 7, None);
+        holds_in(&rt, case, is_joined_in_part(alloc, snapshot, feed, &mut out)?);
         same_in(&rt, case, out.written(), wanted.as_slice());
     }
     Ok(())

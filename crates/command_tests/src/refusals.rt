@@ -2,7 +2,7 @@
 
 use crate::equal::{same, same_in};
 use itch_codec::CodecFault;
-use itch_commands::{Expected, Source, ToolFault, Unmet, status, system_fault};
+use itch_commands::{Expected, FeedPart, Limit, Misfit, Source, ToolFault, Unmet, status, system_fault};
 use itch_frame::FrameFault;
 use itch_market::{Refusal, ReplayEnd, Stop};
 use itch_snapshot::SnapFault;
@@ -61,6 +61,21 @@ fn every_fault_has_its_line_and_status(rt: HostRuntime) -> Result<(), Fail> {
             1,
         ),
         (ToolFault::Unmet(Unmet::NoEnd), "no end of messages", 1),
+        (
+            ToolFault::Misfit(Misfit::Gap { next: 5, before: u64::MAX }),
+            "gap: message 5 is next, and the feed begins with 18446744073709551616",
+            1,
+        ),
+        (
+            ToolFault::Misfit(Misfit::Beyond { held: 4, wanted: 3 }),
+            "snapshot: 4 messages, more than 3",
+            1,
+        ),
+        (
+            ToolFault::Misfit(Misfit::Late { number: 2 }),
+            "snapshot: message 2 is too late",
+            1,
+        ),
         (ToolFault::Write(error), "write failed", 3),
         (ToolFault::OutOfMemory, "out of memory", 4),
         (
@@ -197,4 +212,26 @@ fn faults_of_snapshots_have_their_lines_and_statuses(rt: HostRuntime) -> Result<
         }
     }
     Ok(())
+}
+
+#[test]
+fn a_feed_fits_to_a_snapshot_or_not(rt: HostRuntime) {
+    let part = FeedPart {
+        before: 4,
+        limit: Limit::counted(Some(6)),
+    };
+    let cases = [
+        (1, Some(Misfit::Gap { next: 1, before: 4 })),
+        (4, Some(Misfit::Gap { next: 4, before: 4 })),
+        (5, None),
+        (7, None),
+        (8, Some(Misfit::Beyond { held: 7, wanted: 6 })),
+    ];
+    for (next, wanted) in cases {
+        same_in(&rt, next, part.misfit(next), wanted);
+    }
+    same(&rt, part.wanted(5).after, Some(2));
+    same(&rt, part.wanted(7).after, Some(0));
+    same(&rt, FeedPart::whole().misfit(u64::MAX), None);
+    same(&rt, FeedPart::whole().wanted(1), Limit::whole());
 }

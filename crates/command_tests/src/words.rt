@@ -107,11 +107,15 @@ fn requests_are_read(rt: HostRuntime) -> Result<(), Fail> {
         ),
         (
             "join a.snap day.itch",
-            "Join { snapshot: Some(\"a.snap\"), feed: Some(\"day.itch\"), selection: All }",
+            "Join { snapshot: Some(\"a.snap\"), feed: Some(\"day.itch\"), part: FeedPart { before: 0, limit: Limit { after: None, until: None } }, selection: All }",
+        ),
+        (
+            "join a.snap rest.itch --from 0003 --after 9 --until 7",
+            "Join { snapshot: Some(\"a.snap\"), feed: Some(\"rest.itch\"), part: FeedPart { before: 2, limit: Limit { after: Some(9), until: Some(7) } }, selection: All }",
         ),
         (
             "join --only=40 a.snap -",
-            "Join { snapshot: Some(\"a.snap\"), feed: None, selection: Locates(\"40\") }",
+            "Join { snapshot: Some(\"a.snap\"), feed: None, part: FeedPart { before: 0, limit: Limit { after: None, until: None } }, selection: Locates(\"40\") }",
         ),
         (
             "book 0",
@@ -155,7 +159,7 @@ fn requests_are_read(rt: HostRuntime) -> Result<(), Fail> {
         ),
         (
             "join --stock AAPL a.snap -",
-            "Join { snapshot: Some(\"a.snap\"), feed: None, selection: Stocks(\"AAPL\") }",
+            "Join { snapshot: Some(\"a.snap\"), feed: None, part: FeedPart { before: 0, limit: Limit { after: None, until: None } }, selection: Stocks(\"AAPL\") }",
         ),
         (
             "book --stock=AAPL --csv day.itch",
