@@ -23,7 +23,7 @@ use crate::writing::write_text;
 use itch_book::OrderBook;
 use itch_codec::{MOST_MESSAGES, Message, decode};
 use itch_frame::{BlockReader, CountedRead, CountedWrite};
-use itch_market::{Market, Stop, next_message, same_message};
+use itch_market::{Market, Stop, look_ahead, next_message, same_message};
 use itch_snapshot::same_market;
 use std::alloc::Allocator;
 
@@ -140,6 +140,7 @@ fn step<R: CountedRead, A: Allocator, B: OrderBook>(
     if !goes {
         return Ok(None);
     }
+    look_ahead(reader, market, count);
     match read_change(reader, market, count == MOST_MESSAGES, limit) {
         Ok(change) => Ok(change),
         Err(stop) => match stopped(stop, limit.after, file, count) {
