@@ -83,7 +83,7 @@ applied limit old new count p n (takes, counted, few, early) = record {
 
 module _ {R : Type 0} (remaining : R → Option (List ℕ)) (failures : R → Failures) (file : Source) where
   -- the part that is wanted was read
-  day_of : (limit : Limit) (old new : Reading R) (mid : Option (List ℕ)) (count : ℕ) (p : List (List ℕ)) (n : Content) → TakesEarly limit empty (bytes_left remaining old) mid count p n
+  pub day_of : (limit : Limit) (old new : Reading R) (mid : Option (List ℕ)) (count : ℕ) (p : List (List ℕ)) (n : Content) → TakesEarly limit empty (bytes_left remaining old) mid count p n
       → IsEnough limit count mid (bytes_left remaining new) → failures new.reader ≡ failures old.reader → LeavesDay (Ok count) limit old new
       → ReadsDay remaining failures file limit old new (Ok p)
   day_of limit old new mid count p n takes enough uncounted leaves =

@@ -32,3 +32,5 @@ pub mod RecordedLines
 pub mod LocateLists
 pub mod StockNames
 pub mod UnfilteredLines
+pub mod Points
+pub mod PointReadings

@@ -156,21 +156,23 @@ module _ (file : Source) (limit : Limit) (m : Content) (old new : Option (List �
   stopped_counts (Rule why) before now counts = counts
   stopped_counts TooManyMessages before now counts = counts
 
-module _ {R : Type 0} (file : Source) (limit : Limit) (count : ℕ) (old mid new : Reading R) (standing : Standing old count mid) where
+module _ {R : Type 0} (file : Source) (limit : Limit) (count : ℕ) (old new : Reading R) where
   ended_leaves : (wanted : Option ℕ) → limit.after ≡ wanted → LeavesReaderFirst old count (Some End) new → LeavesDay (stopped End wanted file count) limit old new
   ended_leaves None is leaves = inr (inr (is, leaves))
   ended_leaves (Some most) is leaves = leaves
 
-  by_stop : (stop : Stop) → LeavesReaderFirst old count (Some stop) new → LeavesDay (stopped stop limit.after file count) limit old new
-  by_stop End leaves = ended_leaves limit.after refl leaves
-  by_stop (Frame f) leaves = leaves
-  by_stop (Codec f) leaves = leaves
-  by_stop (Rule why) leaves = leaves
-  by_stop TooManyMessages leaves = leaves
-
   -- and where it leaves the reader
+  pub stop_leaves : (stop : Stop) → LeavesReaderFirst old count (Some stop) new → LeavesDay (stopped stop limit.after file count) limit old new
+  stop_leaves End leaves = ended_leaves limit.after refl leaves
+  stop_leaves (Frame f) leaves = leaves
+  stop_leaves (Codec f) leaves = leaves
+  stop_leaves (Rule why) leaves = leaves
+  stop_leaves TooManyMessages leaves = leaves
+
+module _ {R : Type 0} (file : Source) (limit : Limit) (count : ℕ) (old mid new : Reading R) (standing : Standing old count mid) where
+  -- the same of a reader that stands after as many messages
   pub stopped_leaves : (stop : Stop) → LeavesReaderFirst mid 0 (Some stop) new → LeavesDay (stopped stop limit.after file count) limit old new
-  stopped_leaves stop leaves = by_stop stop (standing_stops old mid new count stop standing leaves)
+  stopped_leaves stop leaves = stop_leaves file limit count old new stop (standing_stops old mid new count stop standing leaves)
 
   -- the message that is late was read
   pub late_leaves : IsSome limit.until → LeavesReaderFirst mid 1 None new → LeavesDay (Ok count) limit old new

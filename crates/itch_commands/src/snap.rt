@@ -4,6 +4,9 @@ ghost use Rattle.itch_commands.specs.Commands.{Snaps};
 ghost use Rattle.itch_commands.specs.Limits.{counted};
 ghost use Rattle.itch_commands.specs.Readings.{FromBlocks, FromReader};
 
+mod mark;
+mod pass;
+mod points;
 mod stocks;
 
 use crate::fault::{Source, ToolFault};
@@ -16,6 +19,8 @@ use itch_codec::Seq;
 use itch_frame::{BlockReader, CountedRead, CountedWrite};
 use itch_market::{LocateSet, Market};
 use std::alloc::Allocator;
+pub use mark::Mark;
+pub use pass::Pass;
 pub use stocks::snap_stocks;
 
 /// Writes the canonical snapshot after a day file's messages, or after its first ones: the canonical bytes of the market
