@@ -1,6 +1,9 @@
 -- What reading on from point to point returns.
-use Rattle.std.proofs.Common.{◌≡◌, ◌≢◌, ℕ, ◌+◌, ◌-◌, ◌^◌, ◌≤◌, ◌<◌, Bool, true, false, nat_le, List, [], ◌∷◌, ◌++◌, map, length, Option, None, Some, IsSome, IfSome, Result, Ok, Err, inl, inr, refl, sym, ap, subst, ◌∙◌, arith}
+use Rattle.std.proofs.Common.{◌≡◌, ◌≢◌, ℕ, ◌+◌, ◌-◌, ◌^◌, ◌≤◌, ◌<◌, min, Bool, true, false, nat_le, List, [], ◌∷◌, ◌++◌, map, length, Option, None, Some, IsSome, IfSome, Result, Ok, Err, inl, inr, refl, sym, ap, subst, ◌∙◌, arith}
+use denote.Ref.{Bor}
 use Rattle.std.specs.List.{AllByRecursion}
+use Rattle.std.specs.Option.{option_copied}
+use Rattle.std.proofs.KnownBytes.{Consumes-nil}
 use Rattle.std.proofs.lemmas.Bool.Decides.{nat_tests}
 use Rattle.itch_book.proofs.Lists.{All-weaker_rec}
 use Rattle.itch_codec.specs.Headers.{time_of}
@@ -9,11 +12,18 @@ use Rattle.itch_codec.specs.declared.message.Message.{Message}
 use Rattle.itch_frame.specs.Reading.{Reading, bytes_left}
 use Rattle.itch_frame.specs.declared.tally.Failures.{Failures}
 use Rattle.itch_market.specs.Content.{Content, empty}
+use Rattle.itch_market.specs.Wanted.{Wanted}
 use Rattle.itch_market.specs.declared.stop.Stop.{Stop}
 use Rattle.itch_market.specs.declared.stop.Stop.TheVariants.{End, Frame, Codec, Rule, TooManyMessages}
+use Rattle.itch_market.proofs.GoodMarkets.{empty_good}
+use Rattle.itch_snapshot.specs.Bytes.{canon, closing}
+use Rattle.itch_snapshot.specs.Cursor.{cut_to}
+use Rattle.itch_join.proofs.Premises.{laid_empty}
+use Rattle.itch_commands.specs.Commands.{Snaps}
 use Rattle.itch_commands.specs.Limits.{IsEarly, counted, is_from, is_late, most_of}
-use Rattle.itch_commands.specs.Points.{IsNoEarlier, IsRead, IsUpTo, ReadsMore, ReadsOn, Rises, Stands, Steps}
-use Rattle.itch_commands.specs.Readings.{CountsRead, IsEnough, LeavesDay, ReadsDay, ReadsMarket, stopped}
+use Rattle.itch_commands.specs.Outputs.{WritesOutput, snapshot_in}
+use Rattle.itch_commands.specs.Points.{IsMark, IsNoEarlier, IsRead, IsUpTo, ReadsMore, ReadsOn, Rises, Stands, Steps}
+use Rattle.itch_commands.specs.Readings.{CountsRead, FromBlocks, LeavesDay, ReadsDay, ReadsMarket, stopped}
 use Rattle.itch_commands.specs.declared.fault.Source.{Source}
 use Rattle.itch_commands.specs.declared.fault.Source.TheVariants.{Only}
 use Rattle.itch_commands.specs.declared.fault.ToolFault.{ToolFault}
@@ -22,9 +32,11 @@ use Rattle.itch_commands.specs.declared.limit.Limit.{Limit}
 use Rattle.itch_commands.specs.declared.snap.mark.Mark.{Mark}
 use Rattle.itch_commands.specs.declared.snap.mark.Ahead.{Ahead}
 use Rattle.itch_commands.specs.declared.snap.mark.Ahead.TheVariants.{Unread, Late, Ended}
-use Rattle.itch_commands.proofs.DayReadings.{day_fails}
+use Rattle.itch_commands.proofs.DayReadings.{Applied, day_fails}
 use Rattle.itch_commands.proofs.FirstDifferences.{day_of, stopped_end}
+use Rattle.itch_commands.proofs.Outputs.{read_writes}
 use Rattle.itch_commands.proofs.PartReadings.{is_given, stop_leaves, stopped_counts, stopped_so}
+use Rattle.itch_commands.proofs.Snapshots.{cut_snapshot}
 
 -- a message before the one time is before a later one
 early_further : (before until : Option ℕ) (x : Message) → IsNoEarlier before until → is_late before x ≡ false → is_late until x ≡ false
@@ -129,3 +141,67 @@ module _ {R : Type 0} (remaining : R → Option (List ℕ)) (failures : R → Fa
         short fault stops at k short_of =
             let (is_end, counted) = stopped_short stop limit.after at count k (stops ∙ ap Err short_of) in
             let (s, ended) = at_end is_end in (counted ∙ is, ended, (ps, s))
+
+-- so many messages more are more than there were
+pub more_rises : (before : Limit) (ahead : Ahead) (count more most : ℕ) → 0 < more → count ≤ 10 ^ 19 - 1 → most ≡ min (count + more) (2 ^ 64 - 1)
+    → Rises before (counted (Some most)) ahead count
+more_rises before Unread count more most some few is = (tt, omega (arith, some, few, is))
+more_rises before (Late message size) count more most some few is = (tt, omega (arith, some, few, is))
+more_rises before Ended count more most some few is = (tt, omega (arith, some, few, is))
+
+module _ {R : Type 0} (remaining : R → Option (List ℕ)) (failures : R → Failures) where
+  -- before any message
+  pub stands_first : (limit : Limit) (r : Reading R) (m : Content) (mark : Mark) → m ≡ empty → mark ≡ record { count = 0; offset = 0; time = None }
+      → Stands remaining failures limit r r m mark Unread []
+  stands_first limit r m mark none beginning = record {
+    left = bytes_left remaining r;
+    takes = (
+      record { bytes = Consumes-nil (bytes_left remaining r); full = tt; none = λ k within. absurd (omega arith); fits = tt; left = none ∙ sym laid_empty },
+      refl,
+      omega arith,
+      tt,
+    );
+    good = empty_good;
+    uncounted = refl;
+    marked = subst (λ k. IsMark k []) (sym beginning) (record { count = refl; offset = refl; time = refl });
+    next = (refl, ((λ _. refl), (λ some. absurd (omega arith))));
+  }
+
+  module _ (most : ℕ) (first now : Reading R) (m : Content) (mark : Mark) (ahead : Ahead) where
+    -- as many more as were asked for were read
+    pub more_read : (count : ℕ) → ReadsOn remaining failures (counted (Some most)) first now (Ok count) m mark ahead → ReadsMore remaining failures most first now (Ok true) m mark ahead
+    more_read count (is, read, stands) = (read, stands)
+
+    -- or the file has fewer
+    pub more_short : (fault : ToolFault) (at : Source) (count : ℕ) → fault ≡ tool.Short at count → ReadsOn remaining failures (counted (Some most)) first now (Err fault) m mark ahead
+        → ReadsMore remaining failures most first now (Ok false) m mark ahead
+    more_short fault at count short (day, goes_on) =
+        let (is, ended, (ps, stands)) = goes_on at count short in
+        let fewer = subst (λ f. ReadsDay remaining failures Only (counted (Some most)) first now (Err f)) short day in
+        let whole = stands_further remaining failures (counted (Some most)) (counted None) first now m mark ahead ps tt stands in (
+          omega (arith, is, fewer.1.1),
+          whole_on remaining failures (counted None) first now m mark ps (subst (λ a. Stands remaining failures (counted None) first now m mark a ps) ended whole) refl,
+          (ps, whole),
+        )
+
+  module _ (limit : Limit) (first now : Reading R) (m : Content) (mark : Mark) (few : mark.count ≤ 10 ^ 19 - 1) (read : IsRead remaining failures limit first now m mark) where
+    as_applied : Applied limit (bytes_left remaining first) (bytes_left remaining now) mark.count m
+    as_applied = record {
+      payloads = read.payloads;
+      taken = read.day.0;
+      part = read.day.1;
+      leaves = read.day.2;
+      left = read.market;
+      counted = sym read.marked.count;
+      few = few;
+      fits = read.fits;
+    }
+
+    -- the snapshot that is written is that of the part that was read
+    pub point_written : {W : Type 0} (contents : W → Option (List ℕ)) (failed : W → Failures) (set : Option (Bor Wanted)) (next : ℕ) (old new : W) (result : Result Bool ToolFault) → next ≡ mark.count + 1
+        → WritesOutput contents failed (canon (cut_to set m) ++ closing next) true old result new
+        → Snaps remaining failures contents failed limit (option_copied set) (FromBlocks first now) old result new
+    unfolding as_applied
+    point_written contents failed set next old new result is wrote =
+        read_writes contents failed (ReadsDay remaining failures Only limit first now) (snapshot_in (option_copied set)) (λ _. true) read.payloads _ old new result read.day
+            (ap (λ k. canon (cut_to set m) ++ closing k) is ∙ cut_snapshot limit (bytes_left remaining first) (bytes_left remaining now) mark.count m as_applied set) wrote

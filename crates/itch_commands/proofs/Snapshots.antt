@@ -52,6 +52,10 @@ only_short wanted n =
     let passes = λ (x : Message). not (skips wanted x) in
     omega (arith, ap length (snap_only wanted n), length-filter_both passes (λ x. not (passes x)) (λ x. refl) (snap n))
 
+pub cut_no_longer : (set : Option (Bor Wanted)) (n : Content) → length (snap (cut_to set n)) ≤ length (snap n)
+cut_no_longer None n = omega arith
+cut_no_longer (Some set) n = only_short (has set.now) n
+
 -- and the same bytes in whichever order its orders stand
 pub only_bytes : (wanted : ℕ → Bool) (m n : Content) → snap n ≡ snap m → canon (only wanted n) ≡ canon (only wanted m)
 only_bytes wanted m n same = ap (λ xs. blocks (map spelling xs)) (snap_only wanted n ∙ ap (kept wanted) same ∙ sym (snap_only wanted m))
