@@ -2,6 +2,7 @@ pub mod Statuses
 pub mod Limits
 pub mod Readings
 pub mod Points
+pub mod PointFiles
 pub mod Files
 pub mod Outputs
 pub mod Canons

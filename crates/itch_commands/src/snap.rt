@@ -4,6 +4,7 @@ ghost use Rattle.itch_commands.specs.Commands.{Snaps};
 ghost use Rattle.itch_commands.specs.Limits.{counted};
 ghost use Rattle.itch_commands.specs.Readings.{FromBlocks, FromReader};
 
+mod index;
 mod mark;
 mod pass;
 mod points;
@@ -19,6 +20,7 @@ use itch_codec::Seq;
 use itch_frame::{BlockReader, CountedRead, CountedWrite};
 use itch_market::{LocateSet, Market};
 use std::alloc::Allocator;
+pub use index::write_index;
 pub use mark::Mark;
 pub use pass::Pass;
 pub use stocks::snap_stocks;
