@@ -1,0 +1,28 @@
+"""Market snapshots for Nasdaq TotalView-ITCH 5.0, proved: the library libitchsnap.so for Python.
+
+    from sundrekk import Day
+
+    with Day("day.itch") as day:
+        print(day.check(), "messages")
+        morning = day.snapshot(until="10:30")
+    for level in morning.levels.at(1):
+        print(level.side, level.price / 10_000, level.shares, level.orders)
+    morning.levels.to_pandas()
+
+Day files, snapshots, payloads and packets are any buffers of bytes, such as `bytes`, a `memoryview` or an `mmap`, and none is copied.
+Prices are integers of a ten-thousandth of a dollar; times of the day are nanoseconds since midnight; moments of sessions are
+milliseconds. What is refused raises `Refused`, which has the `Reason`.
+"""
+from .days import Day
+from .joiners import Joiner, Step
+from .markets import Applied, Market
+from .messages import fault_of, payloads
+from .reasons import Reason, Refused
+from .sessions import ClientSession, Event, Received, ServerSession
+from .snapshots import Snapshot
+from .tables import Level, Levels, Order, Orders
+from .times import nanoseconds
+
+__version__ = "0.1.0"
+__all__ = ["Applied", "ClientSession", "Day", "Event", "Joiner", "Level", "Levels", "Market", "Order", "Orders", "Reason",
+           "Received", "Refused", "ServerSession", "Snapshot", "Step", "fault_of", "nanoseconds", "payloads"]

@@ -1,0 +1,84 @@
+"""What the market of a handle has, written into memory of Python."""
+from __future__ import annotations
+
+import ctypes as c
+from typing import Any, Callable, Dict, Iterable, List, Optional, Tuple
+
+from . import _buffers, _library
+from ._handles import done, found
+from ._library import library
+from .tables import SIDES, Levels, Orders, Part
+
+
+def locates(handle: _library.Handle) -> List[int]:
+    """The locates of the directory, rising."""
+    out = (c.c_uint16 * (1 << 16))()
+    return out[:done(library.locates(handle, out, len(out))).len]
+
+
+def stock(handle: _library.Handle, locate: int) -> Optional[str]:
+    """The stock of a locate in the directory, or None."""
+    name = found(library.stock(handle, locate))
+    return None if name is None else bytes(name.stock).decode().rstrip(" ")
+
+
+def stocks(handle: _library.Handle) -> Dict[int, str]:
+    """The stock of each locate in the directory."""
+    return {locate: stock(handle, locate) or "" for locate in locates(handle)}
+
+
+def orders(handle: _library.Handle, only: Optional[int]) -> Orders:
+    """The live orders of all locates, or of one."""
+    names = _named(handle, only)
+    calls = [(locate,) for locate in names]
+    room = library.order_count(handle).count if only is None else _items(library.orders, handle, calls)
+    array, ends = _filled(library.orders, handle, _library.Order, calls, room)
+    return Orders(array, names, [Part(locate, "", end) for (locate,), end in zip(calls, ends)])
+
+
+def levels(handle: _library.Handle, only: Optional[int]) -> Levels:
+    """The price levels of all locates, or of one."""
+    names = _named(handle, only)
+    calls = [(locate, buy) for locate in names for buy in (True, False)]
+    # There are no more levels than orders.
+    room = library.order_count(handle).count if only is None else _items(library.levels, handle, calls)
+    array, ends = _filled(library.levels, handle, _library.PriceLevel, calls, room)
+    return Levels(array, names, [Part(locate, SIDES[not buy], end) for (locate, buy), end in zip(calls, ends)])
+
+
+def snapshot(handle: _library.Handle, next_number: int, only: Optional[Iterable[int]]) -> bytes:
+    """The canonical snapshot, of all locates or of some."""
+    room = 64 + 200 * len(locates(handle)) + 42 * library.order_count(handle).count
+    if only is None:
+        return written(lambda at, size: library.snapshot(handle, next_number, at, size), room)
+    some = _buffers.locates_of(only)
+    return written(lambda at, size: library.snapshot_only(handle, next_number, some, len(some), at, size), room)
+
+
+def written(call: Callable[[int, int], Any], room: int) -> bytes:
+    """The bytes that a call writes, which is given an address and a length: in one call where the room is enough."""
+    while True:
+        with _buffers.room_for(room) as out, _buffers.bytes_of(out) as (at, size):
+            answer = call(at, size)
+            if answer.code != _library.NO_ROOM:
+                return out[:done(answer).len]
+            room = answer.len
+
+
+def _named(handle: _library.Handle, only: Optional[int]) -> Dict[int, str]:
+    return stocks(handle) if only is None else {only: stock(handle, only) or ""}
+
+
+def _items(function: Any, handle: _library.Handle, calls: List[Tuple[int, ...]]) -> int:
+    """How many items these calls list together."""
+    return sum(function(handle, *words, _buffers.NOWHERE, 0).len for words in calls)
+
+
+def _filled(function: Any, handle: _library.Handle, kind: Any, calls: List[Tuple[int, ...]], room: int) -> Tuple[Any, List[int]]:
+    """An array of what these calls list, one after another, and where the items of each end."""
+    out = (kind * room)()
+    start, size, at, ends = c.addressof(out), c.sizeof(kind), 0, []
+    for words in calls:
+        at += done(function(handle, *words, start + at * size, room - at)).len
+        ends.append(at)
+    return (kind * at).from_buffer(out), ends

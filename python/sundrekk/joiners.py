@@ -1,0 +1,91 @@
+"""A snapshot and a live feed, joined into one market."""
+from __future__ import annotations
+
+import enum
+from typing import TYPE_CHECKING, Any, Iterable, Optional
+
+from ._buffers import bytes_of, locates_of, number
+from ._handles import done
+from ._library import library
+from .markets import Lookups
+from .reasons import Reason, Refused
+
+if TYPE_CHECKING:
+    from _typeshed import ReadableBuffer
+
+
+class Step(enum.IntEnum):
+    """What a joiner did with a message."""
+
+    KEPT = 64
+    """It waits."""
+    APPLIED = 65
+    """It was applied, and then what waited, up to the message before `next_number`."""
+    OLD = 66
+    """The market already contains it."""
+    MORE = 67
+    """A message of the snapshot was taken, and more follow."""
+    JOINED = 68
+    """The snapshot has ended, and what waited was applied, up to the message before `next_number`."""
+
+
+class Joiner(Lookups):
+    """A snapshot and the messages of a live feed, in any order, lost and repeated, joined into one market.
+
+    waiting: how many messages may wait at most.
+    only: the locates to keep; messages at others are decoded and counted, and change nothing else.
+
+    Before it has joined, a look-up raises `Refused` with `Reason.WRONG_HANDLE`, and `next_number` and `snapshot` with
+    `Reason.NOT_JOINED`.
+    """
+
+    def __init__(self, waiting: int, *, only: Optional[Iterable[int]] = None) -> None:
+        super().__init__()
+        most = number(waiting, 64, "the number of messages that wait")
+        if only is None:
+            done(library.joiner_new(self._own, most))
+        else:
+            some = locates_of(only)
+            done(library.joiner_new_only(self._own, most, some, len(some)))
+
+    def live(self, message_number: int, payload: ReadableBuffer) -> Step:
+        """Takes the message with this number of the live feed, counted from 1. Raises `Refused` with the reasons `FULL`, `CONFLICT`,
+        `BAD_MESSAGE_NUMBER`, `HALTED`, `OUT_OF_MEMORY` and `TAKEN_NO_MEMORY`."""
+        with bytes_of(payload) as (at, size):
+            return _step(library.joiner_live(self._own, number(message_number, 64, "a number"), at, size))
+
+    def load(self, payload: ReadableBuffer) -> Step:
+        """Takes the next message of the snapshot; End of Snapshot comes last. Raises `Refused` with the reasons `HALTED`,
+        `ALREADY_JOINED`, `BAD_SNAPSHOT`, `OUT_OF_MEMORY` and `TAKEN_NO_MEMORY`."""
+        with bytes_of(payload) as (at, size):
+            return _step(library.joiner_snapshot(self._own, at, size))
+
+    def restart(self) -> None:
+        """Drops an unfinished or broken snapshot, and keeps what waits."""
+        done(library.joiner_restart(self._own))
+
+    def resume(self) -> Step:
+        """Applies the messages that wait, after memory was refused."""
+        return _step(library.joiner_resume(self._own))
+
+    @property
+    def next_number(self) -> int:
+        """The number of the next message of the feed, counted from 1. Raises `Refused` with `Reason.NOT_JOINED` before it has joined."""
+        return done(library.joiner_next(self._own)).count
+
+    @property
+    def waiting(self) -> int:
+        """How many messages wait."""
+        return done(library.joiner_waiting(self._own)).count
+
+
+def _step(answer: Any) -> Step:
+    """What was done, or why the message was not taken."""
+    if answer.code in Step.__members__.values():
+        return Step(answer.code)
+    reason = Reason(answer.code)
+    if reason is Reason.FULL:
+        raise Refused(reason, answer.number)
+    if reason in (Reason.HALTED, Reason.BAD_SNAPSHOT):
+        raise Refused(reason, answer.detail, answer.number, answer.cause)
+    raise Refused(reason, answer.detail)

@@ -1,0 +1,138 @@
+"""Markets that messages are applied to, and the look-ups that they share with joiners."""
+from __future__ import annotations
+
+from typing import TYPE_CHECKING, Dict, Iterable, List, NamedTuple, Optional, Union
+
+from . import _buffers, _library, _lists
+from ._buffers import bytes_of, is_buy, locate_of
+from ._handles import Held, done, found
+from ._library import library
+from .reasons import Refused
+from .snapshots import Snapshot, load
+from .tables import SIDES, Level, Levels, Order, Orders
+
+if TYPE_CHECKING:
+    from _typeshed import ReadableBuffer
+
+
+class Applied(NamedTuple):
+    """What was taken of a piece of a day file: so many messages, and so many bytes of an unfinished block at its end are left."""
+
+    messages: int
+    unfinished: int
+
+
+class Lookups(Held):
+    """What can be asked of a market. Prices are in ten-thousandths of a dollar; a side is 'B' for bids or 'S' for asks."""
+
+    @property
+    def next_number(self) -> int:
+        """The number of the next message of the feed, counted from 1."""
+        raise NotImplementedError
+
+    def best(self, locate: int, side: str) -> Optional[Order]:
+        """The order that has priority at a locate and side, or None where there is none."""
+        return self._order(found(library.best(self._own, locate_of(locate), is_buy(side))))
+
+    def order(self, reference: int) -> Optional[Order]:
+        """The live order with a reference number, or None where there is none."""
+        return self._order(found(library.order_by(self._own, _buffers.number(reference, 64, "a reference"))))
+
+    def level(self, locate: int, side: str, price: int) -> Optional[Level]:
+        """The shares and the orders at a price, or None where no order has it."""
+        words = locate_of(locate), is_buy(side), _buffers.number(price, 32, "a price")
+        total = done(library.level(self._own, *words))
+        if not total.orders:
+            return None
+        return Level(locate, self.stock(locate) or "", side, price, total.shares_high << 64 | total.shares_low, total.orders)
+
+    def next_price(self, locate: int, side: str, after: Optional[int] = None) -> Optional[int]:
+        """The best price of a side, or the best that is worse than `after`; None where there is none."""
+        last = _buffers.number(after or 0, 32, "a price")
+        price = found(library.next_price(self._own, locate_of(locate), is_buy(side), after is not None, last))
+        return None if price is None else price.price
+
+    def order_count(self) -> int:
+        """The number of live orders."""
+        return done(library.order_count(self._own)).count
+
+    def stock(self, locate: int) -> Optional[str]:
+        """The stock of a locate in the directory, without trailing spaces, or None."""
+        return _lists.stock(self._own, locate_of(locate))
+
+    def stocks(self) -> Dict[int, str]:
+        """The directory: the stock of each locate, by rising locate."""
+        return _lists.stocks(self._own)
+
+    def locates(self) -> List[int]:
+        """The locates of the directory, rising."""
+        return _lists.locates(self._own)
+
+    def orders(self, locate: Optional[int] = None) -> Orders:
+        """The live orders of all locates, or of one: bids before asks, each side by priority."""
+        return _lists.orders(self._own, None if locate is None else locate_of(locate))
+
+    def levels(self, locate: Optional[int] = None) -> Levels:
+        """The price levels of all locates, or of one: bids before asks, the best price of each side first."""
+        return _lists.levels(self._own, None if locate is None else locate_of(locate))
+
+    def snapshot(self, *, only: Optional[Iterable[int]] = None) -> Snapshot:
+        """The snapshot of the market, or of what it has at some locates, with the number of the next message."""
+        return Snapshot._canonical(_lists.snapshot(self._own, self.next_number, only))
+
+    def _order(self, order: Optional[_library.Order]) -> Optional[Order]:
+        if order is None:
+            return None
+        mpid = bytes(order.mpid).decode() if order.attributed else None
+        stock = self.stock(order.locate) or ""
+        return Order(order.locate, stock, SIDES[not order.buy], order.price, order.shares, order.reference, mpid)
+
+
+class Market(Lookups):
+    """A market: messages in, look-ups, tables and snapshots out. It numbers the messages that it takes, from 1 on.
+
+        with Market() as market:
+            market.apply_blocks(blocks)
+            market.best(1, "B")
+    """
+
+    def __init__(self) -> None:
+        super().__init__()
+        done(library.market_new(self._own))
+        self._next = 1
+
+    @classmethod
+    def load(cls, snapshot: Union[Snapshot, ReadableBuffer]) -> Market:
+        """The market of a snapshot, whose number is then that of the next message."""
+        market = cls()
+        market.close()
+        market._next = load(market, snapshot.data if isinstance(snapshot, Snapshot) else snapshot)
+        return market
+
+    @property
+    def next_number(self) -> int:
+        return self._next
+
+    def apply(self, payload: ReadableBuffer) -> None:
+        """Applies the message of a payload. If it is refused, the market is as it was."""
+        with bytes_of(payload) as (at, size):
+            answer = library.market_apply(self._own, at, size)
+        if answer.code != _library.OK:
+            raise Refused(answer.code, answer.detail, self._numbered(answer.code))
+        self._next += 1
+
+    def apply_blocks(self, blocks: ReadableBuffer) -> Applied:
+        """Applies the messages of a piece of a day file: blocks of two bytes with the length of a payload, and the payload. A piece may
+        end within a block: what is unfinished comes first in the next piece. At a block of length 0 the piece ends. A message that is
+        refused leaves the market of those before it. Takes about 0.3 us a message.
+        """
+        with bytes_of(blocks) as (at, size):
+            applied = library.market_apply_blocks(self._own, at, size)
+        self._next += applied.count
+        if applied.code not in (_library.OK, _library.TRUNCATED):
+            raise Refused(applied.code, applied.detail, self._numbered(applied.code))
+        return Applied(applied.count, applied.detail if applied.code == _library.TRUNCATED else 0)
+
+    def _numbered(self, code: int) -> Optional[int]:
+        """The number of the message that was refused, where a message was."""
+        return None if code == _library.WRONG_HANDLE else self._next

@@ -1,0 +1,136 @@
+"""The two ends of a SoupBinTCP session, without sockets: packets and moments go in, and what they mean comes out.
+
+Packets go in and out without the two bytes of their length. Moments are in milliseconds since a time of the caller's choice.
+"""
+from __future__ import annotations
+
+import enum
+from typing import TYPE_CHECKING, Any, NamedTuple, Optional
+
+from . import _library
+from ._buffers import bytes_of, number
+from ._handles import Held, done
+from ._library import library
+from .reasons import Refused
+
+if TYPE_CHECKING:
+    from _typeshed import ReadableBuffer
+
+
+class Event(enum.IntEnum):
+    """What a packet or a moment means for a session."""
+
+    NOTHING = 0
+    ACCEPTED = 80
+    """The login is accepted, and messages come from `number` on."""
+    REJECTED = 81
+    """The login is rejected with `code`. The session is closed."""
+    DATA = 82
+    """A message with this `number`: the bytes of the packet after its first."""
+    ENDED = 83
+    """The server has ended the session, which is closed."""
+    LOGGED_OUT = 84
+    """The client has logged out. The session is closed."""
+    HEARTBEAT = 85
+    """A heartbeat is to be sent, and counts as sent."""
+    LOST = 86
+    """The other side was silent for 15,000 ms. The session is closed."""
+
+
+class Received(NamedTuple):
+    """What a packet means. `number` is that of a message, counted from 1; `code` is 'A' or 'S', or another that a server sent."""
+
+    event: Event
+    number: Optional[int] = None
+    code: Optional[str] = None
+
+
+class Session(Held):
+    """What both ends of a session have."""
+
+    _packet: Any
+
+    def receive(self, packet: ReadableBuffer, now_ms: int) -> Received:
+        """What a packet of the other side means. Raises `Refused` where it is no packet, or breaks the protocol."""
+        with bytes_of(packet) as (at, size):
+            act = self._packet(self._own, at, size, _moment(now_ms))
+        if act.code not in Event.__members__.values():
+            raise Refused(act.code, act.detail)
+        event = Event(act.code)
+        numbered = event in (Event.ACCEPTED, Event.DATA)
+        return Received(event, act.number if numbered else None, chr(act.detail) if event is Event.REJECTED else None)
+
+    def tick(self, now_ms: int) -> Event:
+        """What there is to do at this moment without a packet: `NOTHING`, `HEARTBEAT` or `LOST`."""
+        answer = library.session_tick(self._own, _moment(now_ms))
+        if answer.code not in Event.__members__.values():
+            raise Refused(answer.code)
+        return Event(answer.code)
+
+    def sent(self, now_ms: int) -> None:
+        """Records that this end sent something at this moment."""
+        done(library.session_sent(self._own, _moment(now_ms)))
+
+
+class ClientSession(Session):
+    """A client that asks for the messages from number `start` on, counted from 1; 0 asks for all.
+
+    username: up to 6 printable characters; password, session: up to 10. A blank session asks for the current one.
+    """
+
+    HEARTBEAT = b"R"
+    LOGOUT = b"O"
+    _packet = library.client_packet
+
+    def __init__(self, username: str, password: str, *, session: str = "", start: int = 1, now_ms: int) -> None:
+        super().__init__()
+        login = _login(username, password, session)
+        done(library.client_new(self._own, login, number(start, 64, "a number"), _moment(now_ms)))
+
+    def login(self) -> bytes:
+        """The packet to send first."""
+        return bytes(done(library.client_login(self._own)).bytes)
+
+
+class ServerSession(Session):
+    """A server of `total` messages, for one client with this login.
+
+    username: up to 6 printable characters; password, session: up to 10.
+    """
+
+    HEARTBEAT = b"H"
+    END = b"Z"
+    _packet = library.server_packet
+
+    def __init__(self, username: str, password: str, *, session: str = "", total: int, now_ms: int) -> None:
+        super().__init__()
+        login = _login(username, password, session)
+        done(library.server_new(self._own, login, number(total, 64, "a number of messages"), _moment(now_ms)))
+
+    def acceptance(self, start: int) -> bytes:
+        """The packet to send once a login is accepted from this number on."""
+        return bytes(done(library.server_accepted(self._own, number(start, 64, "a number"))).bytes)
+
+    @staticmethod
+    def data(payload: ReadableBuffer) -> bytes:
+        """The packet of a message."""
+        return b"S" + payload
+
+    @staticmethod
+    def rejection(code: str) -> bytes:
+        """The packet to send once a login is rejected with this code."""
+        return b"J" + code.encode()
+
+
+def _moment(now_ms: int) -> int:
+    return number(now_ms, 64, "a moment in milliseconds")
+
+
+def _login(username: str, password: str, session: str) -> _library.Login:
+    login = _library.Login()
+    for name, text in (("username", username), ("password", password), ("session", session)):
+        field = getattr(login, name)
+        if len(text.encode()) > len(field):
+            raise ValueError(f"a {name} has up to {len(field)} characters")
+        field[:] = text.encode().ljust(len(field))
+    return login
