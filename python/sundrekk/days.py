@@ -33,26 +33,28 @@ class Day:
         with open(path, "rb") as file:
             status = os.fstat(file.fileno())
             if stat.S_ISREG(status.st_mode) and status.st_size:
-                self._blocks = memoryview(mmap.mmap(file.fileno(), 0, access=mmap.ACCESS_READ))
+                self._view: Optional[memoryview] = memoryview(mmap.mmap(file.fileno(), 0, access=mmap.ACCESS_READ))
             else:
-                self._blocks = memoryview(file.read())
+                self._view = memoryview(file.read())
 
     @classmethod
     def of(cls, data: ReadableBuffer) -> Day:
         """A day whose bytes are in memory, in any buffer. They are not copied."""
         day = cls.__new__(cls)
-        day._blocks = memoryview(data).cast("B")
+        day._view = memoryview(data).cast("B")
         return day
 
     @property
     def blocks(self) -> memoryview:
         """The bytes of the file, of which slices are no copies."""
-        return self._blocks
+        if self._view is None:
+            raise ValueError("the day is closed")
+        return self._view
 
     def check(self) -> int:
         """The number of messages, if they follow the order rules. Otherwise raises `Refused` with the number of the first that does
         not, and the reason."""
-        with bytes_of(self._blocks) as (at, size):
+        with bytes_of(self.blocks) as (at, size):
             outcome = library.check(at, size)
         if outcome.code != _library.OK:
             raise Refused(outcome.code, outcome.detail, outcome.count + 1)
@@ -71,15 +73,15 @@ class Day:
         """
         some = None if only is None else _buffers.locates_of(only)
         most = _library.ALL if after is None else _buffers.number(after, 64, "a number of messages")
-        cut = None if until is None else first_at(self._blocks, nanoseconds(until))
+        cut = None if until is None else first_at(self.blocks, nanoseconds(until))
         if cut is None:
-            return _snapped(self._blocks, most, some)
+            return _snapped(self.blocks, most, some)
         try:
-            return _snapped(self._blocks[:cut], most, some)
+            return _snapped(self.blocks[:cut], most, some)
         except Refused as refused:
             if refused.reason is not Reason.SHORT:
                 raise
-            return _snapped(self._blocks[:cut], _library.ALL, some)
+            return _snapped(self.blocks[:cut], _library.ALL, some)
 
     def pieces(self, times: Iterable[Time]) -> Iterator[Tuple[int, memoryview]]:
         """The day cut at times that rise, for `Market.apply_blocks`: for each time, in nanoseconds since midnight, the blocks before the
@@ -88,15 +90,15 @@ class Day:
         for time in map(nanoseconds, times):
             if time < before:
                 raise ValueError("the times of pieces have to rise")
-            cut = first_at(self._blocks, time, at)
-            end = len(self._blocks) if cut is None else cut
-            yield time, self._blocks[at:end]
+            cut = first_at(self.blocks, time, at)
+            end = len(self.blocks) if cut is None else cut
+            yield time, self.blocks[at:end]
             at, before = end, time
 
     def compare(self, other: Day) -> Optional[int]:
         """None if both days leave the same market, and otherwise the place, counted from 1, of the first message in which the snapshots of
         the two markets differ. Raises `Refused` with the file that is refused, 1 for this one or 2."""
-        with bytes_of(self._blocks) as first, bytes_of(other._blocks) as second:
+        with bytes_of(self.blocks) as first, bytes_of(other.blocks) as second:
             compared = library.compare(*first, *second)
         if compared.code != _library.OK:
             raise Refused(compared.code, compared.detail, compared.count + 1, file=compared.file)
@@ -105,7 +107,7 @@ class Day:
     def close(self) -> None:
         """Lets go of the file. Its mapping ends with the last piece of it that is in use. After that each call raises ValueError; to
         close again does nothing."""
-        self._blocks.release()
+        self._view = None
 
     def __enter__(self) -> Day:
         return self

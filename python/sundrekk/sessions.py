@@ -51,7 +51,8 @@ class Session(Held):
     _packet: Any
 
     def receive(self, packet: ReadableBuffer, now_ms: int) -> Received:
-        """What a packet of the other side means. Raises `Refused` where it is no packet, or breaks the protocol."""
+        """What a packet of the other side means. Raises `Refused` where it is none, which leaves the session as it was, and where it breaks
+        the protocol, which closes it."""
         with bytes_of(packet) as (at, size):
             act = self._packet(self._own, at, size, _moment(now_ms))
         if act.code not in Event.__members__.values():

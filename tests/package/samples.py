@@ -1,0 +1,89 @@
+"""What the modules of runs share: the program, days to try, and what a call is refused for."""
+import functools
+import random
+import struct
+import subprocess
+import tempfile
+from pathlib import Path
+
+import large
+from sundrekk import Refused
+
+TOP = Path(__file__).resolve().parents[2]
+PROGRAM = TOP / "release/itchsnap"
+EXAMPLES = TOP / "examples"
+NAMES = ("opening", "first_order", "replaced")
+MINUTE = 60 * 10**9
+
+
+def example(name):
+    return (EXAMPLES / name).read_bytes()
+
+
+def program(*words, day=b""):
+    """The status of the program and both outputs, given a day on standard input."""
+    done = subprocess.run([PROGRAM, *words], input=day, capture_output=True, timeout=60)
+    return done.returncode, done.stdout, done.stderr.decode()
+
+
+@functools.lru_cache(maxsize=1)
+def generated():
+    """A day of 20,000 messages over 50 symbols, in all states that orders have."""
+    return subprocess.run([TOP / "bench/generate", "20000", "50"], stdout=subprocess.PIPE, check=True, timeout=60).stdout
+
+
+def stamped(block, time):
+    """A block whose message has this timestamp."""
+    return block[:7] + struct.pack(">Q", time)[2:] + block[13:]
+
+
+@functools.lru_cache(maxsize=1)
+def timed():
+    """A day of three stocks from 9:30 to 10:00, whose timestamps mostly rise: some are up to two minutes early, so that a time has messages
+    of before it after its first one. Messages that are not decoded stand among the others."""
+    rng = random.Random(5)
+    day, live, time = [large.entry(locate) for locate in (1, 2, 3)], [], 570 * MINUTE
+    for reference in range(1, 6001):
+        time += rng.randrange(600_000_000)
+        if live and rng.random() < 0.4:
+            gone, locate = live.pop(rng.randrange(len(live)))
+            block = large.block(b"D", locate, struct.pack(">Q", gone))
+        else:
+            locate, side = rng.randint(1, 3), rng.choice("BS")
+            price = 1_000_000 * locate + (rng.randint(1, 40) if side == "S" else -rng.randint(1, 40)) * 100
+            fields = struct.pack(">Q1sI8sI", reference, side.encode(), rng.randint(1, 9) * 100, large.stock(locate), price)
+            block = large.block(b"A", locate, fields)
+            live.append((reference, locate))
+        day.append(stamped(block, time - rng.choice((0, 0, 0, rng.randrange(2 * MINUTE)))))
+        if rng.random() < 0.01:
+            day.append(b"\0\x14z" + bytes([255] * 19))
+    return b"".join(day)
+
+
+def refusal(call, *words, **named):
+    """The reason, the detail and the number that a call is refused with, or None."""
+    try:
+        call(*words, **named)
+    except Refused as refused:
+        return refused.reason.name, refused.detail, refused.number
+    return None
+
+
+def raised(call, *words, **named):
+    """The name of the exception that a call raises, or None."""
+    try:
+        call(*words, **named)
+    except Exception as error:
+        return type(error).__name__
+    return None
+
+
+def ran_python(script, *words, **environment):
+    """What a script prints in a Python of its own, away from this checkout unless its path is in the environment."""
+    import os
+    import sys
+    with tempfile.TemporaryDirectory() as folder:
+        clean = {name: value for name, value in os.environ.items() if not name.startswith("PYTHON")}
+        done = subprocess.run([sys.executable, "-B", "-c", script, *map(str, words)], cwd=folder, env={**clean, **environment},
+                              stdout=subprocess.PIPE, stderr=subprocess.STDOUT, text=True, timeout=60)
+    return done.stdout
