@@ -1,0 +1,105 @@
+"""Runs of the examples of the package, against what the program prints.
+
+RUNS has a function for each run, named for what it shows; it yields what differs.
+"""
+import functools
+import itertools
+import os
+import re
+import subprocess
+import sys
+import tempfile
+import xml.etree.ElementTree
+from pathlib import Path
+
+import samples
+from common import differs
+from tables import ten_thousandths
+
+FOLDER = samples.TOP / "python/examples"
+STOCKS = ("AAPL", "MSFT", "NVDA")
+
+
+def ran(name, *words, day=b""):
+    """The status of an example and both its outputs, with `day.itch` in its folder."""
+    with tempfile.TemporaryDirectory() as folder:
+        (Path(folder) / "day.itch").write_bytes(day)
+        done = subprocess.run([sys.executable, "-B", FOLDER / name, *words], cwd=folder, capture_output=True, timeout=60,
+                              env={**os.environ, "PYTHONPATH": str(samples.TOP / "python")})
+    return done.returncode, done.stdout, done.stderr.decode()
+
+
+@functools.lru_cache(maxsize=1)
+def day():
+    """The small day that an example writes."""
+    return ran("day.py")[1]
+
+
+def levels(*words):
+    """The levels that the program prints of that day: stock, side, price in ten-thousandths of a dollar, and shares."""
+    lines = samples.program("book", "--csv", *words, day=day())[1].decode().splitlines()[1:]
+    return [(stock, side, ten_thousandths(price), int(shares)) for _, stock, side, price, shares, _ in (line.split(",") for line in lines)]
+
+
+def the_small_day_is_whole():
+    lines = samples.program("check", "--ended", day=day())
+    yield from differs("the day", (lines[0], lines[2]), (0, ""))
+
+
+def the_spread_by_minute_is_that_of_the_program():
+    status, output, error = ran("spread.py", "day.itch", *STOCKS, day=day())
+    printed = output.decode().splitlines()
+    yield from differs("the end", (status, error, len(printed)), (0, "", 1 + 391 * len(STOCKS)))
+    yield from differs("the titles", printed[0], "time,stock,bid,ask,spread")
+    lines = [line.split(",") for line in printed[1:]]
+    for minute in range(0, 391, 13):
+        time = f"{(570 + minute) // 60:02}:{(570 + minute) % 60:02}"
+        best = levels("--stock", ",".join(STOCKS), "--depth", "1", "--until", time)
+        for stock, line in zip(STOCKS, lines[3 * minute:]):
+            bid, ask = ([price for its, side, price, _ in best if (its, side) == (stock, wanted)] for wanted in "BS")
+            wanted = [bid, ask, [ask[0] - bid[0]] if bid and ask else []]
+            yield from differs(f"{stock} at {time}", (line[:2], [[ten_thousandths(it)] if it else [] for it in line[2:]]), ([time, stock], wanted))
+
+
+def a_part_of_a_day_is_asked_for():
+    output = ran("spread.py", "day.itch", "MSFT", "--begin", "11:59", "--end", "12:01", day=day())[1].decode().splitlines()
+    yield from differs("minutes", [line.split(",")[0] for line in output], ["time", "11:59", "12:00", "12:01"])
+    yield from differs("a stock that is not there", ran("spread.py", "day.itch", "AAPL", "NONE", day=day())[::2], (1, "spread: unknown stock NONE\n"))
+
+
+def the_picture_is_that_of_the_example():
+    status, output, error = ran("depth.py", "day.itch", "NVDA", "--until", "12:00", day=day())
+    yield from differs("the end", (status, error), (0, ""))
+    if output != (FOLDER / "depth.svg").read_bytes():
+        yield "python/examples/depth.svg is not what depth.py draws"
+    yield from differs("a stock that is not there", ran("depth.py", "day.itch", "NONE", day=day())[::2], (1, "depth: no orders of NONE\n"))
+
+
+def texts(picture):
+    """The texts of a picture with their places."""
+    return [(it.text, float(it.get("x")), float(it.get("y"))) for it in picture.iter("{http://www.w3.org/2000/svg}text")]
+
+
+def line_through(points):
+    """Numbers by places, on the line through the first and the last of these points."""
+    (first, begin), (last, end) = points[0], points[-1]
+    return lambda place: first + (last - first) * (place - begin) / (end - begin)
+
+
+def the_picture_shows_the_depth_of_the_book():
+    """Read by the numbers at its axes, the picture has the program's prices, and the shares at each and at better ones."""
+    picture = xml.etree.ElementTree.parse(FOLDER / "depth.svg").getroot()
+    prices = line_through([(ten_thousandths(words), x) for words, x, _ in texts(picture) if re.fullmatch(r"\d+\.\d{4}", words)])
+    # A number is written four units below its line.
+    shares = line_through([(int(words.replace(",", "")), y - 4) for words, _, y in texts(picture) if re.fullmatch(r"[\d,]+", words)])
+    for name, wanted in (("bids", "B"), ("asks", "S")):
+        side = [(price, size) for _, its, price, size in levels("--stock", "NVDA", "--depth", "40", "--until", "12:00") if its == wanted]
+        drawn = picture.find(f".//*[@id='{name}']").get("points").split()
+        corners = [tuple(map(float, point.split(","))) for point in drawn[1:2 * len(side):2]]
+        read = [(round(prices(x), -2), round(shares(y), -2)) for x, y in corners]
+        totals = itertools.accumulate(size for _, size in side)
+        yield from differs(name, read, [(price, total) for (price, _), total in zip(side, totals)])
+
+
+RUNS = [the_small_day_is_whole, the_spread_by_minute_is_that_of_the_program, a_part_of_a_day_is_asked_for, the_picture_is_that_of_the_example,
+        the_picture_shows_the_depth_of_the_book]
