@@ -6,7 +6,7 @@ from pathlib import Path
 from types import SimpleNamespace
 
 INTERFACE = 1
-OK, NO_ROOM, WRONG_HANDLE, ABSENT, NOT_JOINED, TRUNCATED, SHORT = 0, 49, 50, 52, 53, 32, 37
+OK, TRUNCATED, NO_ROOM, WRONG_HANDLE, ABSENT = 0, 32, 49, 50, 52
 # What `snap` takes for all messages.
 ALL = 2**64 - 1
 

@@ -27,23 +27,23 @@ def stocks(handle: _library.Handle) -> Dict[int, str]:
     return {locate: stock(handle, locate) or "" for locate in locates(handle)}
 
 
-def orders(handle: _library.Handle, only: Optional[int]) -> Orders:
+def orders(handle: _library.Handle, locate: Optional[int]) -> Orders:
     """The live orders of all locates, or of one."""
-    names = _named(handle, only)
-    calls = [(locate,) for locate in names]
-    room = library.order_count(handle).count if only is None else _items(library.orders, handle, calls)
+    names = _named(handle, locate)
+    calls = [(it,) for it in names]
+    room = library.order_count(handle).count if locate is None else _items(library.orders, handle, calls)
     array, ends = _filled(library.orders, handle, _library.Order, calls, room)
-    return Orders(array, names, [Part(locate, "", end) for (locate,), end in zip(calls, ends)])
+    return Orders(array, names, [Part(it, "", end) for it, end in zip(names, ends)])
 
 
-def levels(handle: _library.Handle, only: Optional[int]) -> Levels:
+def levels(handle: _library.Handle, locate: Optional[int]) -> Levels:
     """The price levels of all locates, or of one."""
-    names = _named(handle, only)
-    calls = [(locate, buy) for locate in names for buy in (True, False)]
+    names = _named(handle, locate)
+    calls = [(it, buy) for it in names for buy in (True, False)]
     # There are no more levels than orders.
-    room = library.order_count(handle).count if only is None else _items(library.levels, handle, calls)
+    room = library.order_count(handle).count if locate is None else _items(library.levels, handle, calls)
     array, ends = _filled(library.levels, handle, _library.PriceLevel, calls, room)
-    return Levels(array, names, [Part(locate, SIDES[not buy], end) for (locate, buy), end in zip(calls, ends)])
+    return Levels(array, names, [Part(it, SIDES[not buy], end) for (it, buy), end in zip(calls, ends)])
 
 
 def snapshot(handle: _library.Handle, next_number: int, only: Optional[Iterable[int]]) -> bytes:
@@ -65,8 +65,9 @@ def written(call: Callable[[int, int], Any], room: int) -> bytes:
             room = answer.len
 
 
-def _named(handle: _library.Handle, only: Optional[int]) -> Dict[int, str]:
-    return stocks(handle) if only is None else {only: stock(handle, only) or ""}
+def _named(handle: _library.Handle, locate: Optional[int]) -> Dict[int, str]:
+    """The stocks of all locates, or of one, by their locates."""
+    return stocks(handle) if locate is None else {locate: stock(handle, locate) or ""}
 
 
 def _items(function: Any, handle: _library.Handle, calls: List[Tuple[int, ...]]) -> int:

@@ -15,18 +15,20 @@ if TYPE_CHECKING:
 
 
 class Step(enum.IntEnum):
-    """What a joiner did with a message."""
+    """What a joiner did with a message.
+
+    KEPT: it waits.
+    APPLIED: it was applied, and then what waited, up to the message before `next_number`.
+    OLD: the market already contains it.
+    MORE: a message of the snapshot was taken, and more follow.
+    JOINED: the snapshot has ended, and what waited was applied, up to the message before `next_number`.
+    """
 
     KEPT = 64
-    """It waits."""
     APPLIED = 65
-    """It was applied, and then what waited, up to the message before `next_number`."""
     OLD = 66
-    """The market already contains it."""
     MORE = 67
-    """A message of the snapshot was taken, and more follow."""
     JOINED = 68
-    """The snapshot has ended, and what waited was applied, up to the message before `next_number`."""
 
 
 class Joiner(Lookups):

@@ -124,8 +124,7 @@ class Market(Lookups):
     def apply_blocks(self, blocks: ReadableBuffer) -> Applied:
         """Applies the messages of a piece of a day file: blocks of two bytes with the length of a payload, and the payload. A piece may
         end within a block: what is unfinished comes first in the next piece. At a block of length 0 the piece ends. A message that is
-        refused leaves the market of those before it. Takes about 0.3 us a message.
-        """
+        refused leaves the market of those before it."""
         with bytes_of(blocks) as (at, size):
             applied = library.market_apply_blocks(self._own, at, size)
         self._next += applied.count

@@ -6,16 +6,22 @@ from typing import Optional
 
 
 class Reason(enum.IntEnum):
-    """The reasons for which a call is refused, with their codes in itchsnap.h."""
+    """The reasons for which a call is refused, with their codes in itchsnap.h, where each is explained.
 
-    # A payload spells no message, or a block no packet.
+    EMPTY to BAD_NUMBER: a payload spells no message, or a block no packet.
+    UNKNOWN_LOCATE to UNEXPECTED_END: an order rule refuses a message.
+    TRUNCATED to SHORT: a file is refused.
+    OUT_OF_MEMORY to NO_NUMBER: a call is refused, such as one on a market that is closed (WRONG_HANDLE).
+    FULL to BAD_SNAPSHOT: a joiner does not take a message.
+    UNKNOWN_TYPE to BROKEN_SESSION: a session breaks the protocol.
+    """
+
     EMPTY = 1
     WRONG_LENGTH = 2
     BAD_TEXT = 3
     BAD_SIDE = 4
     BAD_NUMBER = 5
 
-    # An order rule refuses a message.
     UNKNOWN_LOCATE = 16
     STOCK_MISMATCH = 17
     ZERO_SHARES = 18
@@ -25,7 +31,6 @@ class Reason(enum.IntEnum):
     TOO_MANY_SHARES = 22
     UNEXPECTED_END = 23
 
-    # A file is refused.
     TRUNCATED = 32
     TOO_MANY_MESSAGES = 33
     UNREAD = 34
@@ -33,7 +38,6 @@ class Reason(enum.IntEnum):
     AFTER_END = 36
     SHORT = 37
 
-    # A call is refused.
     OUT_OF_MEMORY = 48
     NO_ROOM = 49
     WRONG_HANDLE = 50
@@ -42,7 +46,6 @@ class Reason(enum.IntEnum):
     NOT_JOINED = 53
     NO_NUMBER = 54
 
-    # A joiner does not take a message.
     FULL = 72
     CONFLICT = 73
     BAD_MESSAGE_NUMBER = 74
@@ -51,7 +54,6 @@ class Reason(enum.IntEnum):
     TAKEN_NO_MEMORY = 77
     BAD_SNAPSHOT = 78
 
-    # A session breaks the protocol.
     UNKNOWN_TYPE = 96
     WRONG_SIDE = 97
     SECOND_LOGIN = 98

@@ -18,23 +18,26 @@ if TYPE_CHECKING:
 
 
 class Event(enum.IntEnum):
-    """What a packet or a moment means for a session."""
+    """What a packet or a moment means for a session.
+
+    NOTHING: nothing.
+    ACCEPTED: the login is accepted, and messages come from `number` on.
+    REJECTED: the login is rejected with `code`. The session is closed.
+    DATA: a message with this `number`: the bytes of the packet after its first.
+    ENDED: the server has ended the session, which is closed.
+    LOGGED_OUT: the client has logged out. The session is closed.
+    HEARTBEAT: a heartbeat is to be sent, and counts as sent.
+    LOST: the other side was silent for 15,000 ms. The session is closed.
+    """
 
     NOTHING = 0
     ACCEPTED = 80
-    """The login is accepted, and messages come from `number` on."""
     REJECTED = 81
-    """The login is rejected with `code`. The session is closed."""
     DATA = 82
-    """A message with this `number`: the bytes of the packet after its first."""
     ENDED = 83
-    """The server has ended the session, which is closed."""
     LOGGED_OUT = 84
-    """The client has logged out. The session is closed."""
     HEARTBEAT = 85
-    """A heartbeat is to be sent, and counts as sent."""
     LOST = 86
-    """The other side was silent for 15,000 ms. The session is closed."""
 
 
 class Received(NamedTuple):

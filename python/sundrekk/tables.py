@@ -135,8 +135,8 @@ class Orders(Table[Order]):
     _layout = struct.Struct("=QIIH??4s4x4x")
 
     def to_numpy(self) -> numpy.ndarray:
-        """A structured array over the same memory, without a copy: `reference`, `price` in ten-thousandths of a dollar, `shares`, `locate`,
-        `buy`, `attributed`, and `mpid`, which is of zeros where an order is not attributed. Needs numpy."""
+        """A structured array over the same memory, which is not to be written to: `reference`, `price` in ten-thousandths of a dollar,
+        `shares`, `locate`, `buy`, `attributed`, and `mpid`, which is of zeros where an order is not attributed. Needs numpy."""
         return _over(self.array, {"reference": "u8", "price": "u4", "shares": "u4", "locate": "u2", "buy": "?", "attributed": "?", "mpid": "S4"})
 
     def to_pandas(self) -> pandas.DataFrame:
@@ -194,10 +194,12 @@ class Levels(Table[Level]):
 
 
 def _over(array: Any, fields: Dict[str, str]) -> numpy.ndarray:
-    """A structured array over the memory of a ctypes array, with these of its fields."""
+    """A structured array over the memory of a ctypes array, with these of its fields, to be read."""
     import numpy
 
     kind = array._type_
     offsets = [getattr(kind, name).offset for name in fields]
     dtype = numpy.dtype({"names": list(fields), "formats": list(fields.values()), "offsets": offsets, "itemsize": c.sizeof(kind)})
-    return numpy.frombuffer(array, dtype) if len(array) else numpy.empty(0, dtype)
+    rows = numpy.frombuffer(array, dtype) if len(array) else numpy.empty(0, dtype)
+    rows.flags.writeable = False
+    return rows

@@ -3,20 +3,19 @@ from __future__ import annotations
 
 import datetime
 import re
-from typing import TYPE_CHECKING, Optional, Union
+from typing import Dict, Optional, Union
 
 from ._buffers import bytes_of, number
 from ._library import OK, library
 
-if TYPE_CHECKING:
-    from _typeshed import ReadableBuffer
-
 Time = Union[int, str, datetime.time]
 TIME = re.compile(r"([01]\d|2[0-3]):([0-5]\d)(?::([0-5]\d)(?:\.(\d{1,9}))?)?", re.ASCII)
-# The bytes of each type of message, those of a day that come most often first. All have their timestamp in the same place.
+# The bytes of each type of message, those that come most often first. All have their timestamp in the same place.
 LENGTHS = {"A": 36, "D": 19, "U": 35, "E": 31, "X": 23, "F": 40, "C": 36, "P": 44, "Q": 40, "B": 19, "S": 12, "R": 39, "H": 25, "Y": 20,
            "h": 21, "L": 26}
 TIME_BYTES = slice(5, 11)
+# The bytes of the other types of TotalView-ITCH 5.0, which are not decoded, and so have no timestamp.
+UNDECODED = {"I": 50, "J": 35, "K": 28, "N": 20, "O": 48, "V": 35, "W": 12}
 # How many blocks are matched at once, since a match takes memory for each.
 AT_ONCE = 1000
 
@@ -54,8 +53,13 @@ def first_at(blocks: memoryview, time: int, at: int = 0) -> Optional[int]:
 
 def _early_blocks(time: int) -> re.Pattern[bytes]:
     """Matches blocks of messages before a time. It may leave any, but matches none at the time or later."""
-    kinds = b"|".join(re.escape(bytes((length, ord(kind)))) + b".{%d}" % (length - 1) for kind, length in LENGTHS.items())
-    return re.compile(b"(?:\\x00(?=.{6}%b)(?:%b)){0,%d}" % (_lower_numbers(min(time, 2**48 - 1)), kinds, AT_ONCE), re.DOTALL)
+    lower, timed, others = _lower_numbers(min(time, 2**48 - 1)), _blocks(LENGTHS), _blocks(UNDECODED)
+    return re.compile(b"(?:\\x00(?:(?=.{6}%b)(?:%b)|%b)){0,%d}" % (lower, timed, others, AT_ONCE), re.DOTALL)
+
+
+def _blocks(lengths: Dict[str, int]) -> bytes:
+    """A regular expression of the blocks of these types, after the first byte of their length, which is 0."""
+    return b"|".join(re.escape(bytes((length, ord(kind)))) + b".{%d}" % (length - 1) for kind, length in lengths.items())
 
 
 def _lower_numbers(most: int) -> bytes:

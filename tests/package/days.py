@@ -89,6 +89,17 @@ def hostile_days_until_a_time_are_those_of_the_program():
         yield from differs(f"{day.hex()} {options}", of_package(day, **options), of_program(day, **options))
 
 
+def a_message_of_each_type_may_end_a_day():
+    """Each block of blocks.ini at a time, before it and after it, and the other types of TotalView-ITCH 5.0, which end no day."""
+    others = [bytes((0, size)) + kind + bytes(4) + bytes([255] * (size - 5)) for kind, size in
+              ((b"I", 50), (b"J", 35), (b"K", 28), (b"N", 20), (b"O", 48), (b"V", 35), (b"W", 12))]
+    day = common.file("AAPL MSFT BUY_1")
+    for block in [*common.blocks().values(), *others]:
+        for time in (49, 50, 2**40):
+            late = day + (stamped(block, time) if len(block) > 13 and block not in others else block) + common.file("START")
+            yield from differs(f"{block.hex()} at {time}", of_package(late, until=50), of_program(late, until=50))
+
+
 def each_byte_of_a_time_decides():
     """A message at a time, one before it and one after it, in each of the six bytes of a timestamp."""
     entry, order = common.split(DAY)[1:3]
@@ -161,7 +172,7 @@ def a_day_is_a_file_or_a_pipe():
         path.write_bytes(DAY)
         empty.touch()
         os.mkfifo(pipe)
-        for target in path, str(path), os.fsencode(path):
+        for target in path, str(path):
             with Day(target) as day:
                 yield from differs("a file", (bytes(day.blocks), day.check()), (DAY, 11))
         yield from differs("an empty file", (Day(empty).check(), Day(empty).snapshot()), (0, Snapshot(common.file("END_1"))))
@@ -212,7 +223,7 @@ def days_are_read_side_by_side():
 
 
 RUNS = [a_day_until_a_time_is_that_of_the_program, the_earlier_of_a_time_and_a_number_ends_a_day,
-        hostile_days_until_a_time_are_those_of_the_program, each_byte_of_a_time_decides, a_day_ends_after_a_number_of_messages,
+        hostile_days_until_a_time_are_those_of_the_program, a_message_of_each_type_may_end_a_day, each_byte_of_a_time_decides, a_day_ends_after_a_number_of_messages,
         times_are_given_in_four_ways, pieces_are_the_days_until_their_times, a_day_is_checked_as_by_the_program, days_are_compared,
         a_day_is_a_file_or_a_pipe, a_closed_day_refuses_each_call, a_large_day_takes_no_memory_but_that_of_its_market,
         days_are_read_side_by_side]

@@ -170,6 +170,8 @@ def too_many_shares_say_how_many_remain():
         except Refused as refused:
             yield from differs("the words", str(refused), "message 4: too many shares, 100 remain")
             yield from differs("the reason", (refused.reason, refused.detail), (Reason.TOO_MANY_SHARES, 100))
+            again = pickle.loads(pickle.dumps(refused))
+            yield from differs("what another process gets", (str(again), again.reason), (str(refused), refused.reason))
 
 
 def faults_of_payloads():

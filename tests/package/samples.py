@@ -1,8 +1,10 @@
 """What the modules of runs share: the program, days to try, and what a call is refused for."""
 import functools
+import os
 import random
 import struct
 import subprocess
+import sys
 import tempfile
 from pathlib import Path
 
@@ -80,8 +82,6 @@ def raised(call, *words, **named):
 
 def ran_python(script, *words, **environment):
     """What a script prints in a Python of its own, away from this checkout unless its path is in the environment."""
-    import os
-    import sys
     with tempfile.TemporaryDirectory() as folder:
         clean = {name: value for name, value in os.environ.items() if not name.startswith("PYTHON")}
         done = subprocess.run([sys.executable, "-B", "-c", script, *map(str, words)], cwd=folder, env={**clean, **environment},

@@ -3,6 +3,7 @@
 RUNS has a function for each run, named for what it shows; it yields what differs.
 """
 import csv
+import ctypes
 import importlib.util
 
 import common
@@ -109,7 +110,7 @@ def arrays_of_numpy():
     yield from differs("orders", list(zip(orders["locate"], orders["buy"], orders["price"], orders["shares"], orders["reference"])),
                        [(row.locate, row.side == "B", row.price, row.shares, row.reference) for row in snapshot.orders])
     yield from differs("participants", list(orders["mpid"]), [(row.mpid or "").encode() for row in snapshot.orders])
-    yield from differs("one memory", numpy.shares_memory(orders, numpy.frombuffer(snapshot.orders.array, "u1")), True)
+    yield from differs("one memory", (orders.ctypes.data, orders.flags.writeable), (ctypes.addressof(snapshot.orders.array), False))
     yield from differs("levels", list(zip(levels["locate"], levels["buy"], levels["price"], levels["shares"], levels["orders"])),
                        [(row.locate, row.side == "B", row.price, row.shares, row.orders) for row in snapshot.levels])
     empty = Day.of(b"").snapshot()
