@@ -137,7 +137,8 @@ class Orders(Table[Order]):
     def to_numpy(self) -> numpy.ndarray:
         """A structured array over the same memory, which is not to be written to: `reference`, `price` in ten-thousandths of a dollar,
         `shares`, `locate`, `buy`, `attributed`, and `mpid`, which is of zeros where an order is not attributed. Needs numpy."""
-        return _over(self.array, {"reference": "u8", "price": "u4", "shares": "u4", "locate": "u2", "buy": "?", "attributed": "?", "mpid": "S4"})
+        return _over(self.array, {"reference": "u8", "price": "u4", "shares": "u4", "locate": "u2", "buy": "?", "attributed": "?",
+                                  "mpid": "S4"})
 
     def to_pandas(self) -> pandas.DataFrame:
         """A frame with the columns locate, stock, side, price in ten-thousandths of a dollar, shares, reference and mpid. Stocks, sides and
@@ -168,8 +169,8 @@ class Levels(Table[Level]):
     _layout = struct.Struct("=QQQI4x")
 
     def to_numpy(self) -> numpy.ndarray:
-        """A structured array: `locate`, `buy`, `price` in ten-thousandths of a dollar, `shares` and `orders`. Raises OverflowError where the
-        shares of a level do not fit into 64 bits. Needs numpy."""
+        """A structured array: `locate`, `buy`, `price` in ten-thousandths of a dollar, `shares` and `orders`. Raises OverflowError where
+        the shares of a level do not fit into 64 bits. Needs numpy."""
         import numpy
 
         raw = _over(self.array, {"shares_low": "u8", "shares_high": "u8", "orders": "u8", "price": "u4"})

@@ -150,13 +150,15 @@ def a_day_is_checked_as_by_the_program():
     for day in (DAY, generated(), timed(), b"", DAY + b"\0\0\xff"):
         words = samples.program("check", day=day)[1].decode()
         yield from differs("a day", f"ok {Day.of(day).check()} messages\n", words)
-    for name, wanted in (("AAPL MSFT_AT_1", ("STOCK_MISMATCH", 0, 2)), ("AAPL 0024", ("TRUNCATED", 2, 2)), ("000141", ("WRONG_LENGTH", 36, 1))):
+    rows = [("AAPL MSFT_AT_1", ("STOCK_MISMATCH", 0, 2)), ("AAPL 0024", ("TRUNCATED", 2, 2)), ("000141", ("WRONG_LENGTH", 36, 1))]
+    for name, wanted in rows:
         yield from differs(name, refusal(Day.of(common.file(name)).check), wanted)
 
 
 def days_are_compared():
     day = Day.of(common.file("START AAPL BUY_1"))
-    for words, wanted in (("START AAPL BUY_1", None), ("AAPL START BUY_1", None), ("AAPL BUY_1", 1), ("START AAPL", 3), ("START AAPL BUY_2", 3)):
+    rows = [("START AAPL BUY_1", None), ("AAPL START BUY_1", None), ("AAPL BUY_1", 1), ("START AAPL", 3), ("START AAPL BUY_2", 3)]
+    for words, wanted in rows:
         yield from differs(words, day.compare(Day.of(common.file(words))), wanted)
     for first, second, wanted in (("AAPL MSFT_AT_1", "BUY_1", (1, "first: message 2: stock mismatch")),
                                   ("AAPL", "AAPL BUY_1 BUY_1", (2, "second: message 3: duplicate reference"))):
@@ -223,7 +225,7 @@ def days_are_read_side_by_side():
 
 
 RUNS = [a_day_until_a_time_is_that_of_the_program, the_earlier_of_a_time_and_a_number_ends_a_day,
-        hostile_days_until_a_time_are_those_of_the_program, a_message_of_each_type_may_end_a_day, each_byte_of_a_time_decides, a_day_ends_after_a_number_of_messages,
-        times_are_given_in_four_ways, pieces_are_the_days_until_their_times, a_day_is_checked_as_by_the_program, days_are_compared,
-        a_day_is_a_file_or_a_pipe, a_closed_day_refuses_each_call, a_large_day_takes_no_memory_but_that_of_its_market,
-        days_are_read_side_by_side]
+        hostile_days_until_a_time_are_those_of_the_program, a_message_of_each_type_may_end_a_day, each_byte_of_a_time_decides,
+        a_day_ends_after_a_number_of_messages, times_are_given_in_four_ways, pieces_are_the_days_until_their_times,
+        a_day_is_checked_as_by_the_program, days_are_compared, a_day_is_a_file_or_a_pipe, a_closed_day_refuses_each_call,
+        a_large_day_takes_no_memory_but_that_of_its_market, days_are_read_side_by_side]

@@ -58,13 +58,15 @@ def the_spread_by_minute_is_that_of_the_program():
         for stock, line in zip(STOCKS, lines[3 * minute:]):
             bid, ask = ([price for its, side, price, _ in best if (its, side) == (stock, wanted)] for wanted in "BS")
             wanted = [bid, ask, [ask[0] - bid[0]] if bid and ask else []]
-            yield from differs(f"{stock} at {time}", (line[:2], [[ten_thousandths(it)] if it else [] for it in line[2:]]), ([time, stock], wanted))
+            got = [[ten_thousandths(it)] if it else [] for it in line[2:]]
+            yield from differs(f"{stock} at {time}", (line[:2], got), ([time, stock], wanted))
 
 
 def a_part_of_a_day_is_asked_for():
     output = ran("spread.py", "day.itch", "MSFT", "--begin", "11:59", "--end", "12:01", day=day())[1].decode().splitlines()
     yield from differs("minutes", [line.split(",")[0] for line in output], ["time", "11:59", "12:00", "12:01"])
-    yield from differs("a stock that is not there", ran("spread.py", "day.itch", "AAPL", "NONE", day=day())[::2], (1, "spread: unknown stock NONE\n"))
+    status, _, error = ran("spread.py", "day.itch", "AAPL", "NONE", day=day())
+    yield from differs("a stock that is not there", (status, error), (1, "spread: unknown stock NONE\n"))
 
 
 def the_picture_is_that_of_the_example():
@@ -101,5 +103,5 @@ def the_picture_shows_the_depth_of_the_book():
         yield from differs(name, read, [(price, total) for (price, _), total in zip(side, totals)])
 
 
-RUNS = [the_small_day_is_whole, the_spread_by_minute_is_that_of_the_program, a_part_of_a_day_is_asked_for, the_picture_is_that_of_the_example,
-        the_picture_shows_the_depth_of_the_book]
+RUNS = [the_small_day_is_whole, the_spread_by_minute_is_that_of_the_program, a_part_of_a_day_is_asked_for,
+        the_picture_is_that_of_the_example, the_picture_shows_the_depth_of_the_book]

@@ -16,7 +16,13 @@ from common import differs
 PACKAGE = samples.TOP / "python"
 # What pip needs where it may not load anything.
 NEEDED = ("pip", "setuptools", "wheel")
-SNAP = "import sys, sundrekk; print(sundrekk.__file__); sys.stdout.flush(); sys.stdout.buffer.write(sundrekk.Day(sys.argv[1]).snapshot().data)"
+SNAP = """
+import sys
+import sundrekk
+
+print(sundrekk.__file__, flush=True)
+sys.stdout.buffer.write(sundrekk.Day(sys.argv[1]).snapshot().data)
+"""
 
 
 def installer():
@@ -58,8 +64,8 @@ def pip_installs_a_package_that_stands_alone():
         if library.read_bytes() != (samples.TOP / "release/libitchsnap.so").read_bytes():
             yield "the library is not that of release/"
         yield from metadata(folder)
-        done = subprocess.run([sys.executable, "-B", "-c", SNAP, samples.EXAMPLES / "first_order.itch"], cwd=folder, env={"PYTHONPATH": name},
-                              capture_output=True, timeout=60)
+        done = subprocess.run([sys.executable, "-B", "-c", SNAP, samples.EXAMPLES / "first_order.itch"], cwd=folder,
+                              env={"PYTHONPATH": name}, capture_output=True, timeout=60)
         wanted = f"{folder}/sundrekk/__init__.py\n".encode() + samples.example("first_order.snap")
         yield from differs("a snapshot", (done.stdout, done.stderr), (wanted, b""))
 

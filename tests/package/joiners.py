@@ -10,7 +10,7 @@ from common import differs
 from samples import generated, program, raised, refusal
 from sundrekk import Day, Joiner, Market, Reason, Refused, Step, payloads
 
-END = b"G                   1"
+END, END_AT_3 = b"G                   1", b"G                   3"
 FEED = [bytes(it) for it in payloads(common.file("START AAPL BUY_1 BUY_2 BUY_3_OF_300"))]
 
 
@@ -50,7 +50,7 @@ def a_joiner_goes_on_from_each_snapshot():
 def each_message_has_its_answer():
     with Joiner(2) as joiner:
         steps = [(joiner.live, 3, FEED[2], Step.KEPT), (joiner.live, 3, FEED[2], Step.KEPT), (joiner.load, FEED[0], Step.MORE),
-                 (joiner.load, FEED[1], Step.MORE), (joiner.load, b"G                   3", Step.JOINED), (joiner.live, 1, FEED[0], Step.OLD),
+                 (joiner.load, FEED[1], Step.MORE), (joiner.load, END_AT_3, Step.JOINED), (joiner.live, 1, FEED[0], Step.OLD),
                  (joiner.live, 5, FEED[4], Step.KEPT), (joiner.live, 4, FEED[3], Step.APPLIED)]
         for call, *words, wanted in steps:
             yield from differs(f"{call.__name__} of {words}", call(*words), wanted)
@@ -70,7 +70,8 @@ def a_joiner_of_some_locates_leaves_the_others():
 
 def a_joiner_refuses_with_a_reason():
     with Joiner(1) as joiner:
-        yield from differs("a second that waits", (joiner.live(2, FEED[1]), refusal(joiner.live, 3, FEED[2])), (Step.KEPT, ("FULL", 1, None)))
+        yield from differs("a first that waits", joiner.live(2, FEED[1]), Step.KEPT)
+        yield from differs("a second that waits", refusal(joiner.live, 3, FEED[2]), ("FULL", 1, None))
         yield from differs("other bytes", refusal(joiner.live, 2, FEED[2]), ("CONFLICT", 0, None))
         for number in (0, 10**19, 2**64 - 1):
             yield from differs(f"number {number}", refusal(joiner.live, number, FEED[0]), ("BAD_MESSAGE_NUMBER", 0, None))
@@ -108,7 +109,7 @@ def a_bad_snapshot_may_begin_again():
             yield from differs("a message that breaks a rule", refusal(joiner.load, common.file("MSFT_AT_1")[2:]), ("BAD_SNAPSHOT", 0, 2))
         joiner.restart()
         yield from differs("what waits", joiner.waiting, 1)
-        yield from differs("another one", [joiner.load(it) for it in (*FEED[:2], b"G                   3")], [Step.MORE, Step.MORE, Step.JOINED])
+        yield from differs("another one", [joiner.load(it) for it in (*FEED[:2], END_AT_3)], [Step.MORE, Step.MORE, Step.JOINED])
         yield from differs("the market", joiner.snapshot().data, common.file("START AAPL BUY_1 END_4"))
 
 

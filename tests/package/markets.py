@@ -94,7 +94,8 @@ def look_ups_are_those_of_the_lists():
                 yield from differs(f"the best of {locate} {side}", market.best(locate, side), of_side[0] if of_side else None)
                 levels += look_up_levels(market, locate, side, of_side)
             yield from differs(f"the levels of {locate}", list(market.levels(locate)), levels)
-        yield from differs("the levels of all", list(market.levels()), [row for locate in market.locates() for row in market.levels(locate)])
+        rows = [row for locate in market.locates() for row in market.levels(locate)]
+        yield from differs("the levels of all", list(market.levels()), rows)
 
 
 def look_up_levels(market, locate, side, orders):
@@ -111,8 +112,8 @@ def look_up_levels(market, locate, side, orders):
 def what_is_not_there_is_none():
     with Market() as market:
         market.apply_blocks(DAY)
-        found = (market.best(1, "S"), market.best(7, "B"), market.order(2), market.level(1, "B", 1), market.next_price(1, "S"), market.stock(7),
-                 market.next_price(1, "B", 1_500_000))
+        found = (market.best(1, "S"), market.best(7, "B"), market.order(2), market.level(1, "B", 1), market.next_price(1, "S"),
+                 market.stock(7), market.next_price(1, "B", 1_500_000))
         yield from differs("look-ups", found, (None,) * 7)
         yield from differs("lists", (list(market.orders(7)), list(market.levels(7)), market.locates()), ([], [], [1]))
         yield from differs("an attribution of none", market.best(1, "B"), Order(1, "AAPL", "B", 1_500_000, 100, 1, None))
@@ -206,9 +207,9 @@ def a_closed_market_refuses_each_call():
 def numbers_that_do_not_fit_are_refused():
     with Market() as market:
         market.apply_blocks(DAY)
-        calls = [(market.best, 65537, "B"), (market.best, -1, "B"), (market.stock, 65537), (market.orders, 65537), (market.levels, -65535),
-                 (market.level, 1, "B", 2**32 + 1_500_000), (market.next_price, 1, "B", -1), (market.order, 2**64 + 1), (market.best, 1, "b"),
-                 (market.best, 1, ""), (market.best, 1, "BS")]
+        calls = [(market.best, 65537, "B"), (market.best, -1, "B"), (market.stock, 65537), (market.orders, 65537),
+                 (market.levels, -65535), (market.level, 1, "B", 2**32 + 1_500_000), (market.next_price, 1, "B", -1),
+                 (market.order, 2**64 + 1), (market.best, 1, "b"), (market.best, 1, ""), (market.best, 1, "BS")]
         for call, *words in calls:
             yield from differs(f"{call.__name__} of {words}", raised(call, *words), "ValueError")
         yield from differs("a list", raised(market.snapshot, only=[65537]), "ValueError")
@@ -220,8 +221,9 @@ def a_market_is_loaded_with_its_number():
         snapshot = Snapshot(example(f"{name}.snap"))
         with Market.load(snapshot) as market:
             yield from differs(name, (market.next_number, market.snapshot()), (snapshot.next_number, snapshot))
-    for name, wanted in (("AAPL", ("NO_END", 0, None)), ("AAPL END_2 START", ("AFTER_END", 0, None)), ("AAPL MSFT_AT_1 END_3", ("STOCK_MISMATCH", 0, 2)),
-                         ("000141", ("WRONG_LENGTH", 36, 1)), ("00", ("TRUNCATED", 1, None))):
+    rows = [("AAPL", ("NO_END", 0, None)), ("AAPL END_2 START", ("AFTER_END", 0, None)), ("00", ("TRUNCATED", 1, None)),
+            ("AAPL MSFT_AT_1 END_3", ("STOCK_MISMATCH", 0, 2)), ("000141", ("WRONG_LENGTH", 36, 1))]
+    for name, wanted in rows:
         yield from differs(name, refusal(Market.load, common.file(name)), wanted)
 
 

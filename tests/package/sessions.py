@@ -17,7 +17,8 @@ LOGINS = [
     ("user", "secret", "", "3", Received(Event.ACCEPTED, 3)), ("USER", "SECRET", "ITCHSNAP", "5", Received(Event.ACCEPTED, 5)),
     ("user", "secret", "  ITCHSNAP", "", Received(Event.ACCEPTED, 1)), ("user", "secret", "", "0", Received(Event.ACCEPTED, 1)),
     (" user", "secret", "", "1", Received(Event.REJECTED, None, "A")), ("user", "secrets", "", "1", Received(Event.REJECTED, None, "A")),
-    ("user", "secret", "itchsnap", "1", Received(Event.REJECTED, None, "S")), ("user", "secret", "", "6", Received(Event.REJECTED, None, "S")),
+    ("user", "secret", "itchsnap", "1", Received(Event.REJECTED, None, "S")),
+    ("user", "secret", "", "6", Received(Event.REJECTED, None, "S")),
 ]
 
 
@@ -77,7 +78,8 @@ def what_is_no_packet_leaves_a_session_as_it_was():
     rows = [(b"", ("EMPTY", 0, None)), (b"?", ("UNKNOWN_TYPE", ord("?"), None))]
     rows_of_server = rows + [(b"L", ("WRONG_LENGTH", 47, None)), (LOGIN.replace(b"r ", b"r\0"), ("BAD_TEXT", 5, None)),
                              (LOGIN[:-1] + b"x", ("BAD_NUMBER", 27, None)), (b"OO", ("WRONG_LENGTH", 1, None))]
-    rows_of_client = rows + [(b"A", ("WRONG_LENGTH", 31, None)), (ACCEPTED[:-1] + b"0", ("BAD_NUMBER", 11, None)), (b"J", ("WRONG_LENGTH", 2, None))]
+    rows_of_client = rows + [(b"A", ("WRONG_LENGTH", 31, None)), (ACCEPTED[:-1] + b"0", ("BAD_NUMBER", 11, None)),
+                             (b"J", ("WRONG_LENGTH", 2, None))]
     for make, accepting, its_rows in ((server, LOGIN, rows_of_server), (client, ACCEPTED, rows_of_client)):
         for packet, wanted in its_rows:
             yield from differs(f"{packet}", told(make, packet), wanted)
@@ -99,11 +101,13 @@ def time_is_as_its_table():
             ticks = [(1000, Event.NOTHING), (14_999, Event.NOTHING)]
             yield from differs("before", [(now, session.tick(now)) for now, _ in ticks], ticks)
             session.receive(accepting, 15_000)
-            ticks = [(15_001, Event.HEARTBEAT), (16_001, Event.NOTHING), (16_002, Event.HEARTBEAT), (10, Event.NOTHING), (29_999, Event.HEARTBEAT)]
+            ticks = [(15_001, Event.HEARTBEAT), (16_001, Event.NOTHING), (16_002, Event.HEARTBEAT), (10, Event.NOTHING),
+                     (29_999, Event.HEARTBEAT)]
             yield from differs("accepted", [(now, session.tick(now)) for now, _ in ticks], ticks)
             session.sent(31_000)
             session.receive(b"+", 31_500)
-            ticks = [(32_000, Event.NOTHING), (32_001, Event.HEARTBEAT), (46_499, Event.HEARTBEAT), (46_500, Event.LOST), (90_000, Event.NOTHING)]
+            ticks = [(32_000, Event.NOTHING), (32_001, Event.HEARTBEAT), (46_499, Event.HEARTBEAT), (46_500, Event.LOST),
+                     (90_000, Event.NOTHING)]
             yield from differs("silent", [(now, session.tick(now)) for now, _ in ticks], ticks)
             yield from differs("lost", refusal(session.receive, b"+", 90_000), CLOSED)
 
@@ -119,9 +123,11 @@ def both_ends_understand_each_other():
         yield from differs("accepted", (login, there.receive(acceptance, 6)), (Received(Event.ACCEPTED, 2),) * 2)
         sent = [here.data(payload) for payload in day[login.number - 1:]]
         yield from differs("the messages", [packet[1:] for packet in sent], day[1:])
-        yield from differs("their numbers", [there.receive(packet, 7) for packet in sent], [Received(Event.DATA, 2), Received(Event.DATA, 3)])
+        received = [there.receive(packet, 7) for packet in sent]
+        yield from differs("their numbers", received, [Received(Event.DATA, 2), Received(Event.DATA, 3)])
         yield from differs("heartbeats", (here.receive(there.HEARTBEAT, 8), there.receive(here.HEARTBEAT, 8)), (NOTHING, NOTHING))
-        yield from differs("the end", (there.receive(here.END, 9), here.receive(there.LOGOUT, 9)), (Received(Event.ENDED), Received(Event.LOGGED_OUT)))
+        ends = there.receive(here.END, 9), here.receive(there.LOGOUT, 9)
+        yield from differs("the end", ends, (Received(Event.ENDED), Received(Event.LOGGED_OUT)))
     yield from differs("a rejection", told(client, server().rejection("S")), Received(Event.REJECTED, None, "S"))
 
 
@@ -133,9 +139,11 @@ def words_that_do_not_fit_are_refused():
     yield from differs("a text", refusal(ClientSession, "us\0r", "secret", now_ms=0), ("BAD_TEXT", 0, None))
     yield from differs("a number", refusal(client, 10**19 + 1), ("NO_NUMBER", 0, None))
     yield from differs("a total", refusal(ServerSession, "user", "secret", total=10**19, now_ms=0), ("TOO_MANY_MESSAGES", 0, None))
-    yield from differs("the greatest", (refusal(client, 10**19), refusal(ServerSession, "u", "p", total=10**19 - 1, now_ms=0)), (None, None))
+    yield from differs("the greatest number", refusal(client, 10**19), None)
+    yield from differs("the greatest total", refusal(ServerSession, "user", "secret", total=10**19 - 1, now_ms=0), None)
     with server() as session:
-        yield from differs("an acceptance", [refusal(session.acceptance, number) for number in (0, 10**19 + 1)], [("NO_NUMBER", 0, None)] * 2)
+        for number in (0, 10**19 + 1):
+            yield from differs(f"an acceptance from {number}", refusal(session.acceptance, number), ("NO_NUMBER", 0, None))
         for moment in (-1, 2**64):
             yield from differs(f"at {moment}", raised(session.tick, moment), "ValueError")
 

@@ -8,6 +8,7 @@ import tempfile
 from pathlib import Path
 
 import common
+import large
 import samples
 from common import differs
 from samples import example, generated, raised, refusal
@@ -21,6 +22,17 @@ def the_snapshot_of_a_day_is_that_of_the_program():
         with Market() as market:
             market.apply_blocks(day)
             yield from differs("a market", market.snapshot().data, samples.program("snap", day=day)[1])
+
+
+def a_market_may_have_more_than_is_expected():
+    """Positions of a thousand participants, whose snapshot is longer than the room that is first made for it."""
+    position = common.blocks()["POSITION_ABCD"]
+    day = common.file("AAPL") + b"".join(position.replace(b"ABCD", b"%04d" % number) for number in range(1000))
+    with Market() as market:
+        market.apply_blocks(day)
+        yield from differs("a market", market.snapshot().data, day + large.closing(1002))
+        yield from differs("a part of it", market.snapshot(only=[1]).data, day + large.closing(1002))
+    yield from differs("a day", Day.of(day).snapshot().data, day + large.closing(1002))
 
 
 def a_snapshot_is_cut_down_as_by_the_program():
@@ -80,5 +92,6 @@ def what_is_no_snapshot_is_refused():
     yield from differs("a text", raised(Snapshot, "AAPL"), "TypeError")
 
 
-RUNS = [the_snapshot_of_a_day_is_that_of_the_program, a_snapshot_is_cut_down_as_by_the_program, messages_may_come_in_any_order,
-        snapshots_are_values, a_snapshot_has_its_stocks, a_snapshot_is_written_and_read, what_is_no_snapshot_is_refused]
+RUNS = [the_snapshot_of_a_day_is_that_of_the_program, a_market_may_have_more_than_is_expected, a_snapshot_is_cut_down_as_by_the_program,
+        messages_may_come_in_any_order, snapshots_are_values, a_snapshot_has_its_stocks, a_snapshot_is_written_and_read,
+        what_is_no_snapshot_is_refused]

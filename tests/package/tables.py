@@ -10,7 +10,9 @@ import common
 import samples
 from common import differs
 from samples import generated, raised
-from sundrekk import Day, Level, Market, Order
+from sundrekk import Day, Level, Levels, Market, Order
+from sundrekk._library import PriceLevel
+from sundrekk.tables import Part
 
 LOCATES = "1-50"
 
@@ -71,7 +73,8 @@ def a_table_is_a_sequence():
         yield from differs("each row", [table[at] for at in range(len(table))], rows)
         yield from differs("each row from the end", [table[-at] for at in range(1, len(table) + 1)], rows[::-1])
         yield from differs("slices", (table[5:40:7], table[-3:], table[len(rows):]), (rows[5:40:7], rows[-3:], []))
-        yield from differs("beyond both ends", (raised(lambda: table[len(rows)]), raised(lambda: table[-len(rows) - 1])), ("IndexError",) * 2)
+        for at in (len(rows), -len(rows) - 1):
+            yield from differs(f"row {at}", raised(table.__getitem__, at), "IndexError")
         yield from differs("a row that is there", rows[17] in table, True)
         yield from differs("each locate", [table.at(locate) for locate in range(52)],
                            [[row for row in rows if row.locate == locate] for locate in range(52)])
@@ -87,8 +90,9 @@ def a_table_of_nothing_is_empty():
 def the_array_has_the_rows_as_structures():
     snapshot = Day.of(generated()).snapshot()
     orders = [(it.reference, it.price, it.shares, it.locate, it.buy, bytes(it.mpid)) for it in snapshot.orders.array]
-    yield from differs("orders", orders, [(row.reference, row.price, row.shares, row.locate, row.side == "B", (row.mpid or "\0" * 4).encode())
-                                          for row in snapshot.orders])
+    wanted = [(row.reference, row.price, row.shares, row.locate, row.side == "B", (row.mpid or "\0" * 4).encode())
+              for row in snapshot.orders]
+    yield from differs("orders", orders, wanted)
     levels = [(it.shares_low, it.shares_high, it.orders, it.price) for it in snapshot.levels.array]
     yield from differs("levels", levels, [(row.shares, 0, row.orders, row.price) for row in snapshot.levels])
 
@@ -98,6 +102,16 @@ def the_greatest_values_fit():
     most = 2**32 - 1
     yield from differs("orders", list(snapshot.orders), [Order(65535, "MAX", "S", most, most, 2**64 - 1, None)])
     yield from differs("levels", list(snapshot.levels), [Level(65535, "MAX", "S", most, most, 1)])
+
+
+def large_levels():
+    """A table of a level with more shares than 64 bits hold, which no market here has room for."""
+    array = (PriceLevel * 1)(PriceLevel(5, 1, 2**32, 7))
+    return Levels(array, {1: "AAPL"}, [Part(1, "B", 1), Part(1, "S", 1)])
+
+
+def shares_of_more_than_64_bits_fit():
+    yield from differs("rows", list(large_levels()), [Level(1, "AAPL", "B", 7, 2**64 + 5, 2**32)])
 
 
 def arrays_of_numpy():
@@ -113,6 +127,7 @@ def arrays_of_numpy():
     yield from differs("one memory", (orders.ctypes.data, orders.flags.writeable), (ctypes.addressof(snapshot.orders.array), False))
     yield from differs("levels", list(zip(levels["locate"], levels["buy"], levels["price"], levels["shares"], levels["orders"])),
                        [(row.locate, row.side == "B", row.price, row.shares, row.orders) for row in snapshot.levels])
+    yield from differs("more than 64 bits", raised(large_levels().to_numpy), "OverflowError")
     empty = Day.of(b"").snapshot()
     yield from differs("nothing", (len(empty.orders.to_numpy()), len(empty.levels.to_numpy())), (0, 0))
 
@@ -147,6 +162,6 @@ def tables_of_arrow():
         yield from differs(kind.__name__, rows, list(table))
 
 
-RUNS = [levels_are_those_that_the_program_prints, orders_are_those_that_the_program_prints, a_table_is_a_sequence, a_table_of_nothing_is_empty,
-        the_array_has_the_rows_as_structures, the_greatest_values_fit, arrays_of_numpy, frames_of_pandas, frames_of_nothing,
-        tables_of_arrow]
+RUNS = [levels_are_those_that_the_program_prints, orders_are_those_that_the_program_prints, a_table_is_a_sequence,
+        a_table_of_nothing_is_empty, the_array_has_the_rows_as_structures, the_greatest_values_fit, shares_of_more_than_64_bits_fit,
+        arrays_of_numpy, frames_of_pandas, frames_of_nothing, tables_of_arrow]
