@@ -1,12 +1,13 @@
 """Markets that messages are applied to, and the look-ups that they share with joiners."""
 from __future__ import annotations
 
-from typing import TYPE_CHECKING, Dict, Iterable, List, NamedTuple, Optional, Union
+from typing import TYPE_CHECKING, BinaryIO, Dict, Iterable, List, NamedTuple, Optional, Union
 
 from . import _buffers, _library, _lists
 from ._buffers import bytes_of, is_buy, locate_of
 from ._handles import Held, done, found
 from ._library import library
+from .messages import is_ended
 from .reasons import Refused
 from .snapshots import Snapshot, load
 from .tables import SIDES, Level, Levels, Order, Orders
@@ -131,6 +132,20 @@ class Market(Lookups):
         if applied.code not in (_library.OK, _library.TRUNCATED):
             raise Refused(applied.code, applied.detail, self._numbered(applied.code))
         return Applied(applied.count, applied.detail if applied.code == _library.TRUNCATED else 0)
+
+    def apply_file(self, file: BinaryIO, at_once: int = 1 << 20) -> int:
+        """Applies the messages that an open file has, such as one of `gzip.open`, up to its end or to a block of length 0, and returns how
+        many there are. `at_once` is how many bytes are read at a time. A file that ends within a block is refused as `Reason.TRUNCATED`
+        after the messages before it."""
+        first, rest = self._next, b""
+        while True:
+            read = file.read(at_once)
+            piece = rest + read
+            rest = piece[len(piece) - self.apply_blocks(piece).unfinished:]
+            if not read and rest:
+                raise Refused(_library.TRUNCATED, len(rest), self._next)
+            if not read or not rest and is_ended(piece):
+                return self._next - first
 
     def _numbered(self, code: int) -> Optional[int]:
         """The number of the message that was refused, where a message was."""

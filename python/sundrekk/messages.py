@@ -30,3 +30,8 @@ def payloads(blocks: ReadableBuffer) -> Iterator[memoryview]:
             return
         yield view[at + 2:end]
         at, number = end, number + 1
+
+
+def is_ended(blocks: bytes) -> bool:
+    """Whether blocks, the last of which is whole, have one of length 0."""
+    return sum(2 + len(payload) for payload in payloads(blocks)) < len(blocks)

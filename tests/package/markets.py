@@ -5,9 +5,12 @@ RUNS has a function for each run, named for what it shows; it yields what differ
 import array
 import copy
 import ctypes
+import gzip
+import io
 import mmap
 import pickle
 import struct
+import tempfile
 import threading
 
 import common
@@ -21,8 +24,8 @@ DAY, SNAPSHOT = example("first_order.itch"), example("first_order.snap")
 CLOSED = ("WRONG_HANDLE", 0, None)
 # Every call of a market that is open, with words that it takes.
 CALLS = {
-    "apply": (b"S",), "apply_blocks": (DAY,), "best": (1, "B"), "level": (1, "B", 1), "levels": (), "locates": (), "next_price": (1, "S"),
-    "order": (1,), "order_count": (), "orders": (), "snapshot": (), "stock": (1,), "stocks": (),
+    "apply": (b"S",), "apply_blocks": (DAY,), "apply_file": (io.BytesIO(DAY),), "best": (1, "B"), "level": (1, "B", 1), "levels": (),
+    "locates": (), "next_price": (1, "S"), "order": (1,), "order_count": (), "orders": (), "snapshot": (), "stock": (1,), "stocks": (),
 }
 
 
@@ -75,6 +78,28 @@ def a_day_may_be_cut_at_each_byte():
             rest = market.apply_blocks(memoryview(DAY)[cut - first.unfinished:])
             yield from differs(f"cut at {cut}", (first.messages + rest.messages, rest.unfinished), (3, 0))
             yield from differs(f"cut at {cut}", market.snapshot().data, SNAPSHOT)
+
+
+def a_file_is_read_in_pieces():
+    """However many bytes are read at a time: a whole file, one with an end block and bytes after it, one that ends within a block, and one
+    that is refused."""
+    for size in (1, 2, 3, 7, 14, 57, 64, 95, 96, 1 << 20):
+        for after in (b"", b"\0\0", b"\0\0\0\1S" + DAY):
+            with Market() as market:
+                market.apply_blocks(common.file("START"))
+                yield from differs(f"{size} at once, then {after}", market.apply_file(io.BytesIO(DAY + after), size), 3)
+                yield from differs(f"{size} at once, then {after}", market.snapshot().data[:-23], SNAPSHOT[:-23])
+        with Market() as market:
+            yield from differs(f"{size} at once of a part", refusal(market.apply_file, io.BytesIO(DAY[:-1]), size), ("TRUNCATED", 37, 3))
+            yield from differs(f"{size} at once of the rest", market.apply_file(io.BytesIO(DAY[55:]), size), 1)
+            again = refusal(market.apply_file, io.BytesIO(DAY[55:]), size)
+            yield from differs(f"{size} at once again", again, ("DUPLICATE_REFERENCE", 0, 4))
+    with tempfile.NamedTemporaryFile() as file, Market() as market:
+        file.write(gzip.compress(generated()))
+        file.flush()
+        with gzip.open(file.name) as day:
+            yield from differs("a gzip file", market.apply_file(day), 20000)
+        yield from differs("its market", market.snapshot(), Day.of(generated()).snapshot())
 
 
 def look_ups_are_those_of_the_lists():
@@ -244,7 +269,7 @@ def a_market_is_not_copied():
 
 
 RUNS = [any_buffer_is_taken, what_is_no_buffer_is_not_taken, a_buffer_stays_as_it_is_during_a_call, a_day_may_be_cut_at_each_byte,
-        look_ups_are_those_of_the_lists, what_is_not_there_is_none, a_refusal_has_its_reason_and_leaves_the_market,
-        messages_before_a_refusal_count, too_many_shares_say_how_many_remain, faults_of_payloads, the_payloads_of_blocks,
-        a_closed_market_refuses_each_call, numbers_that_do_not_fit_are_refused, a_market_is_loaded_with_its_number,
-        a_market_stays_on_its_thread, a_market_is_not_copied]
+        a_file_is_read_in_pieces, look_ups_are_those_of_the_lists, what_is_not_there_is_none,
+        a_refusal_has_its_reason_and_leaves_the_market, messages_before_a_refusal_count, too_many_shares_say_how_many_remain,
+        faults_of_payloads, the_payloads_of_blocks, a_closed_market_refuses_each_call, numbers_that_do_not_fit_are_refused,
+        a_market_is_loaded_with_its_number, a_market_stays_on_its_thread, a_market_is_not_copied]

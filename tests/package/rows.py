@@ -22,7 +22,7 @@ OPTIONS = {
 }
 # A row about files, streams and terminals is one of the program alone, and a large day has tests of its own.
 OTHERS = re.compile(r"^(day|snapshot) of |^folder$|^itchsnap: unknown stock$")
-# As many as there were when this was written: what leaves rows out by mistake is seen.
+# There are a few more. What leaves out rows by mistake is seen.
 LEAST_ROWS = 200
 
 
@@ -143,10 +143,13 @@ def join(files, options):
         return joiner.snapshot().data
 
 
+COMMANDS = {"snap": snap, "check": check, "compare": compare, "canon": canon, "book": book, "join": join}
+
+
 def answered(command, files, options):
     """The status, the output and the line on standard error that the program's are compared with."""
     try:
-        output = globals()[command](files, options)
+        output = COMMANDS[command](files, options)
         return int(output.startswith((b"different", b"not", b'{"same":false'))), output, ""
     except Unknown as unknown:
         return 1, b"", str(unknown)
