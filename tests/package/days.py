@@ -140,8 +140,9 @@ def pieces_are_the_days_until_their_times():
             market.apply_blocks(blocks)
             yield from differs(f"until {time}", market.snapshot(), Day.of(timed()).snapshot(until=time))
         yield from differs("the last", market.snapshot(), Day.of(timed()).snapshot())
-    day = Day.of(DAY + b"\0\0\xff")
-    yield from differs("after an end block", [bytes(blocks) for _, blocks in day.pieces(["00:01", "00:02"])], [DAY + b"\0\0\xff", b""])
+    ended = DAY + b"\0\0" + stamped(common.split(DAY)[2], 90 * 10**9)
+    day = Day.of(ended)
+    yield from differs("after an end block", [bytes(blocks) for _, blocks in day.pieces(["00:01", "00:02"])], [ended, b""])
     yield from differs("no time", list(day.pieces([])), [])
     yield from differs("times that fall", raised(list, day.pieces(["10:30", "10:29"])), "ValueError")
 
