@@ -127,7 +127,7 @@ def times_are_given_in_four_ways():
     for number, times in wanted.items():
         for time in times:
             yield from differs(repr(time), nanoseconds(time), number)
-    for time in (-1, 2**64, "", "10", "1030", "10:3", "24:00", "10:60", "10:30 ", "10:30:00.1234567891", "\u0661\u0660:30"):
+    for time in (-1, 2**64, "", "10", "1030", "10:3", "24:00", "10:60", "10:30 ", "10:30:00.1234567891", "1\u0660:30"):
         yield from differs(repr(time), raised(nanoseconds, time), "ValueError")
     for time in (1.5, None, b"10:30"):
         yield from differs(repr(time), raised(nanoseconds, time), "TypeError")
