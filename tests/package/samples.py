@@ -80,6 +80,15 @@ def raised(call, *words, **named):
     return None
 
 
+def said(call, *words, **named):
+    """The text of what a call raises, or None."""
+    try:
+        call(*words, **named)
+    except Exception as error:
+        return str(error)
+    return None
+
+
 def ran_python(script, *words, **environment):
     """What a script prints in a Python of its own, away from this checkout unless its path is in the environment."""
     with tempfile.TemporaryDirectory() as folder:

@@ -5,7 +5,7 @@ RUNS has a function for each run, named for what it shows; it yields what differ
 """
 import samples
 from common import differs
-from samples import raised, refusal
+from samples import raised, refusal, said
 from sundrekk import ClientSession, Event, Received, ServerSession, payloads
 
 NOTHING, CLOSED = Received(Event.NOTHING), ("CLOSED", 0, None)
@@ -132,10 +132,11 @@ def both_ends_understand_each_other():
 
 
 def words_that_do_not_fit_are_refused():
-    for words in (("seventh", "secret"), ("user", "elevenchars")):
-        yield from differs(f"{words}", raised(ClientSession, *words, now_ms=0), "ValueError")
-        yield from differs(f"{words}", raised(ServerSession, *words, total=1, now_ms=0), "ValueError")
-    yield from differs("a session", raised(ClientSession, "user", "secret", session="elevenchars", now_ms=0), "ValueError")
+    rows = [(("seventh", "secret", ""), "a username has up to 6 characters"), (("user", "elevenchars", ""), "a password has up to 10 characters"),
+            (("user", "secret", "elevenchars"), "a session has up to 10 characters")]
+    for (username, password, session), wanted in rows:
+        yield from differs(wanted, said(ClientSession, username, password, session=session, now_ms=0), wanted)
+        yield from differs(wanted, said(ServerSession, username, password, session=session, total=1, now_ms=0), wanted)
     yield from differs("a text", refusal(ClientSession, "us\0r", "secret", now_ms=0), ("BAD_TEXT", 0, None))
     yield from differs("a number", refusal(client, 10**19 + 1), ("NO_NUMBER", 0, None))
     yield from differs("a total", refusal(ServerSession, "user", "secret", total=10**19, now_ms=0), ("TOO_MANY_MESSAGES", 0, None))
