@@ -1,5 +1,5 @@
 -- What the reading of a feed returns.
-use Rattle.std.proofs.Common.{◌≡◌, ◌≢◌, ℕ, ◌+◌, ◌-◌, ◌<◌, ◌≤◌, nat_le, nat_lt, Bool, true, false, cond, List, map, length, Option, None, Some, IsSome, IfSome, MatchResult, Result, Ok, Err, refl, sym, subst, inl, inr}
+use Rattle.std.proofs.Common.{◌≡◌, ℕ, ◌+◌, ◌-◌, ◌<◌, ◌≤◌, nat_le, nat_lt, Bool, true, false, cond, List, map, length, Option, None, Some, IfSome, MatchResult, Result, Ok, Err, refl, sym, subst, inl, inr}
 use Rattle.itch_codec.specs.Messages.{message_of}
 use Rattle.itch_frame.specs.Reading.{Reading, bytes_left}
 use Rattle.itch_frame.specs.declared.tally.Failures.{Failures}
@@ -11,7 +11,7 @@ use Rattle.itch_join.specs.States.{State}
 use Rattle.itch_commands.specs.FeedParts.{beyond, misfit_of, part_of}
 use Rattle.itch_commands.specs.Joiners.{FeedsAll, LeavesFeed}
 use Rattle.itch_commands.specs.Joining.{Start, TakesWanted, StopsFeed, ReadsFeed}
-use Rattle.itch_commands.specs.Readings.{IsPart, CountsRead, LateNext, LeavesDay, stopped}
+use Rattle.itch_commands.specs.Readings.{IsPart, CountsRead, LateNext, stopped}
 use Rattle.itch_commands.specs.declared.fault.Source.TheVariants.{Only}
 use Rattle.itch_commands.specs.declared.fault.ToolFault.{ToolFault}
 use Rattle.itch_commands.specs.declared.fault.ToolFault.TheVariants as tool

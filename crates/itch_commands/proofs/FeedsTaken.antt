@@ -21,9 +21,9 @@ use Rattle.itch_market.proofs.GoodMarkets.{effect_good}
 use Rattle.itch_market.proofs.LaidMarkets.{effect-laid}
 use Rattle.itch_join.specs.Positions.{Position}
 use Rattle.itch_join.specs.States.{State}
-use Rattle.itch_commands.specs.AsRead.{as_read, HaltsAs}
-use Rattle.itch_commands.specs.FeedParts.{beyond, misfit_of, number_after, part_of}
-use Rattle.itch_commands.specs.Joining.{Start, IsNotLate, HaltsFeed, LateFeed, TakesWanted, from_number, joined_market, joined_next, TakesFeed, EndsFeed}
+use Rattle.itch_commands.specs.AsRead.{as_read}
+use Rattle.itch_commands.specs.FeedParts.{beyond, misfit_of, part_of}
+use Rattle.itch_commands.specs.Joining.{Start, IsNotLate, HaltsFeed, LateFeed, from_number, joined_market, joined_next, TakesFeed, EndsFeed}
 use Rattle.itch_commands.specs.Joiners.{position_of, IsJoined, IsStart, IsAfter, FeedStep, DeliversAll, StaysJoined, start_of}
 use Rattle.itch_commands.specs.Limits.{IsBefore}
 use Rattle.itch_commands.specs.Readings.{LateNext, stopped}

@@ -1,5 +1,5 @@
 -- A joiner in which nothing waits: while it reads a snapshot, and after it has joined.
-use Rattle.std.specs.Prelude.{◌≡◌, ℕ, ◌+◌, ◌-◌, ◌<◌, ◌≤◌, ◌^◌, ◌==◌, ◌⊎◌, ◌≢◌, true, false, Bool, List, map, length, ⊤, Option, Some, None, IsSome, Result, Ok, Err}
+use Rattle.std.specs.Prelude.{◌≡◌, ℕ, ◌+◌, ◌<◌, ◌≤◌, ◌^◌, ◌==◌, ◌⊎◌, ◌≢◌, true, false, Bool, List, map, length, ⊤, Option, Some, None, IsSome, Result, Ok, Err}
 use Rattle.std.specs.FinMap as finite
 use Rattle.itch_codec.specs.Widths.{IsSequence}
 use Rattle.itch_frame.specs.Reading.{Reading as Blocks, bytes_left}

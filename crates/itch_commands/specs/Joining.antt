@@ -24,7 +24,7 @@ use Rattle.itch_commands.specs.declared.fault.Source.TheVariants.{Only, Snapshot
 use Rattle.itch_commands.specs.AsRead.{ReadsAs, IsFaultAs, HaltsAs}
 use Rattle.itch_commands.specs.FeedParts.{number_after, misfit_of, part_of}
 use Rattle.itch_commands.specs.Limits.{IsLate, IsBefore}
-use Rattle.itch_commands.specs.Readings.{IsPart, LateNext, IsShort, LeavesDay}
+use Rattle.itch_commands.specs.Readings.{IsPart, LateNext, LeavesDay}
 
 -- the market that a snapshot leaves, and the number of the first message of the feed that is not in it
 abbrev pub Start : Type 0

@@ -31,7 +31,10 @@ impl fmt::Display for Misfit {
         match self {
             Misfit::Gap { next, before } => {
                 let first = u128::from(*before) + 1;
-                write!(f, "gap: message {next} is next, and the feed begins with {first}")
+                write!(
+                    f,
+                    "gap: message {next} is next, and the feed begins with {first}"
+                )
             }
             Misfit::Beyond { held, wanted } => {
                 write!(f, "snapshot: {held} messages, more than {wanted}")
@@ -57,12 +60,10 @@ impl FeedPart {
         ensures { result ≡ misfit_of self.now next }
     {
         if next <= self.before {
-            return Some(
-                Misfit::Gap {
-                    next,
-                    before: self.before,
-                },
-            );
+            return Some(Misfit::Gap {
+                next,
+                before: self.before,
+            });
         }
         beyond(self.limit.after, next - 1)
     }

@@ -55,7 +55,14 @@ pub fn join<R: CountedRead + Drop, S: CountedRead + Drop, A: Allocator + Copy, W
 {
     let mut snapshot = BlockReader::new(alloc, snapshot)?;
     let mut feed = BlockReader::new(alloc, feed)?;
-    join_blocks(alloc, &mut snapshot, &mut feed, FeedPart::whole(), only, out)
+    join_blocks(
+        alloc,
+        &mut snapshot,
+        &mut feed,
+        FeedPart::whole(),
+        only,
+        out,
+    )
 }
 
 /// The same over readers of blocks, which are left where the reading ended: that of the snapshot after its End of Snapshot.

@@ -1,5 +1,4 @@
 use Rattle.std.proofs.Common.{◌≡◌, ◌+◌, ◌-◌, ℕ, Result, refl, sym, ap, subst, ◌∙◌}
-use Rattle.itch_frame.specs.Reading.{bytes_left}
 use Rattle.itch_market.specs.Wanted.{has}
 use Rattle.itch_market.proofs.ReplayReaders.{standing_first, standing_on}
 use Rattle.itch_join.specs.Positions.{Position}
@@ -28,12 +27,12 @@ loop-count-init g c = record {
 
 pub loop-count-preserved : goal.loop-count-preserved
 loop-count-preserved g c = record {
-      going = on_along _ _ c.loop-count.invariant.set _ _ _ _ _ _ _ _ c.loop-count.invariant.going (rw c.in-Ok-true.field-0-test at c.in-Ok-true.ensures.step);
-      joined = rw c.in-Ok-true.field-0-test at c.in-Ok-true.ensures.joined;
-      set = c.in-Ok-true.ensures.set ∙ c.loop-count.invariant.set;
-      uncounted = c.in-Ok-true.ensures.failures ∙ c.loop-count.invariant.uncounted;
-      standing = standing_on _ _ _ _ c.loop-count.invariant.standing c.in-Ok-true.ensures.reader;
-    }
+  going = on_along _ _ c.loop-count.invariant.set _ _ _ _ _ _ _ _ c.loop-count.invariant.going (rw c.in-Ok-true.field-0-test at c.in-Ok-true.ensures.step);
+  joined = rw c.in-Ok-true.field-0-test at c.in-Ok-true.ensures.joined;
+  set = c.in-Ok-true.ensures.set ∙ c.loop-count.invariant.set;
+  uncounted = c.in-Ok-true.ensures.failures ∙ c.loop-count.invariant.uncounted;
+  standing = standing_on _ _ _ _ c.loop-count.invariant.standing c.in-Ok-true.ensures.reader;
+}
 
 pub returns-in-Ok-false-clause-feeds : goal.returns-in-Ok-false-clause-feeds
 returns-in-Ok-false-clause-feeds g c =
@@ -68,8 +67,7 @@ returns-in-Err-clause-feeds g c =
     let reached = part.before + count + 1 - 1 in
     let is : c.stopped.result ≡ stopped stop (Limit.after (part_of part (Position.next (position_of first)))) Only reached =
     c.stopped.ensures ∙ ap (λ (l : Limit). stopped stop l.after Only reached) limit in
-    subst (λ (r : Result ℕ ToolFault). FeedsAll g.R.CountedRead.remaining read part start c.args.reader.now c.deliver_next.new.reader r c.deliver_next.new.joiner.state) (sym is)
-    (
+    subst (λ (r : Result ℕ ToolFault). FeedsAll g.R.CountedRead.remaining read part start c.args.reader.now c.deliver_next.new.reader r c.deliver_next.new.joiner.state) (sym is) (
       going.payloads,
       stops_along _ _ c.loop-count.invariant.set part start _ _ _ count _ _ going c.loop-count.invariant.joined before stop c.in-Err.ensures.step c.in-Err.ensures.joined,
       feed_leaves (part_of part (Position.next (position_of first))) _ _ _ count going.payloads going.counted c.loop-count.invariant.standing _ reached stop refl c.in-Err.ensures.reader,

@@ -1,10 +1,10 @@
-use Rattle.std.proofs.Common.{◌≡◌, None, Some, refl, sym, ap, ◌∙◌, subst, map}
+use Rattle.std.proofs.Common.{◌≡◌, None, sym, ap, ◌∙◌, map}
 use Rattle.itch_market.specs.Wanted.{has}
 use Rattle.itch_join.specs.Positions.{Position}
 use Rattle.itch_commands.specs.AsRead.{as_read}
 use Rattle.itch_commands.specs.FeedParts.{misfit_of}
 use Rattle.itch_commands.specs.Joiners.{position_of, start_of}
-use Rattle.itch_commands.proofs.FeedReadings.{feed_misfits, feed_done, feed_fails}
+use Rattle.itch_commands.proofs.FeedReadings.{feed_done, feed_fails}
 use Rattle.itch_commands.proofs.JoinedStocks.{number_there}
 use Rattle.itch_commands.proofs.join.feed.read_feed.Goals as goal
 
