@@ -1,0 +1,64 @@
+"""Parts of the locates, and the bytes of their snapshots laid together to those of the whole: see docs/FORMATS.md, "Snapshots"."""
+from .program import Failure, Refusal
+
+LAST_LOCATE = 65535
+EVENT_START = b"\0\x0cS"
+EVENT_LENGTH = 2 + 12
+END_START = b"\0\x15G"
+END_LENGTH = 2 + 21
+
+
+def end_block(number):
+    return END_START + str(number).encode().rjust(20)
+
+
+EMPTY = end_block(1)
+
+
+def parts_of(count, locates):
+    """All locates, in so many ranges: those up to `locates` are shared alike, and the last range has all above them too."""
+    ends = [locates * part // count for part in range(1, count)] + [LAST_LOCATE]
+    begins = [0] + [end + 1 for end in ends[:-1]]
+    return tuple(f"{begin}-{end}" for begin, end in zip(begins, ends))
+
+
+def ranges_of(locates):
+    """Rising locates as a list of ranges, such as `1-40,77`."""
+    if not locates:
+        raise Refusal("no stocks")
+    ranges = []
+    for locate in locates:
+        if ranges and locate == ranges[-1][1] + 1:
+            ranges[-1][1] = locate
+        else:
+            ranges.append([locate, locate])
+    return ",".join(str(first) if first == last else f"{first}-{last}" for first, last in ranges)
+
+
+def event_of(snapshot):
+    """The block of the system event that a snapshot begins with, if it does."""
+    block = snapshot.read(EVENT_LENGTH)
+    return block if block.startswith(EVENT_START) else b""
+
+
+def copy_body(part, event, number, whole):
+    """Copies what a part has between its event and its end, which have to be those of the whole."""
+    with open(part, "rb") as snapshot:
+        if event_of(snapshot) != event:
+            raise Failure(f"{part.name} has another system event")
+        size = snapshot.seek(-END_LENGTH, 2)
+        if snapshot.read() != end_block(number):
+            raise Failure(f"{part.name} has not the {number - 1} messages of the check")
+        snapshot.seek(len(event))
+        whole.write(snapshot.read(size - len(event)))
+
+
+def lay_together(parts, number, made):
+    """Writes the whole snapshot out of parts in rising order: their event, the rest of each, and one End of Snapshot."""
+    with open(parts[0], "rb") as snapshot:
+        event = event_of(snapshot)
+    with open(made, "wb") as whole:
+        whole.write(event)
+        for part in parts:
+            copy_body(part, event, number, whole)
+        whole.write(end_block(number))

@@ -1,0 +1,146 @@
+"""The words of `scale/job`."""
+import argparse
+import dataclasses
+import os
+import re
+import shlex
+import signal
+import sys
+from pathlib import Path
+
+from .kinds import END, ALL, TIME, Check, Merge, Site, Snapshots, Table
+from .planning import Wanted, plan_of, report, round_of
+from .program import Failure, Program, end_with_parent
+from .results import Day
+
+TOP = Path(__file__).resolve().parents[2]
+COMMAND = str(TOP / "scale/job")
+POINT = re.compile(rf"{END}|\d+|{TIME.pattern}")
+LOCATES = re.compile(r"\d+(-\d+)?(,\d+(-\d+)?)*")
+FAILED = 3
+
+
+def matching(pattern, what):
+    def read(text):
+        if not pattern.fullmatch(text):
+            raise argparse.ArgumentTypeError(f"{text!r} is no {what}")
+        return text
+    return read
+
+
+def points(text):
+    """Points, each once, in the order in which they are named."""
+    read = matching(POINT, "point of a day: end, a number of messages, or a time such as 10:30")
+    return tuple(dict.fromkeys(map(read, text.split(","))))
+
+
+locates = matching(LOCATES, "list of locates")
+
+
+def parts(text):
+    return tuple(map(locates, text.split(",")))
+
+
+def absolute(text):
+    return Path(text).absolute()
+
+
+def positive(text):
+    number = int(text)
+    if number < 1:
+        raise ValueError(text)
+    return number
+
+
+def add_site(words):
+    default = os.environ.get("ITCHSNAP") or TOP / "release/itchsnap"
+    words.add_argument("--out", type=absolute, required=True, metavar="DIR", help="the folder of the results")
+    words.add_argument("--program", type=Path, default=default, metavar="FILE",
+                       help="the program; if left out, that of the variable ITCHSNAP, or the released one of this checkout")
+
+
+def add_points(words):
+    words.add_argument("--points", type=points, default=(END,), metavar="P1,P2,..",
+                       help="`end`, numbers of messages, or times such as 10:30; the end if left out")
+
+
+def add_plan(words):
+    """The words for what is wanted of many days, which the adapters have too."""
+    add_site(words)
+    add_points(words)
+    words.add_argument("--parts", type=positive, default=1, metavar="K", help="split each day by locates into K parts, and check it")
+    words.add_argument("--locates", type=positive, default=12000, metavar="N", help="parts share the locates up to N alike; 12000 if left out")
+    words.add_argument("--ended", action="store_true", help="check that each day ends with End of Messages")
+    words.add_argument("--tables", action="store_true", help="write tables of the price levels too")
+    words.add_argument("--stock", metavar="LIST", help="the stocks of the tables; all if left out")
+    words.add_argument("days", type=absolute, nargs="+", metavar="DAY", help="a day file: plain, .gz or .zst")
+
+
+def reader():
+    words = argparse.ArgumentParser(description="Does a job over a day file, or says which jobs a number of days comes to.")
+    words.add_argument("--with-parent", action="store_true", help="end when the process that started this one ends")
+    commands = words.add_subparsers(dest="command", required=True)
+    of_a_day = {kind: commands.add_parser(kind.kind, help=kind.__doc__) for kind in (Snapshots, Check, Merge, Table)}
+    add_points(of_a_day[Snapshots])
+    of_a_day[Snapshots].add_argument("--part", type=locates, default=ALL, metavar="LIST", help="of these locates alone")
+    of_a_day[Check].add_argument("--expect", type=int, metavar="N", help="refuse a day that has not N messages")
+    of_a_day[Merge].add_argument("--parts", type=parts, required=True, metavar="A-B,C-D,..", help="the parts, in rising order")
+    of_a_day[Check].add_argument("--ended", action="store_true", help="refuse a day that does not end with End of Messages")
+    add_points(of_a_day[Table])
+    of_a_day[Table].add_argument("--stock", metavar="LIST", help="the stocks of the table; all if left out")
+    for kind, command in of_a_day.items():
+        add_site(command)
+        command.add_argument("day", type=absolute, metavar="DAY", help="a day file: plain, .gz or .zst")
+        command.set_defaults(kind=kind)
+    plan = commands.add_parser("plan", help="a line for each job of these days, for a shell")
+    plan.add_argument("--round", type=positive, metavar="N", help="only the jobs that wait for jobs of N - 1 rounds")
+    for command in plan, commands.add_parser("report", help="which results of these days are refused or missing"):
+        add_plan(command)
+    return words
+
+
+def plan_for(words, fault):
+    """The plan that words ask for; `fault` ends the program with a line."""
+    wanted = Wanted(**{name: getattr(words, name) for name in Wanted._fields})
+    if wanted.parts > 1 and wanted.points != (END,):
+        fault("--parts is for the end of a day alone: at another point a part takes as long as the whole")
+    if wanted.parts > wanted.locates:
+        fault("more parts than locates")
+    days = [Day(path) for path in words.days]
+    names = {}
+    for day in days:
+        if not day.path.is_file():
+            fault(f"{day.path} is no file")
+        if names.setdefault(day.name, day.path) != day.path:
+            fault(f"{names[day.name]} and {day.path} have the same name")
+    return plan_of(Site(words.out, Program(words.program)), days, wanted)
+
+
+def perform(words):
+    options = {field.name: getattr(words, field.name) for field in dataclasses.fields(words.kind) if hasattr(words, field.name)}
+    options |= {"site": Site(words.out, Program(words.program)), "day": Day(words.day)}
+    for line in words.kind(**options).perform():
+        print(line, flush=True)
+
+
+def main():
+    read = reader()
+    words = read.parse_args()
+    signal.signal(signal.SIGTERM, lambda *_: sys.exit(128 + signal.SIGTERM))
+    if words.with_parent:
+        end_with_parent()
+    try:
+        if words.command not in ("plan", "report"):
+            return perform(words)
+        plan = plan_for(words, read.error)
+        if words.command == "report":
+            lines, status = report(plan)
+            print("\n".join(lines))
+            return status
+        for job in plan:
+            if words.round in (None, round_of(job, plan)):
+                print(shlex.join([COMMAND, *job.command()]))
+        return 0
+    except (Failure, OSError) as fault:
+        print(f"job: {fault}", file=sys.stderr)
+        return FAILED
