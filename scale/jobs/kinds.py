@@ -8,7 +8,7 @@ from . import layout
 from .program import Failure, Program, Refusal
 from .results import Day, Result, attempt
 
-END, ALL = "end", "all"
+END = "end"
 TIME = re.compile(r"([01]\d|2[0-3]):[0-5]\d(:[0-5]\d(\.\d{1,9})?)?")
 
 
@@ -24,8 +24,8 @@ class Site(NamedTuple):
     def result(self, day, name, **made_of):
         return Result(self.out, day, name, program=self.program.identity, **made_of)
 
-    def snapshot(self, day, point, part=ALL):
-        name = f"{name_of(point)}.snap" if part == ALL else f"{name_of(point)}.{part}.snap"
+    def snapshot(self, day, point, part=None):
+        name = f"{name_of(point)}.{part}.snap" if part else f"{name_of(point)}.snap"
         return self.result(day, name, kind="snapshot", point=point, part=part)
 
 
@@ -89,10 +89,10 @@ class Job:
             return
         with attempt(missing[0].path.parent) as room:
             for result, answer in self.answers(missing, room):
-                if isinstance(answer, Failure):
-                    failures.append(f"{result}: {answer}")
-                else:
+                try:
                     yield told(result, result.settle(answer, room), "made")
+                except Failure as failure:
+                    failures.append(f"{result}: {failure}")
         if failures:
             raise Failure("; ".join(failures))
 
@@ -102,11 +102,11 @@ class Snapshots(Job):
     """The snapshots of a day at some points, of all locates or of a part."""
 
     points: tuple = (END,)
-    part: str = ALL
+    part: str | None = None
     kind = "snapshots"
 
     def options(self):
-        return ["--points", ",".join(self.points), *([] if self.part == ALL else ["--part", self.part])]
+        return ["--points", ",".join(self.points), *(["--part", self.part] if self.part else [])]
 
     def results(self):
         return [self.site.snapshot(self.day, point, self.part) for point in self.points]
@@ -115,7 +115,7 @@ class Snapshots(Job):
         """A run of the program for each point. A part at the end is joined to the empty snapshot, which passes over the messages of the
         other parts, and so takes less time than `snap`, but does not check them."""
         point = result.made_of["point"]
-        if self.part == ALL:
+        if not self.part:
             words = ["snap", *limit(point)]
         elif point == END:
             empty = room / "empty"
@@ -138,7 +138,7 @@ class Check(Job):
         return [*([] if self.expect is None else ["--expect", str(self.expect)]), *(["--ended"] if self.ended else [])]
 
     def results(self):
-        name = "".join(["check", *self.options()]).replace("--", "-")
+        name = "-".join(["check", *self.options()]).replace("--", "")
         return [self.site.result(self.day, f"{name}.txt", kind="check", expect=self.expect, ended=self.ended)]
 
     def make(self, result, made, room):
@@ -174,7 +174,7 @@ class Table(Job):
     kind = "tables"
 
     def options(self):
-        return ["--points", ",".join(self.points), *([] if self.stock is None else ["--stock", self.stock])]
+        return ["--points", ",".join(self.points), *(["--stock", self.stock] if self.stock else [])]
 
     def results(self):
         return [self.site.result(self.day, f"{name_of(point)}.csv", kind="table", point=point, stock=self.stock) for point in self.points]

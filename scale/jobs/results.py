@@ -96,7 +96,9 @@ class Result:
         return manifest
 
     def settle(self, answer, room):
-        """Puts a file in place as this result, or says that the day is refused. Returns the manifest."""
+        """Puts a file in place as this result, or says that the day is refused. Returns the manifest. A failure is raised."""
+        if isinstance(answer, Failure):
+            raise answer
         if self.day.identity() != self.made_of["day"]:
             raise Failure(f"{self.day.path.name} was changed while it was read")
         manifest = {"made_of": self.made_of}

@@ -8,7 +8,8 @@ import signal
 import sys
 from pathlib import Path
 
-from .kinds import END, ALL, TIME, Check, Merge, Site, Snapshots, Table
+from .kinds import END, TIME, Check, Merge, Site, Snapshots, Table
+from .layout import LAST_LOCATE
 from .planning import Wanted, plan_of, report, round_of
 from .program import Failure, Program, end_with_parent
 from .results import Day
@@ -82,7 +83,7 @@ def reader():
     commands = words.add_subparsers(dest="command", required=True)
     of_a_day = {kind: commands.add_parser(kind.kind, help=kind.__doc__) for kind in (Snapshots, Check, Merge, Table)}
     add_points(of_a_day[Snapshots])
-    of_a_day[Snapshots].add_argument("--part", type=locates, default=ALL, metavar="LIST", help="of these locates alone")
+    of_a_day[Snapshots].add_argument("--part", type=locates, metavar="LIST", help="of these locates alone")
     of_a_day[Check].add_argument("--expect", type=int, metavar="N", help="refuse a day that has not N messages")
     of_a_day[Merge].add_argument("--parts", type=parts, required=True, metavar="A-B,C-D,..", help="the parts, in rising order")
     of_a_day[Check].add_argument("--ended", action="store_true", help="refuse a day that does not end with End of Messages")
@@ -104,8 +105,8 @@ def plan_for(words, fault):
     wanted = Wanted(**{name: getattr(words, name) for name in Wanted._fields})
     if wanted.parts > 1 and wanted.points != (END,):
         fault("--parts is for the end of a day alone: at another point a part takes as long as the whole")
-    if wanted.parts > wanted.locates:
-        fault("more parts than locates")
+    if not wanted.parts <= wanted.locates <= LAST_LOCATE:
+        fault(f"--locates is from the number of parts to {LAST_LOCATE}")
     days = [Day(path) for path in words.days]
     names = {}
     for day in days:
