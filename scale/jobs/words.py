@@ -121,7 +121,9 @@ def perform(words):
     options = {field.name: getattr(words, field.name) for field in dataclasses.fields(words.kind) if hasattr(words, field.name)}
     options |= {"site": Site(words.out, Program(words.program)), "day": Day(words.day)}
     for line in words.kind(**options).perform():
-        print(line, flush=True)
+        # In one piece, since other jobs may write to the same pipe.
+        sys.stdout.write(f"{line}\n")
+        sys.stdout.flush()
 
 
 def main():

@@ -8,6 +8,7 @@ import shlex
 import signal
 import subprocess
 import threading
+import time
 from concurrent.futures import ThreadPoolExecutor
 
 from common import differs
@@ -67,16 +68,20 @@ class Workers:
 
 
 def workers_that_are_killed_lose_nothing(folder):
-    """Jobs are killed at moments of chance, in whatever they do. Meanwhile no result is torn."""
-    days, out = days_in(folder, 15, orders=3000), folder / "out"
+    """Jobs are killed at moments of chance, in whatever they do, about one in two. Meanwhile no result is torn."""
+    days, out = days_in(folder, 12, orders=3000), folder / "out"
+    begin = time.monotonic()
+    job("snapshots", "--out", folder / "tried", [*days][0])
+    length = time.monotonic() - begin
     workers, chance, torn, killed = Workers(tries=100), random.Random(1), [], []
 
     def hunt():
-        while not over.wait(chance.uniform(0, 0.15)):
+        while not over.wait(chance.uniform(0, length)):
             torn.extend(torn_results(out))
             if running := list(workers.running):
-                chance.choice(running).kill()
-                killed.append(None)
+                process = chance.choice(running)
+                process.kill()
+                killed.append(process.pid)
 
     over = threading.Event()
     hunter = threading.Thread(target=hunt)
@@ -87,7 +92,7 @@ def workers_that_are_killed_lose_nothing(folder):
         over.set()
         hunter.join()
     yield from differs("torn results", torn, [])
-    if len(killed) < 10:
+    if len(killed) < 4:
         yield f"only {len(killed)} jobs were killed"
     lines = Workers(tries=1).perform_all(job("plan", "--out", out, *days).output)
     yield from differs("lines again", [line for line in lines if not line.startswith("found")], [])

@@ -22,15 +22,13 @@ def done(*words):
 
 
 def parts_together_are_the_whole(folder):
-    days = {"plain.itch": generated(20000, 50, 1, 46, 2), "packed.itch.gz": generated(20000, 50, 2), "other.itch.zst": large.orders(500, 50)[0]}
-    for name, data in days.items():
+    for count, name, data in ((2, "plain.itch", generated(20000, 50, 1, 46, 2)), (3, "packed.itch.gz", generated(20000, 50, 2)),
+                              (4, "other.itch.zst", large.orders(500, 50)[0])):
         whole = kit.program("snap", write_day(folder / "whole.itch", data))
         day = write_day(folder / name, data)
-        for count in 2, 3, 4:
-            out = folder / f"{count} parts"
-            _, report = done("--out", out, "--parts", count, "--locates", 50, day)
-            yield from differs(f"report of {name} in {count}", report, Ended(0, f"{count + 2} results, 0 refused, 0 missing\n", ""))
-            yield from differs(f"{name} in {count}", bytes_of(out / kit.name_of(day) / "end.snap"), whole)
+        _, report = done("--out", folder, "--parts", count, "--locates", 50, day)
+        yield from differs(f"report of {name}", report, Ended(0, f"{count + 2} results, 0 refused, 0 missing\n", ""))
+        yield from differs(f"{name} in {count}", bytes_of(folder / kit.name_of(day) / "end.snap"), whole)
 
 
 def a_part_has_its_locates_alone(folder):
