@@ -22,6 +22,13 @@ def parts_of(count, locates):
     return tuple(f"{begin}-{end}" for begin, end in zip(begins, ends))
 
 
+def are_whole(parts):
+    """Whether these ranges have every locate once, in rising order."""
+    bounds = [tuple(map(int, part.split("-"))) for part in parts]
+    begins = [0] + [last + 1 for _, last in bounds]
+    return begins == [first for first, _ in bounds] + [LAST_LOCATE + 1] and all(first <= last for first, last in bounds)
+
+
 def ranges_of(locates):
     """Rising locates as a list of ranges, such as `1-40,77`."""
     if not locates:

@@ -9,7 +9,7 @@ import sys
 from pathlib import Path
 
 from .kinds import END, TIME, Check, Merge, Site, Snapshots, Table
-from .layout import LAST_LOCATE
+from .layout import LAST_LOCATE, are_whole
 from .planning import Wanted, plan_of, report, round_of
 from .program import Failure, Program, end_with_parent
 from .results import Day
@@ -17,6 +17,7 @@ from .results import Day
 TOP = Path(__file__).resolve().parents[2]
 COMMAND = str(TOP / "scale/job")
 POINT = re.compile(rf"{END}|\d+|{TIME.pattern}")
+RANGE = re.compile(r"\d+-\d+")
 LOCATES = re.compile(r"\d+(-\d+)?(,\d+(-\d+)?)*")
 FAILED = 3
 
@@ -39,7 +40,11 @@ locates = matching(LOCATES, "list of locates")
 
 
 def parts(text):
-    return tuple(map(locates, text.split(",")))
+    """Parts that can be laid together to the whole."""
+    ranges = tuple(matching(RANGE, "range of locates")(part) for part in text.split(","))
+    if not are_whole(ranges):
+        raise argparse.ArgumentTypeError("these parts do not have every locate once, in rising order")
+    return ranges
 
 
 def absolute(text):
@@ -107,6 +112,8 @@ def plan_for(words, fault):
         fault("--parts is for the end of a day alone: at another point a part takes as long as the whole")
     if not wanted.parts <= wanted.locates <= LAST_LOCATE:
         fault(f"--locates is from the number of parts to {LAST_LOCATE}")
+    if not words.program.is_file():
+        fault(f"{words.program} is no file")
     days = [Day(path) for path in words.days]
     names = {}
     for day in days:

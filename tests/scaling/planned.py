@@ -64,7 +64,10 @@ def words_that_ask_for_nothing_are_refused(folder):
                         (("snapshots", *out, "--points", "7,", day), "'' is no point"),
                         (("snapshots", *out, "--points", "24:00", day), "'24:00' is no point"),
                         (("snapshots", *out, "--part", "../1", day), "'../1' is no list of locates"),
-                        (("merge", *out, day), "--parts"), ((), "command")):
+                        (("plan", *out, "--program", folder / "none", day), "is no file"),
+                        *((("merge", *out, "--parts", parts, day), "every locate once") for parts in
+                          ("0-5", "0-5,7-65535", "1-65535", "0-5,5-65535", "6-65535,0-5", "0-5,6-3,4-65535", "0-65534", "0-65536")),
+                        (("merge", *out, "--parts", "0-5,6", day), "'6' is no range"), (("merge", *out, day), "--parts"), ((), "command")):
         status, output, error = job(*words)
         if (status, output) != (USAGE, "") or said not in error:
             yield f"{words}: {status}, {output!r}, {error!r}"
@@ -74,9 +77,10 @@ def words_that_ask_for_nothing_are_refused(folder):
 
 def the_program_may_be_named_by_a_variable(folder):
     day = write_day(folder / "day.itch", b"")
-    done = subprocess.run([JOB, "plan", "--out", folder, day], env={**os.environ, "ITCHSNAP": "/opt/itchsnap"}, capture_output=True, text=True)
+    program = write_day(folder / "a program", b"")
+    done = subprocess.run([JOB, "plan", "--out", folder, day], env={**os.environ, "ITCHSNAP": str(program)}, capture_output=True, text=True)
     words = shlex.split(done.stdout)
-    yield from differs("program", words[words.index("--program") + 1], "/opt/itchsnap")
+    yield from differs("program", words[words.index("--program") + 1], str(program))
 
 
 RUNS = [
