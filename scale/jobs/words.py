@@ -75,7 +75,8 @@ def add_plan(words):
     add_site(words)
     add_points(words)
     words.add_argument("--parts", type=positive, default=1, metavar="K", help="split each day by locates into K parts, and check it")
-    words.add_argument("--locates", type=positive, default=12000, metavar="N", help="parts share the locates up to N alike; 12000 if left out")
+    words.add_argument("--locates", type=positive, default=12000, metavar="N",
+                       help="the locates up to N are shared alike; 12000 if left out")
     words.add_argument("--ended", action="store_true", help="check that each day ends with End of Messages")
     words.add_argument("--tables", action="store_true", help="write tables of the price levels too")
     words.add_argument("--stock", metavar="LIST", help="the stocks of the tables; all if left out")

@@ -28,8 +28,7 @@ class Engine:
         self.name, self.adapter, self.here, self.environment = name, TOP / "scale" / adapter, here, {**os.environ, **environment}
 
     def started(self, *words):
-        return subprocess.Popen([self.adapter, *map(str, words)], stdout=subprocess.PIPE, stderr=subprocess.PIPE, text=True,
-                                start_new_session=True, env=self.environment)
+        return kit.started([self.adapter, *words], stdout=subprocess.PIPE, stderr=subprocess.PIPE, text=True, env=self.environment)
 
     def run(self, *words):
         """The status of the adapter, its lines, and its errors."""

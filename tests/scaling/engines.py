@@ -11,6 +11,7 @@ import threading
 import time
 from concurrent.futures import ThreadPoolExecutor
 
+import kit
 from common import differs
 from kit import Ended, Watched, bytes_of, days_in, job, manifest, name_of, wait_until
 
@@ -103,8 +104,7 @@ def a_driver_that_is_killed_is_gone_on_with(folder):
     """The engine and all that it started are killed in mid-job. Started again, it does what is missing and nothing else."""
     days, out, watched = days_in(folder, 12), folder / "out", Watched(folder)
     plan = job("plan", "--out", out, "--program", watched.path, *days).output
-    with subprocess.Popen(XARGS, stdin=subprocess.PIPE, stdout=subprocess.DEVNULL, stderr=subprocess.DEVNULL, text=True,
-                          start_new_session=True) as driver:
+    with kit.started(XARGS, stdin=subprocess.PIPE, stdout=subprocess.DEVNULL, stderr=subprocess.DEVNULL, text=True) as driver:
         driver.stdin.write(plan)
         driver.stdin.close()
         wait_until(lambda: whole_results(out) >= 4, "four results are there")

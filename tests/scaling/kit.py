@@ -1,4 +1,5 @@
 """What the runs of scale/ share: days, `scale/job`, and a program that can be stopped in the middle of a job."""
+import contextlib
 import json
 import os
 import signal
@@ -117,6 +118,17 @@ def parent_of(process):
 
 def kill(process):
     os.kill(process, signal.SIGKILL)
+
+
+@contextlib.contextmanager
+def started(words, **more):
+    """A process with all that it starts, of which nothing is left at the end."""
+    with subprocess.Popen([*map(str, words)], start_new_session=True, **more) as process:
+        try:
+            yield process
+        finally:
+            with contextlib.suppress(ProcessLookupError):
+                os.killpg(process.pid, signal.SIGKILL)
 
 
 class Watched:

@@ -47,7 +47,8 @@ def the_report_names_what_is_refused_and_what_is_missing(folder):
                          ((good, bad, cut), Ended(3, f"{refused}{missing}3 results, 1 refused, 1 missing\n", ""))):
         yield from differs(f"after, of {len(days)} days", job("report", *words, *days), wanted)
     (out / "good/end.snap").write_bytes(b"")
-    yield from differs("of an empty result", job("report", *words, good), Ended(3, "missing good/end.snap\n1 results, 0 refused, 1 missing\n", ""))
+    yield from differs("of an empty result", job("report", *words, good),
+                       Ended(3, "missing good/end.snap\n1 results, 0 refused, 1 missing\n", ""))
 
 
 def words_that_ask_for_nothing_are_refused(folder):
@@ -57,7 +58,8 @@ def words_that_ask_for_nothing_are_refused(folder):
     out = "--out", folder / "out"
     for words, said in ((("plan", *out, day, same), "have the same name"), (("plan", *out, folder / "none"), "is no file"),
                         (("plan", *out, folder), "is no file"), (("plan", *out), "DAY"), (("plan", day), "--out"),
-                        (("plan", *out, "--parts", 0, day), "--parts"), (("plan", *out, "--parts", 3, "--locates", 2, day), "from the number of parts"),
+                        (("plan", *out, "--parts", 0, day), "--parts"),
+                        (("plan", *out, "--parts", 3, "--locates", 2, day), "from the number of parts"),
                         (("plan", *out, "--locates", 65536, "--parts", 2, day), "from the number of parts"),
                         (("plan", *out, "--parts", 2, "--points", "7", day), "takes as long as the whole"),
                         (("snapshots", *out, "--points", "noon", day), "'noon' is no point"),

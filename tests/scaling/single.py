@@ -67,6 +67,18 @@ def what_is_there_is_not_made_again(folder):
             yield f"{path.name} was put in place once more"
 
 
+# Changes in the text of a manifest.
+CHANGES = {
+    "without a result": ('"result"', '"other"'),
+    "without a size": ('"result": {', '"result": 7, "other": {'),
+    "of another size": ('"bytes": ', '"bytes": 1'),
+    "of other bytes": ('  "sha256": "', '  "sha256": "0'),
+    "of another day": ("day.itch", "other.itch"),
+    "of another point": ('"end"', '"7"'),
+    "of another part": ('"part": null', '"part": "1-9"'),
+}
+
+
 def harmed(result):
     """Ways in which a result or its manifest may be harmed, each with what does it."""
     beside = result.with_name(f"{result.name}.json")
@@ -77,11 +89,10 @@ def harmed(result):
     yield "empty", lambda: result.write_bytes(b"")
     yield "gone", result.unlink
     yield "a manifest gone", beside.unlink
-    for label, text in (("cut", told[:-9]), ("empty", ""), ("a list", "[]"), ("a number", "7"), ("no text", "\0\xff"), ("of nothing", "{}"),
-                        ("without a result", told.replace('"result"', '"other"')), ("of another day", told.replace("day.itch", "other.itch")),
-                        ("of another point", told.replace('"end"', '"7"')), ("of another size", told.replace('"bytes": ', '"bytes": 1')),
-                        ("of other bytes", told.replace('"result": {\n  "bytes"', '"result": 3, "x": {\n "bytes"'))):
-        yield f"a manifest {label}", lambda text=text: beside.write_text(text)
+    for label, text in ("cut", told[:-9]), ("empty", ""), ("a list", "[]"), ("a number", "7"), ("no text", "\0"), ("of nothing", "{}"):
+        yield f"a manifest, {label}", lambda text=text: beside.write_text(text)
+    for label, (old, new) in CHANGES.items():
+        yield f"a manifest {label}", lambda old=old, new=new: beside.write_text(told.replace(old, new))
 
 
 def what_is_harmed_is_made_again(folder):
@@ -206,9 +217,8 @@ def held_job(folder, *before, after=()):
     day = write_day(folder / "day.itch.gz", data)
     watched.hold()
     words = [*before, JOB, *after, "snapshots", "--out", folder / "out", "--program", watched.path, day]
-    with subprocess.Popen([*map(str, words)], stdout=subprocess.DEVNULL, stderr=subprocess.DEVNULL) as process:
+    with kit.started(words, stdout=subprocess.DEVNULL, stderr=subprocess.DEVNULL) as process:
         yield watched, process, watched.held(), snapshot
-        process.kill()
 
 
 def there(folder):
