@@ -49,11 +49,12 @@ def words_of(row):
 
 
 def is_here(row):
-    """Whether the package can answer a row: it is about bytes, and ends with status 0 or 1. A joiner has messages and no files."""
+    """Whether the package can answer a row: it is about bytes, and ends with status 0 or 1. A joiner has messages and no files, and a list of
+    locates in a file (`@`) is the program's alone."""
     if row.get("words", "").startswith("join ") and re.search("truncated|no end", row.get("error", "")):
         return False
-    return (words_of(row) is not None and row.get("status", "0") in "01" and "any" not in (row.get("output"), row.get("error"))
-            and not any(OTHERS.search(value) for value in row.values()) and not {"stdout", "stderr"} & set(row))
+    return (words_of(row) is not None and "@" not in row.get("words", "") and row.get("status", "0") in "01"
+            and "any" not in (row.get("output"), row.get("error")) and not any(OTHERS.search(value) for value in row.values()) and not {"stdout", "stderr"} & set(row))
 
 
 def locates_of(text):
