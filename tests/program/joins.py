@@ -1,7 +1,10 @@
-"""Runs of `join` from a snapshot of the day's first messages: whatever part of the day the feed has, what is written is what `snap` writes.
+"""Runs of `join` and `at` from snapshots of the day's first messages: whatever part of the day the feed has, what is written is what `snap`
+writes.
 
 RUNS has a function for each run, named for what it shows; it is given the program, and yields what differs.
 """
+import json
+import subprocess
 import tempfile
 from pathlib import Path
 
@@ -60,4 +63,81 @@ def joins_until_each_time_are_snapshots_of_the_day(program):
                 yield from differs((held, time), ended_in(folder, program, "join", "held.snap", "1.itch", "--until", str(time)), wanted)
 
 
-RUNS = (joins_after_each_message_are_snapshots_of_the_day, joins_until_each_time_are_snapshots_of_the_day)
+def write_checkpoints(folder, program, counts):
+    """Writes the snapshots after so many messages into a folder of their own, with their index."""
+    snapshots = Path(folder) / "snapshots"
+    snapshots.mkdir(exist_ok=True)
+    lines = []
+    for count in counts:
+        (snapshots / f"{count}.snap").write_bytes(snapped(folder, program, "--after", str(count)))
+        time = TIMES[count - 1] if count else None
+        offset = sum(map(len, DAY[:count]))
+        lines.append(json.dumps({"messages": count, "offset": offset, "timestamp": time, "file": f"{count}.snap"}) + "\n")
+    (snapshots / "index.jsonl").write_text("".join(lines))
+
+
+def points():
+    """Each point of the day, as a word of `at` and as the words of `snap`."""
+    for count in COUNTS:
+        yield str(count), ("--after", str(count))
+    for time in range(11):
+        clock = f"00:00:00.{time:09}"
+        yield clock, ("--until", clock)
+
+
+def the_snapshot_at_each_point_is_that_of_the_day(program):
+    with tempfile.TemporaryDirectory() as folder:
+        folder_of_a_day(folder)
+        day = (Path(folder) / "1.itch").read_bytes()
+        for counts in ([], [3], [2, 5], [5, 2, 7], [0, len(DAY)]):
+            write_checkpoints(folder, program, counts)
+            for point, part in points():
+                wanted = 0, snapped(folder, program, *part), b""
+                yield from differs((counts, point), ended_in(folder, program, "at", "snapshots", "1.itch", point), wanted)
+                piped = subprocess.run([program, "at", "snapshots", "-", point], cwd=folder, input=day, capture_output=True, timeout=60)
+                yield from differs((counts, point, "standard input"), (piped.returncode, piped.stdout, piped.stderr), wanted)
+
+
+def at_reads_the_day_from_its_checkpoint_on(program):
+    with tempfile.TemporaryDirectory() as folder:
+        folder_of_a_day(folder)
+        write_checkpoints(folder, program, [2, 5])
+        read = sum(map(len, DAY[:5]))
+        (Path(folder) / "rest.itch").write_bytes(bytes(read) + b"".join(DAY[5:]))
+        for count in (5, 6, 7):
+            wanted = 0, snapped(folder, program, "--after", str(count)), b""
+            yield from differs(count, ended_in(folder, program, "at", "snapshots", "rest.itch", str(count)), wanted)
+        yield from differs("from 2 on", ended_in(folder, program, "at", "snapshots", "rest.itch", "4"), (1, b"", b"itchsnap: only 2 messages\n"))
+
+
+def at_passes_over_lines_that_are_no_checkpoints(program):
+    with tempfile.TemporaryDirectory() as folder:
+        folder_of_a_day(folder)
+        write_checkpoints(folder, program, [2])
+        index = Path(folder) / "snapshots/index.jsonl"
+        index.write_text('\n[]\n{"messages":3}\nno JSON\n' + index.read_text() + '{"messages":5,"off')
+        wanted = 0, snapped(folder, program, "--after", "6"), b""
+        yield from differs("after 6", ended_in(folder, program, "at", "snapshots", "1.itch", "6"), wanted)
+
+
+def at_is_refused_as_join_is(program):
+    with tempfile.TemporaryDirectory() as folder:
+        folder_of_a_day(folder)
+        missing = 3, b"", b"itchsnap: cannot open\n  snapshots: No such file or directory (os error 2)\n"
+        yield from differs("no folder", ended_in(folder, program, "at", "snapshots", "1.itch", "6"), missing)
+        write_checkpoints(folder, program, [2])
+        yield from differs("beyond the end", ended_in(folder, program, "at", "snapshots", "1.itch", "8"), (1, b"", b"itchsnap: only 7 messages\n"))
+        for point in ("", "+1", "10:61", "x"):
+            yield from differs(point, ended_in(folder, program, "at", "snapshots", "1.itch", point)[:2], (2, b""))
+        (Path(folder) / "snapshots/2.snap").unlink()
+        yield from differs("no snapshot", ended_in(folder, program, "at", "snapshots", "1.itch", "6"), missing)
+
+
+RUNS = (
+    joins_after_each_message_are_snapshots_of_the_day,
+    joins_until_each_time_are_snapshots_of_the_day,
+    the_snapshot_at_each_point_is_that_of_the_day,
+    at_reads_the_day_from_its_checkpoint_on,
+    at_passes_over_lines_that_are_no_checkpoints,
+    at_is_refused_as_join_is,
+)

@@ -22,6 +22,7 @@ pub mod FeedsTaken
 pub mod FeedStops
 pub mod FeedReadings
 pub mod Joinings
+pub mod JoinedDays
 pub mod JoinedStocks
 pub mod JoinedTexts
 pub mod QueuePrices

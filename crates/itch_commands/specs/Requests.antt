@@ -11,7 +11,7 @@ use Rattle.itch_commands.specs.declared.fault.Source.TheVariants.{Second, Snapsh
 use Rattle.itch_commands.specs.declared.fault.Source.TheVariants as source
 use Rattle.itch_commands.specs.Locates.{list_file}
 use Rattle.itch_commands.specs.declared.request.Request.{Request}
-use Rattle.itch_commands.specs.declared.request.Request.TheVariants.{Snap, Check, Show, Canon, Compare, CompareFirst, Book, Join}
+use Rattle.itch_commands.specs.declared.request.Request.TheVariants.{Snap, Check, Show, Canon, Compare, CompareFirst, Book, Join, At}
 use Rattle.itch_commands.specs.Choices.{Chosen, chosen_by}
 use Rattle.itch_commands.specs.Commands.{Snaps, SnapsStocks, Checks, ShowsSnapshot, WritesCanon, ChecksCanon, ListsBooks, ListsStocks}
 use Rattle.itch_commands.specs.declared.form.BookForm.{BookForm}
@@ -38,6 +38,8 @@ read_file_of (CompareFirst first second limit form) Second = option_map (λ path
 read_file_of (CompareFirst first second limit form) source = option_map (λ path. path.now) first
 read_file_of (Join snapshot feed part selection) Snapshot = option_map (λ path. path.now) snapshot
 read_file_of (Join snapshot feed part selection) source = option_map (λ path. path.now) feed
+read_file_of (At folder feed point selection) Snapshot = Some folder.now
+read_file_of (At folder feed point selection) source = option_map (λ path. path.now) feed
 
 -- the list of the locates that are selected, if they are by a list
 abbrev pub list_of : Selection → Option (List ℕ)
@@ -50,6 +52,7 @@ abbrev pub only_of : Request → Option (List ℕ)
 only_of (Snap file limit selection) = list_of selection
 only_of (Book selection depth file kind form) = list_of selection
 only_of (Join snapshot feed part selection) = list_of selection
+only_of (At folder feed point selection) = list_of selection
 only_of (Show file kind form filters) = option_map (λ list. list.now) filters.only
 only_of request = None
 
@@ -68,6 +71,7 @@ abbrev pub is_binary : Request → Bool
 is_binary (Snap file limit selection) = true
 is_binary (Canon file false) = true
 is_binary (Join snapshot feed part selection) = true
+is_binary (At folder feed point selection) = true
 is_binary request = false
 
 -- a request over one file
@@ -75,6 +79,7 @@ abbrev pub IsOverOne : Request → Type 0
 IsOverOne (Compare first second kind form) = ⊥
 IsOverOne (CompareFirst first second limit form) = ⊥
 IsOverOne (Join snapshot feed part selection) = ⊥
+IsOverOne (At folder feed point selection) = ⊥
 IsOverOne request = ⊤
 
 module _ {R W : Type 0} (remaining : R → Option (List ℕ)) (failed_reads : R → Failures) (contents : W → Option (List ℕ)) (failed_writes : W → Failures) where
@@ -110,3 +115,4 @@ module _ {R W : Type 0} (remaining : R → Option (List ℕ)) (failed_reads : R 
   Performs (Compare first second kind form) set old new = λ out result written. ⊥
   Performs (CompareFirst first second limit form) set old new = λ out result written. ⊥
   Performs (Join snapshot feed part selection) set old new = λ out result written. ⊥
+  Performs (At folder feed point selection) set old new = λ out result written. ⊥

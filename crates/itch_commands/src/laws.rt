@@ -1,7 +1,7 @@
 //! What is read with a set of locates, as `join` reads it, and what is shown without filters and with them.
 //!
 //! Each function here does nothing: its clauses are the laws.
-ghost use Rattle.std.specs.Prelude.{◌≡◌, ◌<◌, ℕ, Bool, List, None, Some, map};
+ghost use Rattle.std.specs.Prelude.{◌≡◌, ◌<◌, ◌≤◌, ◌+◌, ◌++◌, ℕ, Bool, List, None, Some, drop, length, map};
 ghost use Rattle.std.specs.List.{AllByRecursion, list_all, list_any};
 ghost use Rattle.itch_codec.specs.Fields.{AreBytes};
 ghost use Rattle.itch_codec.specs.Messages.{message_of};
@@ -10,7 +10,7 @@ ghost use Rattle.itch_market.specs.Content.{Content, empty};
 ghost use Rattle.itch_market.specs.GoodMarkets.{IsGood};
 ghost use Rattle.itch_market.specs.Partial.{only as cut};
 ghost use Rattle.itch_market.specs.Replays.{NoCause};
-ghost use Rattle.itch_market.specs.Runs.{run};
+ghost use Rattle.itch_market.specs.Runs.{AreMessages, Follows, run};
 ghost use Rattle.itch_market.specs.SameMarkets.{Same};
 ghost use Rattle.itch_snapshot.specs.TakenMessages.{closing_number};
 ghost use Rattle.itch_join.specs.Rules.{Rules, market_rules, rules_of, bad, run as run_by};
@@ -18,7 +18,7 @@ ghost use Rattle.itch_commands.specs.AsRead.{as_read};
 ghost use Rattle.itch_commands.specs.Choices.{Chosen, everything, chosen_past, are_found_in, chosen_lines, lines_of};
 ghost use Rattle.itch_commands.specs.FirstDifferences.{IsPlaceIn, IsSameIn};
 ghost use Rattle.itch_commands.specs.Sought.{sought, found_at, has_name, is_of_one, stock_past};
-ghost use Rattle.itch_commands.specs.Joining.{from_number, joined_market};
+ghost use Rattle.itch_commands.specs.Joining.{from_number, joined_market, joined_next};
 ghost use Rattle.itch_commands.specs.declared.form.ShowForm.TheVariants.{Text};
 ghost use Rattle.itch_commands.specs.declared.limit.Limit.{Limit};
 
@@ -45,6 +45,14 @@ pub fn restricted_reading()
         → NoCause m (from_number before number ps) → NoCause n (from_number before number (map (as_read wanted) ps)) }
     ensures joined { (wanted : ℕ → Bool) → (m n : Content) → (before number : ℕ) → (ps : List (List ℕ)) → IsGood m → IsGood n → Same n (cut wanted m) → AllByRecursion AreBytes (from_number before number ps)
         → NoCause m (from_number before number ps) → Same (joined_market before (n, number) (map (as_read wanted) ps)) (cut wanted (joined_market before (m, number) ps)) }
+{}
+
+/// Whichever message of a day a feed begins with, from a snapshot of the day's first messages on it leaves the market of the whole day,
+/// with its number. The feed may begin with the first message that the snapshot lacks, or before.
+pub fn joined_day()
+    ensures market { (m : Content) → (before : ℕ) → (ps qs : List (List ℕ)) → IsGood m → Same m (run (map message_of ps)) → before ≤ length ps → AreMessages (map message_of (ps ++ qs))
+        → Follows (map message_of (ps ++ qs)) → Same (joined_market before (m, length ps + 1) (drop before (ps ++ qs))) (run (map message_of (ps ++ qs))) }
+    ensures number { (m : Content) → (before : ℕ) → (ps qs : List (List ℕ)) → before ≤ length ps → joined_next before (m, length ps + 1) (drop before (ps ++ qs)) ≡ length (ps ++ qs) + 1 }
 {}
 
 /// Without filters each message is shown, as a line. Where no order is followed and no stock is looked for, what chooses the messages

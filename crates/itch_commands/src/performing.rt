@@ -56,9 +56,10 @@ pub fn perform<R: CountedRead, B: Allocator, A: Allocator + Copy, W: CountedWrit
             form,
             ..
         } => book_selected(alloc, selection, only, depth, reader, kind, form, out),
-        Request::Compare { .. } | Request::CompareFirst { .. } | Request::Join { .. } => {
-            unreachable!()
-        }
+        Request::Compare { .. }
+        | Request::CompareFirst { .. }
+        | Request::Join { .. }
+        | Request::At { .. } => unreachable!(),
     }
 }
 

@@ -69,6 +69,13 @@ pub enum Request<'a> {
         part: FeedPart,
         selection: Selection<'a>,
     },
+    /// Write the snapshot at a point of the day, from the nearest of its snapshots in a folder, for the locates that are selected only.
+    At {
+        folder: &'a str,
+        feed: Option<&'a str>,
+        point: Limit,
+        selection: Selection<'a>,
+    },
 }
 
 impl<'a> Request<'a> {
@@ -103,6 +110,10 @@ impl<'a> Request<'a> {
                 Source::Snapshot => snapshot,
                 _ => feed,
             },
+            Request::At { folder, feed, .. } => match source {
+                Source::Snapshot => Some(folder),
+                _ => feed,
+            },
         }
     }
 
@@ -112,7 +123,10 @@ impl<'a> Request<'a> {
     {
         matches!(
             self,
-            Request::Snap { .. } | Request::Join { .. } | Request::Canon { check: false, .. }
+            Request::Snap { .. }
+                | Request::Join { .. }
+                | Request::At { .. }
+                | Request::Canon { check: false, .. }
         )
     }
 
@@ -123,7 +137,8 @@ impl<'a> Request<'a> {
         match self {
             Request::Snap { selection, .. }
             | Request::Book { selection, .. }
-            | Request::Join { selection, .. } => selection.list(),
+            | Request::Join { selection, .. }
+            | Request::At { selection, .. } => selection.list(),
             Request::Show { filters, .. } => filters.only,
             _ => None,
         }

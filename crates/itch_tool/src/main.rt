@@ -5,6 +5,7 @@
 //! `follow` and `feed` those of `itchsnap_live`.
 #![tactic(auto)]
 
+mod checkpoints;
 mod explaining;
 mod failed;
 mod live;

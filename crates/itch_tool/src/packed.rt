@@ -69,6 +69,7 @@ fn words(job: &Job<'_>, source: Source) -> &'static str {
         (Request::CompareFirst { .. }, Source::Second) => "compare --first .. -",
         (Request::CompareFirst { .. }, _) => "compare --first - ..",
         (Request::Join { .. }, Source::Snapshot) => "join - ..",
+        (Request::At { .. }, _) => "at .. - ..",
         (Request::Join { .. }, _) => "join .. -",
     }
 }

@@ -1,9 +1,10 @@
 //! The commands over files and standard streams.
 ghost use Rattle.itch_commands.specs.Requests.{IsOverOne};
 
+use crate::checkpoints::{EMPTY_SNAPSHOT, nearest, path_of};
 use crate::live::{run_feed, run_follow, run_live};
 use crate::locate_list::read_only;
-use crate::opened::open;
+use crate::opened::{open, open_at};
 use crate::output::Output;
 use crate::sockets::{run_fetch, run_serve};
 use itch_commands::compare::{compare_blocks, compare_first_blocks};
@@ -140,6 +141,12 @@ fn answer<R: Files + Input + Eprint + AllocGlobal + Clock, W: CountedWrite>(
             let feed = open(rt, feed, Source::Only, progress)?;
             join_over(alloc, snapshot, feed, part, selection, only, out)
         }
+        Request::At {
+            folder,
+            feed,
+            point,
+            selection,
+        } => join_at(rt, folder, feed, point, selection, progress, only, out),
         _ => {
             let file = open(rt, request.file(Source::Only), Source::Only, progress)?;
             perform_over(alloc, request, only.as_ref(), file, out)
@@ -175,11 +182,42 @@ fn compare_first_over<A: Allocator + Copy, R: Read + Drop, W: CountedWrite>(
     compare_first_blocks(alloc, &mut first, &mut second, limit, form, out)
 }
 
+// Joins a day file to the checkpoint that is nearest to a point of the day. The file is read from there on, if it has places.
+fn join_at<R: Files + Input + Eprint + AllocGlobal + Clock, W: CountedWrite>(
+    rt: &R,
+    folder: &str,
+    feed: Option<&str>,
+    point: Limit,
+    selection: Selection<'_>,
+    progress: Option<&Progress<'_, R>>,
+    only: Option<LocateSet<Global>>,
+    out: &mut W,
+) -> Result<bool, ToolFault> {
+    let alloc = rt.alloc();
+    let checkpoint = nearest(rt, folder, point)?;
+    let (feed, at) = open_at(rt, feed, checkpoint.offset, Source::Only, progress)?;
+    let before = if at == checkpoint.offset {
+        checkpoint.messages
+    } else {
+        0
+    };
+    let part = FeedPart {
+        before,
+        limit: point,
+    };
+    if checkpoint.messages == 0 {
+        return join_over(alloc, EMPTY_SNAPSHOT, feed, part, selection, only, out);
+    }
+    let path = path_of(alloc, folder, &checkpoint)?;
+    let snapshot = open(rt, Some(path.as_str()), Source::Snapshot, progress)?;
+    join_over(alloc, snapshot, feed, part, selection, only, out)
+}
+
 // Joins a feed to a snapshot.
-fn join_over<A: Allocator + Copy, R: Read + Drop, W: CountedWrite>(
+fn join_over<A: Allocator + Copy, R: Read + Drop, S: Read + Drop, W: CountedWrite>(
     alloc: A,
     snapshot: R,
-    feed: R,
+    feed: S,
     part: FeedPart,
     selection: Selection<'_>,
     only: Option<LocateSet<A>>,

@@ -46,6 +46,9 @@ pub enum Argument {
     Joined,
     Feed,
     FirstNumber,
+    // The snapshots of `at`, and the point of the day.
+    Checkpoints,
+    Point,
     // What `book` prints.
     Locate,
     BookStock,
@@ -110,6 +113,16 @@ impl Argument {
             ),
             Argument::Feed => named(alloc, "FEED", "The feed, from its first message on, or `-`"),
             Argument::FirstNumber => first_number(alloc),
+            Argument::Checkpoints => named(
+                alloc,
+                "DIR",
+                "The folder with snapshots of the day and their index",
+            ),
+            Argument::Point => named(
+                alloc,
+                "POINT",
+                "The number of messages, or the time, such as 10:30",
+            ),
             Argument::Locate => locate(alloc),
             Argument::BookStock => stock(
                 alloc,

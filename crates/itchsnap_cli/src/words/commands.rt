@@ -20,7 +20,7 @@ struct Entry {
 }
 
 /// The commands.
-const COMMANDS: [Entry; 13] = [
+const COMMANDS: [Entry; 14] = [
     Entry {
         name: "snap",
         about: "Write the snapshot of the market that a day file leaves",
@@ -90,6 +90,20 @@ const COMMANDS: [Entry; 13] = [
             Argument::Progress,
         ],
         example: "Example: itchsnap join early.snap day.itch > day.snap",
+    },
+    Entry {
+        name: "at",
+        about: "Write the snapshot at a point of the day, from the nearest of its snapshots",
+        takes: &[
+            Argument::Checkpoints,
+            Argument::Feed,
+            Argument::Point,
+            Argument::Only,
+            Argument::Stock,
+            Argument::Output,
+            Argument::Progress,
+        ],
+        example: "Example: itchsnap at snapshots day.itch 10:30 > day.snap",
     },
     Entry {
         name: "show",

@@ -28,6 +28,7 @@ pub fn read_request<'a>(alloc: Global, matches: &ArgMatches<'a>) -> Result<Reque
         Some(("compare", options)) => read_compare(alloc, options),
         Some(("book", options)) => read_book(alloc, options),
         Some(("join", options)) => read_join(alloc, options),
+        Some(("at", options)) => read_at(alloc, options),
         _ => Err(usage_fault(alloc, "a command is missing")?),
     }
 }
@@ -82,6 +83,36 @@ fn read_join<'a>(alloc: Global, options: &ArgMatches<'a>) -> Result<Request<'a>,
         part: read_part(alloc, options)?,
         selection: read_selection(alloc, options)?,
     })
+}
+
+fn read_at<'a>(alloc: Global, options: &ArgMatches<'a>) -> Result<Request<'a>, Error> {
+    Ok(Request::At {
+        folder: options.get_str("DIR").unwrap_or("."),
+        feed: read_path(options, "FEED"),
+        point: read_point(alloc, options.get_str("POINT").unwrap_or(""))?,
+        selection: read_selection(alloc, options)?,
+    })
+}
+
+// A point of the day: a number of messages, or a time with a colon in it.
+fn read_point(alloc: Global, text: &str) -> Result<Limit, Error> {
+    if text.contains(':') {
+        if let Some(time) = read_time(text) {
+            return Ok(Limit {
+                after: None,
+                until: Some(time),
+            });
+        }
+    }
+    if text.bytes().all(|byte| byte.is_ascii_digit()) {
+        if let Ok(count) = text.parse::<u64>() {
+            return Ok(Limit::counted(Some(count)));
+        }
+    }
+    Err(usage_fault(
+        alloc,
+        "POINT is a number of messages, or a time such as 10:30",
+    )?)
 }
 
 // The part of a feed that is wanted, after `--from`, `--after` and `--until`.
