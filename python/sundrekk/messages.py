@@ -24,7 +24,7 @@ def payloads(blocks: ReadableBuffer) -> Iterator[memoryview]:
     view, at, number = memoryview(blocks).cast("B"), 0, 1
     while at < len(view):
         end = at + 2 + int.from_bytes(view[at:at + 2], "big")
-        if end > len(view) or len(view) - at < 2:
+        if end > len(view):
             raise Refused(TRUNCATED, len(view) - at, number)
         if end == at + 2:
             return
