@@ -24,9 +24,9 @@ class Day:
         with Day("day.itch") as day:
             noon = day.snapshot(until="12:00")
 
-    A file is mapped and not copied: its pages are the system's cache, and a file of any size takes no memory but that of the market that
-    is made of it. It must not be cut shorter meanwhile. A pipe is read into memory. Calls on a day may be made from any thread, and
-    run side by side.
+    A file is mapped and not copied: its pages are the system's cache, and a file of any size takes no memory but that of its market and
+    its snapshot. It must not be cut shorter meanwhile. A pipe is read into memory. Calls on a day may be made from any thread, and run
+    side by side.
     """
 
     def __init__(self, path: Union[str, os.PathLike[str]]) -> None:

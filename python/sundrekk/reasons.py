@@ -81,7 +81,8 @@ WORDS = {
 
 
 class Refused(ValueError):
-    """A file, a message, a packet or a call is refused. Its text is that of the program's line.
+    """A file, a message, a packet or a call is refused. Its text is that of the program's line, but for a wrong length, of which it has
+    only the one that is wanted.
 
     reason: why. A reason of order rules or of a payload is the first that applies.
     detail: what itchsnap.h says of the reason, such as the shares that remain; otherwise 0.

@@ -45,10 +45,15 @@ class Snapshot:
         return cls(Path(path).read_bytes())
 
     def write(self, path: Union[str, os.PathLike[str]]) -> None:
-        """Writes a snapshot file. It is written beside, as `PATH.part`, and gets its name once it is whole."""
+        """Writes a snapshot file. It is written beside, as `PATH.part`, and gets its name once it is whole; nothing is left of it where
+        that fails."""
         part = Path(f"{os.fspath(path)}.part")
-        part.write_bytes(self._data)
-        part.replace(path)
+        try:
+            part.write_bytes(self._data)
+            part.replace(path)
+        except BaseException:
+            part.unlink(missing_ok=True)
+            raise
 
     @property
     def data(self) -> bytes:
