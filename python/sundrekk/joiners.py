@@ -50,13 +50,13 @@ class Joiner(Lookups):
             some = locates_of(only)
             done(library.joiner_new_only(self._own, most, some, len(some)))
 
-    def live(self, message_number: int, payload: ReadableBuffer) -> Step:
+    def live_message(self, message_number: int, payload: ReadableBuffer) -> Step:
         """Takes the message with this number of the live feed, counted from 1. Raises `Refused` with the reasons `FULL`, `CONFLICT`,
         `BAD_MESSAGE_NUMBER`, `HALTED`, `OUT_OF_MEMORY` and `TAKEN_NO_MEMORY`."""
         with bytes_of(payload) as (at, size):
             return _step(library.joiner_live(self._own, number(message_number, 64, "a number"), at, size))
 
-    def load(self, payload: ReadableBuffer) -> Step:
+    def snapshot_message(self, payload: ReadableBuffer) -> Step:
         """Takes the next message of the snapshot; End of Snapshot comes last. Raises `Refused` with the reasons `HALTED`,
         `ALREADY_JOINED`, `BAD_SNAPSHOT`, `OUT_OF_MEMORY` and `TAKEN_NO_MEMORY`."""
         with bytes_of(payload) as (at, size):

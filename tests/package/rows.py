@@ -136,11 +136,11 @@ def values(levels):
 
 def join(files, options):
     with Joiner(0, **part_of(options)) as joiner:
-        steps = (joiner.load(payload) for payload in payloads(files[0]))
+        steps = (joiner.snapshot_message(payload) for payload in payloads(files[0]))
         if Step.JOINED not in steps:
             raise Refused(Reason.NO_END)
         for number, payload in enumerate(payloads(files[1]), 1):
-            joiner.live(number, payload)
+            joiner.live_message(number, payload)
         return joiner.snapshot().data
 
 

@@ -132,7 +132,8 @@ def both_ends_understand_each_other():
 
 
 def words_that_do_not_fit_are_refused():
-    rows = [(("seventh", "secret", ""), "a username has up to 6 characters"), (("user", "elevenchars", ""), "a password has up to 10 characters"),
+    rows = [(("seventh", "secret", ""), "a username has up to 6 characters"),
+            (("user", "elevenchars", ""), "a password has up to 10 characters"),
             (("user", "secret", "elevenchars"), "a session has up to 10 characters")]
     for (username, password, session), wanted in rows:
         yield from differs(wanted, said(ClientSession, username, password, session=session, now_ms=0), wanted)
