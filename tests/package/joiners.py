@@ -23,7 +23,7 @@ def joined(waiting=0, only=None):
 
 def a_feed_in_any_order_gives_the_market_of_the_feed():
     feed = list(enumerate(payloads(generated()), 1))
-    for seed in range(3):
+    for seed in range(2):
         order = feed + feed[:500]
         random.Random(seed).shuffle(order)
         with Joiner(len(feed)) as joiner:
@@ -37,7 +37,7 @@ def a_feed_in_any_order_gives_the_market_of_the_feed():
 
 
 def a_joiner_goes_on_from_each_snapshot():
-    for after in (0, 1, 51, 10000, 20000):
+    for after in (0, 51, 20000):
         with Joiner(0) as joiner:
             steps = [joiner.snapshot_message(payload) for payload in payloads(Day.of(generated()).snapshot(after=after).data)]
             yield from differs("the steps of a snapshot", (set(steps[:-1]) <= {Step.MORE}, steps[-1]), (True, Step.JOINED))
@@ -51,7 +51,8 @@ def each_message_has_its_answer():
     with Joiner(2) as joiner:
         live, loaded = joiner.live_message, joiner.snapshot_message
         steps = [(live, 3, FEED[2], Step.KEPT), (live, 3, FEED[2], Step.KEPT), (loaded, FEED[0], Step.MORE), (loaded, FEED[1], Step.MORE),
-                 (loaded, END_AT_3, Step.JOINED), (live, 1, FEED[0], Step.OLD), (live, 5, FEED[4], Step.KEPT), (live, 4, FEED[3], Step.APPLIED)]
+                 (loaded, END_AT_3, Step.JOINED), (live, 1, FEED[0], Step.OLD), (live, 5, FEED[4], Step.KEPT),
+                 (live, 4, FEED[3], Step.APPLIED)]
         for call, *words, wanted in steps:
             yield from differs(f"{call.__name__} of {words}", call(*words), wanted)
         yield from differs("resume", joiner.resume(), Step.APPLIED)
