@@ -5,6 +5,8 @@ RUNS has a function for each run, named for what it shows; it yields what differ
 import doctest
 import inspect
 import os
+import subprocess
+import sys
 
 import samples
 import sundrekk
@@ -13,17 +15,12 @@ README = samples.TOP / "python/README.md"
 
 
 def the_readme_shows_what_happens():
-    printed = []
-    runner = doctest.DocTestRunner(verbose=False)
-    before = os.getcwd()
-    os.chdir(samples.TOP)
-    try:
-        runner.run(doctest.DocTestParser().get_doctest(README.read_text(), {}, "README", str(README), 0), out=printed.append)
-    finally:
-        os.chdir(before)
-    if runner.tries == 0:
+    if not doctest.DocTestParser().get_examples(README.read_text()):
         yield "no example"
-    yield from filter(None, ["".join(printed)])
+    done = subprocess.run([sys.executable, "-B", "-m", "doctest", README], cwd=samples.TOP, text=True, stdout=subprocess.PIPE,
+                          stderr=subprocess.STDOUT, env={**os.environ, "PYTHONPATH": str(samples.TOP / "python")}, timeout=60)
+    if done.returncode or done.stdout:
+        yield done.stdout
 
 
 def each_public_name_is_explained():
