@@ -91,7 +91,7 @@ class Result:
     def found(self):
         """Its manifest, if the result is there."""
         manifest = self.manifest()
-        if manifest and "refused" not in manifest and digest_of(self.path) != manifest["result"]["sha256"]:
+        if manifest and "refused" not in manifest and digest_of(self.path) != manifest["result"].get("sha256"):
             return None
         return manifest
 

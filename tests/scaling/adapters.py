@@ -9,6 +9,7 @@ import shutil
 import signal
 import subprocess
 import sys
+import time
 from importlib.util import find_spec
 from pathlib import Path
 
@@ -81,6 +82,21 @@ def sums_differ(lines, tables):
         wanted = [str(table), *map(str, (len(rows), sum(int(row["shares"]) for row in rows), sum(int(row["orders"]) for row in rows)))]
         if wanted not in map(str.split, lines):
             yield f"{wanted} is not in {lines}"
+
+
+def makes_a_table_after_its_snapshot(engine, folder):
+    """There is a worker for each job, but the table waits, however long its snapshot takes."""
+    [day], out, watched = days_in(folder, 1), folder / "out", Watched(folder)
+    watched.hold()
+    with engine.started(*engine.here, "--out", out, "--program", watched.path, "--tables", day) as process:
+        watched.held()
+        time.sleep(1)
+        watched.release()
+        output, error = process.communicate(timeout=3 * PATIENCE)
+    wanted = ["made day0/end.snap", "made day0/end.csv", "2 results, 0 refused, 0 missing"]
+    yield from differs("lines", (process.returncode, output.splitlines()[:3]), (0, wanted))
+    if error and "no dataframes here" not in error:
+        yield f"error {error!r}"
 
 
 @contextlib.contextmanager
@@ -207,6 +223,7 @@ def run_of(engine, run):
 
 EACH = [
     does_days_in_parts_with_tables,
+    makes_a_table_after_its_snapshot,
     does_days_on_other_machines,
     loses_nothing_with_a_worker,
     goes_on_after_its_end,
