@@ -91,8 +91,10 @@ def makes_a_table_after_its_snapshot(engine, folder):
     with engine.started(*engine.here, "--out", out, "--program", watched.path, "--tables", day) as process:
         watched.held()
         time.sleep(1)
+        begun = len(watched.jobs())
         watched.release()
         output, error = process.communicate(timeout=3 * PATIENCE)
+    yield from differs("jobs that began", begun, 1)
     wanted = ["made day0/end.snap", "made day0/end.csv", "2 results, 0 refused, 0 missing"]
     yield from differs("lines", (process.returncode, output.splitlines()[:3]), (0, wanted))
     if error and "no dataframes here" not in error:

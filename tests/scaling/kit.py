@@ -17,9 +17,13 @@ JOB = TOP / "scale/job"
 PROGRAM = TOP / "release/itchsnap"
 PATIENCE = 20
 
-# The program, noting each run. While there is a file `hold` it stops in the middle of its output, and `held` has its number and the job's.
+# The program, noting each run, and each job that asks for its version. While there is a file `hold` it stops in the middle of its output,
+# and `held` has its number and the job's.
 WATCHED = """#!/bin/bash
-[[ $1 != --version ]] || exec {program} --version
+if [[ $1 == --version ]]; then
+    echo $PPID >>{folder}/jobs
+    exec {program} --version
+fi
 echo "$*" >>{folder}/runs
 made=$(mktemp -p {folder})
 {program} "$@" >"$made"
@@ -141,10 +145,17 @@ class Watched:
         self.path.write_text(WATCHED.format(program=PROGRAM, folder=self.folder))
         self.path.chmod(0o755)
 
+    def noted(self, name):
+        noted = self.folder / name
+        return noted.read_text().splitlines() if noted.exists() else []
+
     def runs(self):
         """The words of each run so far."""
-        noted = self.folder / "runs"
-        return noted.read_text().splitlines() if noted.exists() else []
+        return self.noted("runs")
+
+    def jobs(self):
+        """The number of each job so far."""
+        return self.noted("jobs")
 
     def forget(self):
         (self.folder / "runs").unlink(missing_ok=True)
