@@ -178,7 +178,7 @@ def bash_completes_what_is_typed(program):
     rows = {
         ("itchsnap", "c"): ["check", "compare", "canon", "completions"],
         ("itchsnap", ""): [*commands(program), "help", "--help", "--version"],
-        ("itchsnap", "snap", "--"): ["--after", "--until", "--only", "--stock", "--output", "--progress", "--help"],
+        ("itchsnap", "snap", "--"): ["--after", "--until", "--every", "--to", "--only", "--stock", "--output", "--progress", "--help"],
         ("itchsnap", "fetch", "--host", "h", "--p"): ["--port", "--pass", "--pass-file"],
         ("itchsnap", "completions", ""): ["bash", "zsh", "fish", "--help"],
         # A file's name is completed by the shell itself.

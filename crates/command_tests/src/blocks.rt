@@ -84,6 +84,8 @@ pub const REPLACE_1_BY_3: &str =
 pub const BROKEN: &str = "001342000100000000000000000000000000000001";
 /// End of Snapshot with 1.
 pub const END_1: &str = "0015472020202020202020202020202020202020202031";
+/// End of Snapshot with 2.
+pub const END_2: &str = "0015472020202020202020202020202020202020202032";
 /// End of Snapshot with 3.
 pub const END_3: &str = "0015472020202020202020202020202020202020202033";
 /// End of Snapshot with 4.

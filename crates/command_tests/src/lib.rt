@@ -21,6 +21,8 @@ mod joins;
 #[cfg(test)]
 mod live_words;
 #[cfg(test)]
+mod points;
+#[cfg(test)]
 mod refusals;
 #[cfg(test)]
 mod restricted;

@@ -189,6 +189,35 @@ fn requests_are_read(rt: HostRuntime) -> Result<(), Fail> {
     Ok(())
 }
 
+#[test]
+fn points_are_read(rt: HostRuntime) -> Result<(), Fail> {
+    let cases = [
+        (
+            "snap --to out day.itch",
+            "file: Some(\"day.itch\"), points: End, only: None, folder: \"out\", progress: false",
+        ),
+        (
+            "snap --to out --after 0,007,999999999999",
+            "file: None, points: After(\"0,007,999999999999\"), only: None, folder: \"out\", progress: false",
+        ),
+        (
+            "snap - --to=out --until 9,10:30 --only 1-3",
+            "file: None, points: Until(\"9,10:30\"), only: Some(\"1-3\"), folder: \"out\", progress: false",
+        ),
+        (
+            "snap day.itch --every 0010 --progress --to -",
+            "file: Some(\"day.itch\"), points: Every(10), only: None, folder: \"-\", progress: true",
+        ),
+    ];
+    for (line, fields) in cases {
+        let words = words(rt.alloc(), line)?;
+        let wanted = format!(in rt.alloc(); "Points(PointWords {{ {fields} }})")?;
+        let found = asked(rt.alloc(), words.as_slice())?;
+        same_in(&rt, line, found.as_str(), wanted.as_str());
+    }
+    Ok(())
+}
+
 // Where the words of a line send a snapshot, if they are no usage fault. Standard output is a terminal, where none is written.
 fn sent_to(alloc: Global, line: &str) -> Result<Option<String>, Fail> {
     let words = words(alloc, line)?;

@@ -204,4 +204,4 @@ module _ {R : Type 0} (remaining : R → Option (List ℕ)) (failures : R → Fa
     unfolding as_applied
     point_written contents failed set next old new result is wrote =
         read_writes contents failed (ReadsDay remaining failures Only limit first now) (snapshot_in (option_copied set)) (λ _. true) read.payloads _ old new result read.day
-            (ap (λ k. canon (cut_to set m) ++ closing k) is ∙ cut_snapshot limit (bytes_left remaining first) (bytes_left remaining now) mark.count m as_applied set) wrote
+        (ap (λ k. canon (cut_to set m) ++ closing k) is ∙ cut_snapshot limit (bytes_left remaining first) (bytes_left remaining now) mark.count m as_applied set) wrote

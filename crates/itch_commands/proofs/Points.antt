@@ -203,8 +203,8 @@ module _ {R : Type 0} (remaining : R → Option (List ℕ)) (failures : R → Fa
     read_steps p result n now next off room uncounted leaves takes =
         let s = now_unread in
         payload_steps remaining failures limit first ps s.left m s.takes s.good mark s.marked (subst (IsBefore limit) same_count before) new p
-            (subst (λ b. TakesOff b (bytes_left remaining new) p) s.next.0 off) (not_full (length ps) s.takes.2 (subst (λ k. (k == 10 ^ 19 - 1) ≡ false) same_count room))
-            (uncounted ∙ s.uncounted) (one_further first old new (length ps) s.next.1 leaves) result ahead n now next takes
+        (subst (λ b. TakesOff b (bytes_left remaining new) p) s.next.0 off) (not_full (length ps) s.takes.2 (subst (λ k. (k == 10 ^ 19 - 1) ≡ false) same_count room))
+        (uncounted ∙ s.uncounted) (one_further first old new (length ps) s.next.1 leaves) result ahead n now next takes
 
     -- and so does a stop before the next one
     pub unread_stops : (stop : Stop) (next : Ahead) → StopsHere (mark.count == 10 ^ 19 - 1) (bytes_left remaining old) (bytes_left remaining new) stop
@@ -213,8 +213,8 @@ module _ {R : Type 0} (remaining : R → Option (List ℕ)) (failures : R → Fa
     unread_stops stop next stops counts leaves ended =
         let s = now_unread in
         stop_steps remaining failures limit first ps s.left m s.takes s.good old new stop mark next s.marked (subst (IsBefore limit) same_count before) s.uncounted s.next.1
-            (subst (λ k. StopsHere (k == 10 ^ 19 - 1) s.left (bytes_left remaining new) stop) same_count (subst (λ b. StopsHere (mark.count == 10 ^ 19 - 1) b (bytes_left remaining new) stop) s.next.0 stops))
-            counts leaves ended
+        (subst (λ k. StopsHere (k == 10 ^ 19 - 1) s.left (bytes_left remaining new) stop) same_count (subst (λ b. StopsHere (mark.count == 10 ^ 19 - 1) b (bytes_left remaining new) stop) s.next.0 stops))
+        counts leaves ended
 
   -- so does the message that is held
   pub held_steps : (now : Reading R) (message : Message) (size : ℕ) (result : Result Bool Stop) (n : Content) (after : Mark) (next : Ahead)
@@ -224,7 +224,7 @@ module _ {R : Type 0} (remaining : R → Option (List ℕ)) (failures : R → Fa
   held_steps now message size result n after next s takes =
       let (p, holds, off, room, leaves) = s.next in
       payload_steps remaining failures limit first ps s.left m s.takes s.good mark s.marked (subst (IsBefore limit) s.marked.count before) now p off room s.uncounted leaves result
-          (Late message size) n after next (takes p holds (subst (λ k. k < 10 ^ 19 - 1) (sym s.marked.count) room))
+      (Late message size) n after next (takes p holds (subst (λ k. k < 10 ^ 19 - 1) (sym s.marked.count) room))
 
   -- and the end
   pub ended_steps : (now : Reading R) → Stands remaining failures limit first now m mark Ended ps → Steps remaining failures limit first ps now (Err End) m mark Ended

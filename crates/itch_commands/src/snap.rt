@@ -15,14 +15,14 @@ use crate::limit::Limit;
 use crate::order_book::Book;
 use crate::reading::read_settled;
 use crate::writing::write_closed_of;
+pub use index::write_index;
 use itch_book::OrderBook;
 use itch_codec::Seq;
 use itch_frame::{BlockReader, CountedRead, CountedWrite};
 use itch_market::{LocateSet, Market};
-use std::alloc::Allocator;
-pub use index::write_index;
 pub use mark::Mark;
 pub use pass::Pass;
+use std::alloc::Allocator;
 pub use stocks::snap_stocks;
 
 /// Writes the canonical snapshot after a day file's messages, or after its first ones: the canonical bytes of the market

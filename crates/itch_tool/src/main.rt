@@ -14,6 +14,7 @@ mod opened;
 mod output;
 mod packed;
 mod password;
+mod points;
 mod run;
 mod sockets;
 

@@ -62,7 +62,8 @@ fn part_of<R: Files + AllocGlobal>(rt: &R, path: &str) -> Result<Option<String>,
     }
 }
 
-fn output_fault(error: io::Error) -> ToolFault {
+/// The fault of an output that cannot be opened or named.
+pub fn output_fault(error: io::Error) -> ToolFault {
     system_fault(
         error,
         ToolFault::Open {

@@ -21,7 +21,7 @@ pub fn packed_file<'a, R: Files>(
     job: &Job<'a>,
     fault: &ToolFault,
 ) -> Option<PackedFile<'a>> {
-    let (Job::Files { .. } | Job::Serve { .. }) = job else {
+    let (Job::Files { .. } | Job::Points(_) | Job::Serve { .. }) = job else {
         return None;
     };
     let source = source_of(fault)?;
@@ -54,8 +54,10 @@ fn packing<R: Files>(rt: &R, path: &str) -> Option<Packing> {
 
 // The words of a command that reads this file from standard input.
 fn words(job: &Job<'_>, source: Source) -> &'static str {
-    let Job::Files { request, .. } = job else {
-        return "serve - ..";
+    let request = match job {
+        Job::Files { request, .. } => request,
+        Job::Points(_) => return "snap --to ..",
+        _ => return "serve - ..",
     };
     match (request, source) {
         (Request::Snap { .. }, _) => "snap",

@@ -6,6 +6,7 @@ use crate::live::{run_feed, run_follow, run_live};
 use crate::locate_list::read_only;
 use crate::opened::{open, open_at};
 use crate::output::Output;
+use crate::points::run_points;
 use crate::sockets::{run_fetch, run_serve};
 use itch_commands::compare::{compare_blocks, compare_first_blocks};
 use itch_commands::join::{join_blocks, join_stocks};
@@ -34,6 +35,7 @@ where
             progress,
             output,
         } => run_request(rt, *request, *progress, *output),
+        Job::Points(words) => run_points(rt, words),
         Job::Serve {
             file,
             kind,
@@ -231,8 +233,8 @@ fn join_over<A: Allocator + Copy, R: Read + Drop, S: Read + Drop, W: CountedWrit
     }
 }
 
-// A reader of the blocks of a file.
-fn blocks<A: Allocator + Copy, R: Read + Drop>(
+/// A reader of the blocks of a file.
+pub fn blocks<A: Allocator + Copy, R: Read + Drop>(
     alloc: A,
     reader: R,
 ) -> Result<BlockReader<Buffered<R, A>, A>, ToolFault> {

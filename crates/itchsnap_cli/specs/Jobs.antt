@@ -1,7 +1,7 @@
 -- What the program is asked to do.
 use Rattle.std.specs.Prelude.{ℕ, Bool, true, false, List, Option, Some, None, option_map}
 use Rattle.itchsnap_cli.specs.declared.words.job.Job.{Job}
-use Rattle.itchsnap_cli.specs.declared.words.job.Job.TheVariants.{Files, Serve, Fetch, Live, Follow, Feed, Completions}
+use Rattle.itchsnap_cli.specs.declared.words.job.Job.TheVariants.{Files, Points, Serve, Fetch, Live, Follow, Feed, Completions}
 use Rattle.itchsnap_cli.specs.declared.words.live.LiveWords.{LiveWords}
 use Rattle.itchsnap_cli.specs.declared.words.live.FollowWords.{FollowWords}
 use Rattle.itchsnap_cli.specs.declared.words.live.Place.{Place}
@@ -44,9 +44,10 @@ follow_file follow Snapshot = Some follow.glimpse.words.now
 follow_file follow Output = Some follow.glimpse.words.now
 follow_file follow Locates = Some follow.glimpse.words.now
 
--- the path of the file that a snapshot is written to, if one is named
+-- the path of the file that a snapshot is written to, or of the folder for several, if one is named
 abbrev pub output_of : Job → Option (List ℕ)
 output_of (Files request progress output) = option_map (λ path. path.now) output
+output_of (Points words) = Some words.folder.now
 output_of (Fetch server login from output) = option_map (λ path. path.now) output
 output_of job = None
 
@@ -54,6 +55,8 @@ output_of job = None
 abbrev pub file_of : Job → Source → Option (List ℕ)
 file_of (Files request progress output) Output = option_map (λ path. path.now) output
 file_of (Files request progress output) source = requests.file_of request source
+file_of (Points words) Output = Some words.folder.now
+file_of (Points words) source = option_map (λ path. path.now) words.file
 file_of (Serve file kind address login count progress) PasswordFile = password_file login.password
 file_of (Serve file kind address login count progress) source = option_map (λ path. path.now) file
 file_of (Fetch server login from output) PasswordFile = password_file login.password
@@ -74,6 +77,7 @@ is_blocks form.Whole = true
 -- the jobs whose output is a snapshot or a day file, which are no text
 abbrev pub writes_snapshot : Job → Bool
 writes_snapshot (Files request progress output) = is_binary request
+writes_snapshot (Points words) = false
 writes_snapshot (Serve file kind address login count progress) = false
 writes_snapshot (Fetch server login from output) = true
 writes_snapshot (Live live) = false

@@ -1,6 +1,6 @@
 //! The words of the command line of `itchsnap`, and what they ask for.
 //!
-//! [`read_job`] makes a [`Job`] of them: a request over files, a session, of which [`LoginWords`] are the login, a live server, a feed
+//! [`read_job`] makes a [`Job`] of them: a request over files, [`PointWords`], a session, of which [`LoginWords`] are the login, a live server, a feed
 //! to follow or to play, or the [`Completions`] of a shell. Otherwise it returns a usage fault, or a request for help or the version.
 //!
 //! ```
@@ -16,6 +16,7 @@ mod commands;
 mod completions;
 mod job;
 mod live;
+mod points;
 mod request;
 mod session;
 mod time;
@@ -24,4 +25,5 @@ pub use commands::usage_fault;
 pub use completions::{Completions, Shell};
 pub use job::{Job, read_job};
 pub use live::{FeedWords, FollowForm, FollowWords, LiveWords, Pace, Place, SnapshotWords};
+pub use points::{PointWords, Points};
 pub use session::{LoginWords, Password, Server};

@@ -7,7 +7,7 @@ pub use live::LiveArgument;
 use std::alloc::Global;
 
 /// The greatest number that `--after` and `--depth` take.
-const MOST_COUNTED: i64 = 999_999_999_999;
+pub const MOST_COUNTED: i64 = 999_999_999_999;
 
 /// The longest time that `--timeout` takes: a day.
 const MOST_SECONDS: i64 = 86_400;
@@ -24,6 +24,11 @@ pub enum Argument {
     Progress,
     // Where a snapshot goes.
     Output,
+    // The points of `snap`, and the folder for their snapshots.
+    AfterEach,
+    UntilEach,
+    Every,
+    To,
     // What the file of `check` is expected to be.
     Expect,
     Ended,
@@ -90,6 +95,10 @@ impl Argument {
             ),
             Argument::Progress => progress(alloc),
             Argument::Output => output(alloc),
+            Argument::AfterEach => after_each(alloc),
+            Argument::UntilEach => until_each(alloc),
+            Argument::Every => every(alloc),
+            Argument::To => to(alloc),
             Argument::Expect => expect(alloc),
             Argument::Ended => ended(alloc),
             Argument::First => named(alloc, "A", "The first file; `-` for standard input"),
@@ -268,6 +277,34 @@ fn output<'a>(alloc: Global) -> Arg<'a> {
         .help(
             "Write to this file, which gets its name once it is whole, and not to standard output",
         )
+}
+
+fn after_each<'a>(alloc: Global) -> Arg<'a> {
+    Arg::new(alloc, "after")
+        .long("after")
+        .value_name("N")
+        .help("Stop after the first N messages; with --to N,.. take a snapshot after each N")
+}
+
+fn until_each<'a>(alloc: Global) -> Arg<'a> {
+    Arg::new(alloc, "until").long("until").value_name("TIME").help(
+        "Stop before the first message at TIME or later, such as 10:30; with --to TIME,..",
+    )
+}
+
+fn every<'a>(alloc: Global) -> Arg<'a> {
+    Arg::new(alloc, "every")
+        .long("every")
+        .value_name("N")
+        .help("With --to, take a snapshot after each N messages, and one at the end")
+        .value_parser(clap::value_parser!(u64).range(1..=MOST_COUNTED))
+}
+
+fn to<'a>(alloc: Global) -> Arg<'a> {
+    Arg::new(alloc, "to")
+        .long("to")
+        .value_name("DIR")
+        .help("Write each snapshot to DIR/N.snap, for its N messages, and list them in DIR/index.jsonl")
 }
 
 fn expect<'a>(alloc: Global) -> Arg<'a> {

@@ -26,8 +26,10 @@ const COMMANDS: [Entry; 14] = [
         about: "Write the snapshot of the market that a day file leaves",
         takes: &[
             Argument::File,
-            Argument::After,
-            Argument::Until,
+            Argument::AfterEach,
+            Argument::UntilEach,
+            Argument::Every,
+            Argument::To,
             Argument::Only,
             Argument::Stock,
             Argument::Output,

@@ -7,6 +7,7 @@ use crate::words::completions::Shell;
 use crate::words::live::{
     FeedWords, FollowForm, FollowWords, LiveWords, read_feed, read_follow, read_live,
 };
+use crate::words::points::{PointWords, read_points};
 use crate::words::request::{read_kind, read_output, read_path, read_request};
 use crate::words::session::{
     LoginWords, Password, Server, read_address, read_from, read_login, read_number, read_server,
@@ -27,6 +28,8 @@ pub enum Job<'a> {
         progress: bool,
         output: Option<&'a str>,
     },
+    /// Write the snapshots of several points of a day file into a folder.
+    Points(PointWords<'a>),
     /// Serve the market of a file, or of standard input where none is named, to `count` connections. The port 0 is a free one.
     Serve {
         file: Option<&'a str>,
@@ -62,6 +65,8 @@ impl<'a> Job<'a> {
         match (self, source) {
             (Job::Files { .. } | Job::Fetch { .. }, Source::Output) => self.output(),
             (Job::Files { request, .. }, _) => request.file(source),
+            (Job::Points(words), Source::Output) => Some(words.folder),
+            (Job::Points(words), _) => words.file,
             (Job::Serve { login, .. } | Job::Fetch { login, .. }, Source::PasswordFile) => {
                 password_file(login)
             }
@@ -74,12 +79,13 @@ impl<'a> Job<'a> {
         }
     }
 
-    /// The path of the file that a snapshot is written to, if one is named.
+    /// The path of the file that a snapshot is written to, or of the folder for several, if one is named.
     pub fn output(&self) -> Option<&'a str>
         ensures { option_map (λ path. path.now) result ≡ output_of self.now }
     {
         match *self {
             Job::Files { output, .. } | Job::Fetch { output, .. } => output,
+            Job::Points(words) => Some(words.folder),
             _ => None,
         }
     }
@@ -131,7 +137,11 @@ fn writes_snapshot(job: &Job<'_>) -> bool
 {
     match job {
         Job::Files { request, .. } => request.is_binary(),
-        Job::Serve { .. } | Job::Live(_) | Job::Feed(_) | Job::Completions(_) => false,
+        Job::Points(_)
+        | Job::Serve { .. }
+        | Job::Live(_)
+        | Job::Feed(_)
+        | Job::Completions(_) => false,
         Job::Fetch { .. } => true,
         Job::Follow(follow) => !matches!(follow.form, FollowForm::Json),
     }
@@ -168,6 +178,10 @@ fn read_matched<'a>(
         Some(("follow", options)) => Ok(Job::Follow(read_follow(alloc, options, password)?)),
         Some(("feed", options)) => Ok(Job::Feed(read_feed(alloc, options, password)?)),
         Some(("completions", options)) => Ok(Job::Completions(read_shell(alloc, options)?)),
+        Some(("snap", options)) => match read_points(alloc, options)? {
+            Some(words) => Ok(Job::Points(words)),
+            None => read_files(alloc, matches, options),
+        },
         Some((_, options)) => read_files(alloc, matches, options),
         None => Err(usage_fault(alloc, "a command is missing")?),
     }

@@ -1,6 +1,7 @@
 //! Requests over files, made from the matched words of the command line.
 
 use crate::words::commands::usage_fault;
+use crate::words::points::read_part;
 use crate::words::time::read_time;
 use clap::{ArgMatches, Error};
 use itch_commands::{
@@ -36,7 +37,7 @@ pub fn read_request<'a>(alloc: Global, matches: &ArgMatches<'a>) -> Result<Reque
 fn read_snap<'a>(alloc: Global, options: &ArgMatches<'a>) -> Result<Request<'a>, Error> {
     Ok(Request::Snap {
         file: read_path(options, "FILE"),
-        limit: read_limit(alloc, options)?,
+        limit: read_part(alloc, options)?,
         selection: read_selection(alloc, options)?,
     })
 }
@@ -288,7 +289,8 @@ fn read_limit<'a>(alloc: Global, options: &ArgMatches<'a>) -> Result<Limit, Erro
     })
 }
 
-fn read_until<'a>(alloc: Global, options: &ArgMatches<'a>) -> Result<Option<u64>, Error> {
+/// The time before which the part of a file ends, after `--until`.
+pub fn read_until<'a>(alloc: Global, options: &ArgMatches<'a>) -> Result<Option<u64>, Error> {
     let Some(text) = options.get_str("until") else {
         return Ok(None);
     };

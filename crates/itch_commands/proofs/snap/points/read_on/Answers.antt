@@ -20,8 +20,7 @@ loop-count-preserved g c =
       short = c.in-Ok-true.ensures.short;
       stands = λ first payloads s up_to.
           let stood = inv.stands first payloads s up_to in
-          let next = steps first stood.0 stood.1 before in
-          (
+          let next = steps first stood.0 stood.1 before in (
             stood.0 ++ next.0 ∷ [],
             next.1,
             subst (λ a. IsUpTo limit a c.step.new.mark.count) (sym next.2)
@@ -38,7 +37,7 @@ returns-in-Ok-false-clause-reads g c = λ first payloads s up_to.
     let same = rw c.in-Ok-false.field-0-test at c.in-Ok-false.ensures.same in
     let stood = inv.stands first payloads s up_to in
     late_on _ _ limit first c.step.new.reader c.step.new.market c.step.new.mark c.step.new.ahead stood.0 c.loop-count.count
-        (sym inv.counted ∙ sym (ap (λ (k : Mark). k.count) (same (λ no. cc)))) (steps first stood.0 stood.1 before)
+    (sym inv.counted ∙ sym (ap (λ (k : Mark). k.count) (same (λ no. cc)))) (steps first stood.0 stood.1 before)
 
 pub returns-in-Err-clause-reads : goal.returns-in-Err-clause-reads
 returns-in-Err-clause-reads g c = λ first payloads s up_to.
@@ -48,8 +47,8 @@ returns-in-Err-clause-reads g c = λ first payloads s up_to.
     let steps = rw c.look_ahead.ensures at c.in-Err.ensures.steps in
     let stood = inv.stands first payloads s up_to in
     stopped_on _ _ limit first c.step.new.reader c.step.new.market c.step.new.mark c.step.new.ahead stood.0 c.in-Err.stop c.loop-count.count
-        (sym inv.counted ∙ sym (ap (λ (k : Mark). k.count) (c.in-Err.ensures.same (λ no. cc)))) (sym inv.counted ∙ stood.1.marked.count) (steps first stood.0 stood.1 before)
-        c.stopped.result c.stopped.ensures
+    (sym inv.counted ∙ sym (ap (λ (k : Mark). k.count) (c.in-Err.ensures.same (λ no. cc)))) (sym inv.counted ∙ stood.1.marked.count) (steps first stood.0 stood.1 before)
+    c.stopped.result c.stopped.ensures
 
 pub returns-clause-reads : goal.returns-clause-reads
 returns-clause-reads g c = λ first payloads s up_to.
@@ -57,4 +56,4 @@ returns-clause-reads g c = λ first payloads s up_to.
     let inv = c.loop-count.invariant in
     let stood = inv.stands first payloads s up_to in
     all_on _ _ limit first c.loop-count.reader c.loop-count.market c.loop-count.mark c.loop-count.ahead stood.0 stood.1 stood.2
-        (subst (λ k. most_of limit.after ≤ k) (sym inv.counted) (rw c.most-count-end.ensures at c.loop-count-test.false)) inv.few
+    (subst (λ k. most_of limit.after ≤ k) (sym inv.counted) (rw c.most-count-end.ensures at c.loop-count-test.false)) inv.few

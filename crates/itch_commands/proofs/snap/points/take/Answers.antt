@@ -14,5 +14,9 @@ returns-then-is_late-clause-takes g c =
 pub returns-clause-short : goal.returns-clause-short
 returns-clause-short g c =
     let none : reason c.args.market.now c.in_ok-message.message ≡ None = accepted (reason c.args.market.now c.in_ok-message.message) c.apply.result c.apply.ensures.refused c.in_ok-apply.was in
-    omega (arith, c.requires.short, ap (λ (k : Mark). k.count) c.past.ensures,
-      snap_past c.args.market.now c.apply.new.self c.in_ok-message.message c.recall_invariant.ensures.good c.in_ok-message.ensures.fits none c.in_ok-apply.ensures.ok)
+    omega (
+      arith,
+      c.requires.short,
+      ap (λ (k : Mark). k.count) c.past.ensures,
+      snap_past c.args.market.now c.apply.new.self c.in_ok-message.message c.recall_invariant.ensures.good c.in_ok-message.ensures.fits none c.in_ok-apply.ensures.ok,
+    )

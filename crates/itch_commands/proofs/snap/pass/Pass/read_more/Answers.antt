@@ -12,7 +12,7 @@ returns-in-Ok g c = λ first before payloads stands some.
     let most = c.saturating_add-most.ensures in
     let on = rw (c.counted.ensures, most) at c.in-Ok.ensures in
     more_read _ _ _ first c.read_to.new.self.reader c.read_to.new.self.market c.read_to.new.self.mark c.read_to.new.self.ahead _
-        (on first before payloads stands (more_rises before c.args.self.now.ahead c.args.self.now.mark.count c.args.count _ some c.args.self.now.few refl))
+    (on first before payloads stands (more_rises before c.args.self.now.ahead c.args.self.now.mark.count c.args.count _ some c.args.self.now.few refl))
 
 pub returns-in-Err-Short : goal.returns-in-Err-Short
 returns-in-Err-Short g c = λ first before payloads stands some.
@@ -22,7 +22,7 @@ returns-in-Err-Short g c = λ first before payloads stands some.
     let rises = more_rises before now.ahead now.mark.count c.args.count (min (now.mark.count + c.args.count) (2 ^ 64 - 1)) some now.few refl in
     let on = c.in-Err-Short.ensures first before payloads stands (subst (λ (l : Limit). Rises before l now.ahead now.mark.count) (sym is) rises) in
     more_short _ _ _ first new.reader new.market new.mark new.ahead c.in-Err-Short.field-0 _ _ c.in-Err-Short.field-0-is
-        (subst (λ (l : Limit). ReadsOn g.R.CountedRead.remaining g.R.CountedRead.failures l first new.reader (Err c.in-Err-Short.field-0) new.market new.mark new.ahead) is on)
+    (subst (λ (l : Limit). ReadsOn g.R.CountedRead.remaining g.R.CountedRead.failures l first new.reader (Err c.in-Err-Short.field-0) new.market new.mark new.ahead) is on)
 
 pub returns-in-Err : goal.returns-in-Err
 returns-in-Err g c = λ first before payloads stands some.

@@ -9,4 +9,4 @@ write_closed_of-requires g c = let pass = c.args.self.now in omega (arith, pass.
 pub returns : goal.returns
 returns g c = λ first limit read.
     point_written _ _ limit first c.args.self.now.reader c.args.self.now.market c.args.self.now.mark c.args.self.now.few read g.W.CountedWrite.contents g.W.CountedWrite.failures c.args.only
-        c.unwrap-next.result c.args.out.now c.write_closed_of.new.out c.write_closed_of.result (rw c.unwrap-next.ensures at c.new.ensures.number) c.write_closed_of.ensures
+    c.unwrap-next.result c.args.out.now c.write_closed_of.new.out c.write_closed_of.result (rw c.unwrap-next.ensures at c.new.ensures.number) c.write_closed_of.ensures

@@ -1,0 +1,52 @@
+//! A pass over a day file, with a snapshot at each of its points.
+use super::blocks::*;
+use super::files::file;
+use crate::equal::{holds_in, same};
+use itch_commands::snap::{Mark, Pass, write_index};
+use itch_commands::{Book, Limit};
+use itch_frame::testing::FuseWriter;
+use itch_frame::{BlockReader, Counted, CountedRead};
+use std::alloc::{Allocator, Global};
+use std::test::Fail;
+
+// Whether a pass writes these blocks where it stands.
+fn writes<R: CountedRead, A: Allocator>(
+    alloc: Global,
+    pass: &Pass<R, A, Book<Global>>,
+    blocks: &[&str],
+) -> Result<bool, Fail> {
+    let mut out = FuseWriter::new(alloc, 512, None);
+    Ok(pass.write(None, &mut out)? && out.written() == file(alloc, blocks)?.as_slice())
+}
+
+#[test]
+fn a_pass_stands_at_each_point(rt: HostRuntime) -> Result<(), Fail> {
+    let alloc = rt.alloc();
+    let day = file(alloc, &[START_STAMPED, AAPL_LATE, BUY_1_STAMPED])?;
+    let reader = BlockReader::new(alloc, Counted::new(day.as_slice()))?;
+    let mut pass: Pass<_, _, Book<Global>> = Pass::new(alloc, reader);
+    let until = Limit {
+        after: None,
+        until: Some(5),
+    };
+    same(&rt, pass.read_to(until)?, 1);
+    holds_in(&rt, 1, writes(alloc, &pass, &[START, END_2])?);
+    holds_in(&rt, 2, pass.read_more(1)?);
+    holds_in(&rt, 2, writes(alloc, &pass, &[START, AAPL, END_3])?);
+    holds_in(&rt, 3, !pass.read_more(2)?);
+    holds_in(&rt, 3, writes(alloc, &pass, &[START, AAPL, BUY_1, END_4])?);
+    same(&rt, pass.read_to(Limit::whole())?, 3);
+    let end = Mark {
+        count: 3,
+        offset: 93,
+        time: Some(3),
+    };
+    holds_in(&rt, "mark", pass.mark() == end);
+    let mut index = FuseWriter::new(alloc, 512, None);
+    write_index(pass.mark(), &mut index)?;
+    write_index(Mark::new(), &mut index)?;
+    let wanted = b"{\"messages\":3,\"offset\":93,\"timestamp\":3,\"file\":\"3.snap\"}\n\
+        {\"messages\":0,\"offset\":0,\"timestamp\":null,\"file\":\"0.snap\"}\n";
+    holds_in(&rt, "index", index.written() == wanted);
+    Ok(())
+}

@@ -1,0 +1,150 @@
+//! Snapshots of several points of a day file, in the files of a folder.
+
+use crate::opened::open;
+use crate::output::{Output, output_fault};
+use crate::run::blocks;
+use itch_commands::snap::{Pass, write_index};
+use itch_commands::{Book, Limit, Source, ToolFault, read_locates};
+use itch_frame::{Counted, CountedRead};
+use itch_market::LocateSet;
+use itchsnap_cli::input::Progress;
+use itchsnap_cli::sessions::PIECE;
+use itchsnap_cli::words::{PointWords, Points};
+use std::alloc::{Allocator, Global};
+use std::fs;
+use std::io::{BufWriter, Write};
+use std::rt::{Clock, Files};
+
+/// Writes the snapshot of each point into the folder, and its line into the index there. What was written before a fault stays.
+pub fn run_points<R: Files + Input + Eprint + AllocGlobal + Clock>(
+    rt: &R,
+    words: &PointWords<'_>,
+) -> Result<bool, ToolFault> {
+    let alloc = rt.alloc();
+    let only = match words.only {
+        Some(list) => Some(read_locates(alloc, list)?),
+        None => None,
+    };
+    let progress = if words.progress {
+        Progress::begin(rt)
+    } else {
+        None
+    };
+    let file = open(rt, words.file, Source::Only, progress.as_ref())?;
+    let mut pass = Pass::new(alloc, blocks(alloc, file)?);
+    let mut folder = Folder::create(rt, words.folder, only)?;
+    match words.points {
+        Points::Every(count) => save_every(&mut folder, &mut pass, count),
+        Points::After(list) | Points::Until(list) => {
+            save_each(&mut folder, &mut pass, words.points, list)
+        }
+        Points::End => save_at(&mut folder, &mut pass, Limit::whole()),
+    }
+}
+
+// A folder of snapshots.
+#[derive(Drop)]
+struct Folder<'a, R: Files> {
+    rt: &'a R,
+    path: &'a str,
+    index: Counted<R::File>,
+    only: Option<LocateSet<Global>>,
+    // How many messages the last snapshot has.
+    last: Option<u64>,
+}
+
+impl<'a, R: Files + AllocGlobal> Folder<'a, R> {
+    // The folder of a path, with a new index.
+    fn create(
+        rt: &'a R,
+        path: &'a str,
+        only: Option<LocateSet<Global>>,
+    ) -> Result<Folder<'a, R>, ToolFault> {
+        let index = format!(in rt.alloc(); "{path}/index.jsonl")?;
+        match fs::create(rt, index.as_str()) {
+            Ok(file) => Ok(Folder {
+                rt,
+                path,
+                index: Counted::new(file),
+                only,
+                last: None,
+            }),
+            Err(error) => Err(output_fault(error)),
+        }
+    }
+
+    // Writes the snapshot of the messages that were read, unless the last one is of the same.
+    fn save<S: CountedRead, A: Allocator>(
+        &mut self,
+        pass: &Pass<S, A, Book<Global>>,
+    ) -> Result<(), ToolFault> {
+        let mark = pass.mark();
+        if self.last == Some(mark.count) {
+            return Ok(());
+        }
+        let (alloc, folder, count) = (self.rt.alloc(), self.path, mark.count);
+        let path = format!(in alloc; "{folder}/{count}.snap")?;
+        let (output, file) = Output::create(self.rt, path.as_str())?;
+        output.finish(self.rt, write_file(alloc, pass, self.only.as_ref(), file))?;
+        self.last = Some(count);
+        write_index(mark, &mut self.index)
+    }
+}
+
+fn write_file<S: CountedRead, A: Allocator, W: Write + Drop>(
+    alloc: Global,
+    pass: &Pass<S, A, Book<Global>>,
+    only: Option<&LocateSet<Global>>,
+    file: W,
+) -> Result<bool, ToolFault> {
+    let Ok(buffered) = BufWriter::with_capacity(alloc, PIECE, file) else {
+        return Err(ToolFault::OutOfMemory);
+    };
+    let mut out = Counted::new(buffered);
+    let answer = pass.write(only, &mut out)?;
+    match out.into_inner().flush() {
+        Ok(()) => Ok(answer),
+        Err(error) => Err(ToolFault::Write(error)),
+    }
+}
+
+fn save_at<R: Files + AllocGlobal, S: CountedRead, A: Allocator>(
+    folder: &mut Folder<'_, R>,
+    pass: &mut Pass<S, A, Book<Global>>,
+    limit: Limit,
+) -> Result<bool, ToolFault> {
+    pass.read_to(limit)?;
+    folder.save(pass)?;
+    Ok(true)
+}
+
+// The snapshots at each number or time of a list.
+fn save_each<R: Files + AllocGlobal, S: CountedRead, A: Allocator>(
+    folder: &mut Folder<'_, R>,
+    pass: &mut Pass<S, A, Book<Global>>,
+    points: Points<'_>,
+    list: &str,
+) -> Result<bool, ToolFault> {
+    for text in list.split(',') {
+        if let Some(limit) = points.limit(text) {
+            save_at(folder, pass, limit)?;
+        }
+    }
+    Ok(true)
+}
+
+// The snapshots after each so many messages, and at the end.
+fn save_every<R: Files + AllocGlobal, S: CountedRead, A: Allocator>(
+    folder: &mut Folder<'_, R>,
+    pass: &mut Pass<S, A, Book<Global>>,
+    count: u64,
+) -> Result<bool, ToolFault> {
+    for _ in 0..u64::MAX {
+        let is_more = pass.read_more(count)?;
+        folder.save(pass)?;
+        if !is_more {
+            break;
+        }
+    }
+    Ok(true)
+}

@@ -1,0 +1,211 @@
+"""Runs of `snap` with a folder: the snapshots of several points of a day file, written in one pass, and their index.
+
+RUNS has a function for each run, named for what it shows; it is given the program, and yields what differs.
+"""
+import contextlib
+import os
+import tempfile
+from pathlib import Path
+
+import failing
+import large
+from common import differs, ended, ended_in, file, first_unmet, split
+
+DAY = file("START_STAMPED AAPL_STAMPED BUY_1_STAMPED")
+# After each number of its messages: the snapshot, and the line of the index.
+SNAPSHOTS = ["END_1", "START END_2", "START AAPL END_3", "START AAPL BUY_1 END_4"]
+LINES = [
+    '{"messages":0,"offset":0,"timestamp":null,"file":"0.snap"}',
+    '{"messages":1,"offset":14,"timestamp":1,"file":"1.snap"}',
+    '{"messages":2,"offset":55,"timestamp":2,"file":"2.snap"}',
+    '{"messages":3,"offset":93,"timestamp":3,"file":"3.snap"}',
+]
+# The words of the points, and after how many messages they are.
+POINTS = {
+    "": [3],
+    "--after 0": [0],
+    "--after 1,3": [1, 3],
+    "--after 0,01,2,3": [0, 1, 2, 3],
+    "--until 3": [2],
+    "--until 1,3": [0, 2],
+    "--until 2,00:00:00.000000003,10:30": [1, 2, 3],
+    "--until 5,6,10:30": [3],
+    "--every 1": [1, 2, 3],
+    "--every 2": [2, 3],
+    "--every 3": [3],
+    "--every 999999999999": [3],
+}
+USAGE_FAULTS = [
+    "--after 1,2",
+    "--until 1,2",
+    "--every 2",
+    "--to out --after 2,1",
+    "--to out --after 1,1",
+    "--to out --after 1,,2",
+    "--to out --after 1,",
+    "--to out --after 1,+2",
+    "--to out --after 1,1000000000000",
+    "--to out --until 3,2",
+    "--to out --until 2,9:30",
+    "--to out --every 0",
+    "--to out --every +1",
+    "--to out --after 1 --until 3",
+    "--to out --after 1 --every 2",
+    "--to out --stock AAPL",
+    "--to out --output out.snap",
+    "--to",
+]
+
+
+@contextlib.contextmanager
+def folder_of(data):
+    with tempfile.TemporaryDirectory() as name:
+        folder = Path(name)
+        (folder / "day.itch").write_bytes(data)
+        (folder / "out").mkdir()
+        yield folder
+
+
+def written(folder):
+    """The bytes of each file of the folder for snapshots, by their names."""
+    return {it.name: it.read_bytes() for it in (folder / "out").iterdir()}
+
+
+def index_of(lines):
+    return "".join(line + "\n" for line in lines).encode()
+
+
+def files_of(counts):
+    """What is written after these numbers of messages of the day."""
+    return {"index.jsonl": index_of(LINES[count] for count in counts), **{f"{count}.snap": file(SNAPSHOTS[count]) for count in counts}}
+
+
+def snap(folder, program, words, **environment):
+    return ended_in(folder, program, "snap", "day.itch", "--to", "out", *words.split(), **environment)
+
+
+def each_point_has_its_snapshot(program):
+    for words, counts in POINTS.items():
+        with folder_of(DAY) as folder:
+            yield from differs(words, snap(folder, program, words), (0, b"", b""))
+            yield from differs(words, written(folder), files_of(counts))
+
+
+def each_snapshot_is_what_a_run_of_its_own_writes(program):
+    day, _ = large.orders(3000, symbols=40)
+    blocks = split(day)
+    for words in ((), ("--only", "3-17,40")):
+        with folder_of(day) as folder:
+            got = snap(folder, program, " ".join(("--every", "700", *words)))
+            yield from differs(words, got, (0, b"", b""))
+            found = written(folder)
+            counts = [700, 1400, 2100, 2800, len(blocks)]
+            index = [f'{{"messages":{count},"offset":{sum(map(len, blocks[:count]))},"timestamp":0,"file":"{count}.snap"}}' for count in counts]
+            yield from differs(words, found.pop("index.jsonl"), index_of(index))
+            alone = {f"{count}.snap": ended_in(folder, program, "snap", "day.itch", "--after", str(count), *words)[1] for count in counts}
+            yield from differs(words, found, alone)
+
+
+def a_message_at_a_time_is_in_the_next_snapshot(program):
+    # The second message is late for the first time, and the third has an earlier timestamp again.
+    with folder_of(file("START_STAMPED AAPL_LATE BUY_1_STAMPED")) as folder:
+        yield from differs("status", snap(folder, program, "--until 5,8,20"), (0, b"", b""))
+        wanted = {
+            "index.jsonl": index_of([LINES[1], '{"messages":3,"offset":93,"timestamp":3,"file":"3.snap"}']),
+            "1.snap": file(SNAPSHOTS[1]),
+            "3.snap": file(SNAPSHOTS[3]),
+        }
+        yield from differs("files", written(folder), wanted)
+
+
+def an_empty_file_has_one_snapshot(program):
+    for words in ("", "--every 5", "--until 10:30"):
+        with folder_of(b"") as folder:
+            yield from differs(words, snap(folder, program, words), (0, b"", b""))
+            yield from differs(words, written(folder), files_of([0]))
+
+
+def what_comes_after_the_last_point_is_not_read(program):
+    with folder_of(DAY + file("MSFT_AT_1")) as folder:
+        yield from differs("status", snap(folder, program, "--after 1,3"), (0, b"", b""))
+        yield from differs("files", written(folder), files_of([1, 3]))
+
+
+def snapshots_before_a_fault_stay(program):
+    rows = [
+        (DAY + file("MSFT_AT_1"), "--after 1,4", [1], "message 4: stock mismatch"),
+        (DAY + file("MSFT_AT_1"), "--every 2", [2], "message 4: stock mismatch"),
+        (DAY + file("MSFT_AT_1"), "--until 2,10:30", [1], "message 4: stock mismatch"),
+        (DAY + file("MSFT_AT_1"), "", [], "message 4: stock mismatch"),
+        (DAY[:-1], "--after 1,2,3", [1, 2], "message 3: truncated, 37 bytes held"),
+        (DAY, "--after 2,9", [2], "only 3 messages"),
+    ]
+    for data, words, counts, line in rows:
+        with folder_of(data) as folder:
+            alone = ended_in(folder, program, "snap", "day.itch", *(("--after", words.split(",")[-1]) if words.startswith("--after") else ()))
+            yield from differs(words, snap(folder, program, words), (1, b"", alone[2]))
+            if not alone[2].startswith(f"itchsnap: {line}".encode()):
+                yield f"{words}: {alone}"
+            yield from differs(words, written(folder), files_of(counts))
+
+
+def another_run_writes_a_new_index(program):
+    with folder_of(DAY) as folder:
+        snap(folder, program, "--after 1,2")
+        yield from differs("status", snap(folder, program, "--after 2,3"), (0, b"", b""))
+        yield from differs("files", written(folder), {**files_of([2, 3]), "1.snap": file(SNAPSHOTS[1])})
+
+
+def a_folder_that_is_none_is_named(program):
+    with folder_of(DAY) as folder:
+        for path, why in (("no", "No such file or directory (os error 2)"), ("day.itch", "Not a directory (os error 20)")):
+            got = ended_in(folder, program, "snap", "day.itch", "--to", path, "--after", "1,2")
+            yield from differs(path, got, (3, b"", f"itchsnap: cannot open\n  {path}: {why}\n".encode()))
+        # The day file comes first: an index is not begun for one that is not there.
+        got = ended_in(folder, program, "snap", "no.itch", "--to", "out")
+        yield from differs("no day file", got, (3, b"", b"itchsnap: cannot open\n  no.itch: No such file or directory (os error 2)\n"))
+        yield from differs("no day file", written(folder), {})
+
+
+def other_points_are_a_usage_fault(program):
+    for words in USAGE_FAULTS:
+        status, output, error = ended(program, "snap", *words.split(), day=DAY)
+        if (status, output) != (2, b"") or not error.startswith(b"error: "):
+            yield f"{words}: status {status}, {output!r}, {error!r}"
+
+
+def each_allocation_and_write_fails_in_turn(program):
+    statuses = {"memory": 4, "write": 3}
+    with folder_of(DAY) as folder, tempfile.TemporaryDirectory() as apart:
+        shim, failed = failing.build_shim(apart), Path(apart) / "a call failed"
+        for kind, status in statuses.items():
+            def fails(nth):
+                failed.unlink(missing_ok=True)
+                for name in os.listdir(folder / "out"):
+                    (folder / "out" / name).unlink()
+                got = snap(folder, program, "--after 1,3", LD_PRELOAD=str(shim), FAIL=f"{kind}:{nth}", FAILED=str(failed))
+                return got, failed.exists()
+
+            for nth in range(1, first_unmet(lambda nth: fails(nth)[1])):
+                (ends, output, error), _ = fails(nth)
+                found = written(folder)
+                if ends == 0 and found == files_of([1, 3]):
+                    continue
+                lines = found.pop("index.jsonl", b"")
+                whole = all(data == files_of([1, 3]).get(name) for name, data in found.items())
+                if (ends, output) != (status, b"") or not whole or not index_of([LINES[1], LINES[3]]).startswith(lines):
+                    yield f"{kind} {nth}: {ends}, {output}, {error}, {found}, {lines}"
+
+
+RUNS = [
+    each_point_has_its_snapshot,
+    each_snapshot_is_what_a_run_of_its_own_writes,
+    a_message_at_a_time_is_in_the_next_snapshot,
+    an_empty_file_has_one_snapshot,
+    what_comes_after_the_last_point_is_not_read,
+    snapshots_before_a_fault_stay,
+    another_run_writes_a_new_index,
+    a_folder_that_is_none_is_named,
+    other_points_are_a_usage_fault,
+    each_allocation_and_write_fails_in_turn,
+]
