@@ -81,7 +81,10 @@ fn is_joined_in_part<R: CountedRead + Drop, S: CountedRead + Drop, W: CountedWri
     };
     let mut snapshot = BlockReader::new(alloc, snapshot)?;
     let mut feed = BlockReader::new(alloc, feed)?;
-    Ok(matches!(join_blocks(alloc, &mut snapshot, &mut feed, part, None, out), Ok(true)))
+    Ok(matches!(
+        join_blocks(alloc, &mut snapshot, &mut feed, part, None, out),
+        Ok(true)
+    ))
 }
 
 // Snapshots, feeds from the third message on, and the snapshots after four messages.
@@ -113,7 +116,11 @@ fn join_goes_to_a_message_of_the_day(rt: HostRuntime) -> Result<(), Fail> {
         let snapshot = PieceReader::new(snapshot.as_slice(), 3, None);
         let feed = PieceReader::new(feed.as_slice(), 5, None);
         let mut out = FuseWriter::new(alloc, 7, None);
-        holds_in(&rt, case, is_joined_in_part(alloc, snapshot, feed, &mut out)?);
+        holds_in(
+            &rt,
+            case,
+            is_joined_in_part(alloc, snapshot, feed, &mut out)?,
+        );
         same_in(&rt, case, out.written(), wanted.as_slice());
     }
     Ok(())

@@ -2,7 +2,9 @@
 
 use crate::equal::{same, same_in};
 use itch_codec::CodecFault;
-use itch_commands::{Expected, FeedPart, Limit, Misfit, Source, ToolFault, Unmet, status, system_fault};
+use itch_commands::{
+    Expected, FeedPart, Limit, Misfit, Source, ToolFault, Unmet, status, system_fault,
+};
 use itch_frame::FrameFault;
 use itch_market::{Refusal, ReplayEnd, Stop};
 use itch_snapshot::SnapFault;
@@ -62,7 +64,10 @@ fn every_fault_has_its_line_and_status(rt: HostRuntime) -> Result<(), Fail> {
         ),
         (ToolFault::Unmet(Unmet::NoEnd), "no end of messages", 1),
         (
-            ToolFault::Misfit(Misfit::Gap { next: 5, before: u64::MAX }),
+            ToolFault::Misfit(Misfit::Gap {
+                next: 5,
+                before: u64::MAX,
+            }),
             "gap: message 5 is next, and the feed begins with 18446744073709551616",
             1,
         ),

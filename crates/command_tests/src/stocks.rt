@@ -45,7 +45,14 @@ pub(super) fn joined_of_stocks<R: CountedRead + Drop, S: CountedRead + Drop, W: 
 ) -> Result<bool, ToolFault> {
     let mut snapshot = BlockReader::new(alloc, snapshot)?;
     let mut feed = BlockReader::new(alloc, feed)?;
-    join_stocks(alloc, &mut snapshot, &mut feed, FeedPart::whole(), "AAPL", out)
+    join_stocks(
+        alloc,
+        &mut snapshot,
+        &mut feed,
+        FeedPart::whole(),
+        "AAPL",
+        out,
+    )
 }
 
 // The locates of the directory of a day file that have one of these stocks.

@@ -3,9 +3,8 @@
 use itch_commands::{Checkpoint, Limit, Source, ToolFault, system_fault};
 use serde_json::Value;
 use std::alloc::{AllocError, Global};
-use std::fs;
-use std::io;
 use std::rt::Files;
+use std::{fs, io};
 
 /// The snapshot of a market without messages: End of Snapshot alone, with the number 1.
 pub const EMPTY_SNAPSHOT: &[u8] = b"\0\x15G                   1";
@@ -64,15 +63,11 @@ fn read_checkpoint(alloc: Global, line: &str) -> Result<Option<Checkpoint>, Allo
     else {
         return Ok(None);
     };
-    Ok(
-        Some(
-            Checkpoint {
-                messages,
-                offset,
-                timestamp: number(&fields, "timestamp"),
-            },
-        ),
-    )
+    Ok(Some(Checkpoint {
+        messages,
+        offset,
+        timestamp: number(&fields, "timestamp"),
+    }))
 }
 
 fn number(fields: &Value, key: &str) -> Option<u64> {

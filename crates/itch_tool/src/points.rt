@@ -1,10 +1,11 @@
 //! Snapshots of several points of a day file, in the files of a folder.
 
+use crate::locate_list::read_only;
 use crate::opened::open;
 use crate::output::{Output, output_fault};
 use crate::run::blocks;
 use itch_commands::snap::{Pass, write_index};
-use itch_commands::{Book, Limit, Source, ToolFault, read_locates};
+use itch_commands::{Book, Limit, Source, ToolFault};
 use itch_frame::{Counted, CountedRead};
 use itch_market::LocateSet;
 use itchsnap_cli::input::Progress;
@@ -22,7 +23,7 @@ pub fn run_points<R: Files + Input + Eprint + AllocGlobal + Clock>(
 ) -> Result<bool, ToolFault> {
     let alloc = rt.alloc();
     let only = match words.only {
-        Some(list) => Some(read_locates(alloc, list)?),
+        Some(words) => Some(read_only(rt, words)?),
         None => None,
     };
     let progress = if words.progress {

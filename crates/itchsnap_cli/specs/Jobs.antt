@@ -56,6 +56,7 @@ abbrev pub file_of : Job → Source → Option (List ℕ)
 file_of (Files request progress output) Output = option_map (λ path. path.now) output
 file_of (Files request progress output) source = requests.file_of request source
 file_of (Points words) Output = Some words.folder.now
+file_of (Points words) Locates = requests.file_of_list (option_map (λ list. list.now) words.only)
 file_of (Points words) source = option_map (λ path. path.now) words.file
 file_of (Serve file kind address login count progress) PasswordFile = password_file login.password
 file_of (Serve file kind address login count progress) source = option_map (λ path. path.now) file

@@ -280,16 +280,16 @@ fn output<'a>(alloc: Global) -> Arg<'a> {
 }
 
 fn after_each<'a>(alloc: Global) -> Arg<'a> {
-    Arg::new(alloc, "after")
-        .long("after")
-        .value_name("N")
-        .help("Stop after the first N messages; with --to N,.. take a snapshot after each N")
+    Arg::new(alloc, "after").long("after").value_name("N").help(
+        "Stop after the first N messages; with --to N,.. take a snapshot after each N",
+    )
 }
 
 fn until_each<'a>(alloc: Global) -> Arg<'a> {
-    Arg::new(alloc, "until").long("until").value_name("TIME").help(
-        "Stop before the first message at TIME or later, such as 10:30; with --to TIME,..",
-    )
+    Arg::new(alloc, "until")
+        .long("until")
+        .value_name("TIME")
+        .help("Stop before the first message at TIME or later, such as 10:30; with --to TIME,..")
 }
 
 fn every<'a>(alloc: Global) -> Arg<'a> {
@@ -301,10 +301,9 @@ fn every<'a>(alloc: Global) -> Arg<'a> {
 }
 
 fn to<'a>(alloc: Global) -> Arg<'a> {
-    Arg::new(alloc, "to")
-        .long("to")
-        .value_name("DIR")
-        .help("Write each snapshot to DIR/N.snap, for its N messages, and list them in DIR/index.jsonl")
+    Arg::new(alloc, "to").long("to").value_name("DIR").help(
+        "Write each snapshot to DIR/N.snap, for its N messages, and list them in DIR/index.jsonl",
+    )
 }
 
 fn expect<'a>(alloc: Global) -> Arg<'a> {

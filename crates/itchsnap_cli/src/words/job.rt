@@ -1,5 +1,6 @@
 //! What the program is asked to do: a request over files, one end of a session, or the completions of a shell.
 ghost use Rattle.std.specs.Prelude.{◌≡◌, option_map};
+ghost use Rattle.itch_commands.specs.Requests.{file_of_list};
 ghost use Rattle.itchsnap_cli.specs.Jobs.{file_of, follow_file, live_file, output_of, password_file, writes_snapshot};
 
 use crate::words::commands::{command, usage_fault};
@@ -14,7 +15,7 @@ use crate::words::session::{
 };
 use clap::{ArgMatches, Error};
 use itch_codec::Seq;
-use itch_commands::{FileKind, Request, Source};
+use itch_commands::{FileKind, Request, Source, list_file};
 use std::alloc::Global;
 use std::net::SocketAddr;
 
@@ -66,6 +67,7 @@ impl<'a> Job<'a> {
             (Job::Files { .. } | Job::Fetch { .. }, Source::Output) => self.output(),
             (Job::Files { request, .. }, _) => request.file(source),
             (Job::Points(words), Source::Output) => Some(words.folder),
+            (Job::Points(words), Source::Locates) => file_of_list(words.only),
             (Job::Points(words), _) => words.file,
             (Job::Serve { login, .. } | Job::Fetch { login, .. }, Source::PasswordFile) => {
                 password_file(login)
@@ -89,6 +91,13 @@ impl<'a> Job<'a> {
             _ => None,
         }
     }
+}
+
+// The path of the file that has a list, if the words for it name one.
+fn file_of_list<'a>(words: Option<&'a str>) -> Option<&'a str>
+    ensures { option_map (λ path. path.now) result ≡ file_of_list (option_map (λ list. list.now) words.entry) }
+{
+    list_file(words?)
 }
 
 // What a fault of a live server names: its feed, its own password file there, its folder of snapshots, its record, or the server
@@ -137,11 +146,8 @@ fn writes_snapshot(job: &Job<'_>) -> bool
 {
     match job {
         Job::Files { request, .. } => request.is_binary(),
-        Job::Points(_)
-        | Job::Serve { .. }
-        | Job::Live(_)
-        | Job::Feed(_)
-        | Job::Completions(_) => false,
+        Job::Points(_) | Job::Serve { .. } | Job::Live(_) | Job::Feed(_) | Job::Completions(_) =>
+            false,
         Job::Fetch { .. } => true,
         Job::Follow(follow) => !matches!(follow.form, FollowForm::Json),
     }

@@ -5,7 +5,8 @@ use crate::words::points::read_part;
 use crate::words::time::read_time;
 use clap::{ArgMatches, Error};
 use itch_commands::{
-    BookForm, Expected, FeedPart, FileKind, Filters, Form, Limit, Request, Selection, ShowForm, path_of,
+    BookForm, Expected, FeedPart, FileKind, Filters, Form, Limit, Request, Selection, ShowForm,
+    path_of,
 };
 use std::alloc::Global;
 
