@@ -50,6 +50,7 @@ const JOINED: [(&[&str], &[&str], &[&str]); 6] = [
 fn the_laws_of_what_is_read_with_a_set() {
     laws::reading_for_a_set();
     laws::restricted_reading();
+    laws::joined_day();
 }
 
 #[test]

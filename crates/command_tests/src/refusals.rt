@@ -3,7 +3,7 @@
 use crate::equal::{same, same_in};
 use itch_codec::CodecFault;
 use itch_commands::{
-    Expected, FeedPart, Limit, Misfit, Source, ToolFault, Unmet, status, system_fault,
+    Checkpoint, Expected, FeedPart, Limit, Misfit, Source, ToolFault, Unmet, status, system_fault,
 };
 use itch_frame::FrameFault;
 use itch_market::{Refusal, ReplayEnd, Stop};
@@ -239,4 +239,31 @@ fn a_feed_fits_to_a_snapshot_or_not(rt: HostRuntime) {
     same(&rt, part.wanted(7).after, Some(0));
     same(&rt, FeedPart::whole().misfit(u64::MAX), None);
     same(&rt, FeedPart::whole().wanted(1), Limit::whole());
+}
+
+#[test]
+fn the_nearest_checkpoint_is_not_beyond(rt: HostRuntime) {
+    let at = |messages, timestamp| Checkpoint {
+        messages,
+        offset: 100 * messages,
+        timestamp,
+    };
+    let after = |count| Limit::counted(Some(count));
+    let before = |time| Limit {
+        after: None,
+        until: Some(time),
+    };
+    let cases = [
+        (at(2, Some(5)), after(3), at(2, Some(5))),
+        (at(3, Some(5)), after(3), at(3, Some(5))),
+        (at(4, Some(5)), after(3), at(1, None)),
+        (at(1, Some(5)), after(3), at(1, None)),
+        (at(2, Some(5)), before(6), at(2, Some(5))),
+        (at(2, Some(6)), before(6), at(1, None)),
+        (at(2, None), before(0), at(2, None)),
+    ];
+    for (other, limit, wanted) in cases {
+        same_in(&rt, other, at(1, None).nearer(other, limit), wanted);
+    }
+    same(&rt, Checkpoint::first().messages, 0);
 }

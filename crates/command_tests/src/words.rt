@@ -114,6 +114,14 @@ fn requests_are_read(rt: HostRuntime) -> Result<(), Fail> {
             "Join { snapshot: Some(\"a.snap\"), feed: Some(\"rest.itch\"), part: FeedPart { before: 2, limit: Limit { after: Some(9), until: Some(7) } }, selection: All }",
         ),
         (
+            "at snapshots day.itch 007",
+            "At { folder: \"snapshots\", feed: Some(\"day.itch\"), point: Limit { after: Some(7), until: None }, selection: All }",
+        ),
+        (
+            "at --stock AAPL . - 00:00:00.000000007",
+            "At { folder: \".\", feed: None, point: Limit { after: None, until: Some(7) }, selection: Stocks(\"AAPL\") }",
+        ),
+        (
             "join --only=40 a.snap -",
             "Join { snapshot: Some(\"a.snap\"), feed: None, part: FeedPart { before: 0, limit: Limit { after: None, until: None } }, selection: Locates(\"40\") }",
         ),
