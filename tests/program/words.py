@@ -19,6 +19,8 @@ FILES = {
     "day.snap": "START AAPL BUY_1 END_4",
     "other.snap": "AAPL START BUY_1 END_4",
     "early.snap": "START AAPL END_3",
+    # An index of no snapshots.
+    "snapshots/index.jsonl": "",
 }
 FAULTS = [
     "snap --only",
@@ -172,7 +174,9 @@ def each_command_has_an_example(program):
             continue
         with tempfile.TemporaryDirectory() as folder:
             for name, blocks in FILES.items():
-                (Path(folder) / name).write_bytes(file(blocks))
+                path = Path(folder) / name
+                path.parent.mkdir(exist_ok=True)
+                path.write_bytes(file(blocks))
             done = subprocess.run(["bash", "-c", f'set -o pipefail; itchsnap() {{ "$0" "$@"; }}; {example}', program], cwd=folder,
                                   capture_output=True, timeout=60)
         if done.returncode or done.stderr:
