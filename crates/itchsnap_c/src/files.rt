@@ -122,6 +122,7 @@ fn refused_day(fault: &ToolFault) -> Outcome
         ToolFault::Short { count, .. } => outcome(*count, 0, 0, SHORT),
         ToolFault::Snap { .. }
         | ToolFault::Unmet(_)
+        | ToolFault::Misfit(_)
         | ToolFault::UnknownLocate
         | ToolFault::UnknownStock
         | ToolFault::Write(_)
