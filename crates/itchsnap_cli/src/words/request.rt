@@ -82,7 +82,7 @@ fn read_join<'a>(alloc: Global, options: &ArgMatches<'a>) -> Result<Request<'a>,
     Ok(Request::Join {
         snapshot,
         feed,
-        part: read_part(alloc, options)?,
+        part: read_feed_part(alloc, options)?,
         selection: read_selection(alloc, options)?,
     })
 }
@@ -118,7 +118,7 @@ fn read_point(alloc: Global, text: &str) -> Result<Limit, Error> {
 }
 
 // The part of a feed that is wanted, after `--from`, `--after` and `--until`.
-fn read_part<'a>(alloc: Global, options: &ArgMatches<'a>) -> Result<FeedPart, Error> {
+fn read_feed_part<'a>(alloc: Global, options: &ArgMatches<'a>) -> Result<FeedPart, Error> {
     let first = read_count(alloc, options, "from", "--from takes decimal digits")?;
     Ok(FeedPart {
         before: first.unwrap_or(1).saturating_sub(1),
