@@ -15,7 +15,7 @@ from common import file
 TOP = Path(__file__).resolve().parents[2]
 JOB = TOP / "scale/job"
 PROGRAM = TOP / "release/itchsnap"
-PATIENCE = 20
+PATIENCE = 60
 
 # The program, noting each run, and each job that asks for its version. While there is a file `hold` it stops in the middle of its output,
 # and `held` has its number and the job's.
