@@ -45,7 +45,7 @@ fn a_pass_stands_at_each_point(rt: HostRuntime) -> Result<(), Fail> {
     let mut index = FuseWriter::new(alloc, 512, None);
     write_index(pass.mark(), &mut index)?;
     write_index(Mark::new(), &mut index)?;
-    let wanted = b"{\"messages\":3,\"offset\":93,\"timestamp\":3,\"file\":\"3.snap\"}\n\
+    let wanted: &[u8] = b"{\"messages\":3,\"offset\":93,\"timestamp\":3,\"file\":\"3.snap\"}\n\
         {\"messages\":0,\"offset\":0,\"timestamp\":null,\"file\":\"0.snap\"}\n";
     holds_in(&rt, "index", index.written() == wanted);
     Ok(())
