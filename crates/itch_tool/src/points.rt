@@ -6,7 +6,7 @@ use crate::output::{Output, output_fault};
 use crate::run::blocks;
 use itch_commands::snap::{Pass, write_index};
 use itch_commands::{Book, Limit, Source, ToolFault};
-use itch_frame::{Counted, CountedRead};
+use itch_frame::{BlockReader, Counted, CountedRead};
 use itch_market::LocateSet;
 use itchsnap_cli::input::Progress;
 use itchsnap_cli::sessions::PIECE;
@@ -32,8 +32,17 @@ pub fn run_points<R: Files + Input + Eprint + AllocGlobal + Clock>(
         None
     };
     let file = open(rt, words.file, Source::Only, progress.as_ref())?;
-    let mut pass = Pass::new(alloc, blocks(alloc, file)?);
+    save_points(rt, words, only, blocks(alloc, file)?)
+}
+
+fn save_points<R: Files + AllocGlobal, S: CountedRead + Drop, A: Allocator>(
+    rt: &R,
+    words: &PointWords<'_>,
+    only: Option<LocateSet<Global>>,
+    reader: BlockReader<S, A>,
+) -> Result<bool, ToolFault> {
     let mut folder = Folder::create(rt, words.folder, only)?;
+    let mut pass = Pass::new(rt.alloc(), reader);
     match words.points {
         Points::Every(count) => save_every(&mut folder, &mut pass, count),
         Points::After(list) | Points::Until(list) => {
