@@ -152,30 +152,6 @@ fn states_of_stocks(rt: HostRuntime) {
 }
 
 #[test]
-fn an_encoder_starts_each_message_anew(rt: HostRuntime) {
-    let mut encoder = Encoder::new();
-    let delete = OrderDelete {
-        header: header(&rt, 1),
-        reference: 1,
-    };
-    same(
-        &rt,
-        encoder.encode(&Message::AddOrder(order(&rt, 1))),
-        ADD_ORDER,
-    );
-    same(
-        &rt,
-        encoder.encode(&Message::OrderDelete(delete)),
-        ORDER_DELETE,
-    );
-    same(
-        &rt,
-        encoder.encode(&Message::AddOrder(order(&rt, 1))),
-        ADD_ORDER,
-    );
-}
-
-#[test]
 fn new_orders(rt: HostRuntime) {
     agree(&rt, ADD_ORDER, Message::AddOrder(order(&rt, 1)));
     agree(
