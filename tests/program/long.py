@@ -116,9 +116,9 @@ def the_longest_message_is_read(program):
 
 def the_longest_message_waits_in_a_joiner(_program):
     """In the released C library, since the program's `join` has nothing wait."""
-    sys.path.insert(0, str(TOP / "c"))
-    itchsnap = importlib.import_module("itchsnap")
-    library, joiner = itchsnap.Library(str(TOP / "release/libitchsnap.so")), itchsnap.Handle()
+    sys.path.insert(0, str(TOP / "python"))
+    package = importlib.import_module("sundrekk._library")
+    library, joiner = package.library, package.Handle()
     longest, other, end = b"z" * LONGEST, b"z" * (LONGEST - 1) + b"y", b"G" + b"1".rjust(20)
     yield from differs("a new joiner", library.joiner_new(joiner, 2).code, OK)
     yield from differs("the second message", library.joiner_live(joiner, 2, longest, LONGEST).code, KEPT)
