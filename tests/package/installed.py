@@ -38,9 +38,7 @@ def installed(python, folder):
     """Installs the package into a folder, from a copy of its own that is gone afterwards. Returns what pip says where it fails."""
     with tempfile.TemporaryDirectory() as name:
         copy = Path(name)
-        shutil.copytree(PACKAGE, copy / "python", symlinks=True, ignore=shutil.ignore_patterns("build", "*.egg-info", "__pycache__"))
-        (copy / "release").mkdir()
-        shutil.copy2(samples.TOP / "release/libitchsnap.so", copy / "release")
+        shutil.copytree(PACKAGE, copy / "python", ignore=shutil.ignore_patterns("build", "*.egg-info", "__pycache__"))
         done = subprocess.run([python, "-m", "pip", "install", "--no-index", "--no-build-isolation", "--no-deps", "--no-cache-dir",
                                "--disable-pip-version-check", "--target", folder, copy / "python"], stdout=subprocess.PIPE,
                               stderr=subprocess.STDOUT, text=True, timeout=120)
@@ -60,7 +58,6 @@ def pip_installs_a_package_that_stands_alone():
         sources = {it.name for it in (PACKAGE / "sundrekk").iterdir() if it.suffix in (".py", ".typed", ".so") or it.name == "py.typed"}
         yield from differs("the files", {it.name for it in (folder / "sundrekk").iterdir() if it.name != "__pycache__"}, sources)
         library = folder / "sundrekk/libitchsnap.so"
-        yield from differs("the library is a file", library.is_symlink(), False)
         if library.read_bytes() != (samples.TOP / "release/libitchsnap.so").read_bytes():
             yield "the library is not that of release/"
         yield from metadata(folder)
@@ -83,8 +80,8 @@ def the_version_is_that_of_the_program():
 
 
 def the_library_is_that_of_the_release():
-    library = PACKAGE / "sundrekk/libitchsnap.so"
-    yield from differs("the link", library.resolve(), (samples.TOP / "release/libitchsnap.so").resolve())
+    if (PACKAGE / "sundrekk/libitchsnap.so").read_bytes() != (samples.TOP / "release/libitchsnap.so").read_bytes():
+        yield "the library of the package is not that of release/"
 
 
 RUNS = [pip_installs_a_package_that_stands_alone, the_version_is_that_of_the_program, the_library_is_that_of_the_release]
