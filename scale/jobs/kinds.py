@@ -1,5 +1,7 @@
 """The kinds of jobs: snapshots of a day, a check of it, its parts laid together to the whole, and a table of its price levels."""
+import json
 import re
+import shutil
 from dataclasses import dataclass
 from pathlib import Path
 from typing import NamedTuple
@@ -34,6 +36,20 @@ def limit(point):
     if point == END:
         return []
     return ["--until" if TIME.fullmatch(point) else "--after", point]
+
+
+def moment(time):
+    """A time in nanoseconds since midnight, as an index has it."""
+    hours, minutes, seconds = [*time.split(":"), "0"][:3]
+    whole, _, fraction = seconds.partition(".")
+    return ((int(hours) * 60 + int(minutes)) * 60 + int(whole)) * 10 ** 9 + int(fraction.ljust(9, "0"))
+
+
+def is_before(snapshot, option, place):
+    """Whether a snapshot of an index has no message beyond a point."""
+    if option == "--after":
+        return snapshot["messages"] <= place
+    return snapshot["timestamp"] is None or snapshot["timestamp"] < place
 
 
 def name_of(point):
@@ -111,8 +127,41 @@ class Snapshots(Job):
     def results(self):
         return [self.site.snapshot(self.day, point, self.part) for point in self.points]
 
+    def answers(self, results, room):
+        """One pass over the day makes all points that are numbers, and one all that are times."""
+        made = {}
+        for option, place in ("--after", int), ("--until", moment):
+            points = {place(result.made_of["point"]): result for result in results if option in limit(result.made_of["point"])}
+            if len(points) > 1:
+                made |= self.pass_over(option, dict(sorted(points.items())), room)
+        for result in results:
+            if result in made:
+                yield result, made[result]
+            else:
+                yield from super().answers([result], room)
+
+    def pass_over(self, option, points, room):
+        """Each result with its file, by one pass over these points; none where the pass is refused or fails, since then each point has an
+        answer of its own."""
+        folder = room / option.strip("-")
+        folder.mkdir()
+        wanted = ",".join(result.made_of["point"] for result in points.values())
+        only = ["--only", self.part] if self.part else []
+        try:
+            self.site.program.write(["snap", option, wanted, "--to", folder, *only], self.day.path, folder / "printed")
+        except (Refusal, Failure):
+            return {}
+        index = [json.loads(line) for line in (folder / "index.jsonl").read_text().splitlines()]
+        made = {}
+        for place, result in points.items():
+            # A point where no message came since the one before has the same file.
+            written = [it["file"] for it in index if is_before(it, option, place)]
+            made[result] = room / result.path.name
+            shutil.copyfile(folder / written[-1], made[result])
+        return made
+
     def make(self, result, made, room):
-        """A run of the program for each point. A part at the end is joined to the empty snapshot, which passes over the messages of the
+        """A run of the program for a point. A part at the end is joined to the empty snapshot, which passes over the messages of the
         other parts, and so takes less time than `snap`, but does not check them."""
         point = result.made_of["point"]
         if not self.part:

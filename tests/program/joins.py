@@ -98,6 +98,17 @@ def the_snapshot_at_each_point_is_that_of_the_day(program):
                 yield from differs((counts, point, "standard input"), (piped.returncode, piped.stdout, piped.stderr), wanted)
 
 
+def at_finds_a_time_where_timestamps_fall(program):
+    with tempfile.TemporaryDirectory() as folder:
+        (Path(folder) / "1.itch").write_bytes(file("START_STAMPED AAPL_LATE BUY_1_STAMPED BUY_7_OF_300"))
+        (Path(folder) / "snapshots").mkdir()
+        yield from differs("points", ended_in(folder, program, "snap", "1.itch", "--every", "1", "--to", "snapshots"), (0, b"", b""))
+        for time in range(12):
+            clock = f"00:00:00.{time:09}"
+            wanted = 0, snapped(folder, program, "--until", clock), b""
+            yield from differs(clock, ended_in(folder, program, "at", "snapshots", "1.itch", clock), wanted)
+
+
 def at_reads_the_day_from_its_checkpoint_on(program):
     with tempfile.TemporaryDirectory() as folder:
         folder_of_a_day(folder)
@@ -137,6 +148,7 @@ RUNS = (
     joins_after_each_message_are_snapshots_of_the_day,
     joins_until_each_time_are_snapshots_of_the_day,
     the_snapshot_at_each_point_is_that_of_the_day,
+    at_finds_a_time_where_timestamps_fall,
     at_reads_the_day_from_its_checkpoint_on,
     at_passes_over_lines_that_are_no_checkpoints,
     at_is_refused_as_join_is,

@@ -111,7 +111,7 @@ def a_message_at_a_time_is_in_the_next_snapshot(program):
     with folder_of(file("START_STAMPED AAPL_LATE BUY_1_STAMPED")) as folder:
         yield from differs("status", snap(folder, program, "--until 5,8,20"), (0, b"", b""))
         wanted = {
-            "index.jsonl": index_of([LINES[1], '{"messages":3,"offset":93,"timestamp":3,"file":"3.snap"}']),
+            "index.jsonl": index_of([LINES[1], '{"messages":3,"offset":93,"timestamp":9,"file":"3.snap"}']),
             "1.snap": file(SNAPSHOTS[1]),
             "3.snap": file(SNAPSHOTS[3]),
         }

@@ -67,6 +67,28 @@ def what_is_there_is_not_made_again(folder):
             yield f"{path.name} was put in place once more"
 
 
+def points_of_one_kind_are_one_pass(folder):
+    watched = Watched(folder)
+    data, plain = large.orders(1000, symbols=20)[0], folder / "plain.itch"
+    plain.write_bytes(data)
+    # The times are out of order, two have the same messages, and one is before the first message.
+    points = "end", "700", "00:00:00.000000500", "3", "23:00", "00:00", "00:00:00.000000100", "23:59", "0"
+    for suffix, part in ("", None), ("", "3-7"), (".gz", None):
+        day, out, run = write_day(folder / f"day.itch{suffix}", data), folder / f"out-{part}{suffix}", f"{part}{suffix}"
+        status, _, _ = snapshots(out, "--program", watched.path, "--points", ",".join(points), *(["--part", part] if part else []), day)
+        yield from differs(f"status of {run}", status, 0)
+        runs = [it.split(" --to ")[0] for it in watched.runs()]
+        yield from differs(f"runs of {run}", runs[:2],
+                           ["snap --after 0,3,700", "snap --until 00:00,00:00:00.000000100,00:00:00.000000500,23:00,23:59"])
+        yield from differs(f"number of runs of {run}", len(runs), 3)
+        watched.forget()
+        for point in points:
+            limit = [] if point == "end" else ["--until" if ":" in point else "--after", point]
+            name = "-".join([*limit, *([] if limit else ["end"])]).removeprefix("--").replace(":", "-") + (f".{part}" if part else "")
+            yield from differs(f"{point} of {run}", bytes_of(out / f"day/{name}.snap"),
+                               kit.program("snap", *limit, *(["--only", part] if part else []), plain))
+
+
 # Changes in the text of a manifest.
 CHANGES = {
     "without a result": ('"result"', '"other"'),
@@ -298,6 +320,7 @@ RUNS = [
     a_point_beyond_the_end_is_refused_alone,
     a_cut_day_is_a_failure_until_it_is_whole,
     failures_leave_nothing,
+    points_of_one_kind_are_one_pass,
     the_other_points_are_made_where_one_fails,
     a_killed_job_leaves_no_result_and_no_program,
     a_job_ends_with_its_parent_where_that_is_asked_for,

@@ -27,6 +27,8 @@ mod refusals;
 #[cfg(test)]
 mod restricted;
 #[cfg(test)]
+mod session_words;
+#[cfg(test)]
 mod sessions;
 #[cfg(test)]
 mod stocks;

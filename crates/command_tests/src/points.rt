@@ -53,7 +53,7 @@ fn a_pass_stands_at_each_point(rt: HostRuntime) -> Result<(), Fail> {
     let end = Mark {
         count: 3,
         offset: 93,
-        time: Some(3),
+        latest: Some(9),
     };
     holds_in(&rt, "mark", pass.mark() == end);
     Ok(())

@@ -2,8 +2,9 @@
 
 use crate::equal::{same, same_in};
 use itch_codec::CodecFault;
+use itch_commands::snap::Mark;
 use itch_commands::{
-    Checkpoint, Expected, FeedPart, Limit, Misfit, Source, ToolFault, Unmet, status, system_fault,
+    Expected, FeedPart, Limit, Misfit, Source, ToolFault, Unmet, status, system_fault,
 };
 use itch_frame::FrameFault;
 use itch_market::{Refusal, ReplayEnd, Stop};
@@ -243,10 +244,10 @@ fn a_feed_fits_to_a_snapshot_or_not(rt: HostRuntime) {
 
 #[test]
 fn the_nearest_checkpoint_is_not_beyond(rt: HostRuntime) {
-    let at = |messages, timestamp| Checkpoint {
-        messages,
-        offset: 100 * messages,
-        timestamp,
+    let at = |count, latest| Mark {
+        count,
+        offset: 100 * count,
+        latest,
     };
     let after = |count| Limit::counted(Some(count));
     let before = |time| Limit {
@@ -265,5 +266,5 @@ fn the_nearest_checkpoint_is_not_beyond(rt: HostRuntime) {
     for (other, limit, wanted) in cases {
         same_in(&rt, other, at(1, None).nearer(other, limit), wanted);
     }
-    same(&rt, Checkpoint::first().messages, 0);
+    same(&rt, Mark::new().count, 0);
 }

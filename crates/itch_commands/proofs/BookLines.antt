@@ -1,5 +1,5 @@
 -- The books of what a file leaves.
-use Rattle.std.proofs.Common.{◌≡◌, ℕ, Bool, true, List, [], ◌++◌, filter, flat_map, Option, None, Some, IsSome, Result, Ok, refl, sym, ap, ap₂, ◌∙◌, subst}
+use Rattle.std.proofs.Common.{◌≡◌, ℕ, Bool, true, List, ◌++◌, filter, flat_map, Option, None, Some, IsSome, Result, Ok, refl, sym, ap, ap₂, ◌∙◌, subst}
 use Rattle.std.specs.FinMap as finite
 use Rattle.std.proofs.KnownBytes.{Appends-nil}
 use Rattle.itch_book.specs.declared.order.Order.{Order}

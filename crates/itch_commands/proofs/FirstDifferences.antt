@@ -28,7 +28,7 @@ use Rattle.itch_snapshot.specs.Snapshot.{snap}
 use Rattle.itch_join.proofs.Premises.{laid_empty}
 use Rattle.itch_commands.specs.FirstDifferences.{IsSameAt, IsWithin, limited_to, count_of, ReadsUpTo, IsRefusedAfter, AppliesNext, AreAlike, Steps, FindsFirst}
 use Rattle.itch_commands.specs.Limits.{IsBefore, most_of}
-use Rattle.itch_commands.specs.Readings.{AreTaken, TakesEarly, TakesNext, IsEnough, LeavesDay, ReadsDay, ReadsMarket, CountsRead, stopped}
+use Rattle.itch_commands.specs.Readings.{AreTaken, TakesEarly, IsEnough, LeavesDay, ReadsDay, ReadsMarket, CountsRead, stopped}
 use Rattle.itch_commands.specs.declared.fault.Source.{Source}
 use Rattle.itch_commands.specs.declared.fault.Source.TheVariants.{First, Second}
 use Rattle.itch_commands.specs.declared.fault.ToolFault.{ToolFault}

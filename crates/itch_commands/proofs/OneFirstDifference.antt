@@ -1,11 +1,11 @@
 -- Two day files first differ after one number of messages.
-use Rattle.std.proofs.Common.{◌≡◌, ℕ, ◌+◌, ◌≤◌, ◌<◌, ◌⊎◌, true, false, List, [], ◌∷◌, ◌++◌, map, take, length, Option, None, Some, IfSome, inl, inr, refl, sym, ap, subst, ◌∙◌, arith, length-append}
+use Rattle.std.proofs.Common.{◌≡◌, ℕ, ◌+◌, ◌≤◌, ◌<◌, true, false, List, [], ◌∷◌, ◌++◌, map, take, length, Option, None, Some, IfSome, inl, inr, refl, sym, ap, subst, ◌∙◌, arith}
 use Rattle.std.specs.List.{AllByRecursion}
 use Rattle.std.proofs.lemmas.Bool.{cases_lt}
 use Rattle.std.proofs.lemmas.List.{append-nil, take-append-le}
 use Rattle.std.proofs.Math.Seq.{take-append_seam}
 use Rattle.itch_codec.specs.Messages.{message_of}
-use Rattle.itch_frame.specs.Blocks.{block, blocks, Day, Ends, IsFull}
+use Rattle.itch_frame.specs.Blocks.{block, blocks, Day, IsFull}
 use Rattle.itch_frame.proofs.Days.{day_one, day_last, day_some, front_of_day}
 use Rattle.itch_market.specs.Runs.{run}
 use Rattle.itch_market.specs.SameMarkets.{Same}

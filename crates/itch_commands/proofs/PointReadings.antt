@@ -1,7 +1,6 @@
 -- What reading on from point to point returns.
-use Rattle.std.proofs.Common.{◌≡◌, ◌≢◌, ℕ, ◌+◌, ◌-◌, ◌^◌, ◌≤◌, ◌<◌, min, Bool, true, false, nat_le, List, [], ◌∷◌, ◌++◌, map, length, Option, None, Some, IsSome, IfSome, Result, Ok, Err, inl, inr, refl, sym, ap, subst, ◌∙◌, arith}
+use Rattle.std.proofs.Common.{◌≡◌, ℕ, ◌+◌, ◌-◌, ◌^◌, ◌≤◌, ◌<◌, min, Bool, true, false, List, [], ◌++◌, length, Option, None, Some, IfSome, Result, Ok, Err, inl, inr, refl, sym, ap, subst, ◌∙◌, arith}
 use denote.Ref.{Bor}
-use Rattle.std.specs.List.{AllByRecursion}
 use Rattle.std.specs.Option.{option_copied}
 use Rattle.std.proofs.KnownBytes.{Consumes-nil}
 use Rattle.std.proofs.lemmas.Bool.Decides.{nat_tests}
@@ -22,7 +21,8 @@ use Rattle.itch_join.proofs.Premises.{laid_empty}
 use Rattle.itch_commands.specs.Commands.{Snaps}
 use Rattle.itch_commands.specs.Limits.{IsEarly, counted, is_from, is_late, most_of}
 use Rattle.itch_commands.specs.Outputs.{WritesOutput, snapshot_in}
-use Rattle.itch_commands.specs.Points.{IsMark, IsNoEarlier, IsRead, IsUpTo, ReadsMore, ReadsOn, Rises, Stands, Steps}
+use Rattle.itch_commands.specs.Marks.{IsMark}
+use Rattle.itch_commands.specs.Points.{IsNoEarlier, IsRead, IsUpTo, ReadsMore, ReadsOn, Rises, Stands, Steps}
 use Rattle.itch_commands.specs.Readings.{CountsRead, FromBlocks, LeavesDay, ReadsDay, ReadsMarket, stopped}
 use Rattle.itch_commands.specs.declared.fault.Source.{Source}
 use Rattle.itch_commands.specs.declared.fault.Source.TheVariants.{Only}
@@ -30,8 +30,8 @@ use Rattle.itch_commands.specs.declared.fault.ToolFault.{ToolFault}
 use Rattle.itch_commands.specs.declared.fault.ToolFault.TheVariants as tool
 use Rattle.itch_commands.specs.declared.limit.Limit.{Limit}
 use Rattle.itch_commands.specs.declared.snap.mark.Mark.{Mark}
-use Rattle.itch_commands.specs.declared.snap.mark.Ahead.{Ahead}
-use Rattle.itch_commands.specs.declared.snap.mark.Ahead.TheVariants.{Unread, Late, Ended}
+use Rattle.itch_commands.specs.declared.snap.ahead.Ahead.{Ahead}
+use Rattle.itch_commands.specs.declared.snap.ahead.Ahead.TheVariants.{Unread, Late, Ended}
 use Rattle.itch_commands.proofs.DayReadings.{Applied, day_fails}
 use Rattle.itch_commands.proofs.FirstDifferences.{day_of, stopped_end}
 use Rattle.itch_commands.proofs.Outputs.{read_writes}
@@ -87,6 +87,14 @@ module _ {R : Type 0} (remaining : R → Option (List ℕ)) (failures : R → Fa
         marked = s.marked;
         next = s.next;
       }
+
+  -- and where nothing changed, it still does
+  pub untouched : (limit : Limit) (first old new : Reading R) (m n : Content) (mark same : Mark) (ahead held : Ahead) (ps : List (List ℕ)) → new ≡ old → n ≡ m → same ≡ mark → held ≡ ahead
+      → Stands remaining failures limit first old m mark ahead ps → Stands remaining failures limit first new n same held ps
+  untouched limit first old new m n mark same ahead held ps of_reader of_market of_mark of_ahead s =
+      subst (λ r. Stands remaining failures limit first r n same held ps) (sym of_reader)
+      (subst (λ k. Stands remaining failures limit first old k same held ps) (sym of_market)
+      (subst (λ k. Stands remaining failures limit first old m k held ps) (sym of_mark) (subst (λ a. Stands remaining failures limit first old m mark a ps) (sym of_ahead) s)))
 
   module _ (limit : Limit) (first now : Reading R) (m : Content) (mark : Mark) where
     pub is_read : (ahead : Ahead) (ps : List (List ℕ)) → Stands remaining failures limit first now m mark ahead ps → ReadsDay remaining failures Only limit first now (Ok ps)
@@ -151,7 +159,7 @@ more_rises before Ended count more most some few is = (tt, omega (arith, some, f
 
 module _ {R : Type 0} (remaining : R → Option (List ℕ)) (failures : R → Failures) where
   -- before any message
-  pub stands_first : (limit : Limit) (r : Reading R) (m : Content) (mark : Mark) → m ≡ empty → mark ≡ record { count = 0; offset = 0; time = None }
+  pub stands_first : (limit : Limit) (r : Reading R) (m : Content) (mark : Mark) → m ≡ empty → mark ≡ record { count = 0; offset = 0; latest = None }
       → Stands remaining failures limit r r m mark Unread []
   stands_first limit r m mark none beginning = record {
     left = bytes_left remaining r;
@@ -163,7 +171,7 @@ module _ {R : Type 0} (remaining : R → Option (List ℕ)) (failures : R → Fa
     );
     good = empty_good;
     uncounted = refl;
-    marked = subst (λ k. IsMark k []) (sym beginning) (record { count = refl; offset = refl; time = refl });
+    marked = subst (λ k. IsMark k []) (sym beginning) (record { count = refl; offset = refl; latest = refl });
     next = (refl, ((λ _. refl), (λ some. absurd (omega arith))));
   }
 

@@ -1,6 +1,6 @@
 -- Where a reading that goes on from point to point stands after one step.
-use Rattle.std.proofs.Common.{◌≡◌, ◌≢◌, ℕ, ◌+◌, ◌-◌, ◌^◌, ◌≤◌, ◌<◌, ◌==◌, min, Bool, true, false, List, [], ◌∷◌, ◌++◌, map, length, Option, None, Some, IsSome, IfSome, Result, Ok, Err, zero, suc, inl, inr, refl, sym, ap, subst, ◌∙◌, arith, length-append}
-use Rattle.std.specs.List.{AllByRecursion}
+use Rattle.std.proofs.Common.{◌≡◌, ◌≢◌, ℕ, ◌+◌, ◌-◌, ◌^◌, ◌≤◌, ◌<◌, ◌==◌, Bool, true, false, List, [], ◌∷◌, ◌++◌, map, length, Option, None, Some, IsSome, IfSome, Result, Ok, Err, inl, inr, refl, sym, ap, subst, ◌∙◌, arith, length-append}
+use denote.Ref.{Bor}
 use Rattle.std.proofs.lemmas.Bool.Decides.{nat_tests}
 use Rattle.std.proofs.lemmas.List.{map-append}
 use Rattle.itch_codec.specs.Headers.{time_of}
@@ -8,7 +8,7 @@ use Rattle.itch_codec.specs.Messages.{message_of}
 use Rattle.itch_codec.specs.Widths.{IsMessage}
 use Rattle.itch_codec.specs.declared.message.Message.{Message}
 use Rattle.itch_frame.specs.Blocks.{block, blocks}
-use Rattle.itch_frame.specs.Reading.{Reading, bytes_left, EndsHere}
+use Rattle.itch_frame.specs.Reading.{Reading, NextAtHand, bytes_left, EndsHere}
 use Rattle.itch_frame.specs.declared.reader.Stage.TheVariants.{Given}
 use Rattle.itch_frame.specs.declared.tally.Failures.{Failures}
 use Rattle.itch_frame.proofs.BlockLemmas.{blocks-push}
@@ -28,13 +28,14 @@ use Rattle.itch_snapshot.specs.Snapshot.{snap}
 use Rattle.itch_snapshot.proofs.OneSnapshot.{snap-laid}
 use Rattle.itch_snapshot.proofs.Sizes.{snap_step}
 use Rattle.itch_commands.specs.Limits.{IsBefore, is_from, is_late}
-use Rattle.itch_commands.specs.Points.{Holds, IsAhead, IsMark, Stands, Steps, TakesOn, last_time, mark_past, time_past}
+use Rattle.itch_commands.specs.Marks.{IsMark, later, latest, mark_past}
+use Rattle.itch_commands.specs.Points.{Holds, IsAhead, Stands, Steps, TakesOn}
 use Rattle.itch_commands.specs.Readings.{HaltsEarly, HaltsPart, TakesEarly, TakesPayload}
 use Rattle.itch_commands.specs.declared.fault.Source.TheVariants.{Only}
 use Rattle.itch_commands.specs.declared.limit.Limit.{Limit}
 use Rattle.itch_commands.specs.declared.snap.mark.Mark.{Mark}
-use Rattle.itch_commands.specs.declared.snap.mark.Ahead.{Ahead}
-use Rattle.itch_commands.specs.declared.snap.mark.Ahead.TheVariants.{Unread, Late, Ended}
+use Rattle.itch_commands.specs.declared.snap.ahead.Ahead.{Ahead}
+use Rattle.itch_commands.specs.declared.snap.ahead.Ahead.TheVariants.{Unread, Late, Ended}
 use Rattle.itch_commands.proofs.FirstDifferences.{day_of}
 use Rattle.itch_commands.proofs.PartReadings.{SoFar, late_given, stops_there, taken_more}
 
@@ -56,9 +57,9 @@ pub accepted : {done : Unit {0}} (why : Option Refusal) (result : Result (Unit {
 accepted None result refused ok = refl
 accepted (Some why) result refused ok = absurd (cc)
 
-last-push : (before : Option ℕ) (ms : List Message) (x : Message) → last_time before (ms ++ x ∷ []) ≡ time_past (last_time before ms) x
-last-push before [] x = refl
-last-push before (m ∷ ms) x = last-push (time_past before m) ms x
+latest-push : (before : Option ℕ) (ms : List Message) (x : Message) → latest before (ms ++ x ∷ []) ≡ later (latest before ms) (time_of x)
+latest-push before [] x = refl
+latest-push before (m ∷ ms) x = latest-push (later before (time_of m)) ms x
 
 length-block : (p : List ℕ) → length (block p) ≡ length p + 2
 length-block p = omega arith
@@ -68,7 +69,7 @@ pub mark_on : (mark : Mark) (ps : List (List ℕ)) (p : List ℕ) → IsMark mar
 mark_on mark ps p is = record {
   count = omega (arith, is.count, length-append ps (p ∷ []));
   offset = omega (arith, is.offset, ap length (blocks-push ps p), length-append (blocks ps) (block p), length-block p);
-  time = ap (λ t. time_past t (message_of p)) is.time ∙ sym (ap (last_time None) (map-append message_of ps (p ∷ [])) ∙ last-push None (map message_of ps) (message_of p));
+  latest = ap (λ t. later t (time_of (message_of p))) is.latest ∙ sym (ap (latest None) (map-append message_of ps (p ∷ [])) ∙ latest-push None (map message_of ps) (message_of p));
 }
 
 -- the same place of a reader, as proofs of replays have it
@@ -85,6 +86,11 @@ stops_early limit full m old new (Frame f) stops = stops
 stops_early limit full m old new (Codec f) stops = absurd stops
 stops_early limit full m old new (Rule why) stops = absurd stops
 stops_early limit full m old new TooManyMessages stops = stops
+
+module _ {R : Type 0} (remaining : R → Option (List ℕ)) (failures : R → Failures) (old new : Reading R) (p : Bor (List ℕ)) (next : NextAtHand remaining failures old (Some p) new) where
+  -- a message that lies at hand comes off the front
+  pub hand_reads : 0 < length p.now → TakesOff (bytes_left remaining old) (bytes_left remaining new) p.now × (failures new.reader ≡ failures old.reader) × LeavesReaderFirst old 1 None new
+  hand_reads full = let (block_of, going, whole) = next in (((full, block_of.0), block_of.1), block_of.3, ((λ none. absurd (omega (arith, none))), (λ _. (block_of.2, block_of.4, going, whole))))
 
 module _ {R : Type 0} (remaining : R → Option (List ℕ)) (failures : R → Failures) (limit : Limit) (first : Reading R) (ps : List (List ℕ)) (left : Option (List ℕ)) (m : Content)
     (takes : TakesEarly limit empty (bytes_left remaining first) left (length ps) ps m) (good : IsGood (run (map message_of ps))) where

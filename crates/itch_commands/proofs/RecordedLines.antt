@@ -13,7 +13,7 @@ use Rattle.itch_commands.specs.Showing.{closed_lines}
 use Rattle.itch_commands.specs.declared.fault.ToolFault.{ToolFault}
 use Rattle.itch_commands.specs.declared.form.ShowForm.{ShowForm}
 use Rattle.itch_commands.proofs.JoinedTexts.{text_then, text_fails}
-use Rattle.itch_commands.proofs.ShownLines.{lines-append, one_line, no_lines, last_line, past_none, past_push}
+use Rattle.itch_commands.proofs.ShownLines.{lines-append, no_lines, last_line, past_none, past_push}
 
 -- what holds on either result
 pub on_ok : {X E : Type 0} (P : Type 0) (result : Result X E) → P → OnOk result P

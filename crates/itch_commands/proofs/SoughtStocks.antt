@@ -1,12 +1,12 @@
 -- What is sought after messages: the stock of each locate's last Stock Directory message, and the names that have not come.
-use Rattle.std.proofs.Common.{◌≡◌, ◌≢◌, ℕ, ◌<◌, ◌==◌, Bool, true, false, not, cond, ◌&&◌, ◌||◌, List, [], ◌∷◌, length, Option, Some, None, option_map, set, bytes_eq, replicate, slice_index_or, refl, sym, ap, subst, ◌∙◌, arith}
+use Rattle.std.proofs.Common.{◌≡◌, ◌≢◌, ℕ, ◌<◌, ◌==◌, Bool, true, false, not, cond, ◌&&◌, ◌||◌, List, [], ◌∷◌, length, Option, Some, None, option_map, set, bytes_eq, slice_index_or, refl, sym, ap, subst, ◌∙◌, arith}
 use Rattle.std.specs.List.{list_all, list_any, filter}
 use Rattle.std.proofs.lemmas.Bool.Decides.{nat_tests}
 use Rattle.std.proofs.lemmas.List.{get_or-set_same, get_or-set_other, get_or-replicate, length-set, length-replicate}
 use Rattle.itch_book.proofs.Lists.{by_test}
 use Rattle.itch_codec.specs.declared.message.Message.{Message}
 use Rattle.itch_commands.specs.Choices.{Chosen, chosen_after, chosen_past, are_found_in}
-use Rattle.itch_commands.specs.Sought.{Sought, sought, listed, sought_with, sought_after, is_one_of, others, is_found, are_found, found_at, is_named, has_name, is_of_one, stock_with, stock_past}
+use Rattle.itch_commands.specs.Sought.{Sought, sought, listed, sought_with, sought_after, is_one_of, is_found, are_found, found_at, is_named, has_name, is_of_one, stock_with, stock_past}
 
 -- names with what is missing and what is found
 abbrev seek : List (List ℕ) → List (List ℕ) → List Bool → Sought

@@ -46,7 +46,7 @@ joined_next before start payloads = max start.1 (number_after before payloads)
 abbrev pub joined : ℕ → Start × List (List ℕ) → Content × ℕ
 joined before both = (joined_market before both.0 both.1, joined_next before both.0 both.1)
 
--- a payload spells no message at the time where the part ends, or later
+-- a payload spells no message at the time where the part ends, or later: an earlier one, or none, since it is faulty
 abbrev pub IsNotLate : Limit → List ℕ → Type 0
 IsNotLate limit payload = IsLate limit payload → ⊥
 

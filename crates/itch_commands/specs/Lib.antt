@@ -16,7 +16,7 @@ pub mod Forms
 pub mod Books
 pub mod AsRead
 pub mod FeedParts
-pub mod Checkpoints
+pub mod Marks
 pub mod Joining
 pub mod Joiners
 pub mod Commands

@@ -10,5 +10,5 @@ number_or_null (Some number) = decimal number
 -- the line of the snapshot after these messages
 abbrev pub index_line : Mark → List ℕ
 index_line mark =
-    codes "{\"messages\":" ++ decimal mark.count ++ codes ",\"offset\":" ++ decimal mark.offset ++ codes ",\"timestamp\":" ++ number_or_null mark.time
+    codes "{\"messages\":" ++ decimal mark.count ++ codes ",\"offset\":" ++ decimal mark.offset ++ codes ",\"timestamp\":" ++ number_or_null mark.latest
     ++ codes ",\"file\":\"" ++ decimal mark.count ++ codes ".snap\"}\n"

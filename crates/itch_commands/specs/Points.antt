@@ -1,10 +1,7 @@
 -- A day file that is read on from point to point: where a reading stands after some messages, and what it does up to the next point.
-use Rattle.std.specs.Prelude.{◌≡◌, ℕ, ◌+◌, ◌-◌, ◌^◌, ◌≤◌, ◌<◌, ◌⊎◌, min, Bool, true, false, List, [], ◌∷◌, ◌++◌, map, length, ⊤, Option, Some, None, IfSome, Result, Ok, Err}
+use Rattle.std.specs.Prelude.{◌≡◌, ℕ, ◌+◌, ◌-◌, ◌^◌, ◌≤◌, ◌<◌, Bool, true, false, List, [], ◌∷◌, ◌++◌, map, length, ⊤, Option, Some, None, IfSome, Result, Ok, Err}
 use Rattle.std.specs.List.{AllByRecursion}
-use Rattle.itch_codec.specs.Headers.{time_of}
 use Rattle.itch_codec.specs.Messages.{fault, message_of}
-use Rattle.itch_codec.specs.declared.message.Message.{Message}
-use Rattle.itch_frame.specs.Blocks.{blocks}
 use Rattle.itch_frame.specs.Reading.{Reading, bytes_left, EndsHere}
 use Rattle.itch_frame.specs.declared.tally.Failures.{Failures}
 use Rattle.itch_market.specs.Content.{Content, empty, laid}
@@ -14,6 +11,7 @@ use Rattle.itch_market.specs.Runs.{run}
 use Rattle.itch_market.specs.declared.stop.Stop.{Stop}
 use Rattle.itch_market.specs.declared.stop.Stop.TheVariants.{End}
 use Rattle.itch_commands.specs.Limits.{IsBefore, counted}
+use Rattle.itch_commands.specs.Marks.{IsMark, mark_past}
 use Rattle.itch_commands.specs.Readings.{HaltsPart, ReadsDay, TakesEarly, TakesPayload}
 use Rattle.itch_commands.specs.declared.fault.Source.{Source}
 use Rattle.itch_commands.specs.declared.fault.Source.TheVariants.{Only}
@@ -21,31 +19,8 @@ use Rattle.itch_commands.specs.declared.fault.ToolFault.{ToolFault}
 use Rattle.itch_commands.specs.declared.fault.ToolFault.TheVariants as tool
 use Rattle.itch_commands.specs.declared.limit.Limit.{Limit}
 use Rattle.itch_commands.specs.declared.snap.mark.Mark.{Mark}
-use Rattle.itch_commands.specs.declared.snap.mark.Ahead.{Ahead}
-use Rattle.itch_commands.specs.declared.snap.mark.Ahead.TheVariants.{Unread, Late, Ended}
-
--- the time of a message, or the one before if it has none
-abbrev pub time_past : Option ℕ → Message → Option ℕ
-time_past before message = or_before (time_of message) where
-  or_before : Option ℕ → Option ℕ
-  or_before None = before
-  or_before (Some time) = Some time
-
--- the time of the last message that has one
-abbrev pub last_time : Option ℕ → List Message → Option ℕ
-last_time before [] = before
-last_time before (message ∷ rest) = last_time (time_past before message) rest
-
--- the mark after one message more, whose payload has so many bytes
-abbrev pub mark_past : Mark → ℕ → Message → Mark
-mark_past mark size message =
-    record { count = mark.count + 1; offset = min (mark.offset + (size + 2)) (2 ^ 64 - 1); time = time_past mark.time message }
-
--- the mark after these payloads, which stand at the beginning of a file
-pub record IsMark (mark : Mark) (payloads : List (List ℕ)) : Type 0 where
-  pub count : mark.count ≡ length payloads
-  pub offset : mark.offset ≡ min (length (blocks payloads)) (2 ^ 64 - 1)
-  pub time : mark.time ≡ last_time None (map message_of payloads)
+use Rattle.itch_commands.specs.declared.snap.ahead.Ahead.{Ahead}
+use Rattle.itch_commands.specs.declared.snap.ahead.Ahead.TheVariants.{Unread, Late, Ended}
 
 -- the message of this payload is held
 abbrev pub Holds : Ahead → List ℕ → Type 0

@@ -67,6 +67,15 @@ pub fn join<R: CountedRead + Drop, S: CountedRead + Drop, A: Allocator + Copy, W
 
 /// The same over readers of blocks, which are left where the reading ended: that of the snapshot after its End of Snapshot.
 /// If the snapshot is refused, nothing is read of the feed.
+///
+/// The feed may begin later in its day, and the join may end before the feed does: a [`FeedPart`] tells how many messages of the day
+/// come before the feed's first one, and which messages of the day the written snapshot has. All numbers are those of the day.
+///
+/// # Faults
+///
+/// Those of `join`. `Misfit` if the snapshot and the part do not fit: before anything is read of the feed where numbers alone tell,
+/// and at the message of the feed that the snapshot should not have, since it is at the time where the join ends, or later. `Short`,
+/// with the number of the day's last message, if the feed ends before as many messages as are wanted.
 pub fn join_blocks<
     R: CountedRead,
     S: CountedRead,

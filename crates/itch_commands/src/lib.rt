@@ -17,7 +17,6 @@ pub mod book;
 pub mod canon;
 mod cause;
 pub mod check;
-mod checkpoint;
 mod choice;
 mod closed_pipe;
 pub mod compare;
@@ -44,7 +43,6 @@ mod stocks;
 mod writing;
 
 pub use cause::{Cause, Device};
-pub use checkpoint::Checkpoint;
 pub use choice::Choice;
 pub use closed_pipe::{ends_by_closed_pipe, final_status};
 pub use expected::{Expected, Unmet};

@@ -4,6 +4,7 @@ ghost use Rattle.itch_commands.specs.Commands.{Snaps};
 ghost use Rattle.itch_commands.specs.Limits.{counted};
 ghost use Rattle.itch_commands.specs.Readings.{FromBlocks, FromReader};
 
+mod ahead;
 mod index;
 mod mark;
 mod pass;

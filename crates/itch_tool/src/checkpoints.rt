@@ -1,6 +1,7 @@
 //! The snapshots of a folder, as its index lists them, and the one that is nearest to a point of the day.
 
-use itch_commands::{Checkpoint, Limit, Source, ToolFault, system_fault};
+use itch_commands::snap::Mark;
+use itch_commands::{Limit, Source, ToolFault, system_fault};
 use serde_json::Value;
 use std::alloc::{AllocError, Global};
 use std::rt::Files;
@@ -14,9 +15,9 @@ pub fn nearest<R: Files + AllocGlobal>(
     rt: &R,
     folder: &str,
     point: Limit,
-) -> Result<Checkpoint, ToolFault> {
+) -> Result<Mark, ToolFault> {
     let index = read_index(rt, folder)?;
-    let mut nearest = Checkpoint::first();
+    let mut nearest = Mark::new();
     for line in index.as_str().lines() {
         if let Some(checkpoint) = read_checkpoint(rt.alloc(), line)? {
             nearest = nearest.nearer(checkpoint, point);
@@ -26,9 +27,9 @@ pub fn nearest<R: Files + AllocGlobal>(
 }
 
 /// The path of the snapshot of a checkpoint.
-pub fn path_of(alloc: Global, folder: &str, checkpoint: &Checkpoint) -> Result<String, AllocError> {
-    let messages = checkpoint.messages;
-    format!(in alloc; "{folder}/{messages}.snap")
+pub fn path_of(alloc: Global, folder: &str, checkpoint: &Mark) -> Result<String, AllocError> {
+    let count = checkpoint.count;
+    format!(in alloc; "{folder}/{count}.snap")
 }
 
 // The lines of a folder's index.
@@ -53,20 +54,20 @@ fn read_text<R: Files + AllocGlobal>(rt: &R, path: &str) -> io::Result<String> {
 }
 
 // The checkpoint of a line. A line that has none is passed over: the last one may not be whole.
-fn read_checkpoint(alloc: Global, line: &str) -> Result<Option<Checkpoint>, AllocError> {
+fn read_checkpoint(alloc: Global, line: &str) -> Result<Option<Mark>, AllocError> {
     let fields = match Value::from_str(alloc, line) {
         Ok(fields) => fields,
         Err(error) if error.is_memory() => return Err(AllocError),
         Err(_) => return Ok(None),
     };
-    let (Some(messages), Some(offset)) = (number(&fields, "messages"), number(&fields, "offset"))
+    let (Some(count), Some(offset)) = (number(&fields, "messages"), number(&fields, "offset"))
     else {
         return Ok(None);
     };
-    Ok(Some(Checkpoint {
-        messages,
+    Ok(Some(Mark {
+        count,
         offset,
-        timestamp: number(&fields, "timestamp"),
+        latest: number(&fields, "timestamp"),
     }))
 }
 

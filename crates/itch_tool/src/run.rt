@@ -199,7 +199,7 @@ fn join_at<R: Files + Input + Eprint + AllocGlobal + Clock, W: CountedWrite>(
     let checkpoint = nearest(rt, folder, point)?;
     let (feed, at) = open_at(rt, feed, checkpoint.offset, Source::Only, progress)?;
     let before = if at == checkpoint.offset {
-        checkpoint.messages
+        checkpoint.count
     } else {
         0
     };
@@ -207,7 +207,7 @@ fn join_at<R: Files + Input + Eprint + AllocGlobal + Clock, W: CountedWrite>(
         before,
         limit: point,
     };
-    if checkpoint.messages == 0 {
+    if checkpoint.count == 0 {
         return join_over(alloc, EMPTY_SNAPSHOT, feed, part, selection, only, out);
     }
     let path = path_of(alloc, folder, &checkpoint)?;

@@ -25,14 +25,14 @@ use itch_join::Joiner;
 use itch_snapshot::snapshot_len;
 use std::alloc::Allocator;
 
-/// Joins the whole feed to the whole snapshot, and writes what [`join`](crate::join::join) does, cut down to the locates that have one
-/// of these stocks, by the directory in the end. The names are separated by commas.
+/// Joins all of a part of a feed to the whole snapshot, and writes what [`join_blocks`](crate::join::join_blocks) does, cut down to the
+/// locates that have one of these stocks, by the directory in the end. The names are separated by commas.
 ///
-/// So each message of both files has to follow the rules, unlike those that `join` skips for a set.
+/// So each message of both has to follow the rules, unlike those that `join_blocks` skips for a set.
 ///
 /// # Faults
 ///
-/// Those of `join`, and `UnknownStock` if the directory has no entry with the stock of a name: then nothing is written.
+/// Those of `join_blocks`, and `UnknownStock` if the directory has no entry with the stock of a name: then nothing is written.
 pub fn join_stocks<
     R: CountedRead,
     S: CountedRead,

@@ -10,7 +10,7 @@ use crate::writing::write_text;
 use itch_frame::CountedWrite;
 
 /// Writes the line of the snapshot after the messages of a mark: an object of JSON with their number, the offset of the next
-/// message in the day file, the last timestamp of theirs, and the name of the snapshot's file.
+/// message in the day file, the latest timestamp of theirs, and the name of the snapshot's file.
 pub fn write_index<W: CountedWrite>(mark: Mark, out: &mut W) -> Result<(), ToolFault>
     ensures { WritesText W.contents W.failures (index_line mark) out.old result out.new }
 {
@@ -26,7 +26,7 @@ fn index_line(mark: Mark) -> Line
     line.text(b",\"offset\":");
     line.number(mark.offset);
     line.text(b",\"timestamp\":");
-    number_or_null(&mut line, mark.time);
+    number_or_null(&mut line, mark.latest);
     line.text(b",\"file\":\"");
     line.number(mark.count);
     line.text(b".snap\"}\n");

@@ -1,11 +1,11 @@
-//! How far a day file was read.
-ghost use Rattle.std.specs.Prelude.{◌≡◌, ◌<◌, ◌-◌, ◌^◌, Some, None, IsSome};
-ghost use Rattle.itch_codec.specs.Headers.{time_of};
-ghost use Rattle.itch_codec.specs.Widths.{IsMessage};
-ghost use Rattle.itch_commands.specs.Points.{mark_past};
-ghost use Rattle.itch_commands.specs.declared.snap.mark.Ahead.TheVariants.{Late};
+//! How far a day file was read, and which of two such places is nearer to a point of the day.
+ghost use Rattle.std.specs.Prelude.{◌≡◌, ℕ, ◌<◌, ◌≤◌, ◌-◌, ◌^◌, List, length, None, IfSome, true};
+ghost use Rattle.std.specs.List.{AllByRecursion};
+ghost use Rattle.itch_commands.specs.Limits.{IsEarly};
+ghost use Rattle.itch_commands.specs.Marks.{IsMark, is_before, is_in, is_within, later, mark_past, nearer};
 
-use itch_codec::{Message, encode};
+use crate::limit::Limit;
+use itch_codec::Message;
 
 /// What the first messages of a day file are, as far as it was read.
 #[derive(Clone, Copy, Debug, PartialEq, Eq)]
@@ -14,19 +14,19 @@ pub struct Mark {
     pub count: u64,
     /// Where in the file the first message begins that is not one of them. The number stops at 2^64 - 1.
     pub offset: u64,
-    /// The timestamp of the last one that has a timestamp, in nanoseconds since midnight.
-    pub time: Option<u64>,
+    /// The latest timestamp of theirs, in nanoseconds since midnight, if one has a timestamp.
+    pub latest: Option<u64>,
 }
 
 impl Mark {
     /// The mark at the beginning of a file.
     pub fn new() -> Mark
-        ensures { result ≡ record { count = 0; offset = 0; time = None } }
+        ensures { result ≡ record { count = 0; offset = 0; latest = None } }
     {
         Mark {
             count: 0,
             offset: 0,
-            time: None,
+            latest: None,
         }
     }
 
@@ -35,72 +35,60 @@ impl Mark {
         requires { self.count < 2 ^ 64 - 1 }
         ensures { result ≡ mark_past self size message.now }
     {
-        let time = match message.time() {
-            Some(time) => Some(time),
-            None => self.time,
-        };
         Mark {
             count: self.count + 1,
             offset: self.offset.saturating_add((size as u64).saturating_add(2)),
-            time,
+            latest: later(self.latest, message.time()),
         }
     }
-}
 
-// What was read of a file after the messages that were taken.
-#[derive(Drop)]
-pub(crate) enum Ahead {
-    // Nothing.
-    Unread,
-    // A message at the time of a point, or later: it is taken once it is wanted. Its payload has so many bytes.
-    Late {
-        message: Message<'static>,
-        size: usize,
-    },
-    // The end of the messages.
-    Ended,
-}
-
-impl Ahead {
-    // A message with a time is held. Its payload has so many bytes.
-    pub(crate) fn late(message: &Message<'_>, size: usize) -> Ahead
-        ensures { IsSome (time_of message.now) → result ≡ Late message.now size }
+    /// Whether its messages are all of the part of the day that ends so: no more than are wanted, and none at the time where the part
+    /// ends, or later.
+    pub fn is_in(&self, limit: Limit) -> bool
+        ensures exact { result ≡ is_in limit self.now }
+        ensures early { (payloads : List (List ℕ)) → IsMark self.now payloads → result ≡ true
+            → IfSome limit.after (λ most. length payloads ≤ most) × AllByRecursion (IsEarly limit) payloads }
     {
-        match timed(message) {
-            Some(message) => Ahead::Late { message, size },
-            None => Ahead::Unread,
+        is_within(limit.after, self.count) && is_before(limit.until, self.latest)
+    }
+
+    /// The one of the two that is in this part with more messages; this one, unless the other one is.
+    pub fn nearer(self, other: Mark, limit: Limit) -> Mark
+        ensures { result ≡ nearer limit self other }
+    {
+        if other.is_in(limit) && self.count < other.count {
+            other
+        } else {
+            self
         }
     }
 }
 
-// The same message, which borrows no payload. One that is not decoded has no time, and none is returned.
-fn timed(message: &Message<'_>) -> Option<Message<'static>>
-    ensures { IsSome (time_of message.now) → result ≡ Some message.now }
+// The later one of two times, of which there may be none.
+fn later(before: Option<u64>, time: Option<u64>) -> Option<u64>
+    ensures { result ≡ later before time }
 {
-    match *message {
-        Message::SystemEvent(x) => Some(Message::SystemEvent(x)),
-        Message::StockDirectory(x) => Some(Message::StockDirectory(x)),
-        Message::TradingAction(x) => Some(Message::TradingAction(x)),
-        Message::RegSho(x) => Some(Message::RegSho(x)),
-        Message::Halt(x) => Some(Message::Halt(x)),
-        Message::Position(x) => Some(Message::Position(x)),
-        Message::AddOrder(x) => Some(Message::AddOrder(x)),
-        Message::AttributedAddOrder(x) => Some(Message::AttributedAddOrder(x)),
-        Message::OrderExecuted(x) => Some(Message::OrderExecuted(x)),
-        Message::OrderExecutedWithPrice(x) => Some(Message::OrderExecutedWithPrice(x)),
-        Message::OrderCancel(x) => Some(Message::OrderCancel(x)),
-        Message::OrderDelete(x) => Some(Message::OrderDelete(x)),
-        Message::OrderReplace(x) => Some(Message::OrderReplace(x)),
-        Message::Trade(x) => Some(Message::Trade(x)),
-        Message::CrossTrade(x) => Some(Message::CrossTrade(x)),
-        Message::BrokenTrade(x) => Some(Message::BrokenTrade(x)),
-        Message::End { .. } | Message::Other(_) => None,
+    match (before, time) {
+        (Some(before), Some(time)) => Some(before.max(time)),
+        (None, time) => time,
+        (before, None) => before,
     }
 }
 
-// Tells a proof that the fields of a message fit; apart from that it does nothing.
-pub(crate) fn recall_fields(message: &Message<'_>)
-    ensures { IsMessage message.now }
+fn is_within(wanted: Option<u64>, count: u64) -> bool
+    ensures { result ≡ is_within wanted count }
 {
-    let _spelled = encode(message);
+    match wanted {
+        Some(wanted) => count <= wanted,
+        None => true,
+    }
+}
+
+fn is_before(until: Option<u64>, latest: Option<u64>) -> bool
+    ensures { result ≡ is_before until latest }
+{
+    match (until, latest) {
+        (Some(until), Some(time)) => time < until,
+        _ => true,
+    }
 }

@@ -4,7 +4,8 @@ ghost use Rattle.itch_snapshot.specs.Snapshot.{snap};
 
 use crate::fault::ToolFault;
 use crate::limit::Limit;
-use crate::snap::mark::{Ahead, Mark};
+use crate::snap::ahead::Ahead;
+use crate::snap::mark::Mark;
 use crate::snap::points::read_on;
 use crate::writing::write_closed_of;
 use itch_book::OrderBook;

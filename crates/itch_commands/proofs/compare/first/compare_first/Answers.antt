@@ -1,4 +1,4 @@
-use Rattle.std.proofs.Common.{◌≡◌, None, is_none, subst, inr}
+use Rattle.std.proofs.Common.{None, is_none, subst, inr}
 use Rattle.itch_commands.specs.Commands.{ComparesFirst}
 use Rattle.itch_commands.specs.FirstDifferences.{FindsFirst, first_line}
 use Rattle.itch_commands.specs.Limits.{counted}

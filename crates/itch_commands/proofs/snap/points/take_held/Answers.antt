@@ -1,4 +1,4 @@
-use Rattle.std.proofs.Common.{◌≡◌, None, refl, ap, arith}
+use Rattle.std.proofs.Common.{◌≡◌, None, ap, arith}
 use Rattle.itch_market.specs.Reasons.{reason}
 use Rattle.itch_commands.specs.declared.snap.mark.Mark.{Mark}
 use Rattle.itch_commands.proofs.Points.{accepted, snap_past}

@@ -1,4 +1,4 @@
-use Rattle.std.proofs.Common.{◌≡◌, ◌+◌, ◌-◌, ◌^◌, min, Some, Ok, Err, refl, sym, ap, subst, ◌∙◌}
+use Rattle.std.proofs.Common.{◌≡◌, ◌+◌, ◌-◌, ◌^◌, min, Some, Err, refl, sym, ap, subst, ◌∙◌}
 use Rattle.itch_commands.specs.Limits.{counted}
 use Rattle.itch_commands.specs.Points.{ReadsOn, Rises}
 use Rattle.itch_commands.specs.Readings.{ReadsDay}

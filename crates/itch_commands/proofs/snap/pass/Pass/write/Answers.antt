@@ -1,4 +1,4 @@
-use Rattle.std.proofs.Common.{sym, ◌∙◌, arith}
+use Rattle.std.proofs.Common.{arith}
 use Rattle.itch_commands.proofs.PointReadings.{point_written}
 use Rattle.itch_commands.proofs.Snapshots.{cut_no_longer}
 use Rattle.itch_commands.proofs.snap.pass.Pass.write.Goals as goal
