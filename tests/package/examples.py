@@ -14,9 +14,10 @@ from pathlib import Path
 
 import samples
 from common import differs
-from tables import ten_thousandths
+from tables import left_out, ten_thousandths
 
 FOLDER = samples.TOP / "python/examples"
+SVG = "{http://www.w3.org/2000/svg}"
 STOCKS = ("AAPL", "MSFT", "NVDA")
 
 
@@ -69,17 +70,11 @@ def a_part_of_a_day_is_asked_for():
     yield from differs("a stock that is not there", (status, error), (1, "spread: unknown stock NONE\n"))
 
 
-def the_picture_is_that_of_the_example():
-    status, output, error = ran("depth.py", "day.itch", "NVDA", "--until", "12:00", day=day())
-    yield from differs("the end", (status, error), (0, ""))
-    if output != (FOLDER / "depth.svg").read_bytes():
-        yield "python/examples/depth.svg is not what depth.py draws"
-    yield from differs("a stock that is not there", ran("depth.py", "day.itch", "NONE", day=day())[::2], (1, "depth: no orders of NONE\n"))
-
-
-def texts(picture):
-    """The texts of a picture with their places."""
-    return [(it.text, float(it.get("x")), float(it.get("y"))) for it in picture.iter("{http://www.w3.org/2000/svg}text")]
+def texts_by_places(picture, axis, place):
+    """The texts at the ticks of an axis, with their places."""
+    for tick in picture.iterfind(f".//{SVG}g[@id]"):
+        if tick.get("id").startswith(f"{axis}tick_"):
+            yield tick.find(f".//{SVG}text").text, float(tick.find(f".//{SVG}use").get(place))
 
 
 def line_through(points):
@@ -88,20 +83,32 @@ def line_through(points):
     return lambda place: first + (last - first) * (place - begin) / (end - begin)
 
 
-def the_picture_shows_the_depth_of_the_book():
+def depth_differs(picture):
     """Read by the numbers at its axes, the picture has the program's prices, and the shares at each and at better ones."""
-    picture = xml.etree.ElementTree.parse(FOLDER / "depth.svg").getroot()
-    prices = line_through([(ten_thousandths(words), x) for words, x, _ in texts(picture) if re.fullmatch(r"\d+\.\d{4}", words)])
-    # A number is written four units below its line.
-    shares = line_through([(int(words.replace(",", "")), y - 4) for words, _, y in texts(picture) if re.fullmatch(r"[\d,]+", words)])
+    prices = line_through([(ten_thousandths(words), x) for words, x in texts_by_places(picture, "x", "x")])
+    shares = line_through([(int(words.replace(",", "")), y) for words, y in texts_by_places(picture, "y", "y")])
     for name, wanted in (("bids", "B"), ("asks", "S")):
         side = [(price, size) for _, its, price, size in levels("--stock", "NVDA", "--depth", "40", "--until", "12:00") if its == wanted]
-        drawn = picture.find(f".//*[@id='{name}']").get("points").split()
-        corners = [tuple(map(float, point.split(","))) for point in drawn[1:2 * len(side):2]]
+        drawn = re.findall(r"[ML] (\S+) (\S+)", picture.find(f".//{SVG}g[@id='{name}']/{SVG}path").get("d"))
+        corners = [(float(x), float(y)) for x, y in drawn[1:2 * len(side):2]]
         read = [(round(prices(x), -2), round(shares(y), -2)) for x, y in corners]
         totals = itertools.accumulate(size for _, size in side)
         yield from differs(name, read, [(price, total) for (price, _), total in zip(side, totals)])
 
 
+def the_picture_of_the_package_shows_the_depth_of_the_book():
+    yield from depth_differs(xml.etree.ElementTree.parse(FOLDER / "depth.svg").getroot())
+
+
+def the_example_draws_the_depth_of_the_book():
+    if left_out("a picture", "matplotlib"):
+        return
+    status, output, error = ran("depth.py", "day.itch", "NVDA", "--until", "12:00", day=day())
+    yield from differs("the end", (status, error), (0, ""))
+    yield from depth_differs(xml.etree.ElementTree.fromstring(output))
+    yield from differs("again", ran("depth.py", "day.itch", "NVDA", "--until", "12:00", day=day())[1] == output, True)
+    yield from differs("a stock that is not there", ran("depth.py", "day.itch", "NONE", day=day())[::2], (1, "depth: no orders of NONE\n"))
+
+
 RUNS = [the_small_day_is_whole, the_spread_by_minute_is_that_of_the_program, a_part_of_a_day_is_asked_for,
-        the_picture_is_that_of_the_example, the_picture_shows_the_depth_of_the_book]
+        the_picture_of_the_package_shows_the_depth_of_the_book, the_example_draws_the_depth_of_the_book]

@@ -45,7 +45,8 @@ class Engine:
 def engines():
     """The stand-ins, and each engine that is here. Says which is not."""
     path = f"{STAND_INS / 'bin'}:{os.environ['PATH']}"
-    ssh = {"PARALLEL_SSH": str(STAND_INS / "bin/here")}
+    # On each machine the user has a shell that runs nothing: the lines are not for it.
+    ssh = {"PARALLEL_SSH": str(STAND_INS / "bin/here"), "SHELL": "/bin/false"}
     yield Engine("a stand-in for GNU parallel", "on-parallel", ["--jobs", "3"], PATH=path, **ssh)
     yield Engine("a stand-in for Dask", "on-dask", ["--workers", "3"], PYTHONPATH=str(STAND_INS))
     version = shutil.which("parallel") and subprocess.run(["parallel", "--version"], capture_output=True, text=True).stdout
@@ -131,6 +132,8 @@ def does_days_on_other_machines(engine, folder):
         status, lines, error = engine.run(*words, "--out", out, *days)
     wanted = [f"made {name_of(day)}/end.snap" for day in days] + ["6 results, 0 refused, 0 missing"]
     yield from differs("end", (status, sorted(lines)), (0, sorted(wanted)))
+    if status:
+        yield f"error {error!r}"
     yield from results_differ(out, days)
     if engine.adapter.name == "on-parallel":
         hosts = set((bytes_of(folder / "hosts") or b"").decode().split())
