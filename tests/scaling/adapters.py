@@ -9,6 +9,7 @@ import shutil
 import signal
 import subprocess
 import sys
+import tempfile
 import time
 from importlib.util import find_spec
 from pathlib import Path
@@ -45,13 +46,13 @@ class Engine:
 def engines():
     """The stand-ins, and each engine that is here. Says which is not."""
     path = f"{STAND_INS / 'bin'}:{os.environ['PATH']}"
-    # On each machine the user has a shell that runs nothing: the lines are not for it.
-    ssh = {"PARALLEL_SSH": str(STAND_INS / "bin/here"), "SHELL": "/bin/false"}
-    yield Engine("a stand-in for GNU parallel", "on-parallel", ["--jobs", "3"], PATH=path, **ssh)
+    # On each machine the user has a shell that runs nothing: the lines are not for it. Without a home GNU parallel warns.
+    user = {"PARALLEL_SSH": str(STAND_INS / "bin/here"), "SHELL": "/bin/false", "HOME": os.environ.get("HOME", tempfile.gettempdir())}
+    yield Engine("a stand-in for GNU parallel", "on-parallel", ["--jobs", "3"], PATH=path, **user)
     yield Engine("a stand-in for Dask", "on-dask", ["--workers", "3"], PYTHONPATH=str(STAND_INS))
     version = shutil.which("parallel") and subprocess.run(["parallel", "--version"], capture_output=True, text=True).stdout
     if (version or "").startswith("GNU parallel"):
-        yield Engine("GNU parallel", "on-parallel", ["--jobs", "3"], **ssh)
+        yield Engine("GNU parallel", "on-parallel", ["--jobs", "3"], **user)
     else:
         print("no GNU parallel here: its runs are left out")
     if find_spec("distributed"):

@@ -74,10 +74,11 @@ def workers_that_are_killed_lose_nothing(folder):
     begin = time.monotonic()
     job("snapshots", "--out", folder / "tried", [*days][0])
     length = time.monotonic() - begin
-    workers, chance, torn, killed = Workers(tries=100), random.Random(1), [], []
+    # A job has more tries than there are kills, however slow the machine is.
+    workers, chance, torn, killed = Workers(tries=50), random.Random(1), [], []
 
     def hunt():
-        while not over.wait(chance.uniform(0, length)):
+        while len(killed) < 40 and not over.wait(chance.uniform(0, length)):
             torn.extend(torn_results(out))
             if running := list(workers.running):
                 process = chance.choice(running)
