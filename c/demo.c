@@ -10,6 +10,9 @@
 #include <stdlib.h>
 #include <string.h>
 
+/* In nanoseconds since midnight. */
+#define NOON (UINT64_C(12) * 3600 * 1000000000)
+
 /* Ends the program where something is not as it must be. */
 static void must(bool holds, const char *what) {
     if (!holds) {
@@ -178,17 +181,22 @@ static void apply_blocks(buffer day, uint64_t count, buffer snapshot) {
     itchsnap_free(&market);
 }
 
-/* The whole file at once: the same count, the same snapshot, and the same market as itself. */
+/* The whole file at once: the same count, the same snapshot, and the same market as itself. Before a time, the part of it that ends there. */
 static void whole_file(buffer day, uint64_t count, buffer snapshot) {
     itchsnap_outcome checked = itchsnap_check(day.bytes, day.len);
     must(checked.code == ITCHSNAP_OK && checked.count == count, "check");
     buffer whole = buffer_of(snapshot.len);
-    itchsnap_outcome snapped = itchsnap_snap(day.bytes, day.len, ITCHSNAP_ALL, whole.bytes, whole.len);
+    itchsnap_outcome snapped = itchsnap_snap(day.bytes, day.len, ITCHSNAP_ALL, ITCHSNAP_ALL, whole.bytes, whole.len);
     must(snapped.code == ITCHSNAP_OK && snapped.count == count && snapped.len == snapshot.len, "snap");
     must(same(whole, snapshot), "the snapshot of the whole file");
-    must(itchsnap_snap(day.bytes, day.len, count + 1, whole.bytes, whole.len).code == ITCHSNAP_SHORT, "snap of too many");
+    must(itchsnap_snap(day.bytes, day.len, count + 1, ITCHSNAP_ALL, whole.bytes, whole.len).code == ITCHSNAP_SHORT, "snap of too many");
     itchsnap_comparison compared = itchsnap_compare(day.bytes, day.len, day.bytes, day.len);
     must(compared.code == ITCHSNAP_OK && compared.place == 0, "compare");
+    must(itchsnap_first_at(day.bytes, day.len, ITCHSNAP_ALL).code == ITCHSNAP_ABSENT, "a time that no message has");
+    itchsnap_count noon = itchsnap_first_at(day.bytes, day.len, NOON);
+    size_t before = noon.code == ITCHSNAP_OK ? (size_t)noon.count : day.len;
+    snapped = itchsnap_snap(day.bytes, day.len, ITCHSNAP_ALL, NOON, whole.bytes, whole.len);
+    must(snapped.count == itchsnap_check(day.bytes, before).count, "the messages before noon");
     free(whole.bytes);
 }
 
@@ -198,7 +206,7 @@ static void parts(itchsnap_handle *market, buffer day, uint64_t next, size_t mos
     buffer one = buffer_of(most);
     buffer other = buffer_of(most);
     itchsnap_written written = itchsnap_snapshot_only(market, next, locates, 2, one.bytes, one.len);
-    itchsnap_outcome snapped = itchsnap_snap_only(day.bytes, day.len, ITCHSNAP_ALL, locates, 2, other.bytes, other.len);
+    itchsnap_outcome snapped = itchsnap_snap_only(day.bytes, day.len, ITCHSNAP_ALL, ITCHSNAP_ALL, locates, 2, other.bytes, other.len);
     must(written.code == ITCHSNAP_OK && snapped.code == ITCHSNAP_OK && written.len == snapped.len, "a snapshot of some locates");
     must(memcmp(one.bytes, other.bytes, written.len) == 0, "the bytes of a snapshot of some locates");
     free(one.bytes);

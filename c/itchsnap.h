@@ -69,7 +69,7 @@ enum itchsnap_code {
     ITCHSNAP_NO_ROOM = 49,      /* the caller's memory is too short, and is as it was; len: the bytes that are needed */
     ITCHSNAP_WRONG_HANDLE = 50, /* the handle does not hold what the call is about */
     ITCHSNAP_IN_USE = 51,       /* the handle that a call would fill already holds something */
-    ITCHSNAP_ABSENT = 52,       /* no such order or price */
+    ITCHSNAP_ABSENT = 52,       /* no such order, price, stock or message */
     ITCHSNAP_NOT_JOINED = 53,   /* the joiner has not joined */
     ITCHSNAP_NO_NUMBER = 54,    /* a sequence number that is not from 1 to 10^19 */
 
@@ -261,16 +261,23 @@ typedef struct {
 /* Whether a day file follows the order rules. Codes: 0 to 33, OUT_OF_MEMORY. */
 itchsnap_outcome itchsnap_check(const uint8_t *day, size_t len);
 
-/* The value of after with which itchsnap_snap takes all messages. */
+/* How many bytes come before the block of the first message whose timestamp is time or later, in nanoseconds since midnight: so long
+ * is the part of a day file before that time. Timestamps need not rise, so each message before it is looked at; a block that spells
+ * no message, or one without a timestamp, is passed over. Codes: OK, ABSENT (the blocks end before, also within one, or at an empty
+ * one), OUT_OF_MEMORY. */
+itchsnap_count itchsnap_first_at(const uint8_t *blocks, size_t len, uint64_t time);
+
+/* The value of after and of until with which itchsnap_snap takes all messages. */
 #define ITCHSNAP_ALL UINT64_MAX
 
-/* Writes the canonical snapshot after the first messages of a day file, or after all, to the front of out. Codes: 0 to 33,
- * SHORT, NO_ROOM, OUT_OF_MEMORY. */
-itchsnap_outcome itchsnap_snap(const uint8_t *day, size_t len, uint64_t after, uint8_t *out, size_t out_len);
+/* Writes the canonical snapshot of a part of a day file to the front of out: of its first messages, as many as after says, or of those
+ * before the first whose timestamp is until or later, in nanoseconds since midnight, whichever ends first. Codes: 0 to 33, SHORT
+ * (fewer messages than after, where none is so late), NO_ROOM, OUT_OF_MEMORY. */
+itchsnap_outcome itchsnap_snap(const uint8_t *day, size_t len, uint64_t after, uint64_t until, uint8_t *out, size_t out_len);
 
-/* The same for the market cut down to the locates of a list. Still every message has to follow the order rules. */
-itchsnap_outcome itchsnap_snap_only(const uint8_t *day, size_t len, uint64_t after, const uint16_t *locates, size_t locates_len,
-                                    uint8_t *out, size_t out_len);
+/* The same for the market cut down to the locates of a list. Still every message of the part has to follow the order rules. */
+itchsnap_outcome itchsnap_snap_only(const uint8_t *day, size_t len, uint64_t after, uint64_t until, const uint16_t *locates,
+                                    size_t locates_len, uint8_t *out, size_t out_len);
 
 typedef struct {
     uint64_t place; /* OK: 0 if the markets are the same, otherwise the place, counted from 1, at which their snapshots differ */

@@ -7,7 +7,7 @@ from types import SimpleNamespace
 
 INTERFACE = 1
 OK, TRUNCATED, NO_ROOM, WRONG_HANDLE, ABSENT = 0, 32, 49, 50, 52
-# What `snap` takes for all messages.
+# What `snap` takes for all messages, and for any time.
 ALL = 2**64 - 1
 
 
@@ -108,8 +108,9 @@ FUNCTIONS = {
     "snapshot": (Written, [HANDLE, c.c_uint64, *MEMORY]),
     "snapshot_only": (Written, [HANDLE, c.c_uint64, *LOCATES, *MEMORY]),
     "check": (Outcome, MEMORY),
-    "snap": (Outcome, [*MEMORY, c.c_uint64, *MEMORY]),
-    "snap_only": (Outcome, [*MEMORY, c.c_uint64, *LOCATES, *MEMORY]),
+    "first_at": (Count, [*MEMORY, c.c_uint64]),
+    "snap": (Outcome, [*MEMORY, c.c_uint64, c.c_uint64, *MEMORY]),
+    "snap_only": (Outcome, [*MEMORY, c.c_uint64, c.c_uint64, *LOCATES, *MEMORY]),
     "compare": (Comparison, [*MEMORY, *MEMORY]),
     "joiner_new": (Answer, [HANDLE, c.c_size_t]),
     "joiner_new_only": (Answer, [HANDLE, c.c_size_t, *LOCATES]),

@@ -5,12 +5,12 @@ import mmap
 import os
 import stat
 from types import TracebackType
-from typing import TYPE_CHECKING, Any, Iterable, Iterator, Optional, Tuple, Type, Union
+from typing import TYPE_CHECKING, Iterable, Iterator, Optional, Tuple, Type, Union
 
 from . import _buffers, _library, _lists
 from ._buffers import bytes_of
 from ._library import library
-from .reasons import Reason, Refused
+from .reasons import Refused
 from .snapshots import END_BLOCK, Snapshot
 from .times import Time, first_at, nanoseconds
 
@@ -68,25 +68,30 @@ class Day:
             '10:30:00.000000001', or a `datetime.time`. With `after` too, whichever comes first.
         only: cut down to these locates. Still every message has to follow the order rules.
 
-        The file is read once. To find a time takes a pass of its own before that, of about 0.1 us a message: timestamps need not
-        rise, so each one up to that time is looked at. Where the time comes before `after` messages, a third pass follows. For
-        many times of a day, a market that takes its `pieces` is faster.
+        The file is read once. For many times of a day, a market that takes its `pieces` is faster.
         """
         some = None if only is None else _buffers.locates_of(only)
-        most = _library.ALL if after is None else _buffers.number(after, 64, "a number of messages")
-        cut = None if until is None else first_at(self.blocks, nanoseconds(until))
-        if cut is None:
-            return _snapped(self.blocks, most, some)
-        try:
-            return _snapped(self.blocks[:cut], most, some)
-        except Refused as refused:
-            if refused.reason is not Reason.SHORT:
-                raise
-            return _snapped(self.blocks[:cut], _library.ALL, some)
+        # No file has as many messages as 2^64 - 1, which would mean all.
+        most = _library.ALL if after is None else min(_buffers.number(after, 64, "a number of messages"), _library.ALL - 1)
+        end = _library.ALL if until is None else nanoseconds(until)
+
+        def call(at: int, size: int) -> _library.Outcome:
+            if some is None:
+                outcome = library.snap(*day, most, end, at, size)
+            else:
+                outcome = library.snap_only(*day, most, end, some, len(some), at, size)
+            if outcome.code not in (_library.OK, _library.NO_ROOM):
+                raise Refused(outcome.code, outcome.detail, outcome.count + 1)
+            return outcome
+
+        # What a snapshot has comes each from a message of the day that is no shorter, so there is room, and the blocks are read once.
+        with bytes_of(self.blocks) as day:
+            return Snapshot._canonical(_lists.written(call, day[1] + END_BLOCK))
 
     def pieces(self, times: Iterable[Time]) -> Iterator[Tuple[int, memoryview]]:
         """The day cut at times that rise, for `Market.apply_blocks`: for each time, in nanoseconds since midnight, the blocks before the
-        first message at that time or later that are in no piece before. What follows the last time is in no piece. Takes one pass."""
+        first message at that time or later that are in no piece before. What follows the last time is in no piece. Takes one pass of about
+        30 ns a message: timestamps need not rise, so each one up to the last time is looked at."""
         at, before = 0, 0
         for time in map(nanoseconds, times):
             if time < before:
@@ -116,19 +121,3 @@ class Day:
     def __exit__(self, kind: Optional[Type[BaseException]], error: Optional[BaseException], trace: Optional[TracebackType]) -> None:
         self.close()
 
-
-def _snapped(blocks: memoryview, most: int, some: Any) -> Snapshot:
-    """The snapshot after the first messages of these blocks, cut down to some locates."""
-
-    def call(at: int, size: int) -> _library.Outcome:
-        if some is None:
-            outcome = library.snap(*day, most, at, size)
-        else:
-            outcome = library.snap_only(*day, most, some, len(some), at, size)
-        if outcome.code not in (_library.OK, _library.NO_ROOM):
-            raise Refused(outcome.code, outcome.detail, outcome.count + 1)
-        return outcome
-
-    # What a snapshot has comes each from a message of the day that is no shorter, so there is room, and the blocks are read once.
-    with bytes_of(blocks) as day:
-        return Snapshot._canonical(_lists.written(call, len(blocks) + END_BLOCK))

@@ -56,6 +56,12 @@ def of_package(day, **options):
         return str(refused)
 
 
+def of_piece(day, time):
+    """The same of the piece of a day before a time."""
+    [(_, blocks)] = Day.of(day).pieces([time])
+    return of_package(blocks)
+
+
 def a_day_until_a_time_is_that_of_the_program():
     for minute in range(568, 603):
         time = minute * MINUTE + minute % 7
@@ -87,6 +93,7 @@ def hostile_days_until_a_time_are_those_of_the_program():
         if rng.random() < 0.3:
             options["after"] = rng.randrange(12)
         yield from differs(f"{day.hex()} {options}", of_package(day, **options), of_program(day, **options))
+        yield from differs(f"{day.hex()}: the piece", of_piece(day, options["until"]), of_program(day, until=options["until"]))
 
 
 def a_message_of_each_type_may_end_a_day():
@@ -97,7 +104,8 @@ def a_message_of_each_type_may_end_a_day():
     for block in [*common.blocks().values(), *others]:
         for time in (49, 50, 2**40):
             late = day + (stamped(block, time) if len(block) > 13 and block not in others else block) + common.file("START")
-            yield from differs(f"{block.hex()} at {time}", of_package(late, until=50), of_program(late, until=50))
+            for of_day in of_package(late, until=50), of_piece(late, 50):
+                yield from differs(f"{block.hex()} at {time}", of_day, of_program(late, until=50))
 
 
 def each_byte_of_a_time_decides():
@@ -107,14 +115,18 @@ def each_byte_of_a_time_decides():
         for time in (1 << 8 * place, (1 << 8 * place) - 1, (0x0a5c5d2e7b5b >> 8 * place) << 8 * place, 0xff << 8 * place):
             for own in (time - 1, time, time + 1, 0, 2**48 - 1):
                 own = max(0, min(own, 2**48 - 1))
-                count = Day.of(entry[:7] + bytes(6) + entry[13:] + stamped(order, own)).snapshot(until=time).next_number - 1
-                yield from differs(f"{own} until {time}", count, (0 if time == 0 else 1) if own >= time else 2)
+                day = entry[:7] + bytes(6) + entry[13:] + stamped(order, own)
+                count = (0 if time == 0 else 1) if own >= time else 2
+                yield from differs(f"{own} until {time}", Day.of(day).snapshot(until=time).next_number - 1, count)
+                wanted = b"".join(common.split(day)[:count])
+                yield from differs(f"the piece of {own} until {time}", [bytes(it) for _, it in Day.of(day).pieces([time])], [wanted])
 
 
 def a_day_ends_after_a_number_of_messages():
     for after in range(12):
         yield from differs(f"after {after}", of_package(DAY, after=after), of_program(DAY, after=after))
     yield from differs("more than there are", refusal(Day.of(DAY).snapshot, after=12), ("SHORT", 0, 12))
+    yield from differs("more than any file has", refusal(Day.of(DAY).snapshot, after=2**64 - 1), ("SHORT", 0, 12))
     yield from differs("its words", of_package(DAY, after=12), "only 11 messages")
     for after in (-1, 2**64):
         yield from differs(f"after {after}", raised(Day.of(DAY).snapshot, after=after), "ValueError")

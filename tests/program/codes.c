@@ -65,6 +65,12 @@ static text cancel(uint16_t locate, uint64_t reference, uint32_t shares) {
     return made;
 }
 
+/* The same message at a time. */
+static text at(uint64_t time, text payload) {
+    put_number(payload.bytes + 5, 6, time);
+    return payload;
+}
+
 static text spelled(const char *bytes) {
     text made = {{0}, strlen(bytes)};
     memcpy(made.bytes, bytes, made.len);
@@ -116,9 +122,9 @@ static void files(void) {
     add_block(&file, directory(1, "AAPL    "));
     itchsnap_outcome outcome = itchsnap_check(file.bytes, file.len - 1);
     must(outcome.code == ITCHSNAP_TRUNCATED && outcome.count == 0 && outcome.detail == 40, "TRUNCATED");
-    outcome = itchsnap_snap(file.bytes, file.len, 2, out, 1);
+    outcome = itchsnap_snap(file.bytes, file.len, 2, ITCHSNAP_ALL, out, 1);
     must(outcome.code == ITCHSNAP_SHORT && outcome.count == 1, "SHORT");
-    outcome = itchsnap_snap(file.bytes, file.len, 1, out, 1);
+    outcome = itchsnap_snap(file.bytes, file.len, 1, ITCHSNAP_ALL, out, 1);
     must(outcome.code == ITCHSNAP_NO_ROOM && outcome.len == 64, "NO_ROOM");
     add_block(&file, directory(1, "MSFT    "));
     outcome = itchsnap_check(file.bytes, file.len);
@@ -135,6 +141,35 @@ static void files(void) {
     must(loaded.code == ITCHSNAP_OK && loaded.next == 1, "a snapshot file");
     must(itchsnap_market_load(&market, file.bytes, file.len).code == ITCHSNAP_IN_USE, "IN_USE of a snapshot file that is refused");
     itchsnap_free(&market);
+}
+
+static void times(void) {
+    uint8_t out[1];
+    text file = {{0}, 0};
+    add_block(&file, at(7, directory(1, "AAPL    ")));
+    add_block(&file, at(9, order(1, 1, 'B', 5)));
+    add_block(&file, at(8, order(1, 2, 'B', 5)));
+    itchsnap_outcome outcome = itchsnap_snap(file.bytes, file.len, ITCHSNAP_ALL, 8, out, 1);
+    must(outcome.code == ITCHSNAP_NO_ROOM && outcome.count == 1 && outcome.len == 64, "a snapshot until a time");
+    must(itchsnap_snap(file.bytes, file.len, ITCHSNAP_ALL, 10, out, 1).count == 3, "a snapshot until a time that none has");
+    must(itchsnap_snap(file.bytes, file.len, 2, 9, out, 1).count == 1, "the time comes before the number");
+    must(itchsnap_snap(file.bytes, file.len, 2, 10, out, 1).count == 2, "the number comes before the time");
+    must(itchsnap_snap(file.bytes, file.len, 4, 9, out, 1).count == 1, "fewer messages than a time leaves");
+    must(itchsnap_snap(file.bytes, file.len, 4, 10, out, 1).code == ITCHSNAP_SHORT, "SHORT without a message so late");
+    itchsnap_count found = itchsnap_first_at(file.bytes, file.len, 7);
+    must(found.code == ITCHSNAP_OK && found.count == 0, "the first message at a time");
+    must(itchsnap_first_at(file.bytes, file.len, 8).count == 41, "a time between those of two messages");
+    must(itchsnap_first_at(file.bytes + 79, 38, 8).count == 0, "the first message of a piece");
+    must(itchsnap_first_at(file.bytes, file.len, 10).code == ITCHSNAP_ABSENT, "ABSENT of a time");
+    must(itchsnap_first_at(file.bytes, 78, 8).code == ITCHSNAP_ABSENT, "ABSENT before an unfinished block");
+    must(itchsnap_first_at(file.bytes, 0, 0).code == ITCHSNAP_ABSENT, "ABSENT of no bytes");
+    file.len = 0;
+    add_block(&file, spelled("S"));
+    add_block(&file, end());
+    add_block(&file, at(9, order(1, 1, 'B', 5)));
+    must(itchsnap_first_at(file.bytes, file.len, 9).count == 26, "blocks without a timestamp");
+    file.bytes[3] = file.bytes[4] = 0;
+    must(itchsnap_first_at(file.bytes, file.len, 9).code == ITCHSNAP_ABSENT, "ABSENT after an empty block");
 }
 
 static void blocks(void) {
@@ -329,6 +364,7 @@ int main(void) {
     payloads();
     rules();
     files();
+    times();
     blocks();
     lists();
     handles();

@@ -170,8 +170,8 @@ typedef struct {
 /* The snapshot after so many messages, with nothing refused. */
 static buffer snapshot_after(buffer file, uint64_t after) {
     uint8_t none;
-    buffer made = unwritten(itchsnap_snap(file.bytes, file.len, after, &none, 0).len);
-    must(itchsnap_snap(file.bytes, file.len, after, made.bytes, made.len).code == ITCHSNAP_OK, "a snapshot");
+    buffer made = unwritten(itchsnap_snap(file.bytes, file.len, after, ITCHSNAP_ALL, &none, 0).len);
+    must(itchsnap_snap(file.bytes, file.len, after, ITCHSNAP_ALL, made.bytes, made.len).code == ITCHSNAP_OK, "a snapshot");
     return made;
 }
 
@@ -326,8 +326,8 @@ static void play_load(const day *of, list wanted) {
 }
 
 static itchsnap_outcome snap(buffer file, list wanted, buffer out) {
-    return wanted.all ? itchsnap_snap(file.bytes, file.len, ITCHSNAP_ALL, out.bytes, out.len)
-                      : itchsnap_snap_only(file.bytes, file.len, ITCHSNAP_ALL, wanted.locates, wanted.count, out.bytes, out.len);
+    return wanted.all ? itchsnap_snap(file.bytes, file.len, ITCHSNAP_ALL, ITCHSNAP_ALL, out.bytes, out.len)
+                      : itchsnap_snap_only(file.bytes, file.len, ITCHSNAP_ALL, ITCHSNAP_ALL, wanted.locates, wanted.count, out.bytes, out.len);
 }
 
 /* A day file that is checked, and written as a snapshot; where it is refused, the count is that of the messages that were taken. */
@@ -346,6 +346,13 @@ static void play_file(const day *of, list wanted) {
     must(is_whole ? same(out, kept) : is_unwritten(out), "the bytes of snap");
     __real_free(kept.bytes);
     __real_free(out.bytes);
+}
+
+/* Where a time begins that no message has. */
+static void play_time(const day *of, list wanted) {
+    itchsnap_count found = itchsnap_first_at(of->feed.file.bytes, of->feed.file.len, ITCHSNAP_ALL);
+    (void)granted(found.code, ITCHSNAP_ABSENT, "a time");
+    (void)wanted;
 }
 
 /* Two day files that are compared; where one is refused, it is the one which memory was refused for. */
@@ -447,6 +454,7 @@ int main(int argc, char **argv) {
         play(play_file, &of, lists[k]);
         play(play_joiner, &of, lists[k]);
     }
+    play(play_time, &of, all);
     play(play_compare, &of, all);
     play(play_sessions, &of, all);
     forget(of.feed);

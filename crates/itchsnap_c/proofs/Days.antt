@@ -34,7 +34,7 @@ use Rattle.itchsnap_c.specs.Markets.{IsRefusedFor}
 use Rattle.itch_snapshot.proofs.PartialSnapshots.{snap_only}
 use Rattle.itch_snapshot.proofs.OneSnapshot.{snap-laid}
 use Rattle.itch_snapshot.proofs.CanonicalBytes.{canon-laid}
-use Rattle.itch_commands.specs.Limits.{counted}
+use Rattle.itch_commands.specs.declared.limit.Limit.{Limit}
 use Rattle.itch_commands.specs.Readings.{AreTaken, HaltsPart, ReadsMarket, CountsRead}
 use Rattle.itch_commands.proofs.PartReadings.{halts_replays}
 use Rattle.itch_commands.specs.declared.fault.Source.TheVariants.{Only}
@@ -48,16 +48,16 @@ use Rattle.itchsnap_c.specs.Codes.{stop_answer}
 use Rattle.itchsnap_c.specs.Snapshots.{is_listed, Writes, Puts, Closes, Spells}
 
 -- a replay of a day file, or of its part, from the empty market stops so
-halts_first : (after : Option ℕ) (m n : Content) (day : List ℕ) (bytes new : Option (List ℕ)) (count : ℕ) (stop : Stop) → m ≡ empty → bytes ≡ Some day
-    → HaltsPart (counted after) m bytes new count stop n → HaltsPart (counted after) empty (Some day) new count stop n
-halts_first after m n day bytes new count stop first known halts =
-    subst (λ b. HaltsPart (counted after) empty b new count stop n) known (subst (λ x. HaltsPart (counted after) x bytes new count stop n) first halts)
+halts_first : (limit : Limit) (m n : Content) (day : List ℕ) (bytes new : Option (List ℕ)) (count : ℕ) (stop : Stop) → m ≡ empty → bytes ≡ Some day
+    → HaltsPart limit m bytes new count stop n → HaltsPart limit empty (Some day) new count stop n
+halts_first limit m n day bytes new count stop first known halts =
+    subst (λ b. HaltsPart limit empty b new count stop n) known (subst (λ x. HaltsPart limit x bytes new count stop n) first halts)
 
 -- where a day file stops it
-halts_at : (after : Option ℕ) (n : Content) (day : List ℕ) (new : Option (List ℕ)) (count : ℕ) (stop : Stop) → HaltsPart (counted after) empty (Some day) new count stop n
+halts_at : (limit : Limit) (n : Content) (day : List ℕ) (new : Option (List ℕ)) (count : ℕ) (stop : Stop) → HaltsPart limit empty (Some day) new count stop n
     → IsDecided stop → Stops empty day count stop
-halts_at after n day new count stop halts =
-    replays_stop empty n (Some day) new count stop (halts_replays (counted after) empty (Some day) new count stop n halts)
+halts_at limit n day new count stop halts =
+    replays_stop empty n (Some day) new count stop (halts_replays limit empty (Some day) new count stop n halts)
 
 -- memory gives its bytes: what stops a replay is of the file, or memory is refused
 abbrev pub no_failures : Failures
@@ -84,37 +84,37 @@ stop_decided (Rule UnexpectedEnd) counts = inl tt
 stop_decided (Rule OutOfMemory) counts = inr refl
 stop_decided TooManyMessages counts = inl tt
 
-refused_at_stop : (after : Option ℕ) (n : Content) (day : List ℕ) (new : Option (List ℕ)) (count : ℕ) (stop : Stop) → stop ≢ End
-    → HaltsPart (counted after) empty (Some day) new count stop n → IsDecided stop ⊎ (stop ≡ Rule OutOfMemory)
-    → RefusesDay day after (outcome count 0 (stop_answer stop).detail (stop_answer stop).code)
-refused_at_stop after n day new count stop going halts (inl decided) = inl (count, stop, refl, going, halts_at after n day new count stop halts decided)
-refused_at_stop after n day new count stop going halts (inr memory) = inr (inr (
+refused_at_stop : (limit : Limit) (n : Content) (day : List ℕ) (new : Option (List ℕ)) (count : ℕ) (stop : Stop) → stop ≢ End
+    → HaltsPart limit empty (Some day) new count stop n → IsDecided stop ⊎ (stop ≡ Rule OutOfMemory)
+    → RefusesDay day limit (outcome count 0 (stop_answer stop).detail (stop_answer stop).code)
+refused_at_stop limit n day new count stop going halts (inl decided) = inl (count, stop, refl, going, halts_at limit n day new count stop halts decided)
+refused_at_stop limit n day new count stop going halts (inr memory) = inr (inr (
   count,
   ap (λ s. outcome count 0 (stop_answer s).detail (stop_answer s).code) memory,
-  inr (new, n, subst (λ s. HaltsPart (counted after) empty (Some day) new count s n) memory halts),
+  inr (new, n, subst (λ s. HaltsPart limit empty (Some day) new count s n) memory halts),
 ))
 
 -- why a day file is refused
-pub day_refused : (after : Option ℕ) (m n : Content) (day : List ℕ) (bytes new : Option (List ℕ)) (fault : ToolFault) → m ≡ empty → bytes ≡ Some day
-    → ReadsMarket Only (counted after) m bytes new (Err fault) n → CountsRead {X = ℕ} (Err fault) no_failures no_failures → RefusesDay day after (refused_day fault)
-day_refused after m n day bytes new (tool.Stopped at end) first known (same, going, halts) counts =
-    refused_at_stop after n day new end.count end.stop going (halts_first after m n day bytes new end.count end.stop first known halts) (stop_decided end.stop counts)
-day_refused after m n day bytes new (tool.Short at count) first known (same, some, halts) counts =
-    inr (inl (count, refl, (some, halts.0), halts_at after n day new count End (halts_first after m n day bytes new count End first known halts) tt))
-day_refused after m n day bytes new (tool.Snap at fault) first known reads counts = absurd reads
-day_refused after m n day bytes new tool.UnknownLocate first known reads counts = absurd reads
-day_refused after m n day bytes new tool.UnknownStock first known reads counts = absurd reads
-day_refused after m n day bytes new (tool.Write error) first known reads counts = absurd reads
-day_refused after m n day bytes new tool.OutOfMemory first known reads counts = absurd reads
-day_refused after m n day bytes new (tool.Open file error) first known reads counts = absurd reads
-day_refused after m n day bytes new tool.BadUser first known reads counts = absurd reads
-day_refused after m n day bytes new tool.BadPassword first known reads counts = absurd reads
-day_refused after m n day bytes new (tool.Unmet unmet) first known reads counts = absurd reads
-day_refused after m n day bytes new (tool.Misfit misfit) first known reads counts = absurd reads
-day_refused after m n day bytes new tool.BadLocates first known reads counts = absurd reads
-day_refused after m n day bytes new tool.TooMany first known reads counts = absurd reads
-day_refused after m n day bytes new (tool.Soup fault) first known reads counts = absurd reads
-day_refused after m n day bytes new (tool.Socket error) first known reads counts = absurd reads
+pub day_refused : (limit : Limit) (m n : Content) (day : List ℕ) (bytes new : Option (List ℕ)) (fault : ToolFault) → m ≡ empty → bytes ≡ Some day
+    → ReadsMarket Only limit m bytes new (Err fault) n → CountsRead {X = ℕ} (Err fault) no_failures no_failures → RefusesDay day limit (refused_day fault)
+day_refused limit m n day bytes new (tool.Stopped at end) first known (same, going, halts) counts =
+    refused_at_stop limit n day new end.count end.stop going (halts_first limit m n day bytes new end.count end.stop first known halts) (stop_decided end.stop counts)
+day_refused limit m n day bytes new (tool.Short at count) first known (same, some, halts) counts =
+    inr (inl (count, refl, (some, halts.0), halts_at limit n day new count End (halts_first limit m n day bytes new count End first known halts) tt))
+day_refused limit m n day bytes new (tool.Snap at fault) first known reads counts = absurd reads
+day_refused limit m n day bytes new tool.UnknownLocate first known reads counts = absurd reads
+day_refused limit m n day bytes new tool.UnknownStock first known reads counts = absurd reads
+day_refused limit m n day bytes new (tool.Write error) first known reads counts = absurd reads
+day_refused limit m n day bytes new tool.OutOfMemory first known reads counts = absurd reads
+day_refused limit m n day bytes new (tool.Open file error) first known reads counts = absurd reads
+day_refused limit m n day bytes new tool.BadUser first known reads counts = absurd reads
+day_refused limit m n day bytes new tool.BadPassword first known reads counts = absurd reads
+day_refused limit m n day bytes new (tool.Unmet unmet) first known reads counts = absurd reads
+day_refused limit m n day bytes new (tool.Misfit misfit) first known reads counts = absurd reads
+day_refused limit m n day bytes new tool.BadLocates first known reads counts = absurd reads
+day_refused limit m n day bytes new tool.TooMany first known reads counts = absurd reads
+day_refused limit m n day bytes new (tool.Soup fault) first known reads counts = absurd reads
+day_refused limit m n day bytes new (tool.Socket error) first known reads counts = absurd reads
 
 -- a market cut down has no more messages
 module _ (wanted : ℕ → Bool) (m : Content) where
@@ -137,16 +137,16 @@ cut_spelled set locates m next number (Ok bytes) closes same written refused =
     (closes.1, closes.2, written ∙ ap (λ k. canon (only (has set) m) ++ closing k) closes.0 ∙ same_cut set locates m next same)
 cut_spelled set locates m next number (Err code) closes same written refused = inr (refused, closes.1, closes.2)
 
-module _ (after : Option ℕ) (ps : List (List ℕ)) (m : Content) (taken : AreTaken (counted after) ps) (fits : AllByRecursion Fits ps) (left : m ≡ laid (market_of ps)) where
+module _ (limit : Limit) (ps : List (List ℕ)) (m : Content) (taken : AreTaken limit ps) (fits : AllByRecursion Fits ps) (left : m ≡ laid (market_of ps)) where
   -- the market that was read has the bytes of its messages' market
   pub canon_read : canon m ≡ canon (market_of ps)
-  canon_read = ap canon left ∙ canon-laid (market_of ps) (taken_good (counted after) ps fits taken)
+  canon_read = ap canon left ∙ canon-laid (market_of ps) (taken_good limit ps fits taken)
 
   -- cut down to some locates, too
   pub canon_only_read : (wanted : ℕ → Bool) → canon (only wanted m) ≡ canon (only wanted (market_of ps))
   canon_only_read wanted =
       ap (λ xs. blocks (map spelling xs))
-      (snap_only wanted m ∙ ap (kept wanted) (ap snap left ∙ snap-laid (market_of ps) (taken_good (counted after) ps fits taken)) ∙ sym (snap_only wanted (market_of ps)))
+      (snap_only wanted m ∙ ap (kept wanted) (ap snap left ∙ snap-laid (market_of ps) (taken_good limit ps fits taken)) ∙ sym (snap_only wanted (market_of ps)))
 
   -- and is written with the number after them, unless memory is refused
   pub written_read : (cut : Content → Content) (count : ℕ) (old new : List ℕ) (written : Written) → length ps ≡ count → canon (cut m) ≡ canon (cut (market_of ps))
@@ -155,7 +155,7 @@ module _ (after : Option ℕ) (ps : List (List ℕ)) (m : Content) (taken : AreT
   written_read cut count old new written number_is same (inl (number, few, writes)) = subst (λ bytes. Writes bytes old written new)
       (ap (λ bytes. bytes ++ closing (count + 1)) same ∙ ap (λ k. canon (cut (market_of ps)) ++ closing (k + 1)) (sym number_is)) writes
   written_read cut count old new written number_is same (inr (inl (code, none, stays))) = absurd (none (omega arith, omega (arith, number_is, taken.few)))
-  written_read cut count old new written number_is same (inr (inr (code, number, many, stays))) = absurd (omega (arith, many, taken_few (counted after) ps m fits taken left))
+  written_read cut count old new written number_is same (inr (inr (code, number, many, stays))) = absurd (omega (arith, many, taken_few limit ps m fits taken left))
 
 -- what is read of a snapshot fails as reading does
 fails_here : (old new : Option (List ℕ)) (fault : FrameFault) → ReadsSnapshot old new (Err (snap_fault.Frame fault)) → (mid : Option (List ℕ)) × FailsHere fault mid new

@@ -3,3 +3,4 @@ pub mod Values
 pub mod Pointers
 pub mod Days
 pub mod ListedSoFar
+pub mod PassedBlocks

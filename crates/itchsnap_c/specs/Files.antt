@@ -6,6 +6,7 @@ use Rattle.itch_commands.specs.declared.fault.ToolFault.{ToolFault}
 use Rattle.itch_commands.specs.declared.fault.ToolFault.TheVariants as tool
 use Rattle.itch_commands.specs.Comparing.{IsPartPlace}
 use Rattle.itch_commands.specs.Limits.{counted}
+use Rattle.itch_commands.specs.declared.limit.Limit.{Limit}
 use Rattle.itch_commands.specs.Readings.{AreTaken, HaltsPart, IsPart, IsShort}
 use Rattle.itch_market.specs.Content.{Content, empty, laid}
 use Rattle.itch_market.specs.Replays.{Fits}
@@ -21,9 +22,13 @@ use Rattle.itchsnap_c.specs.declared.answers.Written.{Written}
 use Rattle.itchsnap_c.specs.Codes.{stop_answer}
 use Rattle.itchsnap_c.specs.Snapshots.{Writes}
 
--- the messages that are wanted of a file: all, where 2^64 - 1 are
-abbrev pub part_of : ℕ → Option ℕ
-part_of after = if after == (2 ^ 64 - 1) then None else Some after
+-- 2^64 - 1 means that all messages are wanted, or messages at any time
+abbrev pub wanted : ℕ → Option ℕ
+wanted number = if number == (2 ^ 64 - 1) then None else Some number
+
+-- the part of a file that is wanted: so many messages, or those before a time
+abbrev pub part_of : ℕ → ℕ → Limit
+part_of after until = record { after = wanted after; until = wanted until }
 
 abbrev pub outcome : ℕ → ℕ → ℕ → ℕ → Outcome
 outcome count len detail code = record { count = count; len = len; detail = detail; code = code }
@@ -35,32 +40,32 @@ refused_day (tool.Short at count) = outcome count 0 0 37
 refused_day fault = outcome 0 0 0 34
 
 -- a day file, or the part of it that is wanted, has been read: these are its messages, which leave this market
-abbrev pub Reads : List ℕ → Option ℕ → List (List ℕ) → Type 0
-Reads day after payloads = AreTaken (counted after) payloads × IsPart (counted after) day payloads × AllByRecursion Fits payloads
+abbrev pub Reads : List ℕ → Limit → List (List ℕ) → Type 0
+Reads day limit payloads = AreTaken limit payloads × IsPart limit day payloads × AllByRecursion Fits payloads
 
 -- the market that a day file, or its part, leaves, and its number of messages
-abbrev pub ReadsDay : List ℕ → Option ℕ → Content → ℕ → Type 0
-ReadsDay day after m count =
-    (payloads : List (List ℕ)) × Reads day after payloads × (m ≡ laid (run (map message_of payloads))) × (length payloads ≡ count)
+abbrev pub ReadsDay : List ℕ → Limit → Content → ℕ → Type 0
+ReadsDay day limit m count =
+    (payloads : List (List ℕ)) × Reads day limit payloads × (m ≡ laid (run (map message_of payloads))) × (length payloads ≡ count)
 
 -- Memory is refused: before the first message, or for the one after this many, which were taken. That one takes memory, and no
 -- order rule refuses it.
-abbrev pub RunsOut : Option ℕ → List ℕ → ℕ → Type 0
-RunsOut after day count = (count ≡ 0) ⊎ ((new : Option (List ℕ)) × (m : Content) × HaltsPart (counted after) empty (Some day) new count (Rule OutOfMemory) m)
+abbrev pub RunsOut : Limit → List ℕ → ℕ → Type 0
+RunsOut limit day count = (count ≡ 0) ⊎ ((new : Option (List ℕ)) × (m : Content) × HaltsPart limit empty (Some day) new count (Rule OutOfMemory) m)
 
 -- Why a day file is refused: at its first bad place, with the number of messages before it; or it has fewer messages than are
 -- wanted; or memory is refused, with the number of messages that were taken.
-abbrev pub RefusesDay : List ℕ → Option ℕ → Outcome → Type 0
-RefusesDay day after o =
+abbrev pub RefusesDay : List ℕ → Limit → Outcome → Type 0
+RefusesDay day limit o =
     ((count : ℕ) × (stop : Stop) × (o ≡ outcome count 0 (stop_answer stop).detail (stop_answer stop).code) × (stop ≢ End) × Stops empty day count stop)
-    ⊎ ((count : ℕ) × (o ≡ outcome count 0 0 37) × IsShort (counted after) count × Stops empty day count End)
-    ⊎ ((count : ℕ) × (o ≡ outcome count 0 0 48) × RunsOut after day count)
+    ⊎ ((count : ℕ) × (o ≡ outcome count 0 0 37) × IsShort limit count × Stops empty day count End)
+    ⊎ ((count : ℕ) × (o ≡ outcome count 0 0 48) × RunsOut limit day count)
 
 -- a day file follows the order rules, and this is its number of messages; or it is refused
 abbrev pub Checks : List ℕ → Outcome → Type 0
 Checks day o =
-    ((payloads : List (List ℕ)) × Reads day None payloads × (o ≡ outcome (length payloads) 0 0 0))
-    ⊎ RefusesDay day None o
+    ((payloads : List (List ℕ)) × Reads day (counted None) payloads × (o ≡ outcome (length payloads) 0 0 0))
+    ⊎ RefusesDay day (counted None) o
 
 -- the market of these messages
 abbrev pub market_of : List (List ℕ) → Content
@@ -68,11 +73,11 @@ market_of payloads = run (map message_of payloads)
 
 -- The snapshot of what the messages leave, or of what it is cut down to, is at the front of the memory; or there is no room for
 -- it, or memory is refused, or the file is.
-abbrev pub Snaps : (Content → Content) → List ℕ → Option ℕ → List ℕ → Outcome → List ℕ → Type 0
-Snaps cut day after old o new =
-    ((payloads : List (List ℕ)) × (written : Written) × Reads day after payloads × (o ≡ outcome (length payloads) written.len 0 written.code)
+abbrev pub Snaps : (Content → Content) → List ℕ → Limit → List ℕ → Outcome → List ℕ → Type 0
+Snaps cut day limit old o new =
+    ((payloads : List (List ℕ)) × (written : Written) × Reads day limit payloads × (o ≡ outcome (length payloads) written.len 0 written.code)
     × Writes (canon (cut (market_of payloads)) ++ closing (length payloads + 1)) old written new)
-    ⊎ (RefusesDay day after o × (new ≡ old))
+    ⊎ (RefusesDay day limit o × (new ≡ old))
 
 -- the markets are the same, or part at this place
 abbrev pub parted : Option ℕ → Comparison
@@ -85,7 +90,7 @@ refused_in file o = record { place = 0; count = o.count; detail = o.detail; code
 -- Both files are read, the first wholly before the second, and what they leave is the same or parts at a place; or one is refused.
 abbrev pub Compares : List ℕ → List ℕ → Comparison → Type 0
 Compares first second answer =
-    ((ps : List (List ℕ)) × (qs : List (List ℕ)) × (place : Option ℕ) × Reads first None ps × Reads second None qs
+    ((ps : List (List ℕ)) × (qs : List (List ℕ)) × (place : Option ℕ) × Reads first (counted None) ps × Reads second (counted None) qs
     × IsPartPlace (market_of ps) (market_of qs) place × (answer ≡ parted place))
-    ⊎ ((o : Outcome) × RefusesDay first None o × (answer ≡ refused_in 1 o))
-    ⊎ ((ps : List (List ℕ)) × (o : Outcome) × Reads first None ps × RefusesDay second None o × (answer ≡ refused_in 2 o))
+    ⊎ ((o : Outcome) × RefusesDay first (counted None) o × (answer ≡ refused_in 1 o))
+    ⊎ ((ps : List (List ℕ)) × (o : Outcome) × Reads first (counted None) ps × RefusesDay second (counted None) o × (answer ≡ refused_in 2 o))

@@ -11,3 +11,4 @@ pub mod Owned
 pub mod Sessions
 pub mod Snapshots
 pub mod SoupCodes
+pub mod Times

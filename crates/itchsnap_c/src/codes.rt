@@ -38,7 +38,7 @@ pub(crate) const WRONG_HANDLE: u32 = 50;
 /// The handle already holds something.
 pub(crate) const IN_USE: u32 = 51;
 
-/// There is no such order or price.
+/// There is no such order, price, stock or message.
 pub(crate) const ABSENT: u32 = 52;
 
 /// The joiner has not joined.

@@ -1,6 +1,7 @@
 //! Whole files in C's memory.
 ghost use Rattle.std.specs.Prelude.{◌≡◌, IfOk, IfErr};
-ghost use Rattle.itchsnap_c.specs.Files.{part_of, Checks, Snaps, Compares, ReadsDay, RefusesDay, refused_day, parted, refused_in};
+ghost use Rattle.itch_commands.specs.Limits.{counted};
+ghost use Rattle.itchsnap_c.specs.Files.{part_of, wanted, Checks, Snaps, Compares, ReadsDay, RefusesDay, refused_day, parted, refused_in};
 ghost use Rattle.itchsnap_c.specs.Snapshots.{is_listed};
 ghost use Rattle.itch_market.specs.Partial.{only};
 
@@ -20,26 +21,39 @@ const SHORT: u32 = 37;
 /// The market of a day file, which is looked at once all messages are read.
 type DayMarket = Market<Book<Global>>;
 
-/// The number that means all messages of a file.
+/// The number of messages, and the time, that mean all messages of a file.
 const ALL: u64 = u64::MAX;
+
+/// All messages.
+const WHOLE: Limit = Limit {
+    after: None,
+    until: None,
+};
 
 /// Whether a day file follows the order rules: its number of messages, or where and why the first is refused.
 #[unsafe(no_mangle)]
 pub extern "C" fn itchsnap_check(alloc: Global, day: &[u8]) -> Outcome
     ensures { Checks day.now result }
 {
-    match read_messages(alloc, day, None) {
+    match read_messages(alloc, day, WHOLE) {
         Ok((_market, count)) => outcome(count, 0, 0, 0),
         Err(outcome) => outcome,
     }
 }
 
-/// Writes the canonical snapshot after a day file's messages, or after its first `after`, to the front of `out`.
+/// Writes the canonical snapshot of a part of a day file to the front of `out`: of its first `after` messages, or of those before the
+/// first at the time `until` or later, whichever ends first.
 #[unsafe(no_mangle)]
-pub extern "C" fn itchsnap_snap(alloc: Global, day: &[u8], after: u64, out: &mut [u8]) -> Outcome
-    ensures { Snaps (λ m. m) day.now (part_of after) out.old result out.new }
+pub extern "C" fn itchsnap_snap(
+    alloc: Global,
+    day: &[u8],
+    after: u64,
+    until: u64,
+    out: &mut [u8],
+) -> Outcome
+    ensures { Snaps (λ m. m) day.now (part_of after until) out.old result out.new }
 {
-    match read_day(alloc, day, part_of(after)) {
+    match read_day(alloc, day, part_of(after, until)) {
         Ok((market, count)) => written(count, put_whole(alloc, &market, count + 1, out)),
         Err(outcome) => outcome,
     }
@@ -51,12 +65,13 @@ pub extern "C" fn itchsnap_snap_only(
     alloc: Global,
     day: &[u8],
     after: u64,
+    until: u64,
     locates: &[u16],
     out: &mut [u8],
 ) -> Outcome
-    ensures { Snaps (only (is_listed locates.now)) day.now (part_of after) out.old result out.new }
+    ensures { Snaps (only (is_listed locates.now)) day.now (part_of after until) out.old result out.new }
 {
-    match read_day(alloc, day, part_of(after)) {
+    match read_day(alloc, day, part_of(after, until)) {
         Ok((market, count)) => {
             written(count, put_partial(alloc, &market, count + 1, locates, out))
         }
@@ -70,41 +85,36 @@ pub extern "C" fn itchsnap_snap_only(
 pub extern "C" fn itchsnap_compare(alloc: Global, first: &[u8], second: &[u8]) -> Comparison
     ensures { Compares first.now second.now result }
 {
-    let one = match read_day(alloc, first, None) {
+    let one = match read_day(alloc, first, WHOLE) {
         Ok((market, _count)) => market,
         Err(outcome) => return refused(1, outcome),
     };
-    match read_day(alloc, second, None) {
+    match read_day(alloc, second, WHOLE) {
         Ok((other, _count)) => same_or_not(part_place(&one, &other)),
         Err(outcome) => refused(2, outcome),
     }
 }
 
-// The market of the messages of a day file, or of its first ones, and how many there are. It is settled.
-fn read_day(alloc: Global, day: &[u8], after: Option<u64>) -> Result<(DayMarket, u64), Outcome>
-    ensures read { IfOk result (λ done. ReadsDay day.now after done.0 done.1) }
-    ensures refused { IfErr result (λ outcome. RefusesDay day.now after outcome) }
+// The market of the messages of a day file, or of a part of it, and how many there are. It is settled.
+fn read_day(alloc: Global, day: &[u8], limit: Limit) -> Result<(DayMarket, u64), Outcome>
+    ensures read { IfOk result (λ done. ReadsDay day.now limit done.0 done.1) }
+    ensures refused { IfErr result (λ outcome. RefusesDay day.now limit outcome) }
 {
-    let (mut market, count) = read_messages(alloc, day, after)?;
+    let (mut market, count) = read_messages(alloc, day, limit)?;
     market.settle();
     Ok((market, count))
 }
 
 // The same, not settled.
-fn read_messages(alloc: Global, day: &[u8], after: Option<u64>) -> Result<(DayMarket, u64), Outcome>
-    ensures read { IfOk result (λ done. ReadsDay day.now after done.0 done.1) }
-    ensures refused { IfErr result (λ outcome. RefusesDay day.now after outcome) }
+fn read_messages(alloc: Global, day: &[u8], limit: Limit) -> Result<(DayMarket, u64), Outcome>
+    ensures read { IfOk result (λ done. ReadsDay day.now limit done.0 done.1) }
+    ensures refused { IfErr result (λ outcome. RefusesDay day.now limit outcome) }
 {
     let Ok(mut reader) = BlockReader::new(alloc, SliceReader { rest: day }) else {
         return Err(outcome(0, 0, 0, OUT_OF_MEMORY));
     };
     let mut market = Market::new(alloc);
-    match read_market(
-        &mut reader,
-        &mut market,
-        Limit::counted(after),
-        Source::Only,
-    ) {
+    match read_market(&mut reader, &mut market, limit, Source::Only) {
         Ok(count) => Ok((market, count)),
         Err(fault) => Err(refused_day(&fault)),
     }
@@ -137,10 +147,20 @@ fn refused_day(fault: &ToolFault) -> Outcome
     }
 }
 
-fn part_of(after: u64) -> Option<u64>
-    ensures { result ≡ part_of after }
+// The part of a file that is wanted.
+fn part_of(after: u64, until: u64) -> Limit
+    ensures { result ≡ part_of after until }
 {
-    if after == ALL { None } else { Some(after) }
+    Limit {
+        after: wanted(after),
+        until: wanted(until),
+    }
+}
+
+fn wanted(number: u64) -> Option<u64>
+    ensures { result ≡ wanted number }
+{
+    if number == ALL { None } else { Some(number) }
 }
 
 fn written(count: u64, written: Written) -> Outcome

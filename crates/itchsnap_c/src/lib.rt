@@ -37,6 +37,7 @@ pub mod session;
 mod slice;
 pub mod snapshots;
 mod soup_codes;
+pub mod times;
 
 const VERSION: u32 = 1;
 

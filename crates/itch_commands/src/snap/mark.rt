@@ -42,8 +42,8 @@ impl Mark {
         }
     }
 
-    /// Whether its messages are all of the part of the day that ends so: no more than are wanted, and none at the time where the part
-    /// ends, or later.
+    /// Whether its messages all belong to the part of the day that ends so: they are no more than are wanted, and none is at the time
+    /// where the part ends, or later.
     pub fn is_in(&self, limit: Limit) -> bool
         ensures exact { result ≡ is_in limit self.now }
         ensures early { (payloads : List (List ℕ)) → IsMark self.now payloads → result ≡ true

@@ -7,7 +7,7 @@ use Rattle.itchsnap_c.proofs.files.itchsnap_snap_only.Goals as goal
 
 pub returns-in-Ok : goal.returns-in-Ok
 returns-in-Ok c =
-    let after = part_of c.args.after in
+    let limit = part_of c.args.after c.args.until in
     let m = c.in-Ok.market in
     let written = c.put_partial.result in
     let read = subst (λ part. ReadsDay c.args.day.now part m c.in-Ok.count) c.part_of.ensures c.in-Ok.ensures.read in
@@ -18,7 +18,7 @@ returns-in-Ok c =
       written,
       read.1,
       c.written.ensures ∙ ap (λ count. outcome count written.len 0 written.code) (sym read.3),
-      written_read after read.0 m taken fits read.2 (only (is_listed c.args.locates.now)) c.in-Ok.count c.args.out.now c.put_partial.new.out written read.3 (canon_only_read after read.0 m taken fits read.2 (is_listed c.args.locates.now)) c.put_partial.ensures,
+      written_read limit read.0 m taken fits read.2 (only (is_listed c.args.locates.now)) c.in-Ok.count c.args.out.now c.put_partial.new.out written read.3 (canon_only_read limit read.0 m taken fits read.2 (is_listed c.args.locates.now)) c.put_partial.ensures,
     )
 
 pub returns-in-Err : goal.returns-in-Err
