@@ -1,7 +1,7 @@
 /* bench.c: how long the calls take on a day file.
  *
- *   bench DAY    three rounds of: the whole file at once, message by message, all blocks in one call, look-ups, all price
- *                 levels, and calls that are refused at once */
+ *   bench DAY    three rounds of: the whole file at once, the time of each message, message by message, all blocks in one call,
+ *                 look-ups, all price levels, and calls that are refused at once */
 #define _POSIX_C_SOURCE 199309L
 #include "itchsnap.h"
 
@@ -72,6 +72,10 @@ static void round_of(const uint8_t *day, size_t len) {
     double begun = now();
     itchsnap_outcome checked = itchsnap_check(day, len);
     report("itchsnap_check, a message", now() - begun, checked.count);
+
+    begun = now();
+    itchsnap_count late = itchsnap_first_at(day, len, ITCHSNAP_ALL);
+    report("itchsnap_first_at, a message", now() - begun, late.code == ITCHSNAP_ABSENT ? checked.count : 0);
 
     itchsnap_handle market = ITCHSNAP_NONE;
     if (itchsnap_market_new(&market).code != ITCHSNAP_OK) {

@@ -11,11 +11,11 @@ use itch_commands::Limit;
 use itch_frame::BlockReader;
 use std::alloc::{AllocError, Global};
 
-/// How many bytes come before the block of the first message at `time` or later, in nanoseconds since midnight: the blocks of the
-/// messages before that time. There may be none.
+/// How many bytes come before the block of the first message whose timestamp is `time` or later, in nanoseconds since midnight; or
+/// that there is none before the blocks end.
 ///
-/// Timestamps need not rise, so each message before it is looked at. A block that spells no message, or one without a timestamp, is
-/// passed over. Nothing after an empty block is looked at.
+/// Timestamps need not rise, so each message up to that one is decoded. A block that spells no message, or one without a timestamp, is
+/// passed over. An empty block ends the blocks, and so does an unfinished one.
 #[unsafe(no_mangle)]
 pub extern "C" fn itchsnap_first_at(alloc: Global, blocks: &[u8], time: u64) -> Count
     ensures { FindsTime blocks.now time result }
