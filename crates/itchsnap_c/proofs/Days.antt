@@ -87,7 +87,7 @@ stop_decided TooManyMessages counts = inl tt
 refused_at_stop : (limit : Limit) (n : Content) (day : List ℕ) (new : Option (List ℕ)) (count : ℕ) (stop : Stop) → stop ≢ End
     → HaltsPart limit empty (Some day) new count stop n → IsDecided stop ⊎ (stop ≡ Rule OutOfMemory)
     → RefusesDay day limit (outcome count 0 (stop_answer stop).detail (stop_answer stop).code)
-refused_at_stop limit n day new count stop going halts (inl decided) = inl (count, stop, refl, going, halts_at limit n day new count stop halts decided)
+refused_at_stop limit n day new count stop going halts (inl decided) = inl (count, stop, refl, going, halts_at limit n day new count stop halts decided, (new, n, halts))
 refused_at_stop limit n day new count stop going halts (inr memory) = inr (inr (
   count,
   ap (λ s. outcome count 0 (stop_answer s).detail (stop_answer s).code) memory,
@@ -100,7 +100,8 @@ pub day_refused : (limit : Limit) (m n : Content) (day : List ℕ) (bytes new : 
 day_refused limit m n day bytes new (tool.Stopped at end) first known (same, going, halts) counts =
     refused_at_stop limit n day new end.count end.stop going (halts_first limit m n day bytes new end.count end.stop first known halts) (stop_decided end.stop counts)
 day_refused limit m n day bytes new (tool.Short at count) first known (same, some, halts) counts =
-    inr (inl (count, refl, (some, halts.0), halts_at limit n day new count End (halts_first limit m n day bytes new count End first known halts) tt))
+    let from_empty = halts_first limit m n day bytes new count End first known halts in
+    inr (inl (count, refl, (some, halts.0), halts_at limit n day new count End from_empty tt, (new, n, from_empty)))
 day_refused limit m n day bytes new (tool.Snap at fault) first known reads counts = absurd reads
 day_refused limit m n day bytes new tool.UnknownLocate first known reads counts = absurd reads
 day_refused limit m n day bytes new tool.UnknownStock first known reads counts = absurd reads

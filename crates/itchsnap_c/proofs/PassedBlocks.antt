@@ -13,10 +13,12 @@ module _ (limit : Limit) (bytes : List ℕ) where
     pub payloads : List (List ℕ)
     pub passes : Passes limit bytes payloads rest
 
+  -- none was passed yet
   pub none_passed : (rest : List ℕ) → rest ≡ bytes → PassedSoFar rest
   none_passed rest all = record { payloads = []; passes = record { whole = sym all; each = tt } }
 
   module _ (rest more payload : List ℕ) (so_far : PassedSoFar rest) (next : rest ≡ block payload ++ more) (full : IsFull payload) where
+    -- one more was passed
     pub one_passed : (IsLate limit payload → ⊥) → PassedSoFar more
     one_passed early = record {
       payloads = so_far.payloads ++ payload ∷ [];
@@ -27,8 +29,10 @@ module _ (limit : Limit) (bytes : List ℕ) where
       };
     }
 
+    -- or it has a message that is late
     pub late_found : (left : ℕ) → left ≡ length rest → IsLate limit payload → Finds limit bytes (Some (length bytes - left))
     late_found left size late = (so_far.payloads, rest, so_far.passes, (payload, more, next, full, late), omega (arith, size, ap length so_far.passes.whole, length-append (blocks so_far.payloads) rest))
 
+  -- the blocks ended before
   pub none_found : (rest : List ℕ) → PassedSoFar rest → Ends rest ⊎ Open rest → Finds limit bytes None
   none_found rest so_far last = (so_far.payloads, rest, so_far.passes, last)

@@ -48,17 +48,22 @@ abbrev pub ReadsDay : List ℕ → Limit → Content → ℕ → Type 0
 ReadsDay day limit m count =
     (payloads : List (List ℕ)) × Reads day limit payloads × (m ≡ laid (run (map message_of payloads))) × (length payloads ≡ count)
 
+-- the reading of a day file, or of the part of it that is wanted, stops so after this many messages: nothing after the part stops it
+abbrev pub HaltsDay : Limit → List ℕ → ℕ → Stop → Type 0
+HaltsDay limit day count stop = (new : Option (List ℕ)) × (m : Content) × HaltsPart limit empty (Some day) new count stop m
+
 -- Memory is refused: before the first message, or for the one after this many, which were taken. That one takes memory, and no
 -- order rule refuses it.
 abbrev pub RunsOut : Limit → List ℕ → ℕ → Type 0
-RunsOut limit day count = (count ≡ 0) ⊎ ((new : Option (List ℕ)) × (m : Content) × HaltsPart limit empty (Some day) new count (Rule OutOfMemory) m)
+RunsOut limit day count = (count ≡ 0) ⊎ HaltsDay limit day count (Rule OutOfMemory)
 
--- Why a day file is refused: at its first bad place, with the number of messages before it; or it has fewer messages than are
--- wanted; or memory is refused, with the number of messages that were taken.
+-- Why a day file is refused: at its first bad place, which is of the part that is wanted, with the number of messages before it; or it
+-- has fewer messages than are wanted; or memory is refused, with the number of messages that were taken.
 abbrev pub RefusesDay : List ℕ → Limit → Outcome → Type 0
 RefusesDay day limit o =
-    ((count : ℕ) × (stop : Stop) × (o ≡ outcome count 0 (stop_answer stop).detail (stop_answer stop).code) × (stop ≢ End) × Stops empty day count stop)
-    ⊎ ((count : ℕ) × (o ≡ outcome count 0 0 37) × IsShort limit count × Stops empty day count End)
+    ((count : ℕ) × (stop : Stop) × (o ≡ outcome count 0 (stop_answer stop).detail (stop_answer stop).code) × (stop ≢ End) × Stops empty day count stop
+    × HaltsDay limit day count stop)
+    ⊎ ((count : ℕ) × (o ≡ outcome count 0 0 37) × IsShort limit count × Stops empty day count End × HaltsDay limit day count End)
     ⊎ ((count : ℕ) × (o ≡ outcome count 0 0 48) × RunsOut limit day count)
 
 -- a day file follows the order rules, and this is its number of messages; or it is refused

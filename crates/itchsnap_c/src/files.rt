@@ -1,6 +1,5 @@
 //! Whole files in C's memory.
 ghost use Rattle.std.specs.Prelude.{◌≡◌, IfOk, IfErr};
-ghost use Rattle.itch_commands.specs.Limits.{counted};
 ghost use Rattle.itchsnap_c.specs.Files.{part_of, wanted, Checks, Snaps, Compares, ReadsDay, RefusesDay, refused_day, parted, refused_in};
 ghost use Rattle.itchsnap_c.specs.Snapshots.{is_listed};
 ghost use Rattle.itch_market.specs.Partial.{only};
