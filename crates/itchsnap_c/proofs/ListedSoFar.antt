@@ -1,12 +1,11 @@
 -- What is listed of a book so far: the orders of a locate, and the price levels of a side.
 use Rattle.std.proofs.Common.{◌≡◌, ℕ, List, [], ◌∷◌, ◌++◌, map, length, Option, Some, None, IfSome, refl, sym, ap, ◌∙◌, subst, append-nil, append_assoc, arith, ◌<◌}
 use Rattle.std.proofs.lemmas.List.{map-append}
-use Rattle.std.specs.List.{filter, find, sum_by}
+use Rattle.std.specs.List.{find, sum_by}
 use Rattle.itch_codec.specs.declared.orders.Side.{Side}
 use Rattle.itch_book.specs.declared.order.Order.{Order}
-use Rattle.itch_book.specs.Orders.{IsBook, get, after, from_order, is_in, is_worse, level_total, next_price, queue, sides}
+use Rattle.itch_book.specs.Orders.{IsBook, get, after, from_order, is_in, level_total, next_price, queue}
 use Rattle.itch_book.proofs.Walks.{first_left, next_left, first_live, after_live}
-use Rattle.itch_commands.specs.Books.{prices}
 use Rattle.itch_commands.proofs.QueuePrices.{DonePrices, none_done, one_done, none_left, level_is}
 use Rattle.itchsnap_c.specs.declared.answers.BookOrder.{BookOrder}
 use Rattle.itchsnap_c.specs.declared.answers.PriceLevel.{PriceLevel}
