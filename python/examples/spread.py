@@ -3,8 +3,8 @@
 
     spread.py DAY STOCK .. [--begin 09:30] [--end 16:00]
 
-The line of a minute has the market before the first message at that minute or later. Prices are in dollars, and a field is empty where a
-side has no order.
+The line of a minute has the market before the first message at that minute or later. Prices are in dollars. A field is empty where a
+side has no order, and the spread of a crossed book is negative.
 """
 import argparse
 import sys
@@ -15,7 +15,8 @@ MINUTE = 60 * 10**9
 
 
 def dollars(ten_thousandths):
-    return f"{ten_thousandths // 10_000}.{ten_thousandths % 10_000:04}"
+    whole, rest = divmod(abs(ten_thousandths), 10_000)
+    return f"{'-' if ten_thousandths < 0 else ''}{whole}.{rest:04}"
 
 
 def quote(market, locate):

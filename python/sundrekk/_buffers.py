@@ -50,7 +50,9 @@ def room_for(size: int) -> Iterator[mmap.mmap]:
 
 
 def number(value: int, bits: int, what: str) -> int:
-    """A number that has room in so many bits. ctypes would cut it to them."""
+    """A number that has room in so many bits. ctypes would cut it to them, and a truth value is a mistake."""
+    if isinstance(value, bool):
+        raise TypeError(f"{what} is a number, and not {value}")
     value = operator.index(value)
     if not 0 <= value < 2**bits:
         raise ValueError(f"{what} is from 0 to {2**bits - 1}, and not {value}")

@@ -67,6 +67,8 @@ class Snapshot:
 
     def same_market(self, other: Snapshot) -> bool:
         """Whether two snapshots have the same market, whichever number each has."""
+        if not isinstance(other, Snapshot):
+            raise TypeError(f"a Snapshot is compared with a Snapshot, and not with {other!r}")
         return self._data[:-END_BLOCK] == other._data[:-END_BLOCK]
 
     def only(self, locates: Iterable[int]) -> Snapshot:

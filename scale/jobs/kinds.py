@@ -7,7 +7,7 @@ from pathlib import Path
 from typing import NamedTuple
 
 from . import layout
-from .program import Failure, Program, Refusal
+from .program import Failure, Program, Refusal, has_no_messages
 from .results import Day, Result, attempt
 
 END = "end"
@@ -83,6 +83,13 @@ class Job:
         """The words that `scale/job` is called with."""
         return [self.kind, *self.site.words(), *self.options(), str(self.day.path)]
 
+    def read_day(self, words, made):
+        """Runs the program over the day, and writes what it prints to a file. To the program a day without messages is one like others;
+        here it is a file that someone has yet to fill."""
+        if has_no_messages(self.day.path):
+            raise Refusal("no messages")
+        self.site.program.write(words, self.day.path, made)
+
     def answers(self, results, room):
         """Each of these results with its file in a folder, or with the refusal or failure that it came to."""
         for result in results:
@@ -148,7 +155,7 @@ class Snapshots(Job):
         wanted = ",".join(result.made_of["point"] for result in points.values())
         only = ["--only", self.part] if self.part else []
         try:
-            self.site.program.write(["snap", option, wanted, "--to", folder, *only], self.day.path, folder / "printed")
+            self.read_day(["snap", option, wanted, "--to", folder, *only], folder / "printed")
         except (Refusal, Failure):
             return {}
         index = [json.loads(line) for line in (folder / "index.jsonl").read_text().splitlines()]
@@ -172,7 +179,7 @@ class Snapshots(Job):
             words = ["join", "--only", self.part, empty]
         else:
             words = ["snap", *limit(point), "--only", self.part]
-        self.site.program.write(words, self.day.path, made)
+        self.read_day(words, made)
 
 
 @dataclass(frozen=True)
@@ -191,7 +198,7 @@ class Check(Job):
         return [self.site.result(self.day, f"{name}.txt", kind="check", expect=self.expect, ended=self.ended)]
 
     def make(self, result, made, room):
-        self.site.program.write(["check", *self.options()], self.day.path, made)
+        self.read_day(["check", *self.options()], made)
 
 
 @dataclass(frozen=True)

@@ -56,6 +56,26 @@ def finish_unpacking(process, source):
         raise Failure(f"{source.name} is not read to its end: {first_line(said) or process.args[0]} ({process.returncode})")
 
 
+def first_bytes(source, count):
+    """The first bytes of a file, unpacked. Fails where a decompressor does before it has as many."""
+    if source.suffix not in UNPACKERS:
+        with open(source, "rb") as file:
+            return file.read(count)
+    unpacking = start([*UNPACKERS[source.suffix], source], stdout=subprocess.PIPE)
+    begin = unpacking.stdout.read(count)
+    unpacking.stdout.close()
+    if len(begin) < count:
+        finish_unpacking(unpacking, source)
+    else:
+        unpacking.communicate()
+    return begin
+
+
+def has_no_messages(source):
+    """Whether a day file ends where it begins: with nothing, or with a block of length 0."""
+    return first_bytes(source, 2) in (b"", b"\0\0")
+
+
 class Program:
     """The program `itchsnap` in a file."""
 

@@ -1,6 +1,7 @@
 """The words of `scale/job`."""
 import argparse
 import dataclasses
+import functools
 import os
 import re
 import shlex
@@ -19,7 +20,7 @@ COMMAND = str(TOP / "scale/job")
 POINT = re.compile(rf"{END}|\d+|{TIME.pattern}")
 RANGE = re.compile(r"\d+-\d+")
 LOCATES = re.compile(r"\d+(-\d+)?(,\d+(-\d+)?)*")
-FAILED = 3
+USAGE, FAILED = 2, 3
 
 
 def matching(pattern, what):
@@ -84,9 +85,11 @@ def add_plan(words):
 
 
 def reader():
-    words = argparse.ArgumentParser(description="Does a job over a day file, or says which jobs a number of days comes to.")
+    # No word stands for a longer one, so nothing but --help and -h has usage printed where an adapter wants the lines of a plan.
+    exact = functools.partial(argparse.ArgumentParser, allow_abbrev=False)
+    words = exact(description="Does a job over a day file, or says which jobs a number of days comes to.")
     words.add_argument("--with-parent", action="store_true", help="end when the process that started this one ends")
-    commands = words.add_subparsers(dest="command", required=True)
+    commands = words.add_subparsers(dest="command", required=True, parser_class=exact)
     of_a_day = {kind: commands.add_parser(kind.kind, help=kind.__doc__) for kind in (Snapshots, Check, Merge, Table)}
     add_points(of_a_day[Snapshots])
     of_a_day[Snapshots].add_argument("--part", type=locates, metavar="LIST", help="of these locates alone")

@@ -130,6 +130,7 @@ def a_day_ends_after_a_number_of_messages():
     yield from differs("its words", of_package(DAY, after=12), "only 11 messages")
     for after in (-1, 2**64):
         yield from differs(f"after {after}", raised(Day.of(DAY).snapshot, after=after), "ValueError")
+    yield from differs("after a truth value", raised(Day.of(DAY).snapshot, after=True), "TypeError")
 
 
 def times_are_given_in_four_ways():
@@ -141,7 +142,7 @@ def times_are_given_in_four_ways():
             yield from differs(repr(time), nanoseconds(time), number)
     for time in (-1, 2**64, "", "10", "1030", "10:3", "24:00", "10:60", "10:30 ", "10:30:00.1234567891", "1\u0660:30"):
         yield from differs(repr(time), raised(nanoseconds, time), "ValueError")
-    for time in (1.5, None, b"10:30"):
+    for time in (1.5, None, True, b"10:30"):
         yield from differs(repr(time), raised(nanoseconds, time), "TypeError")
 
 

@@ -6,12 +6,14 @@ import functools
 import itertools
 import os
 import re
+import struct
 import subprocess
 import sys
 import tempfile
 import xml.etree.ElementTree
 from pathlib import Path
 
+import large
 import samples
 from common import differs
 from tables import left_out, ten_thousandths
@@ -19,6 +21,10 @@ from tables import left_out, ten_thousandths
 FOLDER = samples.TOP / "python/examples"
 SVG = "{http://www.w3.org/2000/svg}"
 STOCKS = ("AAPL", "MSFT", "NVDA")
+
+
+# What the first of the symbols is called, in a day of a crossed book.
+CROSSED = "S0000001"
 
 
 def ran(name, *words, day=b""):
@@ -36,9 +42,24 @@ def day():
     return ran("day.py")[1]
 
 
-def levels(*words):
-    """The levels that the program prints of that day: stock, side, price in ten-thousandths of a dollar, and shares."""
-    lines = samples.program("book", "--csv", *words, day=day())[1].decode().splitlines()[1:]
+@functools.lru_cache(maxsize=1)
+def crossed():
+    """A day whose bids reach its ask before 9:30, and then exceed it by a cent, by a dollar and by more; the ask goes at last."""
+    def added(reference, side, price):
+        fields = struct.pack(">QcI8sI", reference, side, 100, large.stock(1), price)
+        return large.block(b"A", 1, fields)
+
+    ask = added(1, b"S", 1_000_000)
+    bids = [added(2 + step, b"B", price) for step, price in enumerate((1_000_000, 1_000_100, 1_010_000, 1_023_456))]
+    gone = large.block(b"D", 1, struct.pack(">Q", 1))
+    times = (569, 569, 569, 570, 571, 572, 573)
+    return b"".join(samples.stamped(block, minute * samples.MINUTE) for block, minute in zip([large.entry(1), ask, *bids, gone], times))
+
+
+def levels(*words, of=None):
+    """The levels that the program prints of a day, the small one if no other is given: stock, side, price in ten-thousandths of a dollar,
+    and shares."""
+    lines = samples.program("book", "--csv", *words, day=of or day())[1].decode().splitlines()[1:]
     return [(stock, side, ten_thousandths(price), int(shares)) for _, stock, side, price, shares, _ in (line.split(",") for line in lines)]
 
 
@@ -63,6 +84,14 @@ def the_spread_by_minute_is_that_of_the_program():
             yield from differs(f"{stock} at {time}", (line[:2], got), ([time, stock], wanted))
 
 
+def the_spread_of_a_crossed_book_is_negative():
+    status, output, error = ran("spread.py", "day.itch", CROSSED, "--end", "09:34", day=crossed())
+    wanted = [("09:30", "100.0000", "100.0000", "0.0000"), ("09:31", "100.0100", "100.0000", "-0.0100"),
+              ("09:32", "101.0000", "100.0000", "-1.0000"), ("09:33", "102.3456", "100.0000", "-2.3456"), ("09:34", "102.3456", "", "")]
+    lines = [tuple(line.split(",")) for line in output.decode().splitlines()[1:]]
+    yield from differs("the spreads", (status, error, lines), (0, "", [(time, CROSSED, *prices) for time, *prices in wanted]))
+
+
 def a_part_of_a_day_is_asked_for():
     output = ran("spread.py", "day.itch", "MSFT", "--begin", "11:59", "--end", "12:01", day=day())[1].decode().splitlines()
     yield from differs("minutes", [line.split(",")[0] for line in output], ["time", "11:59", "12:00", "12:01"])
@@ -83,12 +112,13 @@ def line_through(points):
     return lambda place: first + (last - first) * (place - begin) / (end - begin)
 
 
-def depth_differs(picture):
+def depth_differs(picture, stock="NVDA", until="12:00", of=None):
     """Read by the numbers at its axes, the picture has the program's prices, and the shares at each and at better ones."""
     prices = line_through([(ten_thousandths(words), x) for words, x in texts_by_places(picture, "x", "x")])
     shares = line_through([(int(words.replace(",", "")), y) for words, y in texts_by_places(picture, "y", "y")])
     for name, wanted in (("bids", "B"), ("asks", "S")):
-        side = [(price, size) for _, its, price, size in levels("--stock", "NVDA", "--depth", "40", "--until", "12:00") if its == wanted]
+        best = levels("--stock", stock, "--depth", "40", "--until", until, of=of)
+        side = [(price, size) for _, its, price, size in best if its == wanted]
         drawn = re.findall(r"[ML] (\S+) (\S+)", picture.find(f".//{SVG}g[@id='{name}']/{SVG}path").get("d"))
         corners = [(float(x), float(y)) for x, y in drawn[1:2 * len(side):2]]
         read = [(round(prices(x), -2), round(shares(y), -2)) for x, y in corners]
@@ -110,5 +140,14 @@ def the_example_draws_the_depth_of_the_book():
     yield from differs("a stock that is not there", ran("depth.py", "day.itch", "NONE", day=day())[::2], (1, "depth: no orders of NONE\n"))
 
 
-RUNS = [the_small_day_is_whole, the_spread_by_minute_is_that_of_the_program, a_part_of_a_day_is_asked_for,
-        the_picture_of_the_package_shows_the_depth_of_the_book, the_example_draws_the_depth_of_the_book]
+def the_example_draws_a_crossed_book():
+    if left_out("a picture", "matplotlib"):
+        return
+    status, output, error = ran("depth.py", "day.itch", CROSSED, "--until", "09:32", day=crossed())
+    yield from differs("the end", (status, error), (0, ""))
+    yield from depth_differs(xml.etree.ElementTree.fromstring(output), CROSSED, "09:32", crossed())
+
+
+RUNS = [the_small_day_is_whole, the_spread_by_minute_is_that_of_the_program, the_spread_of_a_crossed_book_is_negative,
+        a_part_of_a_day_is_asked_for, the_picture_of_the_package_shows_the_depth_of_the_book, the_example_draws_the_depth_of_the_book,
+        the_example_draws_a_crossed_book]

@@ -58,6 +58,7 @@ def snapshots_are_values():
     other = Snapshot(common.file("AAPL END_3"))
     yield from differs("equality", [early == it for it in (again, late, other, early.data)], [True, False, False, False])
     yield from differs("the same market", [early.same_market(it) for it in (again, late, other)], [True, True, False])
+    yield from differs("the market of nothing", raised(early.same_market, None), "TypeError")
     yield from differs("a set", len({early, again, late, other}), 3)
     yield from differs("numbers", (early.next_number, late.next_number), (3, 4))
     yield from differs("bytes", bytes(early), early.data)

@@ -75,10 +75,17 @@ def is_asked_again(program, day, scripts):
         yield from differs("last line", lines[-1:], [f"feed: ended at {len(split(day)) + 1}\n"])
 
 
+def are_asked_again(program, day, scripts):
+    """So, by servers side by side with some of the scripts each: a feed that is lost again and again is asked later each time."""
+    with ThreadPoolExecutor(len(scripts)) as servers:
+        for found in servers.map(lambda some: [*is_asked_again(program, day, some)], [scripts[at::8] for at in range(8)]):
+            yield from found
+
+
 def a_feed_is_cut_at_every_byte_of_an_acceptance(program):
     day, _ = day_of(50)
     whole = acceptance(1)
-    yield from is_asked_again(program, day, [sends(whole[:count]) for count in range(len(whole) + 1)])
+    yield from are_asked_again(program, day, [sends(whole[:count]) for count in range(len(whole) + 1)])
 
 
 def a_feed_is_cut_at_every_byte_of_a_packet(program):
@@ -87,7 +94,7 @@ def a_feed_is_cut_at_every_byte_of_a_packet(program):
     blocks = split(day)
     place = next(place for place, block in enumerate(blocks) if block[2:3] == b"A")
     whole = packet(blocks[place])
-    yield from is_asked_again(program, day, [plays(day, until=place, then=whole[:count]) for count in range(len(whole))])
+    yield from are_asked_again(program, day, [plays(day, until=place, then=whole[:count]) for count in range(len(whole))])
 
 
 def captured(pieces):

@@ -1,6 +1,6 @@
 /* For tests, loaded into the program by LD_PRELOAD: one call of one kind fails, as FAIL says: `memory:3` refuses the third
- * allocation, `read:1` fails the first read, `write:2` the second write, `send:1`, `recv:1` and `setsockopt:1` the first such call at
- * a socket. With `write:2+` so does each later write to the same file. Where a call has failed so, the file that FAILED names is made.
+ * allocation, `read:1` fails the first read, `write:2` the second write, `sync:1` the first fsync or fdatasync, `send:1`, `recv:1` and
+ * `setsockopt:1` the first such call at a socket. With `write:2+` so does each later write to the same file. Where a call has failed so, the file that FAILED names is made.
  * Each read and each recv gives at most as many bytes as PIECE says, and each write and each send takes at most as many. */
 #define _GNU_SOURCE
 #include <dlfcn.h>
@@ -65,6 +65,28 @@ void *realloc(void *old, size_t size) {
         return NULL;
     }
     return next(old, size);
+}
+
+int fsync(int file) {
+    static int (*next)(int);
+    if (!next)
+        next = (int (*)(int))real("fsync");
+    if (fails("sync")) {
+        errno = EIO;
+        return -1;
+    }
+    return next(file);
+}
+
+int fdatasync(int file) {
+    static int (*next)(int);
+    if (!next)
+        next = (int (*)(int))real("fdatasync");
+    if (fails("sync")) {
+        errno = EIO;
+        return -1;
+    }
+    return next(file);
 }
 
 ssize_t read(int file, void *buffer, size_t count) {

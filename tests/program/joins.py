@@ -134,14 +134,16 @@ def at_passes_over_lines_that_are_no_checkpoints(program):
 def at_is_refused_as_join_is(program):
     with tempfile.TemporaryDirectory() as folder:
         folder_of_a_day(folder)
-        missing = 3, b"", b"itchsnap: cannot open\n  snapshots: No such file or directory (os error 2)\n"
-        yield from differs("no folder", ended_in(folder, program, "at", "snapshots", "1.itch", "6"), missing)
+        def missing(name):
+            return 3, b"", f"itchsnap: cannot open\n  snapshots/{name}: No such file or directory (os error 2)\n".encode()
+
+        yield from differs("no folder", ended_in(folder, program, "at", "snapshots", "1.itch", "6"), missing("index.jsonl"))
         write_checkpoints(folder, program, [2])
         yield from differs("beyond the end", ended_in(folder, program, "at", "snapshots", "1.itch", "8"), (1, b"", b"itchsnap: only 7 messages\n"))
         for point in ("", "+1", "10:61", "x"):
             yield from differs(point, ended_in(folder, program, "at", "snapshots", "1.itch", point)[:2], (2, b""))
         (Path(folder) / "snapshots/2.snap").unlink()
-        yield from differs("no snapshot", ended_in(folder, program, "at", "snapshots", "1.itch", "6"), missing)
+        yield from differs("no snapshot", ended_in(folder, program, "at", "snapshots", "1.itch", "6"), missing("2.snap"))
 
 
 RUNS = (

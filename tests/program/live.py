@@ -15,8 +15,8 @@ import time
 from pathlib import Path
 
 from common import differs, ended_in, split
-from living import (CLIENT_BEAT, ENDED, LOGIN, PATIENCE, SILENCE, WORDS, Feed, Running, acceptance, answer, block_in, connect, day_of,
-                    feeding, fetch, folder_with, large_server, live, number_of, packet, plays, received, sends, session_in, snapshot_after,
+from living import (BEAT, CLIENT_BEAT, ENDED, LOGIN, PATIENCE, SILENCE, WORDS, Feed, Running, acceptance, answer, block_in, connect, day_of,
+                    feeding, fetch, folder_with, large_server, live, number_of, packet, plays, received, recorded, sends, session_in, snapshot_after,
                     told)
 
 
@@ -38,7 +38,7 @@ def what_is_followed_is_served(program):
 
 
 def a_login_waits_for_a_market(program):
-    """A server that begins with a snapshot answers a client once that is whole, and not before."""
+    """A server that begins with a snapshot accepts a login at once, and answers it once that is whole, and not before: with heartbeats meanwhile."""
     day, wanted = day_of(50)
     begin, end = threading.Event(), threading.Event()
 
@@ -47,12 +47,17 @@ def a_login_waits_for_a_market(program):
         peer.sendall(answer(wanted))
 
     with Feed(late) as glimpse, Feed(plays(day, wait=end)) as feed, \
-            live(program, feed.port, "--glimpse", f"127.0.0.1:{glimpse.port}") as server, connect(server.port) as peer:
+            live(program, feed.port, "--glimpse", f"127.0.0.1:{glimpse.port}", "--session", "ITCHSNAP") as server, connect(server.port) as peer:
         peer.sendall(LOGIN)
-        if select.select([peer], [], [], 1)[0]:
-            yield f"told {peer.recv(100)} before there is a market"
+        begun = time.monotonic()
+        yield from differs("told", received(peer, len(acceptance(1) + BEAT * 2)), acceptance(1) + BEAT * 2)
+        if not 1.9 < time.monotonic() - begun < 5:
+            yield f"two heartbeats after {time.monotonic() - begun:.1f} seconds"
         begin.set()
-        yield from differs("told", received(peer), answer(wanted))
+        whole = received(peer)
+        while whole.startswith(BEAT):
+            whole = whole[len(BEAT):]
+        yield from differs("told", whole, answer(wanted)[len(acceptance(1)):])
         end.set()
 
 
@@ -84,7 +89,7 @@ def a_record_is_gone_on_with(program):
     blocks = split(day)
     for whole, cut in ((0, 0), (0, 1), (20, 0), (20, 1), (20, 5), (len(blocks), 0), (len(blocks) - 1, len(blocks[-1]) - 1)):
         kept = b"".join(blocks[:whole]) + (blocks[whole][:cut] if whole < len(blocks) else b"")
-        with folder_with(record=kept) as folder:
+        with folder_with(**recorded(kept)) as folder:
             with Feed(plays(day, then=ENDED)) as feed, live(program, feed.port, "--record", folder / "record") as server:
                 status, _, lines = server.ended()
                 yield from differs(f"asked after {whole} and {cut}", feed.asked(), [whole + 1])
@@ -117,12 +122,12 @@ def a_record_that_is_no_day_file_is_refused(program):
     """It is left as it is, and nobody is asked for anything."""
     day, _ = day_of(5)
     blocks = split(day)
-    rows = [(b"\0\x05hello", b"itchsnap: message 1: "), (blocks[-1], b"itchsnap: message 1: "), (blocks[0] + b"\0\0" + blocks[1], b"itchsnap: message 2: ")]
-    for kept, line in rows:
-        with folder_with(record=kept) as folder, Feed(plays(day, then=ENDED)) as feed:
+    for kept, number in ((b"\0\x05hello", 1), (blocks[-1], 1), (blocks[0] + b"\0\x05hello", 2)):
+        with folder_with(**recorded(kept)) as folder, Feed(plays(day, then=ENDED)) as feed:
             words = "--feed", f"127.0.0.1:{feed.port}", "--port", "0", *WORDS, "--record", "record"
             status, output, error = ended_in(folder, program, "live", *words)
-            if (status, output) != (1, b"") or not error.startswith(line):
+            lines = error.decode().splitlines()
+            if (status, output, lines[1:]) != (1, b"", ["  record"]) or not lines[0].startswith(f"itchsnap: record: message {number}: "):
                 yield f"{kept!r}: {status}, {output!r}, {error!r}"
             yield from differs("record", (folder / "record").read_bytes(), kept)
             yield from differs("asked", feed.logins, [])
@@ -149,16 +154,21 @@ def a_snapshot_is_where_it_begins(program):
         yield from differs("lines", [it for it in server.lines if not it.startswith("listening")], lines)
 
 
-def a_rejected_login_ends_it(program):
-    """At the first connection, at the server of a snapshot, and where a feed comes back."""
-    day, _ = day_of(10)
-    for scripts, glimpse in (([sends(b"\0\x02JA")], False), ([plays(day, until=5), sends(b"\0\x02JS")], False), ([sends(b"\0\x02JA")], True)):
-        code = "S" if len(scripts) > 1 else "A"
-        with Feed(*scripts) as feed:
+def a_first_login_that_is_not_authorised_ends_it(program):
+    """At a feed, and at the server of a snapshot. Any other rejection is asked again: of a standby that is behind, or where a feed comes back."""
+    day, wanted = day_of(10)
+    for glimpse in (False, True):
+        with Feed(sends(b"\0\x02JA")) as feed:
             words = ["--glimpse", f"127.0.0.1:{feed.port}"] if glimpse else []
             with live(program, feed.port, *words) as server:
                 status, output, lines = server.ended()
-        yield from differs("ended", (status, output, lines[-1:]), (1, b"", [f"itchsnap: rejected {code}\n"]))
+        yield from differs("ended", (status, output, lines), (1, b"", ["itchsnap: rejected A\n"]))
+    for scripts, asked in (([sends(b"\0\x02JS")], [1, 1]), ([plays(day, until=5), sends(b"\0\x02JA"), sends(b"\0\x02JS")], [1, 6, 6, 6])):
+        with Feed(*scripts, plays(day, then=ENDED)) as feed, live(program, feed.port) as server:
+            status, output, lines = server.ended()
+            yield from differs("asked", (status, output, feed.asked()), (0, b"", asked))
+        said = [it for it in lines if it.startswith("feed: rejected")]
+        yield from differs("said", (said[-1:], lines[-1:]), (["feed: rejected S\n"], [f"feed: ended at {len(split(day)) + 1}\n"]))
 
 
 def a_message_that_is_refused_ends_it(program):
@@ -166,7 +176,7 @@ def a_message_that_is_refused_ends_it(program):
     refused = (Path(__file__).resolve().parents[2] / "examples/refused.itch").read_bytes()
     with folder_with() as folder, Feed(plays(refused)) as feed, live(program, feed.port, "--record", folder / "record") as server:
         status, output, lines = server.ended()
-        yield from differs("ended", (status, output, lines), (1, b"", ["feed: accepted from 1\n", "itchsnap: message 2: stock mismatch\n"]))
+        yield from differs("ended", (status, output, lines), (1, b"", ["feed: accepted from 1\n", "itchsnap: message 2: stock mismatch\n", f"  127.0.0.1:{feed.port}, session ITCHSNAP\n"]))
         yield from differs("the record", (folder / "record").read_bytes(), split(refused)[0])
 
 
@@ -360,22 +370,18 @@ def a_server_that_was_stopped_keeps_its_feed(program):
 
 
 def one_place_is_given_to_one_client_at_a_time(program):
-    """With one place the second client waits for the first to leave."""
-    day, wanted = day_of(20)
-    end = threading.Event()
-    with Feed(plays(day, wait=end, held=ENDED)) as feed, live(program, feed.port, "--clients", "1") as server:
-        while number_of(fetch(program, server.port)[1]) < number_of(wanted):
-            time.sleep(0.05)
-        with connect(server.port) as first, connect(server.port) as second:
+    """With one place, one that has not logged in holds none, and the second client that has waits until the first one has all."""
+    with large_server(program, "--clients", "1") as (server, whole, end):
+        with connect(server.port), connect(server.port, 4096) as first, connect(server.port) as second:
+            first.sendall(LOGIN)
+            yield from differs("first, its beginning", received(first, len(acceptance(1))), acceptance(1))
             second.sendall(LOGIN)
             if select.select([second], [], [], 1)[0]:
                 yield "the second is told something"
-            first.sendall(LOGIN)
-            yield from differs("first", received(first), answer(wanted))
-            first.close()
-            yield from differs("second", received(second), answer(wanted))
+            yield from differs("first", acceptance(1) + received(first) == whole, True)
+            yield from differs("second", received(second) == whole, True)
         end.set()
-        yield from differs("status", server.ended()[0], 0)
+        yield from differs("status", server.ended(120)[0], 0)
 
 
 def a_login_of_its_own_goes_to_the_feed(program):
@@ -433,7 +439,7 @@ RUNS = [
     a_killed_server_s_record_is_gone_on_with,
     a_record_that_is_no_day_file_is_refused,
     a_snapshot_is_where_it_begins,
-    a_rejected_login_ends_it,
+    a_first_login_that_is_not_authorised_ends_it,
     a_message_that_is_refused_ends_it,
     a_feed_that_breaks_the_protocol_is_asked_again,
     heartbeats_go_both_ways,

@@ -21,8 +21,11 @@ PATIENCE = 60
 SILENCE = 15
 
 
-def acceptance(first, session=b"  ITCHSNAP"):
-    return b"\0\x1fA" + session + b"%20d" % first
+SESSION = b"  ITCHSNAP"
+
+
+def acceptance(first, session=SESSION):
+    return b"\0\x1fA" + session.rjust(10) + b"%20d" % first
 
 
 def packet(block):
@@ -30,9 +33,9 @@ def packet(block):
     return struct.pack(">H", len(block) - 1) + b"S" + block[2:]
 
 
-def answer(snapshot):
+def answer(snapshot, session=SESSION):
     """What a login for all messages is answered."""
-    return acceptance(1) + b"".join(map(packet, split(snapshot))) + ENDED
+    return acceptance(1, session) + b"".join(map(packet, split(snapshot))) + ENDED
 
 
 def number_in(login):
@@ -79,7 +82,8 @@ class Feed:
     def play(self, peer):
         peer.settimeout(PATIENCE)
         with peer, contextlib.suppress(OSError):
-            login = block_in(peer)
+            if not (login := block_in(peer)):
+                return
             self.logins.append(login)
             self.scripts[min(len(self.logins), len(self.scripts)) - 1](peer, login)
 
@@ -95,13 +99,13 @@ class Feed:
         return [number_in(login) for login in self.logins]
 
 
-def plays(day, until=None, then=b"", held=b"", wait=None):
+def plays(day, until=None, then=b"", held=b"", wait=None, session=SESSION):
     """A script: what is asked of these messages, up to number `until`, then these bytes. After `wait` it sends `held` and closes."""
     blocks = split(day)
 
     def script(peer, login):
         first = number_in(login)
-        peer.sendall(acceptance(first) + b"".join(map(packet, blocks[first - 1:until])) + then)
+        peer.sendall(acceptance(first, session) + b"".join(map(packet, blocks[first - 1:until])) + then)
         if wait:
             while not wait.wait(0.5):
                 peer.sendall(BEAT)
@@ -186,7 +190,8 @@ def follow(program, feed, glimpse, *words):
 
 
 def feeding(program, file, *words):
-    return Running(program, "feed", file, "--port", "0", *WORDS, *words)
+    """A feed in the session that the feeds of this module name too."""
+    return Running(program, "feed", file, "--port", "0", "--session", "ITCHSNAP", *WORDS, *words)
 
 
 def fetch(program, port, *words):
@@ -218,6 +223,11 @@ def day_of(count, symbols=20):
     return large.orders(count, symbols=symbols)
 
 
+def recorded(record, session="ITCHSNAP"):
+    """A record, and the file beside it that names its session, as `folder_with` takes them."""
+    return {"record": record, "record.session": f"{session}\n".encode()}
+
+
 def snapshot_after(program, day, count):
     with tempfile.TemporaryDirectory() as folder:
         Path(folder, "day.itch").write_bytes(day)
@@ -238,11 +248,11 @@ def folder_with(**files):
 
 
 @contextlib.contextmanager
-def large_server(program):
+def large_server(program, *words):
     """A server of a market of 8 MB, more than the system holds for a client, its answer, and an event that ends its feed."""
     day, wanted = large.orders(200_000)
     end = threading.Event()
-    with folder_with() as folder, Feed(plays(day, wait=end, held=ENDED)) as feed, live(program, feed.port, "--record", folder / "record") as server:
+    with folder_with() as folder, Feed(plays(day, wait=end, held=ENDED)) as feed, live(program, feed.port, "--record", folder / "record", *words) as server:
         begun = time.monotonic()
         while time.monotonic() < begun + 2 * PATIENCE and (folder / "record").stat().st_size < len(day):
             time.sleep(0.2)

@@ -3,6 +3,8 @@
 RUNS has a function for each run, named for what it shows; it is given the program, and yields what differs.
 """
 import contextlib
+import hashlib
+import json
 import os
 import tempfile
 from pathlib import Path
@@ -14,12 +16,17 @@ from common import differs, ended, ended_in, file, first_unmet, split
 DAY = file("START_STAMPED AAPL_STAMPED BUY_1_STAMPED")
 # After each number of its messages: the snapshot, and the line of the index.
 SNAPSHOTS = ["END_1", "START END_2", "START AAPL END_3", "START AAPL BUY_1 END_4"]
-LINES = [
-    '{"messages":0,"offset":0,"timestamp":null,"file":"0.snap"}',
-    '{"messages":1,"offset":14,"timestamp":1,"file":"1.snap"}',
-    '{"messages":2,"offset":55,"timestamp":2,"file":"2.snap"}',
-    '{"messages":3,"offset":93,"timestamp":3,"file":"3.snap"}',
-]
+
+
+def line_of(blocks, count, timestamp, **members):
+    """The line of the index for the first messages of a day."""
+    before = b"".join(blocks[:count])
+    first, last = (hashlib.sha256(it).hexdigest()[:16] for it in (before[:65_536], before[-256:]))
+    line = {"messages": count, "offset": len(before), "timestamp": timestamp, "file": f"{count}.snap", "first": first, "last": last, **members}
+    return json.dumps(line, separators=(",", ":"))
+
+
+LINES = [line_of(split(DAY), count, timestamp) for count, timestamp in enumerate((None, 1, 2, 3))]
 # The words of the points, and after how many messages they are.
 POINTS = {
     "": [3],
@@ -100,7 +107,7 @@ def each_snapshot_is_what_a_run_of_its_own_writes(program):
             yield from differs(words, got, (0, b"", b""))
             found = written(folder)
             counts = [700, 1400, 2100, 2800, len(blocks)]
-            index = [f'{{"messages":{count},"offset":{sum(map(len, blocks[:count]))},"timestamp":0,"file":"{count}.snap"}}' for count in counts]
+            index = [line_of(blocks, count, 0, **({"only": "3-17,40"} if words else {})) for count in counts]
             yield from differs(words, found.pop("index.jsonl"), index_of(index))
             alone = {f"{count}.snap": ended_in(folder, program, "snap", "day.itch", "--after", str(count), *words)[1] for count in counts}
             yield from differs(words, found, alone)
@@ -108,10 +115,11 @@ def each_snapshot_is_what_a_run_of_its_own_writes(program):
 
 def a_message_at_a_time_is_in_the_next_snapshot(program):
     # The second message is late for the first time, and the third has an earlier timestamp again.
-    with folder_of(file("START_STAMPED AAPL_LATE BUY_1_STAMPED")) as folder:
+    day = file("START_STAMPED AAPL_LATE BUY_1_STAMPED")
+    with folder_of(day) as folder:
         yield from differs("status", snap(folder, program, "--until 5,8,20"), (0, b"", b""))
         wanted = {
-            "index.jsonl": index_of([LINES[1], '{"messages":3,"offset":93,"timestamp":9,"file":"3.snap"}']),
+            "index.jsonl": index_of([LINES[1], line_of(split(day), 3, 9)]),
             "1.snap": file(SNAPSHOTS[1]),
             "3.snap": file(SNAPSHOTS[3]),
         }
@@ -167,6 +175,29 @@ def a_folder_that_is_none_is_named(program):
         yield from differs("no day file", written(folder), {})
 
 
+def a_file_of_the_folder_that_cannot_be_opened_is_named(program):
+    with folder_of(DAY) as folder:
+        (folder / "out/2.snap").mkdir()
+        wanted = 3, b"", b"itchsnap: cannot open\n  out/2.snap: Is a directory (os error 21)\n"
+        yield from differs("a folder", snap(folder, program, "--after 1,2"), wanted)
+        (folder / "out/1.snap.part").mkdir()
+        wanted = 3, b"", b"itchsnap: cannot open\n  out/1.snap.part: Is a directory (os error 21)\n"
+        yield from differs("a folder in place of its part", snap(folder, program, "--after 1,2"), wanted)
+
+
+def the_list_of_an_index_has_a_range_for_each_run(program):
+    rows = {"2": "2", "7,1,2": "1-2,7", "0-65535": "0-65535", "65535,3,65534,1,2,5": "1-3,5,65534-65535", "4-6,1-5,9": "1-6,9"}
+    for words, only in rows.items():
+        with folder_of(DAY) as folder:
+            yield from differs(words, snap(folder, program, f"--after 2 --only {words}"), (0, b"", b""))
+            yield from differs(words, written(folder)["index.jsonl"], index_of([line_of(split(DAY), 2, 2, only=only)]))
+    with folder_of(DAY) as folder:
+        every_third = ",".join(f"{first}-{first + 1}" for first in range(0, 65535, 3))
+        (folder / "list").write_text(every_third)
+        yield from differs("long", snap(folder, program, "--after 2 --only @list"), (0, b"", b""))
+        yield from differs("long", written(folder)["index.jsonl"], index_of([line_of(split(DAY), 2, 2, only=every_third)]))
+
+
 def other_points_are_a_usage_fault(program):
     for words in USAGE_FAULTS:
         status, output, error = ended(program, "snap", *words.split(), day=DAY)
@@ -206,6 +237,8 @@ RUNS = [
     snapshots_before_a_fault_stay,
     another_run_writes_a_new_index,
     a_folder_that_is_none_is_named,
+    a_file_of_the_folder_that_cannot_be_opened_is_named,
+    the_list_of_an_index_has_a_range_for_each_run,
     other_points_are_a_usage_fault,
     each_allocation_and_write_fails_in_turn,
 ]

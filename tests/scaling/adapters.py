@@ -214,9 +214,32 @@ def adapters_say_what_is_not_installed(folder):
         (folder / name).symlink_to(sys.executable if name == "python3" else shutil.which(name))
     for adapter, engine in ("on-parallel", "GNU parallel"), ("on-dask", "Dask"):
         isolated = [folder / "python3", "-S", TOP / "scale" / adapter] if adapter == "on-dask" else [TOP / "scale" / adapter]
-        done = subprocess.run([*isolated, "--out", folder], env={"PATH": str(folder)}, capture_output=True, text=True)
+        day = kit.write_day(folder / "day.itch", b"")
+        done = subprocess.run([*isolated, "--out", folder, day], env={"PATH": str(folder)}, capture_output=True, text=True)
         if (done.returncode, done.stdout) != (USAGE, "") or f"{engine} is not installed" not in done.stderr:
             yield f"{adapter}: {done}"
+
+
+def each_script_prints_its_usage(folder):
+    """With an engine, which would do what it is given, and without one: nothing is run."""
+    out, day, parallel = folder / "out", kit.write_day(folder / "day.itch", b""), next(engines())
+    scripts = [path for path in (TOP / "scale").iterdir() if path.is_file() and os.access(path, os.X_OK)]
+    yield from differs("scripts", sorted(path.name for path in scripts), ["job", "on-dask", "on-parallel"])
+    calls = [[path, option] for path in scripts for option in ("--help", "-h")]
+    calls += [[TOP / "scale/job", kind, "--help"] for kind in ("plan", "report", "snapshots", "check", "merge", "tables")]
+    calls += [[TOP / "scale" / name, *before, "--out", out, *after] for name in ("on-parallel", "on-dask")
+              for before, after in (((), (day, "--help")), ((), ("-h", day)))]
+    calls.append([TOP / "scale/on-parallel", "--jobs", "2", "-hh", "--out", out, day])
+    for words in calls:
+        for environment in os.environ, parallel.environment:
+            done = subprocess.run(words, env=environment, capture_output=True, text=True, timeout=PATIENCE)
+            if (done.returncode, done.stdout[:7], done.stderr) != (0, "usage: ", "") or "made" in done.stdout:
+                yield f"{words}: {done}"
+    # What is not understood is no line of a plan, and an engine is given none.
+    for words in [TOP / "scale/job", "plan"], [TOP / "scale/on-parallel"], [TOP / "scale/on-dask"]:
+        done = subprocess.run([*words, "--he", "--out", out, day], env=parallel.environment, capture_output=True, text=True)
+        yield from differs(f"{words} --he", (done.returncode, done.stdout), (USAGE, ""))
+    yield from differs("results", out.exists(), False)
 
 
 def run_of(engine, run):
@@ -236,4 +259,4 @@ EACH = [
     says_what_is_refused_and_what_is_missing,
     refuses_words,
 ]
-RUNS = [adapters_say_what_is_not_installed, *(run_of(engine, run) for engine in engines() for run in EACH)]
+RUNS = [adapters_say_what_is_not_installed, each_script_prints_its_usage, *(run_of(engine, run) for engine in engines() for run in EACH)]

@@ -170,6 +170,26 @@ def a_point_beyond_the_end_is_refused_alone(folder):
     yield from differs("lines", got, Ended(0, "refused day/after-11.snap: only 10 messages\nmade day/after-10.snap\n", ""))
 
 
+def a_day_without_messages_is_refused(folder):
+    day, end = large.orders(5, symbols=5)[0], b"\0\0"
+    for name, data in ("day.itch", b""), ("day.itch.gz", b""), ("day.itch.zst", b""), ("day.itch", end), ("day.itch.gz", end + day):
+        out = folder / "out"
+        path = write_day(folder / name, data)
+        for words, results in ((("snapshots", "--points", "0,end,10:30"), ("after-0.snap", "end.snap", "until-10-30.snap")),
+                               (("snapshots", "--part", "0-9"), ("end.0-9.snap",)), (("check",), ("check.txt",)),
+                               (("check", "--ended"), ("check-ended.txt",)), (("tables",), ("end.csv",))):
+            got = job(*words, "--out", out, path)
+            lines = "".join(f"refused day/{result}: no messages\n" for result in results)
+            yield from differs(f"lines of {name}, {len(data)} bytes, {words}", got, Ended(0, lines, ""))
+        yield from differs(f"files of {name}, {len(data)} bytes", [*(out / "day").glob("*.snap"), *attempts(out)], [])
+        got = job("report", "--out", out, "--ended", path)
+        lines = "refused day/end.snap: no messages\nrefused day/check-ended.txt: no messages\n2 results, 2 refused, 0 missing\n"
+        yield from differs(f"the report of {name}, {len(data)} bytes", got, Ended(1, lines, ""))
+        write_day(path, day)
+        yield from differs(f"lines of {name} with messages", snapshots(out, path), Ended(0, "made day/end.snap\n", ""))
+        shutil.rmtree(out)
+
+
 def cut_between_messages(data, messages):
     """A .gz that is cut where what comes out of it is whole messages."""
     packer = zlib.compressobj(wbits=31)
@@ -318,6 +338,7 @@ RUNS = [
     another_day_or_program_makes_it_again,
     a_refused_day_is_an_answer,
     a_point_beyond_the_end_is_refused_alone,
+    a_day_without_messages_is_refused,
     a_cut_day_is_a_failure_until_it_is_whole,
     failures_leave_nothing,
     points_of_one_kind_are_one_pass,

@@ -15,17 +15,25 @@ fn words_of_a_live_server_are_read(rt: HostRuntime) -> Result<(), Fail> {
         (
             "",
             "glimpse: None, address: 127.0.0.1:0",
-            "clients: 64, record: None, snapshots: None, stay: false",
+            "session: None, glimpse_session: None, clients: 64, clients_per_address: None, record: None, snapshots: None, stay: false",
         ),
         (
-            "--record day.itch --stay --clients 007",
+            "--record day.itch --stay --clients 007 --clients-per-address 2",
             "glimpse: None, address: 127.0.0.1:0",
-            "clients: 7, record: Some(\"day.itch\"), snapshots: None, stay: true",
+            "session: None, glimpse_session: None, clients: 7, clients_per_address: Some(2), \
+             record: Some(RecordWords { path: \"day.itch\", sync: EverySecond, is_optional: false }), snapshots: None, stay: true",
+        ),
+        (
+            "--record r --sync message --record-optional",
+            "glimpse: None, address: 127.0.0.1:0",
+            "session: None, glimpse_session: None, clients: 64, clients_per_address: None, \
+             record: Some(RecordWords { path: \"r\", sync: EveryMessage, is_optional: true }), snapshots: None, stay: false",
         ),
         (
             "--bind ::1 --glimpse [::1]:65535 --snapshots s --every 1000",
             "glimpse: Some(Place { words: \"[::1]:65535\", host: \"::1\", port: 65535 }), address: [::1]:0",
-            "clients: 64, record: None, snapshots: Some(SnapshotWords { folder: \"s\", every: 1000 }), stay: false",
+            "session: None, glimpse_session: None, clients: 64, clients_per_address: None, record: None, \
+             snapshots: Some(SnapshotWords { folder: \"s\", every: 1000 }), stay: false",
         ),
     ];
     for (line, place, kept) in cases {
@@ -50,7 +58,7 @@ fn words_of_a_follower_are_read(rt: HostRuntime) -> Result<(), Fail> {
         )?;
         let wanted = format!(in rt.alloc();
             "Follow(FollowWords {{ {FEED}, glimpse: Place {{ words: \"g.example:2\", host: \"g.example\", port: 2 }}, \
-             login: {LOGIN}, form: {form} }})"
+             login: {LOGIN}, session: None, glimpse_session: None, form: {form} }})"
         )?;
         let words = words(rt.alloc(), line.as_str())?;
         let found = asked(rt.alloc(), words.as_slice())?;
@@ -77,7 +85,7 @@ fn words_of_a_played_feed_are_read(rt: HostRuntime) -> Result<(), Fail> {
             "feed day.itch --port 5 --user user --pass secret {line}"
         )?;
         let wanted = format!(in rt.alloc();
-            "Feed(FeedWords {{ file: \"day.itch\", address: 127.0.0.1:5, login: {LOGIN}, {rest} }})"
+            "Feed(FeedWords {{ file: \"day.itch\", address: 127.0.0.1:5, login: {LOGIN}, session: None, {rest} }})"
         )?;
         let words = words(rt.alloc(), line.as_str())?;
         let found = asked(rt.alloc(), words.as_slice())?;
@@ -97,5 +105,19 @@ fn a_live_server_may_have_a_login_of_its_own(rt: HostRuntime) -> Result<(), Fail
     };
     same_in(&rt, line, own.user, "other");
     holds_in(&rt, line, own.password == Password::File("p"));
+    Ok(())
+}
+
+#[test]
+fn sessions_are_named_by_words(rt: HostRuntime) -> Result<(), Fail> {
+    let line =
+        "live --feed h:1 --glimpse h:2 --port 0 --user user --pass secret --session DAY1 --glimpse-session OTHER";
+    let words = words(rt.alloc(), line)?;
+    let (feed, glimpse) = match read_job(rt.alloc(), words.as_slice(), false, None) {
+        Ok(Job::Live(live)) => (live.session, live.glimpse_session),
+        _ => return Err(Fail::from("no live server")),
+    };
+    holds_in(&rt, line, feed.is_some_and(|it| it.text() == "DAY1"));
+    holds_in(&rt, line, glimpse.is_some_and(|it| it.text() == "OTHER"));
     Ok(())
 }

@@ -2,7 +2,7 @@
 
 use crate::equal::{same, same_in};
 use itch_codec::CodecFault;
-use itch_commands::snap::Mark;
+use itch_commands::snap::{Latest, Mark};
 use itch_commands::{
     Expected, FeedPart, Limit, Misfit, Source, ToolFault, Unmet, status, system_fault,
 };
@@ -255,16 +255,21 @@ fn the_nearest_checkpoint_is_not_beyond(rt: HostRuntime) {
         until: Some(time),
     };
     let cases = [
-        (at(2, Some(5)), after(3), at(2, Some(5))),
-        (at(3, Some(5)), after(3), at(3, Some(5))),
-        (at(4, Some(5)), after(3), at(1, None)),
-        (at(1, Some(5)), after(3), at(1, None)),
-        (at(2, Some(5)), before(6), at(2, Some(5))),
-        (at(2, Some(6)), before(6), at(1, None)),
-        (at(2, None), before(0), at(2, None)),
+        (at(2, Some(5)), after(3), true),
+        (at(3, Some(5)), after(3), true),
+        (at(4, Some(5)), after(3), false),
+        (at(1, Some(5)), after(3), false),
+        (at(2, Some(5)), before(6), true),
+        (at(2, Some(6)), before(6), false),
+        (at(2, None), before(0), true),
     ];
-    for (other, limit, wanted) in cases {
-        same_in(&rt, other, at(1, None).nearer(other, limit), wanted);
+    for (mark, limit, wanted) in cases {
+        same_in(&rt, mark, mark.is_nearer(&at(1, None), limit), wanted);
     }
+    let read = |latest, limit| Mark::read(2, 200, latest, limit);
+    same(&rt, read(Latest::Known(Some(5)), before(6)), Some(at(2, Some(5))));
+    same(&rt, read(Latest::Known(None), before(6)), Some(at(2, None)));
+    same(&rt, read(Latest::Unknown, before(6)), None);
+    same(&rt, read(Latest::Unknown, after(3)), Some(at(2, None)));
     same(&rt, Mark::new().count, 0);
 }

@@ -43,7 +43,7 @@ fn words_of_a_server_are_read(rt: HostRuntime) -> Result<(), Fail> {
         let words = words(rt.alloc(), line.as_str())?;
         let wanted = format!(in rt.alloc();
             "Serve {{ file: {file}, kind: {kind}, address: {address}, login: LoginWords {{ user: \"user\", .. }}, \
-             count: 1000000, progress: {progress} }}"
+             session: None, count: 1000000, progress: {progress} }}"
         )?;
         let found = asked(rt.alloc(), words.as_slice())?;
         same_in(&rt, address, found.as_str(), wanted.as_str());

@@ -36,3 +36,5 @@ pub mod UnfilteredLines
 pub mod Marks
 pub mod Points
 pub mod PointReadings
+pub mod PassedBytes
+pub mod WrittenLocates

@@ -78,6 +78,14 @@ ReadsChange limit full m old new (Ok (Some change)) n = AppliesNext limit full m
 ReadsChange limit full m old new (Ok None) n = TakesNext limit full m old new (Ok false) n
 ReadsChange limit full m old new (Err stop) n = TakesNext limit full m old new (Err stop) n
 
+-- what a step returns where a file stops after this many messages: none, unless more are wanted
+abbrev pub no_change : Stop → Limit → Source → ℕ → Result (Option Message) ToolFault
+no_change stop limit file count = none_of (stopped stop limit.after file count)
+  where
+    none_of : Result ℕ ToolFault → Result (Option Message) ToolFault
+    none_of (Ok count) = Ok None
+    none_of (Err fault) = Err fault
+
 -- where the reader of blocks is left: after the message, whether it is applied or late, or where the reading stopped
 abbrev pub LeavesChange : {R : Type 0} → Result (Option Message) Stop → Reading R → Reading R → Type 0
 LeavesChange (Ok change) old new = LeavesReaderFirst old 1 None new

@@ -3,6 +3,7 @@ pub mod Limits
 pub mod Readings
 pub mod Points
 pub mod PointFiles
+pub mod Fingerprints
 pub mod Files
 pub mod Outputs
 pub mod Canons
@@ -21,6 +22,7 @@ pub mod Joining
 pub mod Joiners
 pub mod Commands
 pub mod Locates
+pub mod Runs
 pub mod Stocks
 pub mod Requests
 pub mod Expectations

@@ -1,5 +1,5 @@
 -- Lists of locates and of ranges of them, as text.
-use Rattle.std.specs.Prelude.{◌≡◌, ℕ, ◌<◌, ◌≤◌, ◌⊎◌, ◌==◌, Bool, nat_lt, not, ◌&&◌, cond, List, [], ◌∷◌, ◌++◌, ⊤, Option, Some, None, Result, Ok, Err}
+use Rattle.std.specs.Prelude.{◌≡◌, ℕ, ◌<◌, ◌≤◌, ◌+◌, decimal, if◌then◌else◌, ◌⊎◌, ◌==◌, Bool, nat_lt, not, ◌&&◌, cond, List, [], ◌∷◌, ◌++◌, ⊤, Option, Some, None, Result, Ok, Err}
 use Rattle.std.specs.List.{list_any}
 use Rattle.std.specs.Str.Parse.{IsNumeral, digits_value}
 use Rattle.itch_market.specs.Wanted.{Wanted, has}
@@ -25,6 +25,27 @@ list_file (first ∷ path) = cond (first == 64) (Some path) None
 -- the locate is in the range
 abbrev pub is_in : ℕ → ℕ × ℕ → Bool
 is_in locate range = not (nat_lt locate range.0) && not (nat_lt range.1 locate)
+
+-- a range as a list has it: its locate, or the first and the last with a hyphen between them
+abbrev pub range_text : ℕ × ℕ → List ℕ
+range_text range = if nat_lt range.0 range.1 then decimal range.0 ++ (45 ∷ decimal range.1) else decimal range.0
+
+-- the list of these ranges
+abbrev pub list_text : List (ℕ × ℕ) → List ℕ
+list_text [] = []
+list_text (r ∷ []) = range_text r
+list_text (r ∷ (q ∷ qs)) = range_text r ++ (44 ∷ list_text (q ∷ qs))
+
+-- no range falls, and between two of them there is a locate that is in neither
+abbrev pub AreApart : List (ℕ × ℕ) → Type 0
+AreApart [] = ⊤
+AreApart (r ∷ []) = r.0 ≤ r.1
+AreApart (r ∷ (q ∷ qs)) = (r.0 ≤ r.1) × (r.1 + 1 < q.0) × AreApart (q ∷ qs)
+
+-- the text is the list of a set's locates, with one range for each run of them, in rising order
+abbrev pub IsListText : Wanted → List ℕ → Type 0
+IsListText set text =
+    (ranges : List (ℕ × ℕ)) × (text ≡ list_text ranges) × AreApart ranges × ((locate : ℕ) → locate < 65536 → has set locate ≡ list_any (is_in locate) ranges)
 
 -- the text is these ranges, at least one, separated by commas
 abbrev pub IsListOf : List (ℕ × ℕ) → List ℕ → Type 0

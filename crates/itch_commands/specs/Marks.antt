@@ -1,10 +1,12 @@
 -- How far a day file was read, and which of two such places is nearer to a point of the day.
-use Rattle.std.specs.Prelude.{◌≡◌, ℕ, ◌+◌, ◌-◌, ◌^◌, min, max, nat_le, nat_lt, ◌&&◌, Bool, true, if◌then◌else◌, List, [], ◌∷◌, map, length, Option, None, Some}
+use Rattle.std.specs.Prelude.{◌≡◌, ℕ, ◌+◌, ◌-◌, ◌^◌, min, max, nat_le, nat_lt, ◌&&◌, Bool, true, if◌then◌else◌, List, [], ◌∷◌, map, length, Option, None, Some, is_some}
 use Rattle.itch_codec.specs.Headers.{time_of}
 use Rattle.itch_codec.specs.Messages.{message_of}
 use Rattle.itch_codec.specs.declared.message.Message.{Message}
 use Rattle.itch_frame.specs.Blocks.{blocks}
 use Rattle.itch_commands.specs.declared.limit.Limit.{Limit}
+use Rattle.itch_commands.specs.declared.snap.checkpoint.Latest.{Latest}
+use Rattle.itch_commands.specs.declared.snap.checkpoint.Latest.TheVariants.{Known, Unknown}
 use Rattle.itch_commands.specs.declared.snap.mark.Mark.{Mark}
 
 -- the later one of two times, of which there may be none
@@ -44,6 +46,12 @@ is_before (Some until) (Some time) = nat_lt time until
 abbrev pub is_in : Limit → Mark → Bool
 is_in limit mark = is_within limit.after mark.count && is_before limit.until mark.latest
 
--- the second one, if it is in the part and has more messages than the first
-abbrev pub nearer : Limit → Mark → Mark → Mark
-nearer limit one other = if is_in limit other && nat_lt one.count other.count then other else one
+-- the mark is in the part, and has more messages than the other one
+abbrev pub is_nearer : Limit → Mark → Mark → Bool
+is_nearer limit mark other = is_in limit mark && nat_lt other.count mark.count
+
+-- The mark that a line of an index says, for a point of the day. If nothing is known of the timestamps of its messages, they may be at
+-- any time: then there is none for a time.
+abbrev pub mark_for : Limit → ℕ → ℕ → Latest → Option Mark
+mark_for point count offset (Known latest) = Some (record { count = count; offset = offset; latest = latest })
+mark_for point count offset Unknown = if is_some point.until then None else Some (record { count = count; offset = offset; latest = None })

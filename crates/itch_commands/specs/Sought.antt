@@ -7,6 +7,16 @@ use Rattle.itch_codec.specs.declared.header.Header.{Header}
 use Rattle.itch_codec.specs.declared.message.Message.{Message}
 use Rattle.itch_codec.specs.declared.message.Message.TheVariants as is
 
+-- names of stocks, and those of them that have not come yet
+pub record Names : Type 0 where
+  pub names : List (List ℕ)
+  pub missing : List (List ℕ)
+
+-- a name has come, by what is marked at it
+abbrev pub has_come : Option Bool → Bool
+has_come None = false
+has_come (Some come) = come
+
 -- The names, those of them that no Stock Directory message had so far, and for each locate whether its last Stock Directory message
 -- has one of the names.
 pub record Sought : Type 0 where

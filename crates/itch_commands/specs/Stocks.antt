@@ -1,11 +1,12 @@
 -- Stocks by their names, and the locates of the directory that have them.
-use Rattle.std.specs.Prelude.{◌≡◌, ℕ, ◌==◌, ◌⊎◌, ◌||◌, Bool, true, false, if◌then◌else◌, List, [], ◌∷◌, bytes_eq, Option, None, Some, Result, Ok, Err}
-use Rattle.std.specs.List.{list_all, list_any}
+use Rattle.std.specs.Prelude.{◌≡◌, ℕ, ◌==◌, ◌⊎◌, ◌||◌, Bool, true, false, if◌then◌else◌, List, [], ◌∷◌, bytes_eq, not, Option, None, Some, Result, Ok, Err}
+use Rattle.std.specs.List.{filter, list_all, list_any}
 use Rattle.std.specs.FinMap as finite
 use Rattle.itch_codec.specs.Text.{before_spaces}
 use Rattle.itch_market.specs.Content.{Content, Listing, Securities}
 use Rattle.itch_market.specs.Partial.{only}
 use Rattle.itch_market.specs.Wanted.{Wanted, has}
+use Rattle.itch_commands.specs.Sought.{Names}
 use Rattle.itch_commands.specs.declared.fault.ToolFault.{ToolFault}
 use Rattle.itch_commands.specs.declared.fault.ToolFault.TheVariants as tool
 
@@ -53,11 +54,9 @@ abbrev pub FindsStocks : Securities → List (List ℕ) → Result Wanted ToolFa
 FindsStocks listings names (Ok set) = (are_known listings names ≡ true) × ((locate : ℕ) → has set locate ≡ has_one_of listings names locate)
 FindsStocks listings names (Err fault) = IsStockFault listings names fault
 
--- what looking up a further name does to a set
-abbrev pub AddsStock : Securities → List ℕ → Wanted → Result (Unit {0}) ToolFault → Wanted → Type 0
-AddsStock listings name old (Ok done) new =
-    (is_known listings name ≡ true) × ((locate : ℕ) → has new locate ≡ (has_stock listings name locate || has old locate))
-AddsStock listings name old (Err fault) new = IsStockFault listings (name ∷ []) fault
+-- names of stocks once the stock of a locate has come, if it has one
+abbrev pub passed_at : Securities → ℕ → Names → Names
+passed_at listings locate n = record { names = n.names; missing = filter (λ name. not (has_stock listings name locate)) n.missing }
 
 -- something is read, and the directory that it leaves knows each of these names; or the reading is refused, or they are not found
 abbrev pub ReadsStocks : {X : Type 0} → (X → Securities) → List (List ℕ) → (Result X ToolFault → Type 0) → Result X ToolFault → Type 0

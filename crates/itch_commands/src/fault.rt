@@ -124,7 +124,8 @@ pub fn system_fault(error: io::Error, otherwise: ToolFault) -> ToolFault
     }
 }
 
-fn stop_status(stop: &Stop) -> u8
+/// The status of a replay that stopped: 1 refused, 3 read or write, 4 memory.
+pub fn stop_status(stop: &Stop) -> u8
     ensures { result ≡ stop_status stop.now }
 {
     match stop {

@@ -19,10 +19,10 @@ pub fn read_locates<A: Allocator + Copy>(alloc: A, text: &str) -> Result<LocateS
     let mut set = LocateSet::new(alloc);
     let mut rest = text;
     while let Some((first, more)) = rest.split_once(',') {
-        insert(&mut set, first)?;
+        insert_locates(&mut set, first)?;
         rest = more;
     }
-    insert(&mut set, rest)?;
+    insert_locates(&mut set, rest)?;
     Ok(set)
 }
 
@@ -34,8 +34,15 @@ pub fn list_file(words: &str) -> Option<&str>
     if before.is_empty() { Some(path) } else { None }
 }
 
-// Reads a locate or a range, and inserts what it is.
-fn insert<A: Allocator + Copy>(set: &mut LocateSet<A>, text: &str) -> Result<(), ToolFault>
+/// Reads a locate or a range, and inserts what it is.
+///
+/// # Faults
+///
+/// As those of `read_locates`.
+pub fn insert_locates<A: Allocator + Copy>(
+    set: &mut LocateSet<A>,
+    text: &str,
+) -> Result<(), ToolFault>
     ensures inserted { IfOk result (λ _. (range : ℕ × ℕ) × IsRange text.now range
         × ((locate : ℕ) → has set.new locate ≡ (is_in locate range || has set.old locate))) }
     ensures refused { IfErr result (λ fault. (fault ≡ ToolFault.OutOfMemory)

@@ -5,9 +5,12 @@ ghost use Rattle.itch_commands.specs.Limits.{counted};
 ghost use Rattle.itch_commands.specs.Readings.{FromBlocks, FromReader};
 
 mod ahead;
+mod checkpoint;
+mod fingerprint;
 mod index;
 mod mark;
 mod pass;
+mod passed;
 mod points;
 mod stocks;
 
@@ -16,6 +19,8 @@ use crate::limit::Limit;
 use crate::order_book::Book;
 use crate::reading::read_settled;
 use crate::writing::write_closed_of;
+pub use checkpoint::{Latest, has_each};
+pub use fingerprint::{Fingerprint, MOST_FIRST, MOST_LAST, Unfit, why_unfit};
 pub use index::write_index;
 use itch_book::OrderBook;
 use itch_codec::Seq;
@@ -23,6 +28,7 @@ use itch_frame::{BlockReader, CountedRead, CountedWrite};
 use itch_market::{LocateSet, Market};
 pub use mark::Mark;
 pub use pass::Pass;
+pub use passed::Passed;
 use std::alloc::Allocator;
 pub use stocks::snap_stocks;
 

@@ -1,10 +1,9 @@
 //! Stocks that are looked for by their names while the messages of a file pass.
-ghost use Rattle.std.specs.Prelude.{◌≡◌, ◌==◌, IfOk, map, length, replicate, bytes_eq, false};
-ghost use Rattle.std.specs.List.{list_any};
-ghost use Rattle.itch_commands.specs.Sought.{sought, sought_after, others, is_about_one};
+ghost use Rattle.std.specs.Prelude.{◌≡◌, ◌==◌, IfOk, length, replicate, false};
+ghost use Rattle.itch_commands.specs.Sought.{sought, sought_after, is_about_one};
 ghost use Rattle.itch_commands.specs.Stocks.{names_of};
 
-use crate::fault::ToolFault;
+use crate::stock_names::StockNames;
 use itch_codec::Message;
 use std::alloc::{AllocError, Allocator};
 use std::marker::Model;
@@ -12,20 +11,18 @@ use std::marker::Model;
 /// Names of stocks, and the locates that have one of them by the Stock Directory messages so far.
 #[derive(Drop)]
 pub struct SoughtStocks<'a, A: Allocator> {
-    names: Vec<&'a str, A>,
-    // The names that no Stock Directory message had so far.
-    missing: Vec<&'a str, A>,
+    stocks: StockNames<'a, A>,
     // For each locate whether its last Stock Directory message has one of the names.
     found: Vec<bool, A>,
 }
 
 impl<'a, A: Allocator> Model for SoughtStocks<'a, A> {
-    ghost use Rattle.std.specs.Prelude.{◌≡◌, map, length};
+    ghost use Rattle.std.specs.Prelude.{◌≡◌, length};
     ghost use Rattle.itch_commands.specs.Sought.{Sought};
 
     ghost Value = { Sought };
 
-    ghost view = { λ s. record { names = map (λ n. n.now) s.names.items; missing = map (λ n. n.now) s.missing.items; found = s.found.items } };
+    ghost view = { λ s. record { names = s.stocks.names; missing = s.stocks.missing; found = s.found.items } };
 
     ghost invariant = { λ s. length s.found.items ≡ 65536 };
 }
@@ -37,8 +34,7 @@ impl<'a, A: Allocator + Copy> SoughtStocks<'a, A> {
         ensures { IfOk result (λ s. s ≡ sought (names_of names.now)) }
     {
         Ok(SoughtStocks {
-            names: names_in(alloc, names)?,
-            missing: names_in(alloc, names)?,
+            stocks: StockNames::new(alloc, names)?,
             found: none_found(alloc)?,
         })
     }
@@ -52,7 +48,7 @@ impl<A: Allocator> SoughtStocks<'_, A> {
         match message {
             Message::StockDirectory(directory) => {
                 let stock = directory.entry.stock;
-                is_one_of(&self.names, stock.text())
+                self.stocks.have(stock.text())
             }
             _ => match message.header() {
                 Some(header) => self.found[usize::from(header.locate)],
@@ -67,8 +63,7 @@ impl<A: Allocator> SoughtStocks<'_, A> {
     {
         if let Message::StockDirectory(directory) = message {
             let stock = directory.entry.stock;
-            remove(&mut self.missing, stock.text());
-            self.found[usize::from(directory.header.locate)] = is_one_of(&self.names, stock.text());
+            self.found[usize::from(directory.header.locate)] = self.stocks.pass(stock.text());
         }
     }
 
@@ -76,22 +71,8 @@ impl<A: Allocator> SoughtStocks<'_, A> {
     pub fn are_found(&self) -> bool
         ensures { result ≡ (length self.now.missing == 0) }
     {
-        self.missing.is_empty()
+        self.stocks.have_all_come()
     }
-}
-
-// The names of a list.
-fn names_in<'a, A: Allocator>(alloc: A, text: &'a str) -> Result<Vec<&'a str, A>, AllocError>
-    ensures { IfOk result (λ names. map (λ n. n.now) names.items ≡ names_of text.now) }
-{
-    let mut names = Vec::new(alloc);
-    let mut rest = text;
-    while let Some((name, more)) = rest.split_once(',') {
-        names.push(name)?;
-        rest = more;
-    }
-    names.push(rest)?;
-    Ok(names)
 }
 
 // No locate has any stock yet.
@@ -100,18 +81,4 @@ fn none_found<A: Allocator>(alloc: A) -> Result<Vec<bool, A>, AllocError>
 {
     let found = vec![in alloc; false; 65536]?;
     Ok(found)
-}
-
-// Whether a stock is that of one of these names.
-fn is_one_of(names: &[&str], stock: &str) -> bool
-    ensures { result ≡ list_any (λ name. bytes_eq name.now stock.now) names.now }
-{
-    names.iter().any(|name| *name == stock)
-}
-
-// Removes the name of a stock.
-fn remove<A: Allocator>(names: &mut Vec<&str, A>, stock: &str)
-    ensures { map (λ n. n.now) names.new.items ≡ others (map (λ n. n.now) names.old.items) stock.now }
-{
-    names.retain(|name| *name != stock);
 }

@@ -1,13 +1,16 @@
 //! Stocks by their names, looked up in the directory of a market.
 ghost use Rattle.std.specs.Prelude.{◌≡◌};
-ghost use Rattle.itch_commands.specs.Stocks.{AddsStock, FindsStocks, has_stock, names_of};
+ghost use Rattle.itch_commands.specs.Stocks.{FindsStocks, has_one_of, names_of, passed_at};
 
 use crate::fault::ToolFault;
+use crate::stock_names::StockNames;
 use itch_book::OrderBook;
 use itch_market::{LocateSet, Market};
 
 /// The locates whose entry in the directory has one of these stocks. The names are separated by commas, and are the stocks' bytes
 /// without the spaces that pad them. Several locates may have one stock.
+///
+/// The directory is gone through once, however many names there are.
 ///
 /// # Faults
 ///
@@ -19,45 +22,33 @@ pub fn stock_locates<B: OrderBook>(
 ) -> Result<LocateSet<B::Alloc>, ToolFault>
     ensures { FindsStocks market.now.securities (names_of names.now) result }
 {
+    let mut stocks = StockNames::new(alloc, names)?;
     let mut set = LocateSet::new(alloc);
-    let mut rest = names;
-    while let Some((name, more)) = rest.split_once(',') {
-        insert_stock(market, name, &mut set)?;
-        rest = more;
-    }
-    insert_stock(market, rest, &mut set)?;
-    Ok(set)
-}
-
-// Inserts the locates that have the stock of this name.
-fn insert_stock<B: OrderBook>(
-    market: &Market<B>,
-    name: &str,
-    set: &mut LocateSet<B::Alloc>,
-) -> Result<(), ToolFault>
-    ensures { AddsStock market.now.securities name.now set.old result set.new }
-{
-    let mut known = false;
     for locate in market.locates() {
-        if has_stock(market, name, locate) {
+        if pass_locate(market, &mut stocks, locate) {
             set.insert(locate)?;
-            known = true;
         }
     }
-    if known {
-        Ok(())
+    if stocks.have_all_come() {
+        Ok(set)
     } else {
         Err(ToolFault::UnknownStock)
     }
 }
 
-fn has_stock<B: OrderBook>(market: &Market<B>, name: &str, locate: u16) -> bool
-    ensures { result ≡ has_stock market.now.securities name.now locate }
+// The stock of a locate comes, if it has one. Returns whether it is that of one of the names.
+fn pass_locate<B: OrderBook>(
+    market: &Market<B>,
+    stocks: &mut StockNames<'_, B::Alloc>,
+    locate: u16,
+) -> bool
+    ensures one { result ≡ has_one_of market.now.securities stocks.old.names locate }
+    ensures passed { stocks.new ≡ passed_at market.now.securities locate stocks.old }
 {
     match market.security(locate) {
         Some(security) => {
             let stock = security.entry.stock;
-            stock.text() == name
+            stocks.pass(stock.text())
         }
         None => false,
     }

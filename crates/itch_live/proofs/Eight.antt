@@ -11,7 +11,7 @@ use Rattle.itch_soup.specs.declared.server.ServerAct.TheVariants as act
 use Rattle.itch_soup.specs.Servers.{server_answer}
 use Rattle.itch_live.specs.declared.gone.Gone.TheVariants as reason
 use Rattle.itch_live.specs.Guests as guests
-use Rattle.itch_live.specs.Guests.{Guest, whole, new_guest, is_waiting, login_in, after_act, answered_if, is_at}
+use Rattle.itch_live.specs.Guests.{Guest, session_bytes, new_guest, is_waiting, login_in, after_act, answered_if, is_at}
 use Rattle.itch_live.specs.Seats.{Seats, guest_at, HearsBy, took_by, answered_seat, ticked_seat}
 use Rattle.itch_live.specs.Kept.{number_of, is_sent, is_kept, keeps_alone, with_number, kept, kept_bytes, most_snapshots}
 use Rattle.itch_live.specs.Follows.{Following}
@@ -195,12 +195,12 @@ one_other old new next all =
 abbrev pub SendsNoOther : Guest → Guest → Type 0
 SendsNoOther g h = (number : ℕ) → h.snapshot ≡ Some number → g.snapshot ≡ Some number
 
-by_act : (a : ServerAct) (login : Option LoginRequest) (g : Guest) → SendsNoOther g (after_act a login g)
-by_act (act.Accept n) login g number there = there
-by_act (act.Reject code) login g number there = absurd (no_number there)
-by_act act.Nothing login g number there = there
-by_act act.Close login g number there = there
-by_act (act.Fault fault) login g number there = there
+by_act : (a : ServerAct) (login : Option LoginRequest) (now : ℕ) (g : Guest) → SendsNoOther g (after_act a login now g)
+by_act (act.Accept n) login now g number there = there
+by_act (act.Reject code) login now g number there = there
+by_act act.Nothing login now g number there = there
+by_act act.Close login now g number there = there
+by_act (act.Fault fault) login now g number there = there
 
 same_snapshot : (g h : Guest) → h ≡ g → SendsNoOther g h
 same_snapshot g h same number there = sym (ap (λ (x : Guest). x.snapshot) same) ∙ there
@@ -210,7 +210,7 @@ same_number g h i same none = λ number there. none number (sym (ap (λ (x : Gue
 
 hears : (g h : Guest) (piece : List ℕ) (now n : ℕ) → guests.Hears g piece now n h → SendsNoOther g h
 hears g h piece now n (inl (deaf, all, same)) = same_snapshot g h same
-hears g h piece now n (inr (listens, (held, took, inl (payload, block, inl (packet, spelled, is))))) = same_number g h _ is (by_act (server_answer g.session packet) (login_in packet) _)
+hears g h piece now n (inr (listens, (held, took, inl (payload, block, inl (packet, spelled, is))))) = same_number g h _ is (by_act (server_answer g.session packet) (login_in packet) now _)
 hears g h piece now n (inr (listens, (held, took, inl (payload, block, inr (fault, at, is))))) = same_number g h _ is (λ number there. there)
 hears g h piece now n (inr (listens, (held, took, inr (none, is)))) = same_number g h _ is (λ number there. there)
 
@@ -240,9 +240,16 @@ either_kept : (b : Bool) (g h : Guest) (n : ℕ) → h.snapshot ≡ g.snapshot �
 either_kept true g h n same there = inr (sym same ∙ there)
 either_kept false g h n same there = inr there
 
+ticked_kept : (g : Guest) (now n : ℕ) → (guests.ticked g now).snapshot ≡ Some n → Nothing n ⊎ (g.snapshot ≡ Some n)
+ticked_kept g now n there = by_tests (guests.is_silent g now) (guests.is_idle g now) there where
+  by_tests : (a b : Bool) → (if a then guests.gone_for reason.Silent g else (if b then guests.with_heartbeat g now else g)).snapshot ≡ Some n → Nothing n ⊎ (g.snapshot ≡ Some n)
+  by_tests true b h = inr h
+  by_tests false true h = inr h
+  by_tests false false h = inr h
+
 ticked_sent : (seats : Seats) (now number : ℕ) → Sent (map (ticked_seat now) seats) number → Sent seats number
 ticked_sent seats now number s =
-    by_case (mapped_sent Nothing (λ g. guests.ticked g now) (λ g n there. either_kept (nat_le 15000 (now - g.moved)) g (guests.gone_for reason.Silent g) n refl there) seats s.place number
+    by_case (mapped_sent Nothing (λ g. guests.ticked g now) (λ g n there. ticked_kept g now n there) seats s.place number
     (guest_at seats s.place) s.guest refl (sym (at_mapped (ticked_seat now) seats s.place refl) ∙ s.there) s.is) where
       by_case : ⊥ ⊎ Sent seats number → Sent seats number
       by_case (inl never) = absurd never
@@ -279,27 +286,31 @@ module _ {W : Type 0} (contents : W → Option (List ℕ)) (failures : W → Fai
         place = place;
         guest = g;
         there = there;
-        is = took_same (nat_lt 0 count && (nat_le 65536 (g.taken + count - g.marked) || g.taken + count == length (guests.bytes_of g.told))) n (ap (λ (y : Guest). y.snapshot) (one_guest is) ∙ sent);
+        is = took_any g.notes n (ap (λ (y : Guest). y.snapshot) (one_guest is) ∙ sent);
       })) where
         took_same : (b : Bool) (n : ℕ) → (if b then record g { taken = g.taken + count; moved = now; marked = g.taken + count } else record g { taken = g.taken + count }).snapshot ≡ Some n
             → g.snapshot ≡ Some n
         took_same true n there = there
         took_same false n there = there
 
+        took_any : (notes : List ℕ) (n : ℕ) → (guests.took_of notes g count now).snapshot ≡ Some n → g.snapshot ≡ Some n
+        took_any [] n there = took_same (nat_lt 0 count && (nat_le 65536 (g.taken + count - g.marked) || g.taken + count == length (guests.bytes_of g.told))) n there
+        took_any (b ∷ notes) n there = there
+
   -- a snapshot is handed in that is kept already, or where fewer than eight are
   answered : (d : Desk) (count now : ℕ) (o : Option Position) → length (kept d.seats) ≤ 8 → length (kept (answered_with o d count now).seats) ≤ 8
   answered d count now None few = few
   answered d count now (Some j) few = by_kept (kept_bytes d.seats j.next) refl where
     by_room : (b : Bool) → nat_lt (length (kept d.seats)) most_snapshots ≡ b
-        → length (kept (with_shot (if b then Some (whole j.market j.next d.config) else None) d j.next count now).seats) ≤ 8
+        → length (kept (with_shot (if b then Some (session_bytes j.market j.next) else None) d j.next count now).seats) ≤ 8
     by_room true room =
-        let more = one_other d.seats _ j.next (answered_sent d.seats (whole j.market j.next d.config) j.next now count) in
+        let more = one_other d.seats _ j.next (answered_sent d.seats (session_bytes j.market j.next) j.next now count) in
         let below = ltb-true (length (kept d.seats)) 8 room in
         omega (arith, more, below)
     by_room false room = few
 
     by_kept : (k : Option (List ℕ)) → kept_bytes d.seats j.next ≡ k
-        → length (kept (with_shot (option_or k (if nat_lt (length (kept d.seats)) most_snapshots then Some (whole j.market j.next d.config) else None)) d j.next count now).seats) ≤ 8
+        → length (kept (with_shot (option_or k (if nat_lt (length (kept d.seats)) most_snapshots then Some (session_bytes j.market j.next) else None)) d j.next count now).seats) ≤ 8
     by_kept None none = by_room (nat_lt (length (kept d.seats)) most_snapshots) refl
     by_kept (Some bytes) found =
         let r = kept_for d.seats j.next bytes found in

@@ -9,19 +9,16 @@ use Rattle.itch_join.specs.Positions.{Position}
 use Rattle.itch_join.specs.Rules.{Rules, rules_of, run}
 use Rattle.itch_snapshot.proofs.OneSnapshot.{snap_same}
 use Rattle.itch_soup.specs.declared.login.ServerConfig.{ServerConfig}
-use Rattle.itch_soup.specs.Servers.{judged}
-use Rattle.itch_soup.specs.Sending.{served}
-use Rattle.itch_live.specs.Guests.{Guest}
+use Rattle.itch_live.specs.Guests.{Guest, session_bytes}
 use Rattle.itch_live.specs.Seats.{guest_at}
 use Rattle.itch_live.specs.Follows.{Following}
 use Rattle.itch_live.specs.Feeds.{Followed, IsJoining}
 use Rattle.itch_live.specs.Stories as stories
 use Rattle.itch_live.specs.Stories.{Happening, Story, IsAnswer, IsTold, IsSentRight}
-use Rattle.itch_live.specs.Desks.{Desk, shot_for, with_shot, answered_with, Call, Feeds, Admits, Hears, Answers, Takes, Ticks, Leaves, Event, Step, History, sent_at}
+use Rattle.itch_live.specs.Desks.{Desk, shot_for, with_shot, answered_with, Call, Feeds, Admits, Hears, Answers, Takes, Ticks, Leaves, Event, Step, History, sent_at, changes, Stays}
 use Rattle.itch_live.specs.Visits.{Visit, with, answers, visit_by, visit_at, IsVisit}
 use Rattle.itch_live.specs.FeedDesks.{fed_by, fed, IsHonestCall, AreHonest, IsFeedAnswer, IsToldOfFeed, IsSentOfFeed}
 use Rattle.itch_live.proofs.Feeds.{joining, stands_joined, positive_next}
-use Rattle.itch_live.proofs.Logins.{IsAcceptance, answered_whole}
 use Rattle.itch_live.proofs.Same.{same_bytes}
 use Rattle.itch_live.proofs.Stories.{sent_right}
 use Rattle.itch_live.proofs.OneStory.{one_story}
@@ -78,10 +75,12 @@ pub record Origin {W : Type 0} (k : ℕ) (past : List (Event W)) (begun : ℕ) (
   pub market : m ≡ joined.market
   pub number : next ≡ joined.next
   pub visit : visit_at k before ≡ Some (record { begun = begun; past = seen })
+  pub stayed : Stays k later
 
 module _ {W : Type 0} (k : ℕ) where
-  push : (x : Event W) (past : List (Event W)) (begun : ℕ) (m : Content) (next : ℕ) (seen : List Happening) → Origin k past begun m next seen → Origin k (x ∷ past) begun m next seen
-  push x past begun m next seen o = record {
+  push : (x : Event W) (past : List (Event W)) (begun : ℕ) (m : Content) (next : ℕ) (seen : List Happening) → changes k x.call ≡ false → Origin k past begun m next seen
+      → Origin k (x ∷ past) begun m next seen
+  push x past begun m next seen stays o = record {
     later = x ∷ o.later;
     at = o.at;
     before = o.before;
@@ -94,6 +93,7 @@ module _ {W : Type 0} (k : ℕ) where
     market = o.market;
     number = o.number;
     visit = o.visit;
+    stayed = (stays, o.stayed);
   }
 
   -- one happening more, which is not what is (stories.Answers m next now)
@@ -134,56 +134,60 @@ module _ {W : Type 0} (k : ℕ) where
           market = sym (ap (market_or m) same);
           number = sym (ap (number_or next) same);
           visit = is ∙ ap (λ n. Some (record { begun = n; past = u.past })) (ap (begun_of v) sees) ∙ ap (λ xs. Some (record { begun = v.begun; past = xs })) (ap rest_of both);
+          stayed = tt;
         }
     handed_in x past at count j (l ∷ later) v (Some u) call there is so_far sees place =
         let both : stories.Answers j.market j.next at ∷ u.past ≡ l ∷ later ++ (stories.Answers m next now) ∷ seen = ap (past_of v) sees ∙ place in
-        subst (Came (x ∷ past)) (ap (begun_of v) sees) (push x past u.begun m next seen (so_far u refl later (ap rest_of both)))
+        subst (Came (x ∷ past)) (ap (begun_of v) sees) (push x past u.begun m next seen (ap (λ c. changes k c) call) (so_far u refl later (ap rest_of both)))
 
     by_call : (x : Event W) (past : List (Event W)) (later : List Happening) (v : Visit) (call : Call W) → x.call ≡ call
         → ((u : Visit) → visit_at k past ≡ Some u → (later : List Happening) → u.past ≡ later ++ (stories.Answers m next now) ∷ seen → Came past u.begun)
         → visit_by call x.before k (visit_at k past) ≡ Some v → v.past ≡ later ++ (stories.Answers m next now) ∷ seen → Came (x ∷ past) v.begun
     by_call x past later v call is so_far sees place = cases call is sees where
-      on : (o : Option Visit) → visit_at k past ≡ o → o ≡ Some v → Came (x ∷ past) v.begun
-      on o there sees = push x past v.begun m next seen (so_far v (there ∙ sees) later place)
+      on : (o : Option Visit) → changes k x.call ≡ false → visit_at k past ≡ o → o ≡ Some v → Came (x ∷ past) v.begun
+      on o stays there sees = push x past v.begun m next seen stays (so_far v (there ∙ sees) later place)
 
-      lifted : (u : Visit) → visit_at k past ≡ Some u → (later : List Happening) → u.past ≡ later ++ (stories.Answers m next now) ∷ seen → Came (x ∷ past) u.begun
-      lifted u there later place = push x past u.begun m next seen (so_far u there later place)
+      lifted : changes k x.call ≡ false → (u : Visit) → visit_at k past ≡ Some u → (later : List Happening) → u.past ≡ later ++ (stories.Answers m next now) ∷ seen → Came (x ∷ past) u.begun
+      lifted stays u there later place = push x past u.begun m next seen stays (so_far u there later place)
 
-      other : (h : Happening) → (IsAnswers h → ⊥) → with h (visit_at k past) ≡ Some v → Came (x ∷ past) v.begun
-      other h not sees = onward x past h (stories.Answers m next now) seen later v (visit_at k past) (Came (x ∷ past)) not tt lifted sees place
+      other : (h : Happening) → changes k x.call ≡ false → (IsAnswers h → ⊥) → with h (visit_at k past) ≡ Some v → Came (x ∷ past) v.begun
+      other h stays not sees = onward x past h (stories.Answers m next now) seen later v (visit_at k past) (Came (x ∷ past)) not tt (lifted stays) sees place
 
-      at_place : (b : Bool) (h : Happening) → (IsAnswers h → ⊥) → (if b then with h (visit_at k past) else visit_at k past) ≡ Some v → Came (x ∷ past) v.begun
-      at_place true h not sees = other h not sees
-      at_place false h not sees = on (visit_at k past) refl sees
+      at_place : (b : Bool) (h : Happening) → changes k x.call ≡ false → (IsAnswers h → ⊥) → (if b then with h (visit_at k past) else visit_at k past) ≡ Some v → Came (x ∷ past) v.begun
+      at_place true h stays not sees = other h stays not sees
+      at_place false h stays not sees = on (visit_at k past) stays refl sees
 
-      came : (b : Bool) (begun : ℕ) → (if b then Some (record { begun = begun; past = [] }) else visit_at k past) ≡ Some v → Came (x ∷ past) v.begun
-      came true begun sees = absurd (not_end (stories.Answers m next now) seen later (ap (past_of v) sees ∙ place))
-      came false begun sees = on (visit_at k past) refl sees
+      came : (b : Bool) (begun : ℕ) → changes k x.call ≡ b → (if b then Some (record { begun = begun; past = [] }) else visit_at k past) ≡ Some v → Came (x ∷ past) v.begun
+      came true begun at sees = absurd (not_end (stories.Answers m next now) seen later (ap (past_of v) sees ∙ place))
+      came false begun at sees = on (visit_at k past) at refl sees
 
-      leaves : (b : Bool) → (if b then None else visit_at k past) ≡ Some v → Came (x ∷ past) v.begun
-      leaves true sees = absurd (subst IsSeen (sym sees) tt)
-      leaves false sees = on (visit_at k past) refl sees
+      leaves : (b : Bool) → changes k x.call ≡ b → (if b then None else visit_at k past) ≡ Some v → Came (x ∷ past) v.begun
+      leaves true at sees = absurd (subst IsSeen (sym sees) tt)
+      leaves false at sees = on (visit_at k past) at refl sees
+
+      quiet : {call : Call W} {b : Bool} → x.call ≡ call → changes k call ≡ b → changes k x.call ≡ b
+      quiet {call} {b} is at = ap (λ c. changes k c) is ∙ at
 
       handed_if : (at count : ℕ) (j : Position) (b : Bool) → x.call ≡ Answers at count → x.before.following.joining.state.joined ≡ Some j
           → (if b then with (stories.Answers j.market j.next at) (visit_at k past) else visit_at k past) ≡ Some v → Came (x ∷ past) v.begun
-      handed_if at count j false call there sees = on (visit_at k past) refl sees
+      handed_if at count j false call there sees = on (visit_at k past) (quiet call refl) refl sees
       handed_if at count j true call there sees = handed_in x past at count j later v (visit_at k past) call there refl so_far sees place
 
       handing : (at count : ℕ) (o : Option Position) (b : Bool) → x.call ≡ Answers at count → x.before.following.joining.state.joined ≡ o → answers o x.before b at (visit_at k past) ≡ Some v
           → Came (x ∷ past) v.begun
-      handing at count None b call there sees = on (visit_at k past) refl sees
-      handing at count (Some j) b call there sees = handed_if at count j (is_some (shot_for x.before.config x.before.seats j.market j.next) && b) call there sees
+      handing at count None b call there sees = on (visit_at k past) (quiet call refl) refl sees
+      handing at count (Some j) b call there sees = handed_if at count j (is_some (shot_for x.before.seats j.market j.next) && b) call there sees
 
       cases : (call : Call W) → x.call ≡ call → visit_by call x.before k (visit_at k past) ≡ Some v → Came (x ∷ past) v.begun
-      cases (Feeds did) is sees = on (visit_at k past) refl sees
-      cases (Admits at (Ok (Some place))) is sees = came (place == k) at sees
-      cases (Admits at (Ok None)) is sees = on (visit_at k past) refl sees
-      cases (Admits at (Err error)) is sees = on (visit_at k past) refl sees
-      cases (Hears place piece at count) is sees = at_place (place == k) (stories.Hears piece at count) (λ h. h) sees
+      cases (Feeds did) is sees = on (visit_at k past) (quiet is refl) refl sees
+      cases (Admits at (Ok (Some place))) is sees = came (place == k) at (quiet is refl) sees
+      cases (Admits at (Ok None)) is sees = on (visit_at k past) (quiet is refl) refl sees
+      cases (Admits at (Err error)) is sees = on (visit_at k past) (quiet is refl) refl sees
+      cases (Hears place piece at count) is sees = at_place (place == k) (stories.Hears piece at count) (quiet is refl) (λ h. h) sees
       cases (Answers at count) is sees = handing at count x.before.following.joining.state.joined (nat_lt k count) is refl sees
-      cases (Takes place count at) is sees = at_place (place == k) (stories.Takes count at) (λ h. h) sees
-      cases (Ticks at) is sees = other (stories.Ticks at) (λ h. h) sees
-      cases (Leaves place) is sees = leaves (place == k) sees
+      cases (Takes place count at) is sees = at_place (place == k) (stories.Takes count at) (quiet is refl) (λ h. h) sees
+      cases (Ticks at) is sees = other (stories.Ticks at) (quiet is refl) (λ h. h) sees
+      cases (Leaves place) is sees = leaves (place == k) (quiet is refl) sees
 
     origin : (past : List (Event W)) (later : List Happening) (v : Visit) → visit_at k past ≡ Some v → v.past ≡ later ++ (stories.Answers m next now) ∷ seen → Came past v.begun
     origin [] later v sees place = absurd (subst IsSeen (sym sees) tt)
@@ -214,7 +218,7 @@ module _ {W : Type 0} (contents : W → Option (List ℕ)) (failures : W → Fai
 
     answered_same : (o : Option Position) (count now : ℕ) → (answered_with o x.before count now).following ≡ x.before.following
     answered_same None count now = refl
-    answered_same (Some j) count now = by_shot (shot_for x.before.config x.before.seats j.market j.next) where
+    answered_same (Some j) count now = by_shot (shot_for x.before.seats j.market j.next) where
       by_shot : (shot : Option (List ℕ)) → (with_shot shot x.before j.next count now).following ≡ x.before.following
       by_shot None = refl
       by_shot (Some bytes) = refl
@@ -247,7 +251,6 @@ module _ {W : Type 0} (contents : W → Option (List ℕ)) (failures : W → Fai
         subst (λ x. IsVisit config x (guest_at o.at.before.seats k) (sent_at k o.before)) o.visit (visits contents failures config k begun o.before o.at.before history) in
         let j : IsJoining set cap feed o.at.before.following = joining contents failures set cap feed begun (fed o.before) o.at.before.following joins (followed R feed o.before o.at.before history fair) in
         let right = (stands_joined set cap feed o.at.before.following bytes j).2.right o.joined o.position in
-        let fits : IsAcceptance (judged config 0 a.login).0 = subst IsAcceptance (sym a.accepted) tt in
         record {
           later = o.later;
           at = o.at;
@@ -256,6 +259,12 @@ module _ {W : Type 0} (contents : W → Option (List ℕ)) (failures : W → Fai
           now = o.now;
           count = o.count;
           handed = o.handed;
+          stayed = o.stayed;
+          visit = v;
+          present = sees;
+          earlier = u;
+          visiting = o.visit;
+          same_begun = refl;
           waiting = a.waiting;
           there = seat_is config u (guest_at o.at.before.seats k) a.waiting (sent_at k o.before) a.so_far visit a.story;
           login = a.login;
@@ -265,17 +274,16 @@ module _ {W : Type 0} (contents : W → Option (List ℕ)) (failures : W → Fai
           position = o.position;
           positive = positive_next set cap feed o.at.before.following bytes j o.joined o.position;
           to_bad = right.to_bad;
-          is = a.is ∙ ap (λ m. served m a.next config a.login) o.market ∙ ap (λ n. served o.joined.market n config a.login) o.number
-              ∙ sym (answered_whole config o.joined.market o.joined.next a.login fits)
-              ∙ same_bytes o.joined.market (run R (take (o.joined.next - 1) feed)) o.joined.next config (snap_same o.joined.market (run R (take (o.joined.next - 1) feed)) right.market)
-              ∙ answered_whole config (run R (take (o.joined.next - 1) feed)) o.joined.next a.login fits;
+          is = a.is ∙ ap (λ m. session_bytes m a.next) o.market ∙ ap (λ n. session_bytes o.joined.market n) o.number
+              ∙ same_bytes o.joined.market (run R (take (o.joined.next - 1) feed)) o.joined.next (snap_same o.joined.market (run R (take (o.joined.next - 1) feed)) right.market);
         }
 
     told_of_feed : (past : List (Event W)) (d : Desk) → History contents failures config begun past d → AreHonest R feed past → (v : Visit) → visit_at k past ≡ Some v → (told : List ℕ)
         → IsTold config v.begun v.past told → IsToldOfFeed R feed config k past told
     told_of_feed past d h honest v sees told (inl none) = inl none
     told_of_feed past d h honest v sees told (inr (inl refused)) = inr (inl (v, sees, refused))
-    told_of_feed past d h honest v sees told (inr (inr answer)) = inr (inr (answer_of past d h honest v sees told answer))
+    told_of_feed past d h honest v sees told (inr (inr (inl greeting))) = inr (inr (inl (v, sees, greeting)))
+    told_of_feed past d h honest v sees told (inr (inr (inr (beats, rest, answer, is)))) = inr (inr (inr (beats, rest, answer_of past d h honest v sees rest answer, is)))
 
     by_visit : (past : List (Event W)) (d : Desk) → History contents failures config begun past d → AreHonest R feed past → (visit : Option Visit) (seat : Option Guest) → visit_at k past ≡ visit
         → IsVisit config visit seat (sent_at k past) → IsSentOfFeed R feed config k past (sent_at k past)

@@ -10,7 +10,7 @@ use Rattle.itch_frame.proofs.BlockLemmas.{blocks-append}
 use Rattle.itch_live.specs.declared.sheet.Sheet.{Sheet}
 
 -- the room stands before the bytes
-grown : (room size : ℕ) (old new bytes : List ℕ) → size ∷ new ≡ room ∷ (old ++ bytes) → old ≡ [] → (size ≡ room) × (new ≡ bytes)
+pub grown : (room size : ℕ) (old new bytes : List ℕ) → size ∷ new ≡ room ∷ (old ++ bytes) → old ≡ [] → (size ≡ room) × (new ≡ bytes)
 grown room size old new bytes is empty = let front : old ++ bytes ≡ bytes = ap (λ xs. xs ++ bytes) empty in (cc, cc)
 
 module _ {A : Type 0} where

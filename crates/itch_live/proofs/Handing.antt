@@ -20,7 +20,7 @@ pub none_waits : (d : Desk) (now : ℕ) → list_any waits d.seats ≡ false →
 none_waits d now none = by_joined d.following.joining.state.joined where
   by_joined : (o : Option Position) → d ≡ answered_with o d (length d.seats) now
   by_joined None = refl
-  by_joined (Some j) = by_shot (shot_for d.config d.seats j.market j.next) where
+  by_joined (Some j) = by_shot (shot_for d.seats j.market j.next) where
     by_shot : (shot : Option (List ℕ)) → d ≡ with_shot shot d j.next (length d.seats) now
     by_shot None = refl
     by_shot (Some bytes) = ap (λ s. record d { seats = s }) (all_seats bytes j.next now d.seats none)
@@ -45,7 +45,7 @@ position_is (Some j) next market numbered there =
 
 -- a snapshot is handed in, or none
 pub handed_shot : (d : Desk) (j : Position) (shot : Option (List ℕ)) (count now : ℕ) (seats : Seats) → d.following.joining.state.joined ≡ Some j
-    → shot ≡ shot_for d.config d.seats j.market j.next → seats ≡ places.handed shot j.next now count d.seats → record d { seats = seats } ≡ answered d count now
+    → shot ≡ shot_for d.seats j.market j.next → seats ≡ places.handed shot j.next now count d.seats → record d { seats = seats } ≡ answered d count now
 handed_shot d j shot count now seats there is same =
     ap (λ s. record d { seats = s }) (same ∙ ap (λ x. places.handed x j.next now count d.seats) is) ∙ sym (ap (λ o. answered_with o d count now) there)
 

@@ -5,11 +5,8 @@ use Rattle.std.specs.FinMap as finite
 use Rattle.std.proofs.lemmas.List.{map-append}
 use Rattle.itch_codec.specs.declared.message.Message.{Message}
 use Rattle.itch_codec.specs.declared.message.Message.TheVariants as message
-use Rattle.itch_codec.specs.Fields.{IsAlpha}
 use Rattle.itch_codec.specs.Messages.{Shape, Fields, Payload, shape, HasShape, spelling}
-use Rattle.itch_codec.specs.Numbers.{dec20}
 use Rattle.itch_codec.specs.Widths.{IsMessage, IsSequence}
-use Rattle.itch_codec.proofs.Numbers.{length-dec20}
 use Rattle.itch_codec.proofs.Spelling.{Spells-spelling}
 use Rattle.itch_frame.specs.Blocks.{block, blocks}
 use Rattle.itch_frame.proofs.BlockLemmas.{blocks-push}
@@ -22,14 +19,10 @@ use Rattle.itch_market.specs.GoodMarkets.{IsGood}
 use Rattle.itch_market.specs.Runs.{AreMessages}
 use Rattle.itch_snapshot.specs.Snapshot.{snap, event_part, action_part, sho_part, halt_part, position_part, states_part, add_of, attributed, order_part, locate_messages, locate_part}
 use Rattle.itch_snapshot.proofs.SpelledMessages.{snap_messages}
-use Rattle.itch_soup.specs.declared.login.ServerConfig.{ServerConfig}
 use Rattle.itch_soup.specs.declared.packet.Packet.TheVariants as is
-use Rattle.itch_soup.specs.Names.{server_session}
 use Rattle.itch_soup.specs.Packets.{packet_spelling}
-use Rattle.itch_soup.specs.Servers.{acceptance}
 use Rattle.itch_soup.specs.Sending.{data_packet, messages, session_packets}
-use Rattle.itch_soup.proofs.SessionNames.{server_session-fits}
-use Rattle.itch_live.specs.Guests.{whole}
+use Rattle.itch_live.specs.Guests.{session_bytes}
 
 -- messages of at most 40 bytes ------------------------------------------------
 
@@ -111,13 +104,7 @@ packets_short (x ∷ xs) fit short =
     let rest = packets_short xs fit.1 short.1 in
     omega (arith, first, rest, length-append (block (packet_spelling (data_packet x))) (blocks (map packet_spelling (map data_packet xs))))
 
--- what is sent before and after them -------------------------------------------
-
-acceptance_length : (config : ServerConfig) → IsAlpha 10 config.session → length (block (packet_spelling (is.LoginAccepted (acceptance config 1)))) ≡ 33
-acceptance_length config text =
-    let name = server_session config.session in
-    let width : length name ≡ 10 = (server_session-fits config.session text).0 in
-    omega (arith, width, length-append name (dec20 1 ++ []), length-append (dec20 1) [], length-dec20 1 (omega arith))
+-- what is sent after them -------------------------------------------
 
 session_length : (xs : List Message) → length (blocks (map packet_spelling (session_packets xs))) ≡ length (blocks (map packet_spelling (map data_packet xs))) + 3
 session_length xs =
@@ -133,15 +120,11 @@ all_messages m next good number = All-append_rec IsMessage (snap m) (message.End
 all_short : (m : Content) (next : ℕ) → AllByRecursion IsShort (messages m next)
 all_short m next = All-append_rec IsShort (snap m) (message.End next ∷ []) (snap_short m) (omega arith, tt)
 
--- the answer has at most 43 bytes for each message of the snapshot, and 128 for the acceptance, the End of Snapshot and the end of the session
-pub whole_within : (m : Content) (next : ℕ) (config : ServerConfig) → IsGood m → IsSequence next → IsAlpha 10 config.session → length (whole m next config) ≤ 43 * length (snap m) + 128
-whole_within m next config good number text =
-    let first = block (packet_spelling (is.LoginAccepted (acceptance config 1))) in
-    let rest = blocks (map packet_spelling (session_packets (messages m next))) in
+-- the answer has at most 43 bytes for each message of the snapshot, and 128 for the End of Snapshot and the end of the session
+pub session_within : (m : Content) (next : ℕ) → IsGood m → IsSequence next → length (session_bytes m next) ≤ 43 * length (snap m) + 128
+session_within m next good number =
     omega (
       arith,
-      length-append first rest,
-      acceptance_length config text,
       session_length (messages m next),
       packets_short (messages m next) (all_messages m next good number) (all_short m next),
       length-append (snap m) (message.End next ∷ []),

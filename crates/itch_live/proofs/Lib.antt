@@ -20,5 +20,9 @@ pub mod Memories
 pub mod Visits
 pub mod OneVisit
 pub mod FeedDesks
+pub mod Fairness
+pub mod Waiting
 pub mod Rising
+pub mod OneSession
+pub mod InSession
 pub mod Rows

@@ -1,5 +1,5 @@
 -- How a login is judged where there is no message yet.
-use Rattle.std.proofs.Common.{◌≡◌, ℕ, ◌+◌, ◌≤◌, nat_lt, max, Bool, true, false, map, length, Some, refl, sym, ap, arith}
+use Rattle.std.proofs.Common.{◌≡◌, ℕ, ◌+◌, ◌≤◌, ◌++◌, nat_lt, max, Bool, true, false, map, length, Some, refl, sym, ap, arith}
 use Rattle.std.proofs.lemmas.Bool.{ltb-true, ltb-false}
 use Rattle.itch_frame.specs.Blocks.{blocks}
 use Rattle.itch_market.specs.Content.{Content}
@@ -15,7 +15,7 @@ use Rattle.itch_soup.specs.Names.{asks_for_session}
 use Rattle.itch_soup.specs.Packets.{packet_spelling}
 use Rattle.itch_soup.specs.Servers.{judged, server_turn, is_user, first_asked}
 use Rattle.itch_soup.specs.Sending.{served, messages, packets_for}
-use Rattle.itch_live.specs.Guests.{whole, login_in}
+use Rattle.itch_live.specs.Guests.{welcome, session_bytes, login_in}
 
 abbrev pub IsBefore : Stage → Type 0
 IsBefore stage.Before = Unit {0}
@@ -39,8 +39,8 @@ accepted config total login true true false false u s a f h =
       one : (n : ℕ) → max 1 n ≤ 1 → max 1 n ≡ 1
       one n h = omega arith
 
--- so it is answered in full
-pub answered_whole : (config : ServerConfig) (m : Content) (next : ℕ) (login : LoginRequest) → IsAcceptance (judged config 0 login).0 → whole m next config ≡ served m next config login
+-- so the acceptance and the answer are what a server of a file sends
+pub answered_whole : (config : ServerConfig) (m : Content) (next : ℕ) (login : LoginRequest) → IsAcceptance (judged config 0 login).0 → welcome config 1 ++ session_bytes m next ≡ served m next config login
 answered_whole config m next login h =
     ap (λ a. blocks (map packet_spelling (packets_for m next config a)))
     (sym (accepted config (length (messages m next)) login _ _ _ _ refl refl refl refl h))

@@ -3,7 +3,6 @@ use Rattle.std.proofs.Common.{◌≡◌, ℕ, ◌+◌, ◌*◌, ◌≤◌, max, 
 use Rattle.std.specs.List.{sum_by}
 use Rattle.std.proofs.lemmas.List.Sums.{sum_by-cons}
 use Rattle.itch_frame.specs.declared.tally.Failures.{Failures}
-use Rattle.itch_codec.specs.Fields.{IsAlpha}
 use Rattle.itch_codec.specs.Widths.{IsSequence}
 use Rattle.itch_market.specs.GoodMarkets.{IsGood}
 use Rattle.itch_join.specs.Positions.{Position}
@@ -16,9 +15,9 @@ use Rattle.itch_live.specs.Desks.{Desk, shot_for, with_shot, answered_with, Call
 use Rattle.itch_live.specs.Memory.{splitter_bytes, clients, length_or, snapshot_bytes, held_bytes, most_bytes, handed_at, handed_by, longest, messages_at, messages_by, most_messages, IsOfMarket, AreOfMarkets}
 use Rattle.itch_live.proofs.Places.{none_seated, no_guest}
 use Rattle.itch_live.proofs.Seated.{Holds, AllHold, one_guest, set_holds, all_tick, all_answer, all_hear, all_take}
-use Rattle.itch_live.proofs.Present.{kept_for, AreFitting, right_shot, configured, all_fit}
+use Rattle.itch_live.proofs.Present.{kept_for, AreFitting, right_shot, all_fit}
 use Rattle.itch_live.proofs.Eight.{at_most_eight}
-use Rattle.itch_live.proofs.Lengths.{whole_within}
+use Rattle.itch_live.proofs.Lengths.{session_within}
 
 -- a snapshot has at most so many bytes
 abbrev pub IsShort : ℕ → Option ℕ → Option (List ℕ) → Type 0
@@ -60,8 +59,8 @@ module _ {W : Type 0} (contents : W → Option (List ℕ)) (failures : W → Fai
 
   answered : (d : Desk) (count now : ℕ) (o : Option Position) → d.following.joining.state.joined ≡ o → handed_at o d ≤ most → AllShort d → AllShort (answered_with o d count now)
   answered d count now None there within all = all
-  answered d count now (Some j) there within all = by_shot (shot_for d.config d.seats j.market j.next) refl where
-    by_shot : (shot : Option (List ℕ)) → shot_for d.config d.seats j.market j.next ≡ shot → AllShort (with_shot shot d j.next count now)
+  answered d count now (Some j) there within all = by_shot (shot_for d.seats j.market j.next) refl where
+    by_shot : (shot : Option (List ℕ)) → shot_for d.seats j.market j.next ≡ shot → AllShort (with_shot shot d j.next count now)
     by_shot None none = all
     by_shot (Some bytes) is = all_answer (IsShort most) (unsent most) bytes j.next now count d.seats (subst (λ shot. length_or shot ≤ most) is within) all
 
@@ -103,36 +102,36 @@ within_longest contents failures config begun past d history = within_sum conten
 
 -- bytes of snapshots by their messages -------------------------------------------
 
-module _ {W : Type 0} (contents : W → Option (List ℕ)) (failures : W → Failures) (config : ServerConfig) (text : IsAlpha 10 config.session) (most : ℕ) where
+module _ {W : Type 0} (contents : W → Option (List ℕ)) (failures : W → Failures) (config : ServerConfig) (most : ℕ) where
   -- what is handed in is the snapshot of the present market
-  answer_short : (d : Desk) (o : Option Position) → d.config ≡ config → AreFitting d.config o d.seats → ((j : Position) → o ≡ Some j → IsGood j.market × IsSequence j.next)
+  answer_short : (d : Desk) (o : Option Position) → AreFitting o d.seats → ((j : Position) → o ≡ Some j → IsGood j.market × IsSequence j.next)
       → messages_at o ≤ most → handed_at o d ≤ 43 * most + 128
-  answer_short d None same fits markets few = omega arith
-  answer_short d (Some j) same fits markets few = by_shot (shot_for d.config d.seats j.market j.next) refl where
-    by_shot : (shot : Option (List ℕ)) → shot_for d.config d.seats j.market j.next ≡ shot → length_or shot ≤ 43 * most + 128
+  answer_short d None fits markets few = omega arith
+  answer_short d (Some j) fits markets few = by_shot (shot_for d.seats j.market j.next) refl where
+    by_shot : (shot : Option (List ℕ)) → shot_for d.seats j.market j.next ≡ shot → length_or shot ≤ 43 * most + 128
     by_shot None none = omega arith
     by_shot (Some bytes) is =
         let of_market = markets j refl in
-        let whole_is = right_shot d.config d.seats j bytes fits is in
-        let short = whole_within j.market j.next d.config of_market.0 of_market.1 (subst (λ (c : ServerConfig). IsAlpha 10 c.session) (sym same) text) in
+        let whole_is = right_shot d.seats j bytes fits is in
+        let short = session_within j.market j.next of_market.0 of_market.1 in
         omega (arith, ap length whole_is, short, few)
 
-  call_short : (d : Desk) (call : Call W) → d.config ≡ config → AreFitting d.config d.following.joining.state.joined d.seats → IsOfMarket d call → messages_by d call ≤ most
+  call_short : (d : Desk) (call : Call W) → AreFitting d.following.joining.state.joined d.seats → IsOfMarket d call → messages_by d call ≤ most
       → handed_by d call ≤ 43 * most + 128
-  call_short d (Feeds did) same fits market few = omega arith
-  call_short d (Admits now result) same fits market few = omega arith
-  call_short d (Hears place piece now count) same fits market few = omega arith
-  call_short d (Answers now count) same fits market few = answer_short d d.following.joining.state.joined same fits market few
-  call_short d (Takes place count now) same fits market few = omega arith
-  call_short d (Ticks now) same fits market few = omega arith
-  call_short d (Leaves place) same fits market few = omega arith
+  call_short d (Feeds did) fits market few = omega arith
+  call_short d (Admits now result) fits market few = omega arith
+  call_short d (Hears place piece now count) fits market few = omega arith
+  call_short d (Answers now count) fits market few = answer_short d d.following.joining.state.joined fits market few
+  call_short d (Takes place count now) fits market few = omega arith
+  call_short d (Ticks now) fits market few = omega arith
+  call_short d (Leaves place) fits market few = omega arith
 
   longest_by : (begun : Following) (past : List (Event W)) (d : Desk) → History contents failures config begun past d → AreOfMarkets past → most_messages past ≤ most
       → longest past ≤ 43 * most + 128
   longest_by begun [] d history markets few = omega arith
   longest_by begun (x ∷ past) d (took, before) (market, markets) few =
       let first =
-      call_short x.before x.call (configured contents failures config begun past x.before before) (all_fit contents failures config begun past x.before before) market
+      call_short x.before x.call (all_fit contents failures config begun past x.before before) market
       (max_first (messages_by x.before x.call) (most_messages past) most few) in
       let rest = longest_by begun past x.before before markets (max_second (messages_by x.before x.call) (most_messages past) most few) in
       both (handed_by x.before x.call) (longest past) first rest where
@@ -140,6 +139,6 @@ module _ {W : Type 0} (contents : W → Option (List ℕ)) (failures : W → Fai
         both a b one other = omega arith
 
 pub longest_within : {W : Type 0} (contents : W → Option (List ℕ)) (failures : W → Failures) (config : ServerConfig) (begun : Following) (past : List (Event W)) (d : Desk)
-    → IsAlpha 10 config.session → AreOfMarkets past → History contents failures config begun past d → longest past ≤ 43 * most_messages past + 128
-longest_within contents failures config begun past d text markets history =
-    longest_by contents failures config text (most_messages past) begun past d history markets (omega arith)
+    → AreOfMarkets past → History contents failures config begun past d → longest past ≤ 43 * most_messages past + 128
+longest_within contents failures config begun past d markets history =
+    longest_by contents failures config (most_messages past) begun past d history markets (omega arith)

@@ -5,7 +5,7 @@ use Rattle.std.proofs.lemmas.Bool.{eqb-true}
 use Rattle.itch_frame.specs.declared.tally.Failures.{Failures}
 use Rattle.itch_join.specs.Positions.{Position}
 use Rattle.itch_soup.specs.declared.login.ServerConfig.{ServerConfig}
-use Rattle.itch_live.specs.Guests.{Guest, whole, new_guest, is_at, shot_in}
+use Rattle.itch_live.specs.Guests.{Guest, session_bytes, new_guest, is_at, shot_in}
 use Rattle.itch_live.specs.Seats.{Seats, guest_at, answered_seat}
 use Rattle.itch_live.specs.Kept.{kept, kept_bytes, most_snapshots}
 use Rattle.itch_live.specs.Follows.{Following}
@@ -18,38 +18,38 @@ no_bytes : {bytes : List ℕ} → None ≡ Some bytes → ⊥
 no_bytes {bytes} h = cc
 
 -- the snapshot of this number is of no later market than the present one, and the present one's if it has the same number
-pub record IsOf (config : ServerConfig) (o : Option Position) (told : Option (List ℕ)) (number : ℕ) : Type 0 where
+pub record IsOf (o : Option Position) (told : Option (List ℕ)) (number : ℕ) : Type 0 where
   pub position : Position
   pub is : o ≡ Some position
   pub below : number ≤ position.next
-  pub same : number ≡ position.next → told ≡ Some (whole position.market position.next config)
+  pub same : number ≡ position.next → told ≡ Some (session_bytes position.market position.next)
 
-abbrev pub Fits : ServerConfig → Option Position → Option ℕ → Option (List ℕ) → Type 0
-Fits config o snapshot told = (number : ℕ) → snapshot ≡ Some number → IsOf config o told number
+abbrev pub Fits : Option Position → Option ℕ → Option (List ℕ) → Type 0
+Fits o snapshot told = (number : ℕ) → snapshot ≡ Some number → IsOf o told number
 
-abbrev pub GuestFits : ServerConfig → Option Position → Guest → Type 0
-GuestFits config o g = Fits config o g.snapshot g.told
+abbrev pub GuestFits : Option Position → Guest → Type 0
+GuestFits o g = Fits o g.snapshot g.told
 
-abbrev pub AreFitting : ServerConfig → Option Position → Seats → Type 0
-AreFitting config o seats = (k : ℕ) (g : Guest) → guest_at seats k ≡ Some g → GuestFits config o g
+abbrev pub AreFitting : Option Position → Seats → Type 0
+AreFitting o seats = (k : ℕ) (g : Guest) → guest_at seats k ≡ Some g → GuestFits o g
 
-none_fits : (config : ServerConfig) (o : Option Position) (told : Option (List ℕ)) → Fits config o None told
-none_fits config o told number there = absurd (cc)
+none_fits : (o : Option Position) (told : Option (List ℕ)) → Fits o None told
+none_fits o told number there = absurd (cc)
 
 -- a later market
-later : (config : ServerConfig) (o p : Option Position) → Advances o p → (g : Guest) → GuestFits config o g → GuestFits config p g
-later config o p advances g fits number there =
+later : (o p : Option Position) → Advances o p → (g : Guest) → GuestFits o g → GuestFits p g
+later o p advances g fits number there =
     let f = fits number there in
     let a = advances f.position f.is in
     record { position = a.position; is = a.is; below = omega (arith, f.below, a.up); same = same } where
       same : number ≡ (advances (fits number there).position (fits number there).is).position.next
-          → g.told ≡ Some (whole (advances (fits number there).position (fits number there).is).position.market (advances (fits number there).position (fits number there).is).position.next config)
+          → g.told ≡ Some (session_bytes (advances (fits number there).position (fits number there).is).position.market (advances (fits number there).position (fits number there).is).position.next)
       same h =
           let f = fits number there in
           let a = advances f.position f.is in
           let at : number ≡ f.position.next = omega (arith, f.below, a.up, h) in
           let still : a.position ≡ f.position = a.still (sym at ∙ h) in
-          f.same at ∙ ap (λ (i : Position). Some (whole i.market i.next config)) (sym still)
+          f.same at ∙ ap (λ (i : Position). Some (session_bytes i.market i.next)) (sym still)
 
 -- whose the bytes kept of a number are
 pub record KeptFor (seats : Seats) (number : ℕ) (bytes : List ℕ) : Type 0 where
@@ -84,25 +84,25 @@ kept_for (Some g ∷ seats) number bytes there = by_shot (λ found. kept_for sea
       record { place = 0; guest = g; there = refl; number_is = both.0; told_is = both.1 ∙ found }
 
 -- what is handed in is the present market's snapshot
-pub right_shot : (config : ServerConfig) (seats : Seats) (j : Position) (bytes : List ℕ) → AreFitting config (Some j) seats → shot_for config seats j.market j.next ≡ Some bytes
-    → bytes ≡ whole j.market j.next config
-right_shot config seats j bytes all is = by_kept (kept_bytes seats j.next) refl is where
+pub right_shot : (seats : Seats) (j : Position) (bytes : List ℕ) → AreFitting (Some j) seats → shot_for seats j.market j.next ≡ Some bytes
+    → bytes ≡ session_bytes j.market j.next
+right_shot seats j bytes all is = by_kept (kept_bytes seats j.next) refl is where
   one_bytes : {xs ys : List ℕ} → Some xs ≡ Some ys → xs ≡ ys
   one_bytes {xs} {ys} same = cc
 
-  fresh : (b : Bool) → (if b then Some (whole j.market j.next config) else None) ≡ Some bytes → bytes ≡ whole j.market j.next config
+  fresh : (b : Bool) → (if b then Some (session_bytes j.market j.next) else None) ≡ Some bytes → bytes ≡ session_bytes j.market j.next
   fresh true h = sym (one_bytes h)
   fresh false h = absurd (no_bytes h)
 
   by_kept : (o : Option (List ℕ)) → kept_bytes seats j.next ≡ o
-      → option_or o (if nat_lt (length (kept seats)) most_snapshots then Some (whole j.market j.next config) else None) ≡ Some bytes → bytes ≡ whole j.market j.next config
+      → option_or o (if nat_lt (length (kept seats)) most_snapshots then Some (session_bytes j.market j.next) else None) ≡ Some bytes → bytes ≡ session_bytes j.market j.next
   by_kept None none h = fresh (nat_lt (length (kept seats)) most_snapshots) h
   by_kept (Some old) found h =
       let r = kept_for seats j.next old found in
       let f = all r.place r.guest r.there j.next r.number_is in
       let position : j ≡ f.position = one_position f.is in
-      let told : r.guest.told ≡ Some (whole f.position.market f.position.next config) = f.same (ap (λ (i : Position). i.next) position) in
-      sym (one_bytes h) ∙ one_bytes (sym r.told_is ∙ told) ∙ ap (λ (i : Position). whole i.market i.next config) (sym position) where
+      let told : r.guest.told ≡ Some (session_bytes f.position.market f.position.next) = f.same (ap (λ (i : Position). i.next) position) in
+      sym (one_bytes h) ∙ one_bytes (sym r.told_is ∙ told) ∙ ap (λ (i : Position). session_bytes i.market i.next) (sym position) where
         one_position : {i : Position} → Some j ≡ Some i → j ≡ i
         one_position {i} same = cc
 
@@ -117,7 +117,7 @@ module _ {W : Type 0} (contents : W → Option (List ℕ)) (failures : W → Fai
   same_config d e (Answers now count) same = ap (λ x. x.config) same ∙ by_joined d.following.joining.state.joined where
     by_joined : (o : Option Position) → (answered_with o d count now).config ≡ d.config
     by_joined None = refl
-    by_joined (Some j) = by_shot (shot_for d.config d.seats j.market j.next) where
+    by_joined (Some j) = by_shot (shot_for d.seats j.market j.next) where
       by_shot : (shot : Option (List ℕ)) → (with_shot shot d j.next count now).config ≡ d.config
       by_shot None = refl
       by_shot (Some bytes) = refl
@@ -131,34 +131,34 @@ module _ {W : Type 0} (contents : W → Option (List ℕ)) (failures : W → Fai
 
   -- each snapshot that is kept fits the present market
   abbrev pub DeskFits : Desk → Type 0
-  DeskFits d = AreFitting d.config d.following.joining.state.joined d.seats
+  DeskFits d = AreFitting d.following.joining.state.joined d.seats
 
   answered : (d : Desk) (count now : ℕ) (o : Option Position) → d.following.joining.state.joined ≡ o → DeskFits d → DeskFits (answered_with o d count now)
   answered d count now None there fits = fits
-  answered d count now (Some j) there fits = by_shot (shot_for d.config d.seats j.market j.next) refl where
-    all : AreFitting d.config (Some j) d.seats
-    all = subst (λ o. AreFitting d.config o d.seats) there fits
+  answered d count now (Some j) there fits = by_shot (shot_for d.seats j.market j.next) refl where
+    all : AreFitting (Some j) d.seats
+    all = subst (λ o. AreFitting o d.seats) there fits
 
-    handed : (bytes : List ℕ) → bytes ≡ whole j.market j.next d.config → Fits d.config (Some j) (Some j.next) (Some bytes)
+    handed : (bytes : List ℕ) → bytes ≡ session_bytes j.market j.next → Fits (Some j) (Some j.next) (Some bytes)
     handed bytes is number there = let at : j.next ≡ number = cc in record { position = j; is = refl; below = omega (arith, at); same = λ h. ap Some is }
 
-    by_shot : (shot : Option (List ℕ)) → shot_for d.config d.seats j.market j.next ≡ shot → DeskFits (with_shot shot d j.next count now)
+    by_shot : (shot : Option (List ℕ)) → shot_for d.seats j.market j.next ≡ shot → DeskFits (with_shot shot d j.next count now)
     by_shot None none = fits
     by_shot (Some bytes) is =
-        subst (λ o. AreFitting d.config o (map (answered_seat bytes j.next now) (take count d.seats) ++ drop count d.seats)) (sym there)
-        (all_answer (Fits d.config (Some j)) (none_fits d.config (Some j)) bytes j.next now count d.seats (handed bytes (right_shot d.config d.seats j bytes all is)) all)
+        subst (λ o. AreFitting o (map (answered_seat bytes j.next now) (take count d.seats) ++ drop count d.seats)) (sym there)
+        (all_answer (Fits (Some j)) (none_fits (Some j)) bytes j.next now count d.seats (handed bytes (right_shot d.seats j bytes all is)) all)
 
   step : (d e : Desk) (call : Call W) → Step contents failures d call e → DeskFits d → DeskFits e
   step d e call took fits = by_call call took where
     P : Option ℕ → Option (List ℕ) → Type 0
-    P = Fits d.config d.following.joining.state.joined
+    P = Fits d.following.joining.state.joined
 
     none : (told : Option (List ℕ)) → P None told
-    none = none_fits d.config d.following.joining.state.joined
+    none = none_fits d.following.joining.state.joined
 
     by_call : (call : Call W) → Step contents failures d call e → DeskFits e
     by_call (Feeds did) (f, doing, same) =
-        subst DeskFits (sym same) (λ k g there. later d.config d.following.joining.state.joined f.joining.state.joined (does contents failures d.following f did doing) g (fits k g there))
+        subst DeskFits (sym same) (λ k g there. later d.following.joining.state.joined f.joining.state.joined (does contents failures d.following f did doing) g (fits k g there))
     by_call (Admits now (Ok (Some place))) (free, same) =
         subst DeskFits (sym same) (set_holds P none d.seats place (Some (new_guest d.config now)) (λ g is. subst (λ x. Holds P x) (one_guest is) (none None)) fits)
     by_call (Admits now (Ok None)) (taken, same) = subst DeskFits (sym same) fits
@@ -175,8 +175,7 @@ module _ {W : Type 0} (contents : W → Option (List ℕ)) (failures : W → Fai
   all_fit config begun (x ∷ past) d (took, before) = step x.before d x.call took (all_fit config begun past x.before before)
 
   pub kept_right : (config : ServerConfig) (begun : Following) (past : List (Event W)) (d : Desk) (j : Position) (bytes : List ℕ) → History contents failures config begun past d
-      → d.following.joining.state.joined ≡ Some j → kept_bytes d.seats j.next ≡ Some bytes → bytes ≡ whole j.market j.next config
+      → d.following.joining.state.joined ≡ Some j → kept_bytes d.seats j.next ≡ Some bytes → bytes ≡ session_bytes j.market j.next
   kept_right config begun past d j bytes history there is =
-      right_shot d.config d.seats j bytes (subst (λ o. AreFitting d.config o d.seats) there (all_fit config begun past d history))
-      (ap (λ k. option_or k (if nat_lt (length (kept d.seats)) most_snapshots then Some (whole j.market j.next d.config) else None)) is)
-      ∙ ap (λ c. whole j.market j.next c) (configured config begun past d history)
+      right_shot d.seats j bytes (subst (λ o. AreFitting o d.seats) there (all_fit config begun past d history))
+      (ap (λ k. option_or k (if nat_lt (length (kept d.seats)) most_snapshots then Some (session_bytes j.market j.next) else None)) is)

@@ -32,6 +32,7 @@ use Rattle.itch_soup.specs.declared.client.ClientAct.{ClientAct}
 use Rattle.itch_soup.specs.declared.client.ClientAct.TheVariants as act
 use Rattle.itch_live.specs.declared.news.Source.{Source}
 use Rattle.itch_live.specs.declared.news.Source.TheVariants as source
+use Rattle.itch_live.specs.declared.sessions.Sessions.{Sessions}
 use Rattle.itch_live.specs.declared.news.News.{News}
 use Rattle.itch_live.specs.Follows.{Following, Calls, Records, ActsOn, HearsFeed, snapshot_news}
 use Rattle.itch_live.specs.Feeds.{Did, Connects, Ticks, Hears, FitsAct, IsHonest, IsJoining, Followed}
@@ -326,8 +327,8 @@ module _ {W : Type 0} (contents : W → Option (List ℕ)) (failures : W → Fai
 
   heard : (past : List (Did W)) (piece : List ℕ) (now : ℕ) (result : ℕ × News) (old new : W) (f g : Following) → HearsFeed contents failures f piece now old result new g
       → IsHonest {W = W} R feed f (Hears piece now result old new) → IsJoining set 0 feed f → IsWritten result.1 → Kept past f old → Kept (Hears piece now result old new ∷ past) g new
-  heard past piece now result old new f g (held, took, inl (payload, block, (answer, named, t, means, inl (other, (says, shut, same, still))), login, from, none)) honest j written k =
-      unchanged past (Hears piece now result old new) f g old new (ap (λ (x : News × Option (List ℕ)). joined_in x.0) says) same (ap (λ x. x.state.joined) still) k
+  heard past piece now result old new f g (held, took, inl (payload, block, (answer, named, t, means, inl (other, is, (says, shut, same, still))), login, from, none)) honest j written k =
+      unchanged past (Hears piece now result old new) f g old new (ap (λ (x : News × Sessions). joined_in x.0) says) same (ap (λ x. x.state.joined) still) k
   heard past piece now result old new f g (held, took, inl (payload, block, (answer, named, t, means, inr (own, goes, (acts, pins))), login, from, none)) honest j written k =
       acted past piece now result old new f g f.source answer refl acts (honest held payload answer named t took block means) j written k
   heard past piece now result old new f g (held, took, inr (none, said, same, is)) honest j written k =

@@ -126,7 +126,7 @@ module _ {W : Type 0} (contents : W → Option (List ℕ)) (failures : W → Fai
   pub does : (f g : Following) (did : Did W) → Does contents failures f did g → Advances f.joining.state.joined g.joining.state.joined
   does f g (Connects now) is = same_position _ _ (ap (λ x. x.joining.state.joined) is ∙ restarted_same f.joining.state.joined f.joining.state)
   does f g (Ticks now) is = same_position _ _ (ap (λ x. x.joining.state.joined) is)
-  does f g (Hears piece now result old new) (held, took, inl (payload, block, (answer, named, t, means, inl (other, (says, shut, kept, same))), login, from, none)) =
+  does f g (Hears piece now result old new) (held, took, inl (payload, block, (answer, named, t, means, inl (other, is, (says, shut, kept, same))), login, from, none)) =
       same_position _ _ (ap (λ x. x.state.joined) same)
   does f g (Hears piece now result old new) (held, took, inl (payload, block, (answer, named, t, means, inr (own, goes, (acts, pins))), login, from, none)) =
       acted f.source answer f g old new result.1 acts
@@ -144,7 +144,7 @@ module _ {W : Type 0} (contents : W → Option (List ℕ)) (failures : W → Fai
   called d e (desks.Answers now count) is = same_position _ _ (ap (λ x. Of x) is ∙ by_joined (Of d)) where
     by_joined : (o : Option Position) → Of (answered_with o d count now) ≡ Of d
     by_joined None = refl
-    by_joined (Some j) = by_shot (shot_for d.config d.seats j.market j.next) where
+    by_joined (Some j) = by_shot (shot_for d.seats j.market j.next) where
       by_shot : (shot : Option (List ℕ)) → Of (with_shot shot d j.next count now) ≡ Of d
       by_shot None = refl
       by_shot (Some bytes) = refl

@@ -20,7 +20,7 @@ took_row d place count now (Some g) = length-set d place (Some (guests.took g co
 
 answered_row : (d : Desk) (count now : ℕ) (o : Option Position) → length (answered_with o d count now).seats ≡ length d.seats
 answered_row d count now None = refl
-answered_row d count now (Some j) = by_shot (shot_for d.config d.seats j.market j.next) where
+answered_row d count now (Some j) = by_shot (shot_for d.seats j.market j.next) where
   by_shot : (shot : Option (List ℕ)) → length (with_shot shot d j.next count now).seats ≡ length d.seats
   by_shot None = refl
   by_shot (Some bytes) =

@@ -5,13 +5,10 @@ use Rattle.itch_codec.specs.declared.message.Message.TheVariants as message
 use Rattle.itch_frame.specs.Blocks.{blocks}
 use Rattle.itch_market.specs.Content.{Content}
 use Rattle.itch_snapshot.specs.Snapshot.{snap}
-use Rattle.itch_soup.specs.declared.login.ServerConfig.{ServerConfig}
-use Rattle.itch_soup.specs.declared.packet.Packet.TheVariants as is
 use Rattle.itch_soup.specs.Packets.{packet_spelling}
-use Rattle.itch_soup.specs.Servers.{acceptance}
 use Rattle.itch_soup.specs.Sending.{session_packets}
-use Rattle.itch_live.specs.Guests.{whole}
+use Rattle.itch_live.specs.Guests.{session_bytes}
 
-pub same_bytes : (m n : Content) (next : ℕ) (config : ServerConfig) → snap m ≡ snap n → whole m next config ≡ whole n next config
-same_bytes m n next config same =
-    ap (λ (xs : List Message). blocks (map packet_spelling (is.LoginAccepted (acceptance config 1) ∷ session_packets (drop 0 (xs ++ message.End next ∷ []))))) same
+pub same_bytes : (m n : Content) (next : ℕ) → snap m ≡ snap n → session_bytes m next ≡ session_bytes n next
+same_bytes m n next same =
+    ap (λ (xs : List Message). blocks (map packet_spelling (session_packets (drop 0 (xs ++ message.End next ∷ []))))) same

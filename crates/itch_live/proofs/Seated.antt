@@ -1,5 +1,5 @@
 -- What stays true of each client and the snapshot that it is sent, over every call of a desk.
-use Rattle.std.proofs.Common.{◌≡◌, ℕ, ◌==◌, nat_lt, nat_le, ◌&&◌, ◌||◌, ◌-◌, ◌+◌, Bool, true, false, cond, if◌then◌else◌, List, [], ◌++◌, length, map, take, drop, Option, None, Some, option_map, refl, sym, ◌∙◌, subst, ◌⊎◌, inl, inr, set}
+use Rattle.std.proofs.Common.{◌≡◌, ℕ, ◌==◌, nat_lt, nat_le, ◌&&◌, ◌||◌, ◌-◌, ◌+◌, Bool, true, false, cond, if◌then◌else◌, List, [], ◌∷◌, ◌++◌, length, map, take, drop, Option, None, Some, option_map, refl, sym, ◌∙◌, subst, ◌⊎◌, inl, inr, set}
 use Rattle.itch_soup.specs.declared.packet.LoginRequest.{LoginRequest}
 use Rattle.itch_soup.specs.declared.server.ServerAct.{ServerAct}
 use Rattle.itch_soup.specs.declared.server.ServerAct.TheVariants as act
@@ -22,12 +22,12 @@ one_guest {g} {h} same = cc
 
 -- where it is true of one that is sent no snapshot, it stays true
 module _ (P : Option ℕ → Option (List ℕ) → Type 0) (none : (told : Option (List ℕ)) → P None told) where
-  by_act : (a : ServerAct) (login : Option LoginRequest) (g : Guest) → Holds P g → Holds P (after_act a login g)
-  by_act (act.Accept n) login g holds = holds
-  by_act (act.Reject code) login g holds = none (Some (guests.refusal code))
-  by_act act.Nothing login g holds = holds
-  by_act act.Close login g holds = holds
-  by_act (act.Fault fault) login g holds = holds
+  by_act : (a : ServerAct) (login : Option LoginRequest) (now : ℕ) (g : Guest) → Holds P g → Holds P (after_act a login now g)
+  by_act (act.Accept n) login now g holds = holds
+  by_act (act.Reject code) login now g holds = holds
+  by_act act.Nothing login now g holds = holds
+  by_act act.Close login now g holds = holds
+  by_act (act.Fault fault) login now g holds = holds
 
   either : (b : Bool) (g h : Guest) → Holds P g → Holds P h → Holds P (if b then g else h)
   either true g h one other = one
@@ -37,17 +37,23 @@ module _ (P : Option ℕ → Option (List ℕ) → Type 0) (none : (told : Optio
   hears g h piece now n (inl (deaf, all, same)) holds = subst (λ x. Holds P x) (sym same) holds
   hears g h piece now n (inr (listens, (held, took, inl (payload, block, inl (packet, spelled, is))))) holds =
       subst (λ x. Holds P x) (sym is)
-      (by_act (server_answer g.session packet) (login_in packet) (record g { held = []; session = server_after_packet g.session packet now; moved = moved_by_words g now }) holds)
+      (by_act (server_answer g.session packet) (login_in packet) now (record g { held = []; session = server_after_packet g.session packet now; moved = moved_by_words g now }) holds)
   hears g h piece now n (inr (listens, (held, took, inl (payload, block, inr (fault, at, is))))) holds = subst (λ x. Holds P x) (sym is) holds
   hears g h piece now n (inr (listens, (held, took, inr (empty, is)))) holds = subst (λ x. Holds P x) (sym is) holds
 
-  takes : (g : Guest) (count now : ℕ) → Holds P g → Holds P (guests.took g count now)
-  takes g count now holds =
+  takes_of : (notes : List ℕ) (g : Guest) (count now : ℕ) → Holds P g → Holds P (guests.took_of notes g count now)
+  takes_of [] g count now holds =
       either (nat_lt 0 count && (nat_le 65536 (g.taken + count - g.marked) || g.taken + count == length (guests.bytes_of g.told)))
       (record g { taken = g.taken + count; moved = now; marked = g.taken + count }) (record g { taken = g.taken + count }) holds holds
+  takes_of (b ∷ notes) g count now holds = holds
+
+  takes : (g : Guest) (count now : ℕ) → Holds P g → Holds P (guests.took g count now)
+  takes g count now holds = takes_of g.notes g count now holds
 
   ticks : (now : ℕ) (g : Guest) → Holds P g → Holds P (guests.ticked g now)
-  ticks now g holds = either (nat_le 15000 (now - g.moved)) (guests.gone_for reason.Silent g) g holds holds
+  ticks now g holds =
+      either (guests.is_silent g now) (guests.gone_for reason.Silent g) (if guests.is_idle g now then guests.with_heartbeat g now else g) holds
+      (either (guests.is_idle g now) (guests.with_heartbeat g now) g holds holds)
 
   answers : (bytes : List ℕ) (next now : ℕ) → P (Some next) (Some bytes) → (g : Guest) → Holds P g → Holds P (answered_if bytes next now g)
   answers bytes next now right g holds = either (is_waiting g) (guests.answered g bytes next now) g right holds

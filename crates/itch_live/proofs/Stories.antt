@@ -1,17 +1,33 @@
 -- What a client is sent.
-use Rattle.std.proofs.Common.{◌≡◌, ℕ, List, [], ◌∷◌, ◌++◌, take, drop, Option, None, Some, refl, sym, ap, subst, ◌∙◌, inl, inr, ◌⊎◌}
-use Rattle.std.proofs.lemmas.List.{take-append-drop}
+use Rattle.std.proofs.Common.{ℕ, List, [], ◌∷◌, ◌++◌, Option, None, Some, refl, sym, ap, subst, inl, inr}
 use Rattle.itch_soup.specs.declared.login.ServerConfig.{ServerConfig}
-use Rattle.itch_live.specs.Guests.{Guest, bytes_of}
-use Rattle.itch_live.specs.Stories.{Happening, Hears, Answers, Takes, Ticks, Leaves, Story, IsAnswer, IsRefusal, IsTold, IsBeginning, IsSentRight}
-use Rattle.itch_live.proofs.Sound.{IsSound, Permits, Rejects, new_sound, weaken, step}
+use Rattle.itch_soup.specs.declared.packet.LoginRequest.{LoginRequest}
+use Rattle.itch_live.specs.Guests.{Guest, refusal}
+use Rattle.itch_live.specs.Stories.{Happening, Hears, Answers, Takes, Ticks, Leaves, Story, IsAnswer, IsRefusal, IsWelcome, IsTold, IsSentRight}
+use Rattle.itch_live.proofs.Sound.{Kind, Refused, Greeted, Answered, IsWhole, rest_of, IsSound, Permits, Rejects, Greets, new_sound, weaken, step}
 
 -- what a client may be told
-abbrev pub MayBeTold : ServerConfig → ℕ → List Happening → List ℕ → Type 0
-MayBeTold config begun past bytes = IsRefusal config begun past bytes ⊎ IsAnswer config begun past bytes
+abbrev pub MayBeTold : ServerConfig → ℕ → List Happening → Kind → Type 0
+MayBeTold config begun past (Refused code) = IsRefusal config begun past (refusal code)
+MayBeTold config begun past Greeted = IsWelcome config begun past
+MayBeTold config begun past (Answered bytes) = IsAnswer config begun past bytes
 
-still_told : (config : ServerConfig) (begun : ℕ) (e : Happening) (past : List Happening) (bytes : List ℕ) → MayBeTold config begun past bytes → MayBeTold config begun (e ∷ past) bytes
-still_told config begun e past bytes (inl r) = inl (record {
+still_told : (config : ServerConfig) (begun : ℕ) (e : Happening) (past : List Happening) (k : Kind) → MayBeTold config begun past k → MayBeTold config begun (e ∷ past) k
+still_told config begun e past Greeted w = record {
+  later = e ∷ w.later;
+  before = w.before;
+  piece = w.piece;
+  now = w.now;
+  count = w.count;
+  place = ap (λ es. e ∷ es) w.place;
+  hearing = w.hearing;
+  so_far = w.so_far;
+  story = w.story;
+  login = w.login;
+  came = w.came;
+  accepted = w.accepted;
+}
+still_told config begun e past (Refused code) r = record {
   later = e ∷ r.later;
   before = r.before;
   piece = r.piece;
@@ -26,8 +42,8 @@ still_told config begun e past bytes (inl r) = inl (record {
   code = r.code;
   rejected = r.rejected;
   is = r.is;
-})
-still_told config begun e past bytes (inr a) = inr (record {
+}
+still_told config begun e past (Answered bytes) a = record {
   later = e ∷ a.later;
   before = a.before;
   m = a.m;
@@ -41,13 +57,13 @@ still_told config begun e past bytes (inr a) = inr (record {
   asked = a.asked;
   accepted = a.accepted;
   is = a.is;
-})
+}
 
 -- an answer that is handed in now
 permitted : (config : ServerConfig) (begun : ℕ) (past : List Happening) (g : Guest) (so_far : List ℕ) (e : Happening) → Story config begun past g so_far
     → Permits config (MayBeTold config begun (e ∷ past)) g e
 permitted config begun past g so_far (Hears piece now n) story = tt
-permitted config begun past g so_far (Answers m next now) story = λ login asked accepted. inr (record {
+permitted config begun past g so_far (Answers m next now) story = λ login asked accepted. record {
   later = [];
   before = past;
   m = m;
@@ -61,7 +77,7 @@ permitted config begun past g so_far (Answers m next now) story = λ login asked
   asked = asked;
   accepted = accepted;
   is = refl;
-})
+}
 permitted config begun past g so_far (Takes count now) story = tt
 permitted config begun past g so_far (Ticks now) story = tt
 permitted config begun past g so_far Leaves story = tt
@@ -69,7 +85,7 @@ permitted config begun past g so_far Leaves story = tt
 -- a rejection now
 refused_now : (config : ServerConfig) (begun : ℕ) (past : List Happening) (g : Guest) (so_far : List ℕ) (e : Happening) → Story config begun past g so_far
     → Rejects config (MayBeTold config begun (e ∷ past)) g e
-refused_now config begun past g so_far (Hears piece now n) story = λ login code came rejected. inl (record {
+refused_now config begun past g so_far (Hears piece now n) story = λ login code came rejected. record {
   later = [];
   before = past;
   piece = piece;
@@ -84,31 +100,50 @@ refused_now config begun past g so_far (Hears piece now n) story = λ login code
   code = code;
   rejected = rejected;
   is = refl;
-})
+}
 refused_now config begun past g so_far (Answers m next now) story = tt
 refused_now config begun past g so_far (Takes count now) story = tt
 refused_now config begun past g so_far (Ticks now) story = tt
 refused_now config begun past g so_far Leaves story = tt
 
-sound : (config : ServerConfig) (begun : ℕ) (past : List Happening) (g : Guest) (sent : List ℕ) → Story config begun past g sent → IsSound config (MayBeTold config begun past) sent g
+-- an acceptance now
+greeted_now : (config : ServerConfig) (begun : ℕ) (past : List Happening) (g : Guest) (so_far : List ℕ) (e : Happening) → Story config begun past g so_far
+    → Greets config (MayBeTold config begun (e ∷ past)) g e
+greeted_now config begun past g so_far (Hears piece now n) story = λ login came accepted. record {
+  later = [];
+  before = past;
+  piece = piece;
+  now = now;
+  count = n;
+  place = refl;
+  hearing = g;
+  so_far = so_far;
+  story = story;
+  login = login;
+  came = came;
+  accepted = accepted;
+}
+greeted_now config begun past g so_far (Answers m next now) story = tt
+greeted_now config begun past g so_far (Takes count now) story = tt
+greeted_now config begun past g so_far (Ticks now) story = tt
+greeted_now config begun past g so_far Leaves story = tt
+
+pub sound : (config : ServerConfig) (begun : ℕ) (past : List Happening) (g : Guest) (sent : List ℕ) → Story config begun past g sent → IsSound config (MayBeTold config begun past) sent g
 sound config begun [] g sent (is, none) =
     subst (λ x. IsSound config (MayBeTold config begun []) x g) (sym none)
     (subst (λ x. IsSound config (MayBeTold config begun []) [] x) (sym is) (new_sound config (MayBeTold config begun []) begun))
 sound config begun (e ∷ past) g sent (f, so_far, story, becomes, is) =
     subst (λ x. IsSound config (MayBeTold config begun (e ∷ past)) x g) (sym is)
     (step config (MayBeTold config begun (e ∷ past)) so_far f g e becomes (permitted config begun past f so_far e story) (refused_now config begun past f so_far e story)
-    (weaken config _ _ so_far f (still_told config begun e past) (sound config begun past f so_far story)))
+    (greeted_now config begun past f so_far e story) (weaken config _ _ so_far f (still_told config begun e past) (sound config begun past f so_far story)))
 
-told_all : (config : ServerConfig) (begun : ℕ) (past : List Happening) (told : Option (List ℕ)) → ((bytes : List ℕ) → told ≡ Some bytes → MayBeTold config begun past bytes)
-    → IsTold config begun past (bytes_of told)
-told_all config begun past None fits = inl refl
-told_all config begun past (Some bytes) fits = inr (fits bytes refl)
-
-pub beginning : (g : Guest) (sent : List ℕ) → sent ≡ take g.taken (bytes_of g.told) → IsBeginning sent (bytes_of g.told)
-beginning g sent is =
-    (drop g.taken (bytes_of g.told), sym (take-append-drop g.taken (bytes_of g.told)) ∙ ap (λ front. front ++ drop g.taken (bytes_of g.told)) (sym is))
+told_all : (config : ServerConfig) (begun : ℕ) (past : List Happening) (asked : Option LoginRequest) (rejection : Option ℕ) (told : Option (List ℕ)) (bytes : List ℕ)
+    → IsWhole config (MayBeTold config begun past) asked rejection told bytes → IsTold config begun past bytes
+told_all config begun past None None told bytes is = inl is
+told_all config begun past None (Some code) told bytes (refused, is) = inr (inl (subst (IsRefusal config begun past) (sym is) refused))
+told_all config begun past (Some login) rejection None bytes (beats, welcomed, is) = inr (inr (inl (beats, welcomed, is)))
+told_all config begun past (Some login) rejection (Some rest) bytes (beats, answer, is) = inr (inr (inr (beats, rest, answer, is)))
 
 pub sent_right : (config : ServerConfig) (begun : ℕ) (past : List Happening) (g : Guest) (sent : List ℕ) → Story config begun past g sent → IsSentRight config begun past sent
 sent_right config begun past g sent story =
-    let s = sound config begun past g sent story in
-    (bytes_of g.told, told_all config begun past g.told s.told, beginning g sent s.sent_is)
+    (sent ++ rest_of g, told_all config begun past g.asked g.rejection g.told (sent ++ rest_of g) (sound config begun past g sent story).whole, (rest_of g, refl))

@@ -8,7 +8,7 @@ use Rattle.itch_frame.specs.declared.tally.Failures.{Failures}
 use Rattle.itch_join.specs.Positions.{Position}
 use Rattle.itch_soup.specs.declared.login.ServerConfig.{ServerConfig}
 use Rattle.itch_live.specs.Guests as guests
-use Rattle.itch_live.specs.Guests.{Guest, whole, new_guest, pending}
+use Rattle.itch_live.specs.Guests.{Guest, session_bytes, new_guest, pending}
 use Rattle.itch_live.specs.Seats.{Seats, guest_at, HearsBy, pending_of, took_by, took_at, answered_seat, ticked_seat}
 use Rattle.itch_live.specs.Follows.{Following}
 use Rattle.itch_live.specs.Stories as stories
@@ -106,23 +106,23 @@ module _ {W : Type 0} (contents : W → Option (List ℕ)) (failures : W → Fai
 
   -- what is handed in is the present market's snapshot
   abbrev IsRight : Desk → Type 0
-  IsRight d = (j : Position) → d.following.joining.state.joined ≡ Some j → (bytes : List ℕ) → shot_for d.config d.seats j.market j.next ≡ Some bytes → bytes ≡ whole j.market j.next d.config
+  IsRight d = (j : Position) → d.following.joining.state.joined ≡ Some j → (bytes : List ℕ) → shot_for d.seats j.market j.next ≡ Some bytes → bytes ≡ session_bytes j.market j.next
 
   -- an answer, where there is a market
   handed : (visit : Option Visit) (d : Desk) (so_far : List ℕ) (now count : ℕ) (joined : Option Position) → d.following.joining.state.joined ≡ joined → d.config ≡ config → IsRight d
       → Stands visit d so_far → IsVisit config (answers joined d (nat_lt k count) now visit) (guest_at (answered_with joined d count now).seats k) so_far
   handed visit d so_far now count None there cfg right is = is
-  handed visit d so_far now count (Some j) there cfg right is = by_shot (shot_for d.config d.seats j.market j.next) refl where
-    by_test : (bytes : List ℕ) (b : Bool) → bytes ≡ whole j.market j.next d.config
+  handed visit d so_far now count (Some j) there cfg right is = by_shot (shot_for d.seats j.market j.next) refl where
+    by_test : (bytes : List ℕ) (b : Bool) → bytes ≡ session_bytes j.market j.next
         → guest_at (with_shot (Some bytes) d j.next count now).seats k ≡ cond b (answered_seat bytes j.next now (guest_at d.seats k)) (guest_at d.seats k)
         → IsVisit config (if b then with (stories.Answers j.market j.next now) visit else visit) (guest_at (with_shot (Some bytes) d j.next count now).seats k) so_far
     by_test bytes false whole_is at = along config visit _ _ so_far at is
     by_test bytes true whole_is at =
         along config (with (stories.Answers j.market j.next now) visit) _ _ so_far at
         (happens config visit (guest_at d.seats k) (guests.answered_if bytes j.next now) so_far (stories.Answers j.market j.next now) is
-        (λ g. ap (λ b. guests.answered_if b j.next now g) (whole_is ∙ ap (λ c. whole j.market j.next c) cfg)) (λ g. refl))
+        (λ g. ap (λ b. guests.answered_if b j.next now g) whole_is) (λ g. refl))
 
-    by_shot : (shot : Option (List ℕ)) → shot_for d.config d.seats j.market j.next ≡ shot
+    by_shot : (shot : Option (List ℕ)) → shot_for d.seats j.market j.next ≡ shot
         → IsVisit config (if is_some shot && nat_lt k count then with (stories.Answers j.market j.next now) visit else visit) (guest_at (with_shot shot d j.next count now).seats k) so_far
     by_shot None none = is
     by_shot (Some bytes) some = by_test bytes (nat_lt k count) (right j there bytes some) (at_first (answered_seat bytes j.next now) d.seats count k refl)
@@ -165,5 +165,5 @@ module _ {W : Type 0} (contents : W → Option (List ℕ)) (failures : W → Fai
   visits begun [] d (places, is) = along config None None (guest_at d.seats k) [] (ap (λ x. guest_at x.seats k) is ∙ none_seated places k) refl
   visits begun (x ∷ past) d (took, before) =
       step (visit_at k past) x.before d (sent_at k past) x.call (configured contents failures config begun past x.before before)
-      (λ j there bytes is. right_shot x.before.config x.before.seats j bytes
-      (subst (λ o. AreFitting x.before.config o x.before.seats) there (all_fit contents failures config begun past x.before before)) is) took (visits begun past x.before before)
+      (λ j there bytes is. right_shot x.before.seats j bytes
+      (subst (λ o. AreFitting o x.before.seats) there (all_fit contents failures config begun past x.before before)) is) took (visits begun past x.before before)

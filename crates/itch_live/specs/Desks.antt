@@ -1,12 +1,13 @@
 -- A follower and its clients, over every list of calls.
-use Rattle.std.specs.Prelude.{◌≡◌, ℕ, ◌≤◌, ◌==◌, ◌++◌, List, [], ◌∷◌, length, take, Option, None, Some, Result, Ok, Err, slice_set, replicate, nat_lt, if◌then◌else◌}
+use Rattle.std.specs.Prelude.{◌≡◌, ℕ, ◌≤◌, ◌==◌, ◌++◌, Bool, false, List, [], ◌∷◌, length, take, Option, None, Some, Result, Ok, Err, slice_set, replicate, nat_lt, if◌then◌else◌}
+use Rattle.std.specs.List.{AllByRecursion}
 use Rattle.std.specs.declared.alloc.AllocError.{AllocError}
 use Rattle.itch_frame.specs.declared.tally.Failures.{Failures}
 use Rattle.itch_market.specs.Content.{Content}
 use Rattle.itch_join.specs.Positions.{Position}
 use Rattle.std.specs.Option.{option_or}
 use Rattle.itch_soup.specs.declared.login.ServerConfig.{ServerConfig}
-use Rattle.itch_live.specs.Guests.{whole, new_guest}
+use Rattle.itch_live.specs.Guests.{session_bytes, new_guest}
 use Rattle.itch_live.specs.Seats as seating
 use Rattle.itch_live.specs.Seats.{Seats, guest_at, pending_of, IsFree, AreTaken}
 use Rattle.itch_live.specs.Kept.{kept, kept_bytes, most_snapshots}
@@ -30,9 +31,9 @@ Accepts d now (Ok None) e = AreTaken d.seats × (e ≡ d)
 Accepts d now (Err error) e = e ≡ d
 
 -- what those who wait are handed at this number: the snapshot of the number that is kept, or else the market's, unless eight others are kept
-abbrev pub shot_for : ServerConfig → Seats → Content → ℕ → Option (List ℕ)
-shot_for config seats market next =
-    option_or (kept_bytes seats next) (if nat_lt (length (kept seats)) most_snapshots then Some (whole market next config) else None)
+abbrev pub shot_for : Seats → Content → ℕ → Option (List ℕ)
+shot_for seats market next =
+    option_or (kept_bytes seats next) (if nat_lt (length (kept seats)) most_snapshots then Some (session_bytes market next) else None)
 
 -- those at the first `count` places are handed it
 abbrev pub with_shot : Option (List ℕ) → Desk → ℕ → ℕ → ℕ → Desk
@@ -40,7 +41,7 @@ with_shot shot d next count now = record d { seats = seating.handed shot next no
 
 abbrev pub answered_with : Option Position → Desk → ℕ → ℕ → Desk
 answered_with None d count now = d
-answered_with (Some j) d count now = with_shot (shot_for d.config d.seats j.market j.next) d j.next count now
+answered_with (Some j) d count now = with_shot (shot_for d.seats j.market j.next) d j.next count now
 
 -- those who wait at the first `count` places are answered, once there is a market
 abbrev pub answered : Desk → ℕ → ℕ → Desk
@@ -76,6 +77,16 @@ module _ {W : Type 0} (contents : W → Option (List ℕ)) (failures : W → Fai
   abbrev pub History : ServerConfig → Following → List (Event W) → Desk → Type 0
   History config begun [] d = (places : ℕ) × (d ≡ new_desk config begun places)
   History config begun (x ∷ past) d = Step x.before x.call d × History config begun past x.before
+
+-- a client came to this place, or left it
+abbrev pub changes : {W : Type 0} → ℕ → Call W → Bool
+changes k (Admits now (Ok (Some place))) = place == k
+changes k (Leaves place) = place == k
+changes k other = false
+
+-- the client at this place stayed there in these calls, and no other came
+abbrev pub Stays : {W : Type 0} → ℕ → List (Event W) → Type 0
+Stays k past = AllByRecursion (λ x. changes k x.call ≡ false) past
 
 -- the bytes that the socket of the present client at this place took
 abbrev pub sent_by : {W : Type 0} → Call W → Desk → ℕ → List ℕ → List ℕ

@@ -6,12 +6,11 @@ use Rattle.itch_soup.specs.declared.login.ServerConfig.{ServerConfig}
 use Rattle.itch_soup.specs.declared.packet.LoginRequest.{LoginRequest}
 use Rattle.itch_soup.specs.declared.server.ServerAct.TheVariants as act
 use Rattle.itch_soup.specs.Servers.{judged}
-use Rattle.itch_soup.specs.Sending.{served}
-use Rattle.itch_live.specs.Guests.{Guest}
+use Rattle.itch_live.specs.Guests.{Guest, session_bytes}
 use Rattle.itch_live.specs.Seats.{guest_at}
 use Rattle.itch_live.specs.Feeds.{Did, IsHonest}
-use Rattle.itch_live.specs.Stories.{IsBeginning, IsRefusal}
-use Rattle.itch_live.specs.Desks.{Desk, Call, Feeds, Answers, Event}
+use Rattle.itch_live.specs.Stories.{IsBeginning, IsRefusal, IsGreeting, greeting}
+use Rattle.itch_live.specs.Desks.{Desk, Call, Feeds, Answers, Event, Stays}
 use Rattle.itch_live.specs.Visits.{Visit, visit_at}
 
 -- the calls of a desk's follower
@@ -32,8 +31,9 @@ abbrev pub AreHonest : {W : Type 0} → Rules → List (List ℕ) → List (Even
 AreHonest R feed [] = Unit {0}
 AreHonest R feed (x ∷ past) = IsHonestCall R feed x.before x.call × AreHonest R feed past
 
--- The answer to the login of a client at this place. It was handed in by one of these calls, after the login had come, and is the snapshot of the
--- market after exactly the messages of the feed before the one that was the next then, with that one's number.
+-- The answer to the login of the present client at this place. It was handed in by one of these calls, after this client's login had come, since when
+-- it has stayed at its place, and is the snapshot of the market after exactly the messages of the feed before the one that was the next then, with that
+-- one's number.
 pub record IsFeedAnswer {W : Type 0} (R : Rules) (feed : List (List ℕ)) (config : ServerConfig) (k : ℕ) (past : List (Event W)) (bytes : List ℕ) : Type 0 where
   pub later : List (Event W)
   pub at : Event W
@@ -42,6 +42,12 @@ pub record IsFeedAnswer {W : Type 0} (R : Rules) (feed : List (List ℕ)) (confi
   pub now : ℕ
   pub count : ℕ
   pub handed : at.call ≡ Answers now count
+  pub stayed : Stays k later
+  pub visit : Visit
+  pub present : visit_at k past ≡ Some visit
+  pub earlier : Visit
+  pub visiting : visit_at k before ≡ Some earlier
+  pub same_begun : visit.begun ≡ earlier.begun
   pub waiting : Guest
   pub there : guest_at at.before.seats k ≡ Some waiting
   pub login : LoginRequest
@@ -51,15 +57,23 @@ pub record IsFeedAnswer {W : Type 0} (R : Rules) (feed : List (List ℕ)) (confi
   pub position : at.before.following.joining.state.joined ≡ Some joined
   pub positive : 0 < joined.next
   pub to_bad : joined.next ≤ bad R feed
-  pub is : bytes ≡ served (run R (take (joined.next - 1) feed)) joined.next config login
+  pub is : bytes ≡ session_bytes (run R (take (joined.next - 1) feed)) joined.next
 
 -- the rejection of a login that the client at this place has sent
 abbrev pub IsRefusalAt : {W : Type 0} → ServerConfig → ℕ → List (Event W) → List ℕ → Type 0
 IsRefusalAt config k past bytes = (visit : Visit) × (visit_at k past ≡ Some visit) × IsRefusal config visit.begun visit.past bytes
 
--- what a client is told in all: nothing, the rejection of its login, or the answer to it
+-- the acceptance of a login that the client at this place has sent, and heartbeats
+abbrev pub IsGreetingAt : {W : Type 0} → ServerConfig → ℕ → List (Event W) → List ℕ → Type 0
+IsGreetingAt config k past bytes = (visit : Visit) × (visit_at k past ≡ Some visit) × IsGreeting config visit.begun visit.past bytes
+
+-- the same, and then the answer to it
+abbrev pub IsGreetingAndFeedAnswer : {W : Type 0} → Rules → List (List ℕ) → ServerConfig → ℕ → List (Event W) → List ℕ → Type 0
+IsGreetingAndFeedAnswer R feed config k past bytes = (beats : ℕ) × (rest : List ℕ) × IsFeedAnswer R feed config k past rest × (bytes ≡ greeting config beats ++ rest)
+
+-- what a client is told in all: nothing, the rejection of its login, its acceptance and heartbeats, or those and then the answer to it
 abbrev pub IsToldOfFeed : {W : Type 0} → Rules → List (List ℕ) → ServerConfig → ℕ → List (Event W) → List ℕ → Type 0
-IsToldOfFeed R feed config k past bytes = (bytes ≡ []) ⊎ IsRefusalAt config k past bytes ⊎ IsFeedAnswer R feed config k past bytes
+IsToldOfFeed R feed config k past bytes = (bytes ≡ []) ⊎ IsRefusalAt config k past bytes ⊎ IsGreetingAt config k past bytes ⊎ IsGreetingAndFeedAnswer R feed config k past bytes
 
 -- what was sent is the beginning of that, and no more
 abbrev pub IsSentOfFeed : {W : Type 0} → Rules → List (List ℕ) → ServerConfig → ℕ → List (Event W) → List ℕ → Type 0

@@ -1,6 +1,5 @@
 -- What follows a feed, call by call.
-use Rattle.std.specs.Prelude.{◌≡◌, ℕ, ◌^◌, min, ◌⊎◌, Bool, true, false, not, List, [], Option, None, Some, Result, Ok, Err, if◌then◌else◌}
-use Rattle.std.specs.Str.{bytes_eq}
+use Rattle.std.specs.Prelude.{◌≡◌, ℕ, ◌^◌, min, ◌⊎◌, List, [], Option, None, Some, Result, Ok, Err}
 use Rattle.itch_frame.specs.Blocks.{IsBlock, IsBlockOf}
 use Rattle.itch_frame.specs.Cuts.{IsTake}
 use Rattle.itch_frame.specs.Writing.{WriteBlock}
@@ -23,26 +22,27 @@ use Rattle.itch_soup.specs.declared.client.ClientAct.{ClientAct}
 use Rattle.itch_soup.specs.declared.client.ClientAct.TheVariants as act
 use Rattle.itch_soup.specs.declared.origin.Origin.TheVariants.{Server}
 use Rattle.itch_soup.specs.declared.fault.SoupFault.{SoupFault}
-use Rattle.itch_soup.specs.Names.{session_name}
 use Rattle.itch_soup.specs.Packets.{PacketSpells, packet_fault}
 use Rattle.itch_soup.specs.Clients.{Client, new_client, client_answer, client_after_packet, client_after_tick}
 use Rattle.itch_live.specs.declared.news.Source.{Source}
 use Rattle.itch_live.specs.declared.news.Source.TheVariants as source
 use Rattle.itch_live.specs.declared.news.News.{News}
 use Rattle.itch_live.specs.declared.news.News.TheVariants as news
+use Rattle.itch_live.specs.declared.sessions.Sessions.{Sessions}
+use Rattle.itch_live.specs.Sessions.{expected, other_name, known_after}
 
--- what follows a feed: whom it logs in as, the session that the feed named first, what it is connected to, the bytes held of an unfinished packet,
+-- what follows a feed: whom it logs in as, the sessions that are known by name, what it is connected to, the bytes held of an unfinished packet,
 -- its session, and its joiner
 pub record Following : Type 0 where
   pub credentials : Credentials
-  pub pinned : Option (List ℕ)
+  pub sessions : Sessions
   pub source : Source
   pub held : List ℕ
   pub session : Client
   pub joining : Joining
 
-abbrev pub new_following : Credentials → Joining → ℕ → Following
-new_following credentials joining now = record { credentials = credentials; pinned = None; source = source.Live; held = []; session = new_client credentials 0 now; joining = joining }
+abbrev pub new_following : Credentials → Sessions → Joining → ℕ → Following
+new_following credentials known joining now = record { credentials = credentials; sessions = known; source = source.Live; held = []; session = new_client credentials 0 now; joining = joining }
 
 -- while there is no market the whole of a snapshot is asked for, and from then on the feed's messages from the next number on
 abbrev pub source_for : Option Position → Source
@@ -53,40 +53,39 @@ abbrev pub asked_from : Option Position → ℕ
 asked_from None = 1
 asked_from (Some j) = min j.next (10 ^ 19)
 
--- what a connection logs in with: the live feed is asked for the session that it named first
-abbrev pub asking : Credentials → Option (List ℕ) → Source → Credentials
-asking credentials pinned source.Glimpse = credentials
-asking credentials None source.Live = credentials
-asking credentials (Some session) source.Live = record credentials { session = session }
+-- what a connection logs in with: it asks for the session that is expected, or for that of the credentials while none is
+abbrev pub asking : Credentials → Option (List ℕ) → Credentials
+asking credentials None = credentials
+asking credentials (Some session) = record credentials { session = session }
 
 -- the session that a packet names where it accepts a login
 abbrev pub named_in : Packet → Option (List ℕ)
 named_in (is.LoginAccepted login) = Some login.session
 named_in packet = None
 
--- the session to ask for from now on: that of the first acceptance by the live feed
-abbrev pub pinned_after : Option (List ℕ) → Source → Bool → Option (List ℕ) → Option (List ℕ)
-pinned_after (Some session) from accepted named = Some session
-pinned_after None source.Glimpse accepted named = None
-pinned_after None source.Live accepted named = if accepted then named else None
+-- the same, where the login was to be accepted
+abbrev pub accepted_as : ClientAct → Option (List ℕ) → Option (List ℕ)
+accepted_as (act.Accepted next) named = named
+accepted_as other named = None
 
--- the live feed accepts a login in the name of another session than the one that it named first, apart from the spaces round the names
-abbrev pub names_other : Option (List ℕ) → Source → Bool → Option (List ℕ) → Bool
-names_other (Some pinned) source.Live true (Some named) = not (bytes_eq (session_name pinned) (session_name named))
-names_other pinned from accepted named = false
+-- what a packet brought, or that its connection is shut because it is of this other session
+abbrev pub news_or : Option (List ℕ) → News → News
+news_or None told = told
+news_or (Some other) told = news.OtherSession other
 
-abbrev pub is_accepted : ClientAct → Bool
-is_accepted (act.Accepted next) = true
-is_accepted other = false
+-- nothing of the connection is taken from then on: its session is closed, as if it had ended
+abbrev pub shut_if : Option (List ℕ) → Client → ℕ → Client
+shut_if None s now = s
+shut_if (Some other) s now = client_after_packet s is.EndOfSession now
 
 -- a connection is begun: what was heard of an unfinished packet and of an unfinished snapshot is dropped
 abbrev pub connected : Following → ℕ → Following
 connected f now = record {
   credentials = f.credentials;
-  pinned = f.pinned;
+  sessions = f.sessions;
   source = source_for f.joining.state.joined;
   held = [];
-  session = new_client (asking f.credentials f.pinned (source_for f.joining.state.joined)) (asked_from f.joining.state.joined) now;
+  session = new_client (asking f.credentials (expected f.sessions (source_for f.joining.state.joined))) (asked_from f.joining.state.joined) now;
   joining = record { cap = f.joining.cap; set = f.joining.set; state = restarted f.joining.state.joined f.joining.state };
 }
 
@@ -140,27 +139,27 @@ module _ {W : Type 0} (contents : W → Option (List ℕ)) (failures : W → Fai
   ActsOn from act.Ended old record_old told record_new new = (told ≡ news.Ended) × (record_new ≡ record_old) × (new ≡ old)
   ActsOn from (act.Fault fault) old record_old told record_new new = (told ≡ news.Broken fault) × (record_new ≡ record_old) × (new ≡ old)
 
-  -- what a packet means is done, and the session that it names is asked for from now on if it is the first
-  abbrev pub TakesPacket : Source → Option (List ℕ) → ClientAct → Option (List ℕ) → Joining → W → News × Option (List ℕ) → W → Joining → Type 0
-  TakesPacket from pinned answer named old record_old result record_new new =
-      ActsOn from answer old record_old result.0 record_new new × (result.1 ≡ pinned_after pinned from (is_accepted answer) named)
+  -- what a packet means is done, and the session in whose name it accepts a login is known from now on
+  abbrev pub TakesPacket : Source → Sessions → ClientAct → Option (List ℕ) → Joining → W → News × Sessions → W → Joining → Type 0
+  TakesPacket from known answer accepted old record_old result record_new new =
+      ActsOn from answer old record_old result.0 record_new new × (result.1 ≡ known_after known from accepted)
 
   -- nothing of the connection is taken from now on: its session is closed, as if it had ended
-  abbrev pub Shuts : Option (List ℕ) → Client → Joining → ℕ → W → News × Option (List ℕ) → W → Client → Joining → Type 0
-  Shuts pinned s old now record_old result record_new t new =
-      (result ≡ (news.OtherSession, pinned)) × (t ≡ client_after_packet s is.EndOfSession now) × (record_new ≡ record_old) × (new ≡ old)
+  abbrev pub Shuts : Sessions → List ℕ → Client → Joining → ℕ → W → News × Sessions → W → Client → Joining → Type 0
+  Shuts known other s old now record_old result record_new t new =
+      (result ≡ (news.OtherSession other, known)) × (t ≡ client_after_packet s is.EndOfSession now) × (record_new ≡ record_old) × (new ≡ old)
 
-  -- what a payload means is done, unless it accepts a login in the name of another session than the first
-  abbrev pub HearsPacket : Source → Option (List ℕ) → Client → Joining → List ℕ → ℕ → W → News × Option (List ℕ) → W → Client → Joining → Type 0
-  HearsPacket from pinned s old payload now record_old result record_new t new =
+  -- what a payload means is done, unless it accepts a login in the name of another session than the one that is expected
+  abbrev pub HearsPacket : Source → Sessions → Client → Joining → List ℕ → ℕ → W → News × Sessions → W → Client → Joining → Type 0
+  HearsPacket from known s old payload now record_old result record_new t new =
       (answer : ClientAct) × (named : Option (List ℕ)) × (heard : Client) × Means s payload now answer named heard
-      × (((names_other pinned from (is_accepted answer) named ≡ true) × Shuts pinned heard old now record_old result record_new t new)
-      ⊎ ((names_other pinned from (is_accepted answer) named ≡ false) × (t ≡ heard) × TakesPacket from pinned answer named old record_old result record_new new))
+      × (((other : List ℕ) × (other_name (expected known from) (accepted_as answer named) ≡ Some other) × Shuts known other heard old now record_old result record_new t new)
+      ⊎ ((other_name (expected known from) (accepted_as answer named) ≡ None) × (t ≡ heard) × TakesPacket from known answer (accepted_as answer named) old record_old result record_new new))
 
   -- the bytes held and those taken are a whole packet, which is heard, or less than one
   abbrev pub HearsHeld : Following → List ℕ → ℕ → W → News → W → Following → Type 0
   HearsHeld f held now record_old told record_new g =
-      ((payload : List ℕ) × IsBlockOf payload held × HearsPacket f.source f.pinned f.session f.joining payload now record_old (told, g.pinned) record_new g.session g.joining
+      ((payload : List ℕ) × IsBlockOf payload held × HearsPacket f.source f.sessions f.session f.joining payload now record_old (told, g.sessions) record_new g.session g.joining
       × (g.credentials ≡ f.credentials) × (g.source ≡ f.source) × (g.held ≡ []))
       ⊎ ((IsBlock held → ⊥) × (told ≡ news.Nothing) × (record_new ≡ record_old) × (g ≡ record f { held = held }))
 

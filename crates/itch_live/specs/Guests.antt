@@ -1,7 +1,7 @@
 -- One client of a live server: what it has said, what it is told, and how much of that its socket took.
-use Rattle.std.specs.Prelude.{◌≡◌, ℕ, ◌+◌, ◌-◌, ◌&&◌, ◌||◌, nat_le, nat_lt, ◌==◌, ◌⊎◌, true, false, Bool, not, List, [], ◌∷◌, map, length, drop, Option, None, Some, is_some, get_or, if◌then◌else◌}
+use Rattle.std.specs.Prelude.{◌≡◌, ℕ, ◌+◌, ◌-◌, ◌&&◌, ◌||◌, nat_le, nat_lt, ◌==◌, ◌⊎◌, true, false, Bool, not, List, [], ◌∷◌, map, length, drop, Option, None, Some, is_some, if◌then◌else◌}
 use Rattle.std.specs.Option.{option_or}
-use Rattle.itch_frame.specs.Blocks.{IsBlock, IsBlockOf, blocks}
+use Rattle.itch_frame.specs.Blocks.{IsBlock, IsBlockOf, block, blocks}
 use Rattle.itch_frame.specs.Cuts.{IsTake}
 use Rattle.itch_market.specs.Content.{Content}
 use Rattle.itch_soup.specs.declared.login.ServerConfig.{ServerConfig}
@@ -13,51 +13,52 @@ use Rattle.itch_soup.specs.declared.server.ServerAct.TheVariants as act
 use Rattle.itch_soup.specs.declared.origin.Origin.TheVariants.{Client}
 use Rattle.itch_soup.specs.declared.fault.SoupFault.{SoupFault}
 use Rattle.itch_soup.specs.Packets.{PacketSpells, packet_fault, packet_spelling}
-use Rattle.itch_soup.specs.Servers.{Server, new_server, server_answer, server_after_packet}
-use Rattle.itch_soup.specs.Sending.{packets_for}
+use Rattle.itch_soup.specs.Servers.{Server, new_server, server_answer, server_after_packet, acceptance}
+use Rattle.itch_soup.specs.Sending.{session_packets, messages_from}
 use Rattle.itch_live.specs.declared.gone.Gone.{Gone}
 use Rattle.itch_live.specs.declared.gone.Gone.TheVariants as reason
+use Rattle.itch_live.specs.declared.login.Login.{Login}
+use Rattle.itch_live.specs.declared.login.Login.TheVariants as login
 use Rattle.itch_live.specs.declared.told.Told.{Told}
 use Rattle.itch_live.specs.declared.told.Told.TheVariants as told
 
--- the bytes that answer a login for all messages
-abbrev pub whole : Content → ℕ → ServerConfig → List ℕ
-whole m next config = blocks (map packet_spelling (packets_for m next config (act.Accept 1)))
+-- the bytes that accept a login from this number on
+abbrev pub welcome : ServerConfig → ℕ → List ℕ
+welcome config n = block (packet_spelling (is.LoginAccepted (acceptance config n)))
+
+-- those that answer it after that: the market's snapshot with its End of Snapshot, and the end of the session
+abbrev pub session_bytes : Content → ℕ → List ℕ
+session_bytes m next = blocks (map packet_spelling (session_packets (messages_from 1 m next)))
+
+-- a heartbeat of the server
+abbrev pub heartbeat : List ℕ
+heartbeat = block (packet_spelling is.ServerHeartbeat)
 
 -- the block that rejects a login: J and the code
 abbrev pub refusal : ℕ → List ℕ
 refusal code = 0 ∷ 2 ∷ 74 ∷ code ∷ []
 
--- a client: the bytes held of an unfinished packet, its session, the login that was accepted, what it is told, the code of that if it is a rejection,
--- the number of the next message at which it was encoded if it is a snapshot, how many of its bytes the socket took, why it is gone if it is, when it
--- last moved on, and how many bytes were taken then
+-- a client: the bytes held of an unfinished packet, its session, the login that was accepted, what waits for its socket of the acceptance, of a heartbeat
+-- or of the rejection, the code of its rejection, the snapshot that it is told, the number of the next message at which that was encoded, how many of its
+-- bytes the socket took, why it is gone if it is, when it last moved on, how many bytes of the snapshot were taken then, and when something was last sent
 pub record Guest : Type 0 where
   pub held : List ℕ
   pub session : Server
   pub asked : Option LoginRequest
-  pub told : Option (List ℕ)
+  pub notes : List ℕ
   pub rejection : Option ℕ
+  pub told : Option (List ℕ)
   pub snapshot : Option ℕ
   pub taken : ℕ
   pub gone : Option Gone
   pub moved : ℕ
   pub marked : ℕ
+  pub sent : ℕ
 
--- the bytes of what the code tells a client
+-- the bytes of the snapshot that the code tells a client
 abbrev pub told_of : {A : Type 0} → Told A → Option (List ℕ)
 told_of told.Nothing = None
-told_of (told.Refusal bytes) = Some bytes
 told_of (told.Whole shot next) = Some shot.value.items
-
--- the code of a refusal, which stands at its end
-abbrev pub rejection_of : {A : Type 0} → Told A → Option ℕ
-rejection_of (told.Refusal bytes) = Some (get_or bytes 3 0)
-rejection_of other = None
-
--- a refusal is the block of its code
-abbrev pub IsOneRefusal : {A : Type 0} → Told A → Type 0
-IsOneRefusal (told.Refusal bytes) = bytes ≡ refusal (get_or bytes 3 0)
-IsOneRefusal other = Unit {0}
 
 abbrev pub snapshot_of : {A : Type 0} → Told A → Option ℕ
 snapshot_of (told.Whole shot next) = Some next
@@ -72,6 +73,20 @@ is_at (Some next) number = next == number
 abbrev pub shot_in : Option ℕ → Option (List ℕ) → ℕ → Option (List ℕ)
 shot_in snapshot bytes number = if is_at snapshot number then bytes else None
 
+-- the login that was accepted, and the code with which one was rejected
+abbrev pub asked_of : Login → Option LoginRequest
+asked_of (login.Accepted request) = Some request
+asked_of other = None
+
+abbrev pub rejection_of : Login → Option ℕ
+rejection_of (login.Rejected code) = Some code
+rejection_of other = None
+
+-- where a login was rejected with this code, what waits is the rest of the block that says so
+abbrev pub IsOneRefusal : Option ℕ → List ℕ → Type 0
+IsOneRefusal None notes = Unit {0}
+IsOneRefusal (Some code) notes = (taken : ℕ) × (notes ≡ drop taken (refusal code))
+
 abbrev pub bytes_of : Option (List ℕ) → List ℕ
 bytes_of None = []
 bytes_of (Some bytes) = bytes
@@ -83,17 +98,33 @@ is_gone g = is_some g.gone
 abbrev pub gone_for : Gone → Guest → Guest
 gone_for why g = record g { gone = option_or g.gone (Some why) }
 
--- what is still to be written
-abbrev pub pending : Guest → List ℕ
-pending g = if is_gone g then [] else drop g.taken (bytes_of g.told)
+-- what is still to be written: what waits of the notes, or else the snapshot
+abbrev pub first_of : List ℕ → List ℕ → List ℕ
+first_of [] rest = rest
+first_of (b ∷ notes) rest = b ∷ notes
 
--- a login was accepted, and is not answered yet
+abbrev pub pending : Guest → List ℕ
+pending g = if is_gone g then [] else first_of g.notes (drop g.taken (bytes_of g.told))
+
+-- a login was accepted
+abbrev pub is_accepted : Guest → Bool
+is_accepted g = is_some g.asked && not (is_gone g)
+
+-- a login was accepted, and is not answered with a snapshot yet
 abbrev pub is_waiting : Guest → Bool
 is_waiting g = is_some g.asked && not (is_some g.told) && not (is_gone g)
 
+abbrev pub is_none : List ℕ → Bool
+is_none [] = true
+is_none (b ∷ bytes) = false
+
+-- nothing is told after a rejection, nor after the snapshot
+abbrev pub is_last : Guest → Bool
+is_last g = is_some g.rejection || (is_some g.told && g.taken == length (bytes_of g.told))
+
 -- its socket took all that it is told
 abbrev pub has_all : Guest → Bool
-has_all g = is_some g.told && g.taken == length (bytes_of g.told)
+has_all g = is_none g.notes && is_last g
 
 -- it has all, and the connection is to be closed once it closes it
 abbrev pub is_closing : Guest → Bool
@@ -101,31 +132,31 @@ is_closing g = not (is_gone g) && has_all g
 
 -- what it says no longer matters: it is gone, it was refused, or it has all
 abbrev pub is_deaf : Guest → Bool
-is_deaf g = is_gone g || (is_some g.told && not (is_some g.asked)) || has_all g
+is_deaf g = is_gone g || is_some g.rejection || has_all g
 
 abbrev pub new_guest : ServerConfig → ℕ → Guest
-new_guest config now = record { held = []; session = new_server config 0 now; asked = None; told = None; rejection = None; snapshot = None; taken = 0; gone = None; moved = now; marked = 0 }
+new_guest config now = record { held = []; session = new_server config 0 now; asked = None; notes = []; rejection = None; told = None; snapshot = None; taken = 0; gone = None; moved = now; marked = 0; sent = now }
 
 abbrev pub login_in : Packet → Option LoginRequest
 login_in (is.LoginRequest login) = Some login
 login_in packet = None
 
--- what the session's answer to a packet makes of the client
-abbrev pub after_act : ServerAct → Option LoginRequest → Guest → Guest
-after_act (act.Accept n) login g = record g { asked = login }
-after_act (act.Reject code) login g = record g { told = Some (refusal code); rejection = Some code; snapshot = None; taken = 0 }
-after_act act.Nothing login g = g
-after_act act.Close login g = gone_for reason.Left g
-after_act (act.Fault fault) login g = gone_for reason.Fault g
+-- what the session's answer to a packet makes of the client: it is told at once that its login is accepted, or rejected
+abbrev pub after_act : ServerAct → Option LoginRequest → ℕ → Guest → Guest
+after_act (act.Accept n) login now g = record g { asked = login; notes = welcome g.session.config n; rejection = None; sent = now }
+after_act (act.Reject code) login now g = record g { asked = None; notes = refusal code; rejection = Some code; sent = now }
+after_act act.Nothing login now g = g
+after_act act.Close login now g = gone_for reason.Left g
+after_act (act.Fault fault) login now g = gone_for reason.Fault g
 
--- once it is told something, a client moves on by what its socket takes alone
+-- once its login is accepted, a client moves on by what its socket takes alone
 abbrev pub moved_by_words : Guest → ℕ → ℕ
-moved_by_words g now = if is_some g.told then g.moved else now
+moved_by_words g now = if is_some g.asked then g.moved else now
 
 -- a packet was heard
 abbrev pub heard : Guest → Packet → ℕ → Guest
 heard g packet now =
-    after_act (server_answer g.session packet) (login_in packet)
+    after_act (server_answer g.session packet) (login_in packet) now
     (record g { held = []; session = server_after_packet g.session packet now; moved = moved_by_words g now })
 
 -- a block was heard that is no packet
@@ -134,21 +165,41 @@ faulted g now = gone_for reason.Fault (record g { held = []; moved = moved_by_wo
 
 -- the answer is handed in: a snapshot that was encoded at this number
 abbrev pub answered : Guest → List ℕ → ℕ → ℕ → Guest
-answered g bytes next now = record g { told = Some bytes; rejection = None; snapshot = Some next; moved = now }
+answered g bytes next now = record g { told = Some bytes; snapshot = Some next; moved = now }
 
 -- one that waits is answered
 abbrev pub answered_if : List ℕ → ℕ → ℕ → Guest → Guest
 answered_if bytes next now g = if is_waiting g then answered g bytes next now else g
 
--- Its socket took the next bytes. That is moving on where it took 65,536 since it last moved on, or has all now.
-abbrev pub took : Guest → ℕ → ℕ → Guest
-took g count now =
+-- Its socket took the next bytes of the notes, or of the snapshot. Of that, it is moving on where it took 65,536 since it last moved on, or has all now.
+abbrev pub took_of : List ℕ → Guest → ℕ → ℕ → Guest
+took_of [] g count now =
     if nat_lt 0 count && (nat_le 65536 (g.taken + count - g.marked) || g.taken + count == length (bytes_of g.told))
     then record g { taken = g.taken + count; moved = now; marked = g.taken + count } else record g { taken = g.taken + count }
+took_of (b ∷ notes) g count now = record g { notes = drop count (b ∷ notes); moved = if nat_lt 0 count then now else g.moved }
 
--- one that has not moved on for 15,000 ms is cut off
+abbrev pub took : Guest → ℕ → ℕ → Guest
+took g count now = took_of g.notes g count now
+
+-- it waits, and took all that it was told so far
+abbrev pub is_patient : Guest → Bool
+is_patient g = is_waiting g && is_none g.notes
+
+-- a client is silent where it is not patient, and has not moved on for 15,000 ms
+abbrev pub is_silent : Guest → ℕ → Bool
+is_silent g now = not (is_patient g) && nat_le 15000 (now - g.moved)
+
+-- one that waits, and was sent nothing for more than 1,000 ms, is sent a heartbeat
+abbrev pub is_idle : Guest → ℕ → Bool
+is_idle g now = is_none g.notes && is_waiting g && nat_lt 1000 (now - g.sent)
+
+-- a heartbeat waits for its socket, which has from now on to take it
+abbrev pub with_heartbeat : Guest → ℕ → Guest
+with_heartbeat g now = record g { notes = heartbeat; moved = now; sent = now }
+
+-- one that is silent is cut off
 abbrev pub ticked : Guest → ℕ → Guest
-ticked g now = if nat_le 15000 (now - g.moved) then gone_for reason.Silent g else g
+ticked g now = if is_silent g now then gone_for reason.Silent g else (if is_idle g now then with_heartbeat g now else g)
 
 abbrev pub left : Guest → Guest
 left g = gone_for reason.Left g

@@ -3,11 +3,14 @@ pub mod Players
 pub mod Stories
 pub mod Seats
 pub mod Kept
+pub mod Sessions
 pub mod Follows
 pub mod Feeds
+pub mod Identity
 pub mod Records
 pub mod Plays
 pub mod Desks
 pub mod Memory
 pub mod Visits
 pub mod FeedDesks
+pub mod Fairness

@@ -38,7 +38,7 @@ most_bytes places most = splitter_bytes + places * splitter_bytes + most_snapsho
 -- how many bytes those who wait are handed, once there is a market
 abbrev pub handed_at : Option Position → Desk → ℕ
 handed_at None d = 0
-handed_at (Some j) d = length_or (shot_for d.config d.seats j.market j.next)
+handed_at (Some j) d = length_or (shot_for d.seats j.market j.next)
 
 abbrev pub handed_by : {W : Type 0} → Desk → Call W → ℕ
 handed_by d (Answers now count) = handed_at d.following.joining.state.joined d

@@ -1,5 +1,5 @@
 -- What a client is sent, over every list of what may happen to it.
-use Rattle.std.specs.Prelude.{◌≡◌, ℕ, ◌≤◌, List, [], ◌∷◌, ◌++◌, length, take, Some, ◌⊎◌}
+use Rattle.std.specs.Prelude.{◌≡◌, ℕ, ◌≤◌, List, [], ◌∷◌, ◌++◌, length, take, Some, ◌⊎◌, suc, zero}
 use Rattle.itch_frame.specs.Blocks.{IsBlockOf}
 use Rattle.itch_frame.specs.Cuts.{IsTake}
 use Rattle.itch_market.specs.Content.{Content}
@@ -10,9 +10,8 @@ use Rattle.itch_soup.specs.declared.origin.Origin.TheVariants.{Client}
 use Rattle.itch_soup.specs.declared.server.ServerAct.TheVariants as act
 use Rattle.itch_soup.specs.Packets.{PacketSpells}
 use Rattle.itch_soup.specs.Servers.{judged}
-use Rattle.itch_soup.specs.Sending.{served}
 use Rattle.itch_live.specs.Guests as guests
-use Rattle.itch_live.specs.Guests.{Guest, whole, refusal, pending, new_guest}
+use Rattle.itch_live.specs.Guests.{Guest, welcome, heartbeat, session_bytes, refusal, pending, new_guest}
 
 -- what may happen to a client: some bytes of a piece are heard; the answer with the snapshot of a market, and the number of the next message, is
 -- handed to it if it waits; its socket takes so many bytes; time passes; it is gone
@@ -26,7 +25,7 @@ pub data Happening : Type 0 where
 -- what this makes of a client
 abbrev pub Becomes : ServerConfig → Guest → Happening → Guest → Type 0
 Becomes config g (Hears piece now count) h = guests.Hears g piece now count h
-Becomes config g (Answers m next now) h = h ≡ guests.answered_if (whole m next config) next now g
+Becomes config g (Answers m next now) h = h ≡ guests.answered_if (session_bytes m next) next now g
 Becomes config g (Takes count now) h = (count ≤ length (pending g)) × (h ≡ guests.took g count now)
 Becomes config g (Ticks now) h = h ≡ guests.ticked g now
 Becomes config g Leaves h = h ≡ guests.left g
@@ -71,7 +70,22 @@ pub record IsRefusal (config : ServerConfig) (begun : ℕ) (past : List Happenin
   pub rejected : (judged config 0 login).0 ≡ act.Reject code
   pub is : bytes ≡ refusal code
 
--- the answer to the client's login with the snapshot of a market, which was handed in after the login had come
+-- a login that the client has sent was accepted
+pub record IsWelcome (config : ServerConfig) (begun : ℕ) (past : List Happening) : Type 0 where
+  pub later : List Happening
+  pub before : List Happening
+  pub piece : List ℕ
+  pub now : ℕ
+  pub count : ℕ
+  pub place : past ≡ later ++ Hears piece now count ∷ before
+  pub hearing : Guest
+  pub so_far : List ℕ
+  pub story : Story config begun before hearing so_far
+  pub login : LoginRequest
+  pub came : IsLogin hearing.held piece count login
+  pub accepted : (judged config 0 login).0 ≡ act.Accept 1
+
+-- the snapshot of a market that answers the client's login, which was handed in after the login had come
 pub record IsAnswer (config : ServerConfig) (begun : ℕ) (past : List Happening) (bytes : List ℕ) : Type 0 where
   pub later : List Happening
   pub before : List Happening
@@ -85,11 +99,22 @@ pub record IsAnswer (config : ServerConfig) (begun : ℕ) (past : List Happening
   pub login : LoginRequest
   pub asked : waiting.asked ≡ Some login
   pub accepted : (judged config 0 login).0 ≡ act.Accept 1
-  pub is : bytes ≡ served m next config login
+  pub is : bytes ≡ session_bytes m next
 
--- what a client is told in all: nothing, the rejection of its login, or the answer to it
+-- the acceptance of a login, and so many heartbeats after it
+abbrev pub greeting : ServerConfig → ℕ → List ℕ
+greeting config zero = welcome config 1
+greeting config (suc beats) = greeting config beats ++ heartbeat
+
+abbrev pub IsGreeting : ServerConfig → ℕ → List Happening → List ℕ → Type 0
+IsGreeting config begun past bytes = (beats : ℕ) × IsWelcome config begun past × (bytes ≡ greeting config beats)
+
+abbrev pub IsGreetingAndAnswer : ServerConfig → ℕ → List Happening → List ℕ → Type 0
+IsGreetingAndAnswer config begun past bytes = (beats : ℕ) × (rest : List ℕ) × IsAnswer config begun past rest × (bytes ≡ greeting config beats ++ rest)
+
+-- what a client is told in all: nothing, the rejection of its login, its acceptance and heartbeats, or those and then the answer to it
 abbrev pub IsTold : ServerConfig → ℕ → List Happening → List ℕ → Type 0
-IsTold config begun past bytes = (bytes ≡ []) ⊎ IsRefusal config begun past bytes ⊎ IsAnswer config begun past bytes
+IsTold config begun past bytes = (bytes ≡ []) ⊎ IsRefusal config begun past bytes ⊎ IsGreeting config begun past bytes ⊎ IsGreetingAndAnswer config begun past bytes
 
 -- what a client was sent is the beginning of what it is told, and no more
 abbrev pub IsSentRight : ServerConfig → ℕ → List Happening → List ℕ → Type 0

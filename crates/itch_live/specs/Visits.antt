@@ -19,7 +19,7 @@ with happening (Some v) = Some (record v { past = happening ∷ v.past })
 -- the present market is handed in, once there is one, where a snapshot is, if this is one of the first places
 abbrev pub answers : Option Position → Desk → Bool → ℕ → Option Visit → Option Visit
 answers None d here now visit = visit
-answers (Some j) d here now visit = if is_some (shot_for d.config d.seats j.market j.next) && here then with (stories.Answers j.market j.next now) visit else visit
+answers (Some j) d here now visit = if is_some (shot_for d.seats j.market j.next) && here then with (stories.Answers j.market j.next now) visit else visit
 
 -- Of a call at another place nothing is seen.
 abbrev pub visit_by : {W : Type 0} → Call W → Desk → ℕ → Option Visit → Option Visit

@@ -1,5 +1,5 @@
 //! A follower and its clients.
-ghost use Rattle.std.specs.Prelude.{◌≡◌, ℕ, ◌≤◌, Some, None, IfOk, OnOk, length, option_map, replicate, slice_set};
+ghost use Rattle.std.specs.Prelude.{◌≡◌, ℕ, ◌≤◌, Some, None, IfOk, OnOk, OnErr, true, length, option_map, replicate, slice_set};
 ghost use Rattle.std.specs.Option.{option_copied};
 ghost use Rattle.std.specs.List.{list_any};
 ghost use Rattle.itch_soup.specs.Connections.{tick_answer};
@@ -17,7 +17,7 @@ use crate::news::News;
 use crate::seats::{Seat, any_waits, free_place, guest_at, hand_in, hear_at, tick_all, took_at};
 use crate::shot::{Shot, shoot};
 use itch_book::OrderBook;
-use itch_codec::Seq;
+use itch_codec::{Alpha, Seq};
 use itch_frame::CountedWrite;
 use itch_market::Market;
 use itch_soup::{Packet, ServerConfig, Tick};
@@ -100,6 +100,21 @@ impl<B: OrderBook> Desk<B> {
         self.follower.tick(now_ms)
     }
 
+    /// The feed's session, once it is known.
+    pub fn session(&self) -> Option<Alpha<10>>
+        ensures { result ≡ self.now.following.sessions.feed }
+    {
+        self.follower.session()
+    }
+
+    /// Gives the follower back and drops the clients, whose connections the caller closes. Another desk can go on with it in the
+    /// same connection to the feed, under another configuration.
+    pub fn into_follower(self) -> Follower<B>
+        ensures { result ≡ self.following }
+    {
+        self.follower
+    }
+
     /// The number of the feed's next message, once there is a market.
     pub fn next(&self) -> Option<u64>
         ensures { result ≡ option_map (λ j. j.next) self.now.following.joining.state.joined }
@@ -116,7 +131,8 @@ impl<B: OrderBook> Desk<B> {
 
     /// Gives a client that has connected a free place, and returns its number; `None` where there is none.
     pub fn admit(&mut self, now_ms: u64) -> Result<Option<usize>, AllocError>
-        ensures { desks.Accepts self.old now_ms result self.new }
+        ensures accepts { desks.Accepts self.old now_ms result self.new }
+        ensures refused { OnErr result ((place : ℕ) × places.IsFree self.old.seats place) }
     {
         let Some(place) = free_place(&self.seats) else {
             return Ok(None);
@@ -138,7 +154,8 @@ impl<B: OrderBook> Desk<B> {
     /// are sent it, and kept while one of them has its place; where [`MOST_SNAPSHOTS`] others are kept, it is not encoded, and
     /// they go on waiting. It may be called again after an error: then some were answered, and the others still wait.
     pub fn answer(&mut self, now_ms: u64) -> Result<(), AllocError>
-        ensures { (count : ℕ) × OnOk result (length self.old.seats ≤ count) × (self.new ≡ desks.answered self.old count now_ms) }
+        ensures after { (count : ℕ) × OnOk result (length self.old.seats ≤ count) × (self.new ≡ desks.answered self.old count now_ms) }
+        ensures refused { OnErr result (list_any places.waits self.old.seats ≡ true) }
     {
         if !any_waits(&self.seats) {
             return Ok(());
@@ -150,7 +167,7 @@ impl<B: OrderBook> Desk<B> {
         let Some(next) = Seq::new(next) else {
             return Err(AllocError);
         };
-        let shot = shot_for(self.alloc, &self.config, &self.seats, market, next)?;
+        let shot = shot_for(self.alloc, &self.seats, market, next)?;
         hand_in(&mut self.seats, shot, next.value(), now_ms)
     }
 
@@ -199,12 +216,11 @@ impl<B: OrderBook> Desk<B> {
 // The snapshot to hand in: that of this number which is kept, or else one of this market; none where too many others are kept.
 fn shot_for<B: OrderBook>(
     alloc: B::Alloc,
-    config: &ServerConfig,
     seats: &[Seat<B::Alloc>],
     market: &Market<B>,
     next: Seq,
 ) -> Result<Option<Shot<B::Alloc>>, AllocError>
-    ensures { IfOk result (λ shot. option_map (λ s. s.value.items) shot ≡ desks.shot_for config.now seats.now market.now next) }
+    ensures { IfOk result (λ shot. option_map (λ s. s.value.items) shot ≡ desks.shot_for seats.now market.now next) }
 {
     if let Some(shot) = kept_shot(seats, next.value()) {
         return Ok(Some(shot.clone()?));
@@ -212,7 +228,7 @@ fn shot_for<B: OrderBook>(
     if count_kept(seats) >= MOST_SNAPSHOTS {
         return Ok(None);
     }
-    let bytes = shoot(alloc, market, next, config)?;
+    let bytes = shoot(alloc, market, next)?;
     Ok(Some(Rc::new(alloc, bytes)?))
 }
 

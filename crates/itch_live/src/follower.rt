@@ -1,16 +1,14 @@
 //! The feed of a live server.
-ghost use Rattle.std.specs.Prelude.{◌≡◌, IfOk, option_map, if◌then◌else◌};
+ghost use Rattle.std.specs.Prelude.{◌≡◌, IfOk, option_map};
 ghost use Rattle.std.specs.Option.{option_copied};
-ghost use Rattle.std.specs.Str.{bytes_eq};
 ghost use Rattle.itch_live.specs.Follows as follows;
 ghost use Rattle.itch_soup.specs.Connections.{tick_answer};
-ghost use Rattle.itch_soup.specs.Clients.{login_of, client_after_packet};
-ghost use Rattle.itch_soup.specs.Names.{session_name};
+ghost use Rattle.itch_soup.specs.Clients.{login_of};
 ghost use Rattle.itch_soup.specs.Packets.{packet_spelling};
 
 use crate::news::{News, Source};
+use crate::sessions::{Sessions, other_name};
 use itch_book::OrderBook;
-use itch_codec::spaces::after_spaces;
 use itch_codec::{Alpha, GREATEST_SEQ};
 use itch_frame::{CountedWrite, Splitter, write_block};
 use itch_join::{Joiner, Live, Snap};
@@ -21,12 +19,13 @@ use std::marker::Model;
 
 /// Keeps the market of a feed, over any number of connections to its server.
 ///
-/// A feed that is lost is asked again for the next message, in the session that it named when it first accepted a login: a
-/// later day's has other messages under the same numbers, so what accepts it in another name is not taken.
+/// A feed that is lost is asked again for the next message, in the same session: another day's has other messages under the same
+/// numbers, so of a server that accepts a login in another name nothing is taken. The session is known beforehand, or is the one
+/// that the first acceptance names, whether it is the feed's or that of a server of snapshots.
 #[derive(Drop)]
 pub struct Follower<B: OrderBook> {
     credentials: Credentials,
-    pinned: Option<Alpha<10>>,
+    sessions: Sessions,
     source: Source,
     splitter: Splitter<B::Alloc>,
     session: ClientSession,
@@ -42,22 +41,24 @@ impl<B: OrderBook> Model for Follower<B> {
 
     ghost coded = { Prim.hlevel (codes, map.code) };
 
-    ghost view = { λ f. record { credentials = f.credentials; pinned = f.pinned; source = f.source; held = f.splitter; session = f.session; joining = f.joiner } };
+    ghost view = { λ f. record { credentials = f.credentials; sessions = f.sessions; source = f.source; held = f.splitter; session = f.session; joining = f.joiner } };
 }
 
 impl<B: OrderBook> Follower<B> {
-    /// Follows a feed with this joiner, which may have a snapshot already. A connection is begun by [`Follower::connect`].
+    /// Follows a feed with this joiner, which may have a snapshot already, and with the sessions that are known beforehand. A
+    /// connection is begun by [`Follower::connect`], which asks for the session of the credentials while none is known.
     pub fn new(
         alloc: B::Alloc,
         credentials: Credentials,
+        sessions: Sessions,
         joiner: Joiner<B>,
         now_ms: u64,
     ) -> Result<Follower<B>, AllocError>
-        ensures { IfOk result (λ f. f ≡ follows.new_following credentials joiner now_ms) }
+        ensures { IfOk result (λ f. f ≡ follows.new_following credentials sessions joiner now_ms) }
     {
         Ok(Follower {
             credentials,
-            pinned: None,
+            sessions,
             source: Source::Live,
             splitter: Splitter::new(alloc)?,
             session: ClientSession::new(credentials, 0, now_ms),
@@ -76,7 +77,7 @@ impl<B: OrderBook> Follower<B> {
             Some(next) => (Source::Live, next.min(GREATEST_SEQ)),
             None => (Source::Glimpse, 1),
         };
-        let credentials = asking(self.credentials, self.pinned, source);
+        let credentials = asking(self.credentials, self.sessions.expected(source));
         self.joiner.restart();
         self.source = source;
         self.splitter.clear();
@@ -98,17 +99,16 @@ impl<B: OrderBook> Follower<B> {
         let Some(payload) = self.splitter.ready() else {
             return (count, News::Nothing);
         };
-        let (news, pinned) = hear_packet(
+        let news = hear_packet(
             &mut self.session,
             &mut self.joiner,
             self.source,
-            self.pinned,
+            &mut self.sessions,
             payload,
             now_ms,
             record,
         );
         self.splitter.clear();
-        self.pinned = pinned;
         (count, news)
     }
 
@@ -118,6 +118,13 @@ impl<B: OrderBook> Follower<B> {
         ensures after { self.new ≡ follows.ticked self.old now_ms }
     {
         self.session.tick(now_ms)
+    }
+
+    /// The feed's session, once it is known.
+    pub fn session(&self) -> Option<Alpha<10>>
+        ensures { result ≡ self.now.sessions.feed }
+    {
+        self.sessions.feed
     }
 
     /// The number of the next message, once there is a market.
@@ -135,32 +142,17 @@ impl<B: OrderBook> Follower<B> {
     }
 }
 
-// What a connection logs in with: the live feed is asked for the session that it named first.
-fn asking(credentials: Credentials, pinned: Option<Alpha<10>>, source: Source) -> Credentials
-    ensures { result ≡ follows.asking credentials pinned source }
+// What a connection logs in with, where this session is expected.
+fn asking(credentials: Credentials, expected: Option<Alpha<10>>) -> Credentials
+    ensures { result ≡ follows.asking credentials expected }
 {
-    match (source, pinned) {
-        (Source::Live, Some(session)) => Credentials {
+    match expected {
+        Some(session) => Credentials {
             username: credentials.username,
             password: credentials.password,
             session,
         },
-        _ => credentials,
-    }
-}
-
-// The session to ask for from now on.
-fn pinned_after(
-    pinned: Option<Alpha<10>>,
-    source: Source,
-    accepted: bool,
-    named: Option<Alpha<10>>,
-) -> Option<Alpha<10>>
-    ensures { result ≡ follows.pinned_after pinned source accepted named }
-{
-    match (pinned, source) {
-        (None, Source::Live) if accepted => named,
-        _ => pinned,
+        None => credentials,
     }
 }
 
@@ -174,76 +166,53 @@ fn named_in(packet: &Packet<'_>) -> Option<Alpha<10>>
     }
 }
 
-fn is_accepted(act: &ClientAct<'_>) -> bool
-    ensures { result ≡ follows.is_accepted act.now }
+// The same, where the login was to be accepted.
+fn accepted_as(act: &ClientAct<'_>, named: Option<Alpha<10>>) -> Option<Alpha<10>>
+    ensures { result ≡ follows.accepted_as act.now named }
 {
-    matches!(act, ClientAct::Accepted { .. })
-}
-
-// Whether the live feed accepts a login in the name of another session than the one that it named first.
-fn names_other(
-    pinned: &Option<Alpha<10>>,
-    source: Source,
-    accepted: bool,
-    named: &Option<Alpha<10>>,
-) -> bool
-    ensures { result ≡ follows.names_other pinned.now source accepted named.now }
-{
-    match (pinned, source, named) {
-        (Some(pinned), Source::Live, Some(named)) if accepted => !is_same_session(pinned, named),
-        _ => false,
+    match act {
+        ClientAct::Accepted { .. } => named,
+        _ => None,
     }
 }
 
-// Whether these are the same session: a name may be padded at either end.
-fn is_same_session(session: &Alpha<10>, other: &Alpha<10>) -> bool
-    ensures { result ≡ bytes_eq (session_name session.now) (session_name other.now) }
+// Closes the session of a connection that is this other session's: whatever comes later in it is a fault.
+fn shut_if(other: Option<Alpha<10>>, session: &mut ClientSession, news: News, now_ms: u64) -> News
+    ensures news { result ≡ follows.news_or other news }
+    ensures session { session.new ≡ follows.shut_if other session.old now_ms }
 {
-    trimmed(session) == trimmed(other)
-}
-
-// A session's name without the spaces at both ends.
-fn trimmed(session: &Alpha<10>) -> &[u8]
-    ensures { result.now ≡ session_name session.entry.now }
-{
-    after_spaces(session.text().as_bytes())
-}
-
-// Closes the session of a connection that is another session's: whatever comes later in it is a fault.
-fn shut_if(other: bool, session: &mut ClientSession, news: News, now_ms: u64) -> News
-    ensures news { result ≡ (if other then News.OtherSession else news) }
-    ensures session { session.new ≡ (if other then client_after_packet session.old Packet.EndOfSession now_ms else session.old) }
-{
-    if other {
-        session.on_packet(&Packet::EndOfSession, now_ms);
-        return News::OtherSession;
+    match other {
+        Some(named) => {
+            session.on_packet(&Packet::EndOfSession, now_ms);
+            News::OtherSession { named }
+        }
+        None => news,
     }
-    news
 }
 
-// Takes the packet of a payload, and returns what it brought, and the session to ask for from now on.
+// Takes the packet of a payload, and returns what it brought.
 fn hear_packet<B: OrderBook, W: CountedWrite>(
     session: &mut ClientSession,
     joiner: &mut Joiner<B>,
     source: Source,
-    pinned: Option<Alpha<10>>,
+    sessions: &mut Sessions,
     payload: &[u8],
     now_ms: u64,
     record: &mut W,
-) -> (News, Option<Alpha<10>>)
-    ensures { follows.HearsPacket W.contents W.failures source pinned session.old joiner.old payload.now now_ms record.old result record.new session.new joiner.new }
+) -> News
+    ensures { follows.HearsPacket W.contents W.failures source sessions.old session.old joiner.old payload.now now_ms record.old (result, sessions.new) record.new session.new joiner.new }
 {
     match parse_packet(payload, Origin::Server) {
         Ok(packet) => {
             let act = session.on_packet(&packet, now_ms);
-            let accepted = is_accepted(&act);
-            let named = named_in(&packet);
-            let other = names_other(&pinned, source, accepted, &named);
+            let named = accepted_as(&act, named_in(&packet));
+            let wanted = sessions.expected(source);
+            let other = other_name(&wanted, &named);
+            sessions.learn(source, named);
             let news = act_on(act, joiner, source, record);
-            let pinned = pinned_after(pinned, source, accepted, named);
-            (shut_if(other, session, news, now_ms), pinned)
+            shut_if(other, session, news, now_ms)
         }
-        Err(fault) => (News::Broken(fault), pinned),
+        Err(fault) => News::Broken(fault),
     }
 }
 

@@ -2,23 +2,28 @@
 //!
 //! Each function here does nothing: its clauses are the laws, over every list of calls. They do not say that a peer sends or takes
 //! anything, that it is served before another one, or how long anything takes.
-ghost use Rattle.std.specs.Prelude.{◌≡◌, ℕ, ◌+◌, ◌*◌, ◌≤◌, List, ◌∷◌, ◌++◌, true, length};
+ghost use Rattle.std.specs.Prelude.{◌≡◌, ℕ, ◌+◌, ◌*◌, ◌≤◌, List, ◌∷◌, ◌++◌, true, length, Some};
 ghost use Rattle.std.specs.List.{AllByRecursion};
-ghost use Rattle.itch_codec.specs.Fields.{AreBytes, IsAlpha};
+ghost use Rattle.itch_codec.specs.Fields.{AreBytes};
 ghost use Rattle.itch_market.specs.Content.{Content};
 ghost use Rattle.itch_market.specs.Wanted.{Wanted, has};
 ghost use Rattle.itch_join.specs.Rules.{rules_of, market_rules};
 ghost use Rattle.itch_snapshot.specs.Snapshot.{snap};
 ghost use Rattle.itch_soup.specs.declared.login.ServerConfig.{ServerConfig};
-ghost use Rattle.itch_live.specs.Guests.{Guest, whole};
+ghost use Rattle.itch_live.specs.Guests.{Guest, session_bytes, is_waiting, answered};
+ghost use Rattle.itch_live.specs.declared.gone.Gone.TheVariants as reason;
+ghost use Rattle.itch_live.specs.Fairness.{HasRoom, MayBecome, IsCutOff};
 ghost use Rattle.itch_join.specs.Positions.{Position};
 ghost use Rattle.itch_live.specs.Seats.{guest_at};
 ghost use Rattle.itch_live.specs.Kept.{kept, kept_bytes, most_snapshots};
-ghost use Rattle.itch_live.specs.Stories.{Happening, Story, IsSentRight};
-ghost use Rattle.itch_live.specs.Follows.{Following};
+ghost use Rattle.itch_live.specs.Stories.{Happening, Becomes, Story, IsSentRight};
+ghost use Rattle.itch_live.specs.Follows.{Following, HearsFeed};
+ghost use Rattle.itch_live.specs.Identity.{Led, IsInSession};
+ghost use Rattle.itch_live.specs.declared.news.News.{News};
+ghost use Rattle.itch_soup.specs.declared.connection.Stage.TheVariants as stage;
 ghost use Rattle.itch_live.specs.Feeds.{Did, IsJoining, Followed, StandsJoined};
 ghost use Rattle.itch_live.specs.Records.{IsOneRecord, IsRecord};
-ghost use Rattle.itch_live.specs.Desks.{Desk, Event, History, sent_at};
+ghost use Rattle.itch_live.specs.Desks.{Desk, Answers, Event, History, sent_at};
 ghost use Rattle.itch_live.specs.Visits.{Visit, visit_at, IsVisit};
 ghost use Rattle.itch_live.specs.FeedDesks.{AreHonest, IsSentOfFeed, GoesOn};
 ghost use Rattle.itch_live.specs.Players.{Player};
@@ -28,8 +33,8 @@ ghost use Rattle.itch_live.specs.Plays as plays;
 use itch_frame::CountedWrite;
 
 /// Whatever happens to a client, in whatever order, and however little its socket takes at a time: what it was sent is the
-/// beginning of nothing, of the rejection of its login, or of what answers its login with the snapshot of one market, which was
-/// handed in after the login had come.
+/// beginning of nothing, of the rejection of its login, or of its acceptance, heartbeats, and then exactly one snapshot of one
+/// market, which was handed in after the login had come, with the end of the session. No heartbeat comes after the snapshot has begun.
 #[tactic(auto, using(crate::proofs::Stories::sent_right))]
 pub fn sent_in_order()
     ensures { (config : ServerConfig) → (begun : ℕ) → (past : List Happening) → (g : Guest) → (sent : List ℕ) → Story config begun past g sent → IsSentRight config begun past sent }
@@ -53,17 +58,53 @@ pub fn clients_apart<W: CountedWrite>()
         → visit_at k past ≡ visit_at i other → sent_at k past ≡ sent_at i other }
 {}
 
+/// Whoever waits is answered by the next [`Desk::answer`](crate::Desk::answer) that is refused no memory, once there is a market,
+/// if the snapshot of its number is kept or fewer than [`MOST_SNAPSHOTS`](crate::MOST_SNAPSHOTS) are: with the snapshot of the
+/// market of that moment. No other client can change that.
+pub fn who_waits_is_answered<W: CountedWrite>()
+    ensures { (config : ServerConfig) → (begun : Following) → (past : List (Event W)) → (at : Event W) → (d : Desk) → (now count k : ℕ) → (j : Position) → (g : Guest)
+        → History W.contents W.failures config begun (at ∷ past) d → at.call ≡ Answers now count → length at.before.seats ≤ count → at.before.following.joining.state.joined ≡ Some j
+        → HasRoom at.before j → guest_at at.before.seats k ≡ Some g → is_waiting g ≡ true → guest_at d.seats k ≡ Some (answered g (session_bytes j.market j.next) j.next now) }
+{}
+
+/// A client that waits goes on waiting until it is answered, whatever else happens: unless it logs out or breaks the protocol itself,
+/// its socket takes nothing of what it is told for 15 seconds, or its connection is given up.
+pub fn waiting_goes_on()
+    ensures { (config : ServerConfig) → (begun : ℕ) → (past : List Happening) → (g : Guest) → (sent : List ℕ) → (happening : Happening) → (h : Guest)
+        → Story config begun past g sent → Becomes config g happening h → is_waiting g ≡ true → MayBecome g happening h }
+{}
+
+/// A client that was cut off for its silence was told a moment at which it had not moved on for 15 seconds, and did not wait for its
+/// snapshot or had not taken all that it was told so far.
+#[tactic(auto, using(crate::proofs::Fairness::cut_off))]
+pub fn only_the_silent_are_cut_off()
+    ensures { (config : ServerConfig) → (begun : ℕ) → (past : List Happening) → (g : Guest) → (sent : List ℕ) → Story config begun past g sent → g.gone ≡ Some reason.Silent → IsCutOff config begun past }
+{}
+
 /// The same markets are answered with the same bytes: it is their snapshot lists alone that count, which are equal exactly if
 /// the markets are the same.
 #[tactic(auto, using(crate::proofs::Same::same_bytes))]
 pub fn same_answers()
-    ensures { (m n : Content) → (next : ℕ) → (config : ServerConfig) → snap m ≡ snap n → whole m next config ≡ whole n next config }
+    ensures { (m n : Content) → (next : ℕ) → snap m ≡ snap n → session_bytes m next ≡ session_bytes n next }
 {}
 
 /// A desk's market never goes back: what was there when a login came is in each snapshot that is handed in after it.
 pub fn market_goes_on<W: CountedWrite>()
     ensures { (config : ServerConfig) → (begun : Following) → (later : List (Event W)) → (at : Event W) → (before : List (Event W)) → (d : Desk)
         → History W.contents W.failures config begun (later ++ at ∷ before) d → GoesOn at.before.following.joining.state.joined d.following.joining.state.joined }
+{}
+
+/// Once the session of a desk's feed is known, it stays the same.
+pub fn session_stays<W: CountedWrite>()
+    ensures { (config : ServerConfig) → (begun : Following) → (later : List (Event W)) → (at : Event W) → (before : List (Event W)) → (d : Desk) → (session : List ℕ)
+        → History W.contents W.failures config begun (later ++ at ∷ before) d → at.before.following.sessions.feed ≡ Some session → d.following.sessions.feed ≡ Some session }
+{}
+
+/// What follows a feed takes a message, and its market changes, only in a connection whose login a server has accepted in the name
+/// of the session that was expected of it: the feed's, or the name of its own that a server of snapshots was said to have.
+pub fn taken_in_session<W: CountedWrite>()
+    ensures { (begun : Following) → (past : List (Did W)) → (f g : Following) → (piece : List ℕ) → (now : ℕ) → (result : ℕ × News) → (old new : W) → begun.session.connection.stage ≡ stage.Before
+        → Led W.contents W.failures begun past f → HearsFeed W.contents W.failures f piece now old result new g → (g.joining ≡ f.joining → ⊥) → IsInSession W.contents W.failures begun past f }
 {}
 
 /// A desk has the places that it was made with, so there are never more clients, nor more snapshots kept for them, than those.
@@ -80,9 +121,10 @@ pub fn record_of_the_feed<W: CountedWrite>()
         → IsRecord W.contents feed begun past record_begun f record_now }
 {}
 
-/// All of this of a desk whose follower is sent one feed: what a client was sent is the beginning of nothing, of the rejection
-/// of its login, or of the answer to it, which is the snapshot of the market after exactly the first n messages of the feed,
-/// the End of Snapshot with n + 1, and the end of the session, for an n at which the feed stood once the login had come.
+/// All of this of a desk whose follower is sent one feed: what the present client at a place was sent is the beginning of nothing, of
+/// the rejection of its login, or of its acceptance, heartbeats, and then the snapshot of the market after exactly the first n
+/// messages of the feed, the End of Snapshot with n + 1, and the end of the session, for an n at which the feed stood once this
+/// client's login had come.
 pub fn snapshots_of_the_feed<W: CountedWrite>()
     ensures only { (set : Wanted) → (cap : ℕ) → (feed : List (List ℕ)) → (config : ServerConfig) → (begun : Following) → (past : List (Event W)) → (d : Desk) → (k : ℕ)
         → AllByRecursion AreBytes feed → IsJoining set cap feed begun → History W.contents W.failures config begun past d → AreHonest (rules_of (has set)) feed past
@@ -98,17 +140,16 @@ pub fn snapshots_kept<W: CountedWrite>()
     ensures most { (config : ServerConfig) → (begun : Following) → (past : List (Event W)) → (d : Desk) → History W.contents W.failures config begun past d
         → length (kept d.seats) ≤ most_snapshots }
     ensures present { (config : ServerConfig) → (begun : Following) → (past : List (Event W)) → (d : Desk) → (j : Position) → (bytes : List ℕ)
-        → History W.contents W.failures config begun past d → d.following.joining.state.joined ≡ Some j → kept_bytes d.seats j.next ≡ Some bytes → bytes ≡ whole j.market j.next config }
+        → History W.contents W.failures config begun past d → d.following.joining.state.joined ≡ Some j → kept_bytes d.seats j.next ≡ Some bytes → bytes ≡ session_bytes j.market j.next }
 {}
 
 /// What a desk holds beside the market of its feed and the words of its places: at most 65,537 bytes for the feed and for each
 /// place, and [`MOST_SNAPSHOTS`](crate::MOST_SNAPSHOTS) times those of the longest snapshot that was handed in. That one has at most
-/// 43 bytes for each of its messages, and 128 for the rest, where its server's session, its market and its number are what the
-/// types of these say.
+/// 43 bytes for each of its messages, and 128 for the rest, where its market and its number are what the types of these say.
 pub fn memory_of_a_desk<W: CountedWrite>()
     ensures held { (config : ServerConfig) → (begun : Following) → (past : List (Event W)) → (d : Desk) → History W.contents W.failures config begun past d
         → held_bytes d ≤ most_bytes (length d.seats) (longest past) }
-    ensures snapshots { (config : ServerConfig) → (begun : Following) → (past : List (Event W)) → (d : Desk) → IsAlpha 10 config.session → AreOfMarkets past
+    ensures snapshots { (config : ServerConfig) → (begun : Following) → (past : List (Event W)) → (d : Desk) → AreOfMarkets past
         → History W.contents W.failures config begun past d → longest past ≤ 43 * most_messages past + 128 }
 {}
 

@@ -1,4 +1,5 @@
 //! What the feed brings.
+use itch_codec::Alpha;
 use itch_frame::FrameFault;
 use itch_join::JoinFault;
 use itch_soup::SoupFault;
@@ -18,9 +19,9 @@ pub enum News {
     Ended,
     /// The login was rejected with this code.
     Rejected(u8),
-    /// The login was accepted in the name of another session than the feed's first acceptance, as by the next day's server: its
-    /// messages are others under the same numbers. Nothing later in this connection is taken.
-    OtherSession,
+    /// The login was accepted in the name of this session, and another one was expected, as by the next day's server: its messages
+    /// are others under the same numbers. Nothing later in this connection is taken.
+    OtherSession { named: Alpha<10> },
     /// The server has broken the protocol.
     Broken(SoupFault),
     /// The joiner did not take a message. Nothing later in this connection can be taken either: connect again.

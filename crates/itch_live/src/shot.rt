@@ -1,14 +1,14 @@
 //! The packets of a snapshot, encoded once for all clients that are sent it.
 ghost use Rattle.std.specs.Prelude.{◌≡◌, ◌<◌, ◌≤◌, ◌+◌, ◌-◌, ◌*◌, ◌^◌, [], length, IfOk};
 ghost use Rattle.itch_snapshot.specs.Snapshot.{snap};
-ghost use Rattle.itch_live.specs.Guests.{whole};
+ghost use Rattle.itch_live.specs.Guests.{session_bytes};
 
 use crate::sheet::Sheet;
 use itch_book::OrderBook;
 use itch_codec::Seq;
 use itch_market::Market;
 use itch_snapshot::snapshot_len;
-use itch_soup::{ServerConfig, write_session};
+use itch_soup::write_answer;
 use std::alloc::AllocError;
 use std::rc::Rc;
 
@@ -18,11 +18,10 @@ pub type Shot<A> = Rc<Vec<u8, A>, A>;
 /// The longest packet of a snapshot's message: two bytes of length, the packet's type, and an attributed order.
 const LONGEST: u128 = 43;
 
-/// What the packets before and after a snapshot's messages take at most, those of the login's acceptance, the End of Snapshot and
-/// the session's end.
+/// Enough for the packets after those messages: the End of Snapshot and the session's end.
 const AROUND: u128 = 128;
 
-/// The bytes that answer a login for all messages: its acceptance, the market's snapshot with its End of Snapshot, and the end
+/// The bytes that a client is sent after the acceptance of its login: the market's snapshot with its End of Snapshot, and the end
 /// of the session.
 ///
 /// Their memory is taken at once, 43 bytes for each message and 128 for the rest, which is always enough. A snapshot for which
@@ -31,27 +30,25 @@ pub fn shoot<B: OrderBook>(
     alloc: B::Alloc,
     market: &Market<B>,
     next: Seq,
-    config: &ServerConfig,
 ) -> Result<Vec<u8, B::Alloc>, AllocError>
-    ensures bytes { IfOk result (λ bytes. bytes.items ≡ whole market.now next config.now) }
+    ensures bytes { IfOk result (λ bytes. bytes.items ≡ session_bytes market.now next) }
     ensures room { IfOk result (λ bytes. length bytes.items ≤ 43 * length (snap market.now) + 128) }
 {
-    recall_length(market, next, config);
+    recall_length(market, next);
     let messages = snapshot_len(market).min(1 << 64);
     let Ok(room) = usize::try_from(LONGEST * messages + AROUND) else {
         return Err(AllocError);
     };
     let sheet = Sheet::new(alloc, room)?;
-    Ok(fill(sheet, market, next, config))
+    Ok(fill(sheet, market, next))
 }
 
 // Does nothing at run time. It tells a proof how many bytes there are at most.
-#[tactic(auto, using(crate::proofs::Lengths::whole_within))]
-fn recall_length<B: OrderBook>(market: &Market<B>, next: Seq, config: &ServerConfig)
-    ensures { length (whole market.now next config.now) ≤ 43 * length (snap market.now) + 128 }
+#[tactic(auto, using(crate::proofs::Lengths::session_within))]
+fn recall_length<B: OrderBook>(market: &Market<B>, next: Seq)
+    ensures { length (session_bytes market.now next) ≤ 43 * length (snap market.now) + 128 }
 {
     market.recall_invariant();
-    config.session.recall_invariant();
     let _number = next.value();
 }
 
@@ -60,17 +57,16 @@ fn fill<B: OrderBook>(
     mut sheet: Sheet<B::Alloc>,
     market: &Market<B>,
     next: Seq,
-    config: &ServerConfig,
 ) -> Vec<u8, B::Alloc>
     requires empty { sheet.bytes.items ≡ [] }
-    requires room { length (whole market.now next config.now) ≤ sheet.room }
+    requires room { length (session_bytes market.now next) ≤ sheet.room }
     requires few { length (snap market.now) < 10 ^ 19 - 1 }
-    ensures { result.items ≡ whole market.now next config.now }
+    ensures { result.items ≡ session_bytes market.now next }
 {
     let Some(first) = Seq::new(1) else {
         unreachable!()
     };
-    match write_session(&mut sheet, market, next, config, first) {
+    match write_answer(&mut sheet, market, next, first) {
         Ok(_) => sheet.into_bytes(),
         Err(_) => unreachable!(),
     }

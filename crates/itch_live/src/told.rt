@@ -10,9 +10,7 @@ use std::alloc::Allocator;
 #[derive(Drop)]
 pub(crate) enum Told<A: Allocator> {
     Nothing,
-    /// Its login is rejected, by this block.
-    Refusal([u8; 4]),
-    /// Its login is accepted, and answered with a whole snapshot: that of the market before the message of this number.
+    /// Its login is answered with a whole snapshot: that of the market before the message of this number.
     Whole { shot: Shot<A>, next: u64 },
 }
 
@@ -22,18 +20,7 @@ impl<A: Allocator> Told<A> {
     {
         match self {
             Told::Nothing => &[],
-            Told::Refusal(bytes) => bytes,
             Told::Whole { shot, .. } => shot.as_slice(),
-        }
-    }
-
-    /// The code with which its login is rejected.
-    pub(crate) fn rejection(&self) -> Option<u8>
-        ensures { result ≡ guests.rejection_of self.now }
-    {
-        match self {
-            Told::Refusal(bytes) => Some(bytes[3]),
-            _ => None,
         }
     }
 
@@ -43,7 +30,7 @@ impl<A: Allocator> Told<A> {
     {
         match self {
             Told::Whole { next, .. } => Some(*next),
-            _ => None,
+            Told::Nothing => None,
         }
     }
 

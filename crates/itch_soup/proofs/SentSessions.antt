@@ -25,9 +25,7 @@ use Rattle.itch_soup.specs.declared.connection.Stage.{Stage}
 use Rattle.itch_soup.specs.declared.packet.LoginRequest.{LoginRequest}
 use Rattle.itch_soup.specs.declared.server.ServerAct.{ServerAct}
 use Rattle.itch_soup.specs.declared.server.ServerAct.TheVariants as act
-use Rattle.itch_soup.specs.Servers.{acceptance, judged}
-use Rattle.itch_soup.specs.declared.packet.Packet.{Packet}
-use Rattle.itch_soup.specs.declared.packet.Packet.TheVariants as is
+use Rattle.itch_soup.specs.Servers.{judged}
 use Rattle.itch_soup.specs.Packets.{packet_spelling}
 use Rattle.itch_frame.specs.Writing.{WriteBlock, WriteBlocks}
 use Rattle.itch_frame.specs.declared.tally.Failures.{Failures}
@@ -117,11 +115,11 @@ from_parts m next n false early late =
     drop_all (n - 1) (messages m next) (omega (arith, length-append (snap m) (message.End next ∷ [])))
     ∙ sym (append-nil (drop (n - 1) (snap m)) ∙ drop_all (n - 1) (snap m) (omega arith))
 
--- the packets of a session, in the three parts in which they are sent
-pub session_parts : (first : Packet) (xs ys : List Message)
-    → map packet_spelling (first ∷ session_packets (xs ++ ys)) ≡ map packet_spelling (first ∷ []) ++ (map packet_spelling (map data_packet xs) ++ map packet_spelling (session_packets ys))
-session_parts first xs ys =
-    ap (λ ps. packet_spelling first ∷ ps) (ap (map packet_spelling) (regroup xs) ∙ map-append packet_spelling (map data_packet xs) (session_packets ys)) where
+-- the packets after an acceptance, in the two parts in which they are sent
+pub session_parts : (xs ys : List Message)
+    → map packet_spelling (session_packets (xs ++ ys)) ≡ map packet_spelling (map data_packet xs) ++ map packet_spelling (session_packets ys)
+session_parts xs ys =
+    ap (map packet_spelling) (regroup xs) ∙ map-append packet_spelling (map data_packet xs) (session_packets ys) where
       regroup : (zs : List Message) → session_packets (zs ++ ys) ≡ map data_packet zs ++ session_packets ys
       regroup [] = refl
       regroup (z ∷ zs) = ap (λ ps. data_packet z ∷ ps) (regroup zs)
@@ -169,12 +167,9 @@ module _ {W : Type 0} (contents : W → Option (List ℕ)) (failures : W → Fai
       let is : all ≡ seen = so_far.whole ∙ ap (λ ms. seen ++ ms) none ∙ append-nil seen in
       (subst (λ ms. SendsPackets contents failures {T = ℕ} old (map data_packet ms) (Ok count) new) (sym is) so_far.sent, so_far.counted ∙ sym (ap length is))
 
-  -- the parts of a session: its acceptance, the messages of the snapshot list, and the end
-  module _ (m : Content) (next n : ℕ) (config : ServerConfig) (xs : List Message) (passed len : ℕ)
+  -- the parts of an answer: the messages of the snapshot list, and the end
+  module _ (m : Content) (next n : ℕ) (xs : List Message) (passed len : ℕ)
       (xs_are : xs ≡ drop passed (snap m)) (passed_is : passed ≡ n - 1) (len_is : len ≡ length (snap m)) where
-    abbrev accepted : Packet
-    accepted = is.LoginAccepted (acceptance config n)
-
     abbrev body : List (List ℕ)
     body = map packet_spelling (map data_packet xs)
 
@@ -190,23 +185,18 @@ module _ {W : Type 0} (contents : W → Option (List ℕ)) (failures : W → Fai
     all_counted count last counted last_counted =
         omega (arith, counted, last_counted, ap length messages_are, length-append xs (end_part (nat_le passed len) next))
 
-    parts : map packet_spelling (accepted ∷ session_packets (messages_from n m next)) ≡ map packet_spelling (accepted ∷ []) ++ (body ++ end)
-    parts = ap (λ ms. map packet_spelling (accepted ∷ session_packets ms)) messages_are ∙ session_parts accepted xs (end_part (nat_le passed len) next)
+    parts : map packet_spelling (session_packets (messages_from n m next)) ≡ body ++ end
+    parts = ap (λ ms. map packet_spelling (session_packets ms)) messages_are ∙ session_parts xs (end_part (nat_le passed len) next)
 
-    pub failed_at_data : (S T : Type 0) (old mid new : W) (x : S) (fault : FrameFault) → SendsPackets contents failures old (accepted ∷ []) (Ok x) mid
-        → Sends contents failures {T = T} mid body (Err fault) new → SendsPackets contents failures {T = T} old (accepted ∷ session_packets (messages_from n m next)) (Err fault) new
-    failed_at_data S T old mid new x fault first second =
-        subst (λ ps. Sends contents failures {T = T} old ps (Err fault) new) (sym parts)
-        (sent_then contents failures {S = S} {T = T} old mid new (map packet_spelling (accepted ∷ [])) (body ++ end) x (Err fault) first
-        (sent_short contents failures T T mid new body end fault second))
+    pub failed_at_data : (T : Type 0) (old new : W) (fault : FrameFault) → Sends contents failures {T = T} old body (Err fault) new
+        → SendsPackets contents failures {T = T} old (session_packets (messages_from n m next)) (Err fault) new
+    failed_at_data T old new fault failed =
+        subst (λ ps. Sends contents failures {T = T} old ps (Err fault) new) (sym parts) (sent_short contents failures T T old new body end fault failed)
 
-    pub sent_with_end : {S T U : Type 0} (old mid late_mid new : W) (x : S) (y : T) (result : Result U FrameFault) → SendsPackets contents failures old (accepted ∷ []) (Ok x) mid
-        → Sends contents failures mid body (Ok y) late_mid → Sends contents failures late_mid end result new
-        → SendsPackets contents failures old (accepted ∷ session_packets (messages_from n m next)) result new
-    sent_with_end old mid late_mid new x y result first second third =
-        subst (λ ps. Sends contents failures old ps result new) (sym parts)
-        (sent_then contents failures old mid new (map packet_spelling (accepted ∷ [])) (body ++ end) x result first
-        (sent_then contents failures mid late_mid new body end y result second third))
+    pub sent_with_end : {T U : Type 0} (old mid new : W) (y : T) (result : Result U FrameFault) → Sends contents failures old body (Ok y) mid → Sends contents failures mid end result new
+        → SendsPackets contents failures old (session_packets (messages_from n m next)) result new
+    sent_with_end old mid new y result first second =
+        subst (λ ps. Sends contents failures old ps result new) (sym parts) (sent_then contents failures old mid new body end y result first second)
 
 -- a login is rejected, but the packet that says so was not written whole
 pub rejected : {W : Type 0} (contents : W → Option (List ℕ)) (failures : W → Failures) (m : Content) (next : ℕ) (config : ServerConfig) (login : LoginRequest) (total code : ℕ) (answer : ServerAct × Stage)

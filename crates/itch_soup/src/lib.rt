@@ -42,6 +42,6 @@ pub use origin::Origin;
 pub use packet::{LoginAccepted, LoginRequest, Packet};
 pub use parsing::parse_packet;
 pub use payload::Payload;
-pub use sending::{write_data, write_session};
+pub use sending::{write_answer, write_data, write_session};
 pub use serve::{Served, serve_one};
 pub use server::{ServerAct, ServerSession};

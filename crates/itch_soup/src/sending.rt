@@ -87,8 +87,23 @@ pub fn write_session<W: CountedWrite, B: OrderBook>(
         (is.LoginAccepted (acceptance config.now from) ∷ session_packets (messages_from from market.now next)) result writer.new }
     ensures count { IfOk result (λ count. count ≡ length (messages_from from market.now next)) }
 {
-    market.recall_invariant();
     write_acceptance(writer, config, from)?;
+    write_answer(writer, market, next, from)
+}
+
+/// Writes what follows the acceptance of a login: the packet of each message from this number on, and that of the session's end.
+/// Returns how many messages there were.
+pub fn write_answer<W: CountedWrite, B: OrderBook>(
+    writer: &mut W,
+    market: &Market<B>,
+    next: Seq,
+    from: Seq,
+) -> Result<u64, FrameFault>
+    requires { length (snap market.now) < 10 ^ 19 - 1 }
+    ensures packets { SendsPackets W.contents W.failures writer.old (session_packets (messages_from from market.now next)) result writer.new }
+    ensures count { IfOk result (λ count. count ≡ length (messages_from from market.now next)) }
+{
+    market.recall_invariant();
     let mut messages = SnapshotIter::new(market);
     let passed = from.value() - 1;
     let with_end = passed <= messages_before_end(market);

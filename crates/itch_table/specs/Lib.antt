@@ -1,3 +1,4 @@
+pub mod Credit
 pub mod Link
 pub mod Pages
 pub mod Table

@@ -1,14 +1,28 @@
 //! Links under keys, by pages of neighbouring keys. A look-up reads an entry of the directory and one link.
-ghost use Rattle.std.specs.Prelude.{◌≡◌, ℕ, ◌+◌, ◌/◌, ◌%◌, ◌<◌, ◌≤◌, ◌^◌, ◌++◌, ◌-◌, [], ◌∷◌, Some, None, Option, OnOk, OnErr, IfOk, IsSome, is_some, is_ok, count_by, length, eqb, cond, replicate, slice_index_or, slice_set, if◌then◌else◌};
+ghost use Rattle.std.specs.Prelude.{◌≡◌, ℕ, ◌+◌, ◌*◌, max, ◌/◌, ◌%◌, ◌<◌, ◌≤◌, ◌^◌, ◌++◌, ◌-◌, [], ◌∷◌, Some, None, Option, OnOk, OnErr, IfOk, IsSome, is_some, is_ok, count_by, length, eqb, cond, replicate, slice_index_or, slice_set, if◌then◌else◌};
 ghost use Rattle.std.specs.Map.{update};
+ghost use Rattle.itch_table.specs.Credit.{is_nothing, OnBytes};
 ghost use Rattle.itch_table.specs.Pages.{place_at, link_at, one_if, IsOpened};
 
+use crate::credit::Cost;
 use crate::link::Link;
 use std::alloc::{AllocError, Allocator, Global};
 use std::marker::Model;
 
 /// The keys of a page.
 pub(crate) const KEYS: u64 = 32;
+
+// The bytes of a page, and of its row of the directory.
+const PAGE: u64 = 144;
+
+const ROW: u64 = 4;
+
+const _: () = prove!(size_of::<Page>() == 144);
+
+// The directory may grow to this many rows, and to so many more for each key.
+const ROWS: u64 = 1 << 18;
+
+const ROWS_FOR_KEY: u64 = 16;
 
 // The links of neighbouring keys.
 #[derive(Drop)]
@@ -54,11 +68,28 @@ impl<A: Allocator> Pages<A> {
         }
     }
 
-    /// How many pages the directory has room for.
-    pub(crate) fn reach(&self) -> usize
-        ensures { result ≡ length self.now.directory }
+    /// What a page for a key costs, where so many keys have a link.
+    pub(crate) fn cost(&self, key: u64, keys: usize) -> Cost
+        ensures nothing { is_nothing result ≡ is_some (place_at self.now.directory (key / 32)) }
+        ensures reach { OnBytes result (key / 32 < max (length self.now.directory) (262144 + 16 * keys)) }
     {
-        self.directory.len()
+        let number = key / KEYS;
+        if place_at(&self.directory, number as usize).is_some() {
+            return Cost::Nothing;
+        }
+        let page = if self.free < self.pages.len() {
+            0
+        } else {
+            PAGE
+        };
+        let rows = self.directory.len() as u64;
+        if number < rows {
+            return Cost::Bytes(page);
+        }
+        if number >= ROWS.saturating_add((keys as u64).saturating_mul(ROWS_FOR_KEY)) {
+            return Cost::Beyond;
+        }
+        Cost::Bytes(page + (number + 1 - rows) * ROW)
     }
 
     /// The link of a key.

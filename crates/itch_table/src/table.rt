@@ -2,25 +2,23 @@
 ghost use Rattle.std.specs.Prelude.{◌≡◌, ℕ, ◌<◌, Some, None, OnOk, OnErr, IsSome, eqb};
 ghost use Rattle.itch_table.specs.Table.{at, Updates, IsSame, IsCount};
 
+use crate::credit::Credit;
 use crate::pages::{KEYS, Pages};
 use std::alloc::{AllocError, Allocator, Global};
 use std::collections::HashMap;
 use std::hash::{BuildHasherDefault, FoldHasher};
 use std::marker::Model;
 
-// The directory may grow to this many pages, and to so many more for each key.
-const PAGES: u64 = 1 << 18;
-
-const PAGES_FOR_KEY: u64 = 16;
-
 /// A link under each of some keys.
 #[derive(Drop)]
 pub struct Table<A: Allocator = Global> {
     near: Pages<A>,
-    // The links of keys that were beyond the reach of the pages.
+    // The links of keys that got no page.
     far: HashMap<u64, u32, BuildHasherDefault<FoldHasher>, A>,
     // How many keys there are.
     len: usize,
+    // What pages for new keys may take.
+    credit: Credit,
 }
 
 impl<A: Allocator> Model for Table<A> {
@@ -44,6 +42,7 @@ impl<A: Allocator> Table<A> {
             near: Pages::new(alloc),
             far: HashMap::new(alloc),
             len: 0,
+            credit: Credit::new(),
         }
     }
 
@@ -90,13 +89,17 @@ impl<A: Allocator> Table<A> {
         if self.len == usize::MAX {
             return Err(AllocError);
         }
-        if self.is_near(key) {
+        let cost = self.near.cost(key, self.len);
+        let credit = self.credit.after(key / KEYS, cost, self.len);
+        if self.credit.pays(cost) {
             self.near.insert(key, link)?;
+            self.credit = credit;
             self.len += 1;
             return Ok(());
         }
         match self.far.insert(key, link) {
             Ok(_) => {
+                self.credit = credit;
                 self.len += 1;
                 Ok(())
             }
@@ -115,12 +118,5 @@ impl<A: Allocator> Table<A> {
             Some(link) => link,
             None => self.far.remove(&key).unwrap(),
         }
-    }
-
-    // Whether a new key goes into a page.
-    fn is_near(&self, key: u64) -> bool {
-        let number = key / KEYS;
-        number < self.near.reach() as u64
-            || number < PAGES.saturating_add((self.len as u64).saturating_mul(PAGES_FOR_KEY))
     }
 }

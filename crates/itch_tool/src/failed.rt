@@ -1,5 +1,6 @@
 //! What failed, in words.
 
+use crate::failure::NamedFile;
 use itch_commands::Device;
 use itchsnap_cli::words::Job;
 use std::fmt;
@@ -18,8 +19,18 @@ pub enum DeviceName<'a> {
 }
 
 impl<'a> DeviceName<'a> {
-    /// The name of a device of a job. Before there is a job, only standard output can fail.
-    pub fn of(job: Option<&Job<'a>>, device: Device) -> DeviceName<'a> {
+    /// The name of a device of a job, one of whose files may have a path of its own. Before there is a job, only standard output can
+    /// fail.
+    pub fn of(
+        job: Option<&Job<'a>>,
+        device: Device,
+        file: Option<&'a NamedFile>,
+    ) -> DeviceName<'a> {
+        if let (Some(file), Device::File(source)) = (file, device) {
+            if file.source == source {
+                return DeviceName::Path(file.path.as_str());
+            }
+        }
         match (job, device) {
             (Some(job), Device::File(source)) => match job.file(source) {
                 Some(path) => DeviceName::Path(path),

@@ -1,21 +1,26 @@
 //! A live server, what follows a feed, and a feed that is played, over files and sockets.
 
 use crate::sockets::read_login;
-use itch_codec::Alpha;
 use itch_commands::{Source, ToolFault, system_fault};
 use itch_frame::Counted;
+use itch_live::Sessions;
 use itchsnap_cli::sessions::{PIECE, Sending};
-use itchsnap_cli::words::{FeedWords, FollowWords, LiveWords, Place};
-use itchsnap_live::{Following, Playing, Servers, Serving, follow_feed, play_feed, serve_live};
+use itchsnap_cli::words::{
+    FeedWords, FollowWords, LiveWords, Place, current_session, session_of_file,
+};
+use itchsnap_live::{
+    Following, LiveFault, Names, Playing, Servers, Serving, follow_feed, play_feed, serve_live,
+};
 use std::alloc::Global;
+use std::fs::File;
 use std::io::{self, BufWriter};
 use std::net::{Net, SocketAddr, ToSocketAddrs};
 use std::rt::{Clock, Files};
 
 /// Follows a feed, and serves the snapshot of its present market. The line of each client is written once it is gone.
-pub fn run_live<R>(rt: &R, words: &LiveWords<'_>) -> Result<bool, ToolFault>
+pub fn run_live<R>(rt: &R, words: &LiveWords<'_>) -> Result<bool, LiveFault>
 where
-    R: Net + Clock + Files + Print + Eprint + AllocGlobal,
+    R: Net + Clock + Files<File = File> + Print + Eprint + AllocGlobal,
 {
     let login = read_login(rt, &words.login, Source::PasswordFile)?;
     let own = read_login(rt, &words.feed_login, Source::Second)?;
@@ -28,9 +33,15 @@ where
     };
     let serving = Serving {
         address: words.address,
-        config: login.config(),
+        login,
         credentials: own.credentials(current_session()),
-        clients: usize::try_from(words.clients).unwrap_or(usize::MAX),
+        session: words.session,
+        glimpse_session: words.glimpse_session,
+        clients: places(words.clients),
+        clients_per_address: match words.clients_per_address {
+            Some(count) => places(count),
+            None => usize::MAX,
+        },
         from_snapshot: words.glimpse.is_some(),
         record: words.record,
         snapshots: words.snapshots,
@@ -40,10 +51,14 @@ where
     serve_live(rt, servers, &serving, &mut out)
 }
 
+fn places(count: u64) -> usize {
+    usize::try_from(count).unwrap_or(usize::MAX)
+}
+
 /// Fetches a snapshot, joins a feed to it, and writes the messages of the feed from there on.
-pub fn run_follow<R>(rt: &R, words: &FollowWords<'_>) -> Result<bool, ToolFault>
+pub fn run_follow<R>(rt: &R, words: &FollowWords<'_>) -> Result<bool, LiveFault>
 where
-    R: Net + Clock + Files + Print + Eprint + AllocGlobal,
+    R: Net + Clock + Files<File = File> + Print + Eprint + AllocGlobal,
 {
     let login = read_login(rt, &words.login, Source::PasswordFile)?;
     let servers = Servers {
@@ -52,10 +67,14 @@ where
     };
     let following = Following {
         credentials: login.credentials(current_session()),
+        sessions: Sessions {
+            feed: words.session,
+            glimpse: words.glimpse_session,
+        },
         form: words.form,
     };
     let Ok(buffered) = BufWriter::with_capacity(rt.alloc(), PIECE, io::writer(rt)) else {
-        return Err(ToolFault::OutOfMemory);
+        return Err(LiveFault::Tool(ToolFault::OutOfMemory));
     };
     follow_feed(rt, servers, &following, &mut Sending::new(buffered))
 }
@@ -63,24 +82,19 @@ where
 /// Plays a day file as a live feed. The line of each client is written once it is gone.
 pub fn run_feed<R>(rt: &R, words: &FeedWords<'_>) -> Result<bool, ToolFault>
 where
-    R: Net + Clock + Files + Print + Eprint + AllocGlobal,
+    R: Net + Clock + Files<File = File> + Print + Eprint + AllocGlobal,
 {
     let login = read_login(rt, &words.login, Source::PasswordFile)?;
     let playing = Playing {
         path: words.file,
         address: words.address,
-        config: login.config(),
+        config: login.config(words.session.unwrap_or(session_of_file(words.file))),
         pace: words.pace,
         count: words.count,
         stay: words.stay,
     };
     let mut out = Counted::new(io::writer(rt));
     play_feed(rt, &playing, &mut out)
-}
-
-// The session of a login that asks for the current one.
-fn current_session() -> Alpha<10> {
-    Alpha::from_text("").unwrap()
 }
 
 // The addresses of a server. `source` says in a fault which one it is.
@@ -108,4 +122,28 @@ fn look_up<R: Net + AllocGlobal>(
         }
     }
     Ok(addresses)
+}
+
+/// The names of what a live server works on.
+pub fn live_names<'a>(words: &LiveWords<'a>) -> Names<'a> {
+    Names {
+        record: match words.record {
+            Some(record) => record.path,
+            None => "",
+        },
+        snapshots: match words.snapshots {
+            Some(snapshots) => snapshots.folder,
+            None => "",
+        },
+        feed: words.feed.words,
+    }
+}
+
+/// The same of what follows a feed, which has no file.
+pub fn follow_names<'a>(words: &FollowWords<'a>) -> Names<'a> {
+    Names {
+        record: "",
+        snapshots: "",
+        feed: words.feed.words,
+    }
 }

@@ -1,14 +1,14 @@
 //! The list of `--only`: words, or a file that has it.
 
-use itch_commands::{Source, ToolFault, list_file, read_locates, system_fault};
+use itch_commands::{Source, ToolFault, insert_locates, list_file, read_locates, system_fault};
 use itch_market::LocateSet;
-use std::alloc::{AllocError, Global};
-use std::fs;
-use std::io::{self, Read};
+use std::alloc::Global;
+use std::io::{BufReader, Read};
 use std::rt::Files;
+use std::{fs, str};
 
-/// A longer file is refused as no list: all locates in lines of their own take less than half of this.
-const MOST_BYTES: u64 = 1 << 20;
+/// What is between two commas or ends of lines is no longer: a locate has five digits, and zeros may come before them.
+const MOST_BYTES: usize = 1 << 16;
 
 /// The locates of a list, or of the file whose path comes after an at sign. In a file a line break may stand in place of a comma.
 ///
@@ -20,35 +20,96 @@ pub fn read_only<R: Files + AllocGlobal>(
     let Some(path) = list_file(words) else {
         return read_locates(rt.alloc(), words);
     };
-    match read_text(rt, path) {
-        Ok(text) if text.len() as u64 > MOST_BYTES => Err(ToolFault::BadLocates),
-        Ok(text) => read_locates(rt.alloc(), in_one_line(rt, text.as_str())?.as_str()),
-        Err(error) => Err(system_fault(
+    match fs::open(rt, path) {
+        Ok(file) => read_file(rt.alloc(), file),
+        Err(error) => Err(open_fault(error)),
+    }
+}
+
+fn open_fault(error: std::io::Error) -> ToolFault {
+    system_fault(
+        error,
+        ToolFault::Open {
+            file: Source::Locates,
             error,
-            ToolFault::Open {
-                file: Source::Locates,
-                error,
+        },
+    )
+}
+
+// The list of a file, whatever its size.
+fn read_file<F: Read + Drop>(alloc: Global, file: F) -> Result<LocateSet<Global>, ToolFault> {
+    let Ok(buffered) = BufReader::new(alloc, file) else {
+        return Err(ToolFault::OutOfMemory);
+    };
+    let mut list = List::new(alloc);
+    for byte in buffered.bytes() {
+        match byte {
+            Ok(byte) => list.pass(byte)?,
+            Err(error) => return Err(open_fault(error)),
+        }
+    }
+    list.end()
+}
+
+// A list that is read byte by byte.
+#[derive(Drop)]
+struct List {
+    set: LocateSet<Global>,
+    has_parts: bool,
+    // What came since the last comma or line break.
+    part: Vec<u8, Global>,
+    is_first_in_line: bool,
+}
+
+impl List {
+    fn new(alloc: Global) -> List {
+        List {
+            set: LocateSet::new(alloc),
+            has_parts: false,
+            part: Vec::new(alloc),
+            is_first_in_line: true,
+        }
+    }
+
+    fn pass(&mut self, byte: u8) -> Result<(), ToolFault> {
+        match byte {
+            b',' => self.end_part(false),
+            b'\n' => self.end_part(true),
+            _ if self.part.len() < MOST_BYTES => match self.part.push(byte) {
+                Ok(()) => Ok(()),
+                Err(_) => Err(ToolFault::OutOfMemory),
             },
-        )),
-    }
-}
-
-fn read_text<R: Files + AllocGlobal>(rt: &R, path: &str) -> io::Result<String> {
-    io::read_to_string(rt.alloc(), fs::open(rt, path)?.take(MOST_BYTES + 1))
-}
-
-// The lines of a list with commas between them. An empty line has no locate.
-fn in_one_line<R: AllocGlobal>(rt: &R, text: &str) -> Result<String, AllocError> {
-    let mut list = String::new(rt.alloc());
-    for line in text.lines() {
-        let line = line.trim();
-        if line.is_empty() {
-            continue;
+            _ => Err(ToolFault::BadLocates),
         }
-        if !list.is_empty() {
-            list.push(',')?;
-        }
-        list.push_str(line)?;
     }
-    Ok(list)
+
+    // A part ends, and perhaps its line. Spaces at both ends of a line are dropped, and a line of nothing has no part.
+    fn end_part(&mut self, ends_line: bool) -> Result<(), ToolFault> {
+        let Ok(mut text) = str::from_utf8(&self.part) else {
+            return Err(ToolFault::BadLocates);
+        };
+        if self.is_first_in_line {
+            text = text.trim_start();
+        }
+        if ends_line {
+            text = text.trim_end();
+        }
+        if !(text.is_empty() && self.is_first_in_line && ends_line) {
+            insert_locates(&mut self.set, text)?;
+            self.has_parts = true;
+        }
+        self.part.clear();
+        self.is_first_in_line = ends_line;
+        Ok(())
+    }
+
+    // The set, at the end of the file.
+    fn end(mut self) -> Result<LocateSet<Global>, ToolFault> {
+        self.end_part(true)?;
+        if self.has_parts {
+            Ok(self.set)
+        } else {
+            Err(ToolFault::BadLocates)
+        }
+    }
 }

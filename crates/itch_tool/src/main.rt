@@ -5,11 +5,16 @@
 //! `follow` and `feed` those of `itchsnap_live`.
 #![tactic(auto)]
 
+mod at;
 mod checkpoints;
 mod explaining;
 mod failed;
+mod failure;
+mod feed;
+mod lines;
 mod live;
 mod locate_list;
+mod noted;
 mod opened;
 mod output;
 mod packed;

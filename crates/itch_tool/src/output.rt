@@ -1,8 +1,9 @@
 //! The file that a snapshot is written to: it gets its name once it is whole.
 
-use itch_commands::{Source, ToolFault, system_fault};
+use crate::failure::Failure;
+use itch_commands::Source;
+use std::fs;
 use std::rt::Files;
-use std::{fs, io};
 
 /// A file that is written beside the one of its path, and then gets that name: so a file of that name is whole.
 ///
@@ -21,7 +22,7 @@ impl<'a> Output<'a> {
     pub fn create<R: Files + AllocGlobal>(
         rt: &R,
         path: &'a str,
-    ) -> Result<(Output<'a>, R::File), ToolFault> {
+    ) -> Result<(Output<'a>, R::File), Failure> {
         let part = part_of(rt, path)?;
         let written = match &part {
             Some(part) => part.as_str(),
@@ -29,25 +30,30 @@ impl<'a> Output<'a> {
         };
         match fs::create(rt, written) {
             Ok(file) => Ok((Output { path, part }, file)),
-            Err(error) => Err(output_fault(error)),
+            Err(error) => {
+                // Where the file beside is there, it is what is in the way.
+                let is_in_the_way = fs::metadata(rt, written).is_ok();
+                let named = if is_in_the_way { written } else { path };
+                Err(Failure::open(rt.alloc(), Source::Output, named, error))
+            }
         }
     }
 
     /// Gives the file its name, where all was written to it; otherwise removes it.
-    pub fn finish<R: Files>(
+    pub fn finish<R: Files + AllocGlobal>(
         &self,
         rt: &R,
-        outcome: Result<bool, ToolFault>,
-    ) -> Result<bool, ToolFault> {
+        outcome: Result<bool, Failure>,
+    ) -> Result<bool, Failure> {
         let Some(part) = &self.part else {
             return outcome;
         };
         let named = match outcome {
             Ok(answer) => match fs::rename(rt, part.as_str(), self.path) {
                 Ok(()) => return Ok(answer),
-                Err(error) => output_fault(error),
+                Err(error) => Failure::open(rt.alloc(), Source::Output, self.path, error),
             },
-            Err(fault) => fault,
+            Err(failure) => failure,
         };
         let _removed = fs::remove_file(rt, part.as_str());
         Err(named)
@@ -55,20 +61,9 @@ impl<'a> Output<'a> {
 }
 
 // The path of the file beside. A device or a pipe has none.
-fn part_of<R: Files + AllocGlobal>(rt: &R, path: &str) -> Result<Option<String>, ToolFault> {
+fn part_of<R: Files + AllocGlobal>(rt: &R, path: &str) -> Result<Option<String>, Failure> {
     match fs::metadata(rt, path) {
         Ok(metadata) if !metadata.is_file() => Ok(None),
         _ => Ok(Some(format!(in rt.alloc(); "{path}.part")?)),
     }
-}
-
-/// The fault of an output that cannot be opened or named.
-pub fn output_fault(error: io::Error) -> ToolFault {
-    system_fault(
-        error,
-        ToolFault::Open {
-            file: Source::Output,
-            error,
-        },
-    )
 }

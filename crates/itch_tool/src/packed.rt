@@ -24,7 +24,15 @@ pub fn packed_file<'a, R: Files>(
     let (Job::Files { .. } | Job::Points(_) | Job::Serve { .. }) = job else {
         return None;
     };
-    let source = source_of(fault)?;
+    packed_source(rt, job, source_of(fault)?)
+}
+
+/// The feed of a job, if its first bytes are those of a packed file.
+pub fn packed_feed<'a, R: Files>(rt: &R, job: &Job<'a>) -> Option<PackedFile<'a>> {
+    packed_source(rt, job, Source::Only)
+}
+
+fn packed_source<'a, R: Files>(rt: &R, job: &Job<'a>, source: Source) -> Option<PackedFile<'a>> {
     let path = job.file(source)?;
     Some(PackedFile {
         path,

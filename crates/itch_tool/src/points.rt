@@ -1,11 +1,13 @@
 //! Snapshots of several points of a day file, in the files of a folder.
 
+use crate::failure::Failure;
 use crate::locate_list::read_only;
-use crate::opened::open;
-use crate::output::{Output, output_fault};
+use crate::noted::{Noted, Notes};
+use crate::opened::{open, read_fault};
+use crate::output::Output;
 use crate::run::blocks;
 use itch_commands::snap::{Pass, write_index};
-use itch_commands::{Book, Limit, Source, ToolFault};
+use itch_commands::{Book, Limit, Source, ToolFault, write_locates};
 use itch_frame::{BlockReader, Counted, CountedRead};
 use itch_market::LocateSet;
 use itchsnap_cli::input::Progress;
@@ -20,7 +22,7 @@ use std::rt::{Clock, Files};
 pub fn run_points<R: Files + Input + Eprint + AllocGlobal + Clock>(
     rt: &R,
     words: &PointWords<'_>,
-) -> Result<bool, ToolFault> {
+) -> Result<bool, Failure> {
     let alloc = rt.alloc();
     let only = match words.only {
         Some(words) => Some(read_only(rt, words)?),
@@ -32,16 +34,19 @@ pub fn run_points<R: Files + Input + Eprint + AllocGlobal + Clock>(
         None
     };
     let file = open(rt, words.file, Source::Only, progress.as_ref())?;
-    save_points(rt, words, only, blocks(alloc, file)?)
+    let notes = Notes::new(alloc)?;
+    let reader = blocks(alloc, Noted::new(file, &notes))?;
+    save_points(rt, words, only, &notes, reader)
 }
 
 fn save_points<R: Files + AllocGlobal, S: CountedRead + Drop, A: Allocator>(
     rt: &R,
     words: &PointWords<'_>,
     only: Option<LocateSet<Global>>,
+    notes: &Notes,
     reader: BlockReader<S, A>,
-) -> Result<bool, ToolFault> {
-    let mut folder = Folder::create(rt, words.folder, only)?;
+) -> Result<bool, Failure> {
+    let mut folder = Folder::create(rt, words.folder, only, notes)?;
     let mut pass = Pass::new(rt.alloc(), reader);
     match words.points {
         Points::Every(count) => save_every(&mut folder, &mut pass, count),
@@ -59,6 +64,9 @@ struct Folder<'a, R: Files> {
     path: &'a str,
     index: Counted<R::File>,
     only: Option<LocateSet<Global>>,
+    // The list of the same locates.
+    list: Option<String>,
+    notes: &'a Notes,
     // How many messages the last snapshot has.
     last: Option<u64>,
 }
@@ -69,17 +77,24 @@ impl<'a, R: Files + AllocGlobal> Folder<'a, R> {
         rt: &'a R,
         path: &'a str,
         only: Option<LocateSet<Global>>,
-    ) -> Result<Folder<'a, R>, ToolFault> {
+        notes: &'a Notes,
+    ) -> Result<Folder<'a, R>, Failure> {
         let index = format!(in rt.alloc(); "{path}/index.jsonl")?;
+        let list = match &only {
+            Some(only) => Some(write_locates(rt.alloc(), only)?),
+            None => None,
+        };
         match fs::create(rt, index.as_str()) {
             Ok(file) => Ok(Folder {
                 rt,
                 path,
                 index: Counted::new(file),
                 only,
+                list,
+                notes,
                 last: None,
             }),
-            Err(error) => Err(output_fault(error)),
+            Err(error) => Err(Failure::open(rt.alloc(), Source::Output, path, error)),
         }
     }
 
@@ -87,17 +102,25 @@ impl<'a, R: Files + AllocGlobal> Folder<'a, R> {
     fn save<S: CountedRead, A: Allocator>(
         &mut self,
         pass: &Pass<S, A, Book<Global>>,
-    ) -> Result<(), ToolFault> {
+    ) -> Result<(), Failure> {
         let mark = pass.mark();
         if self.last == Some(mark.count) {
             return Ok(());
         }
+        let fingerprint = match self.notes.fingerprint(mark.offset) {
+            Ok(fingerprint) => fingerprint,
+            Err(error) => return Err(Failure::from(read_fault(mark.count, error))),
+        };
         let (alloc, folder, count) = (self.rt.alloc(), self.path, mark.count);
         let path = format!(in alloc; "{folder}/{count}.snap")?;
         let (output, file) = Output::create(self.rt, path.as_str())?;
         output.finish(self.rt, write_file(alloc, pass, self.only.as_ref(), file))?;
         self.last = Some(count);
-        write_index(mark, &mut self.index)
+        let list = match &self.list {
+            Some(list) => Some(list.as_str()),
+            None => None,
+        };
+        Ok(write_index(mark, fingerprint, list, &mut self.index)?)
     }
 }
 
@@ -106,15 +129,15 @@ fn write_file<S: CountedRead, A: Allocator, W: Write + Drop>(
     pass: &Pass<S, A, Book<Global>>,
     only: Option<&LocateSet<Global>>,
     file: W,
-) -> Result<bool, ToolFault> {
+) -> Result<bool, Failure> {
     let Ok(buffered) = BufWriter::with_capacity(alloc, PIECE, file) else {
-        return Err(ToolFault::OutOfMemory);
+        return Err(Failure::from(ToolFault::OutOfMemory));
     };
     let mut out = Counted::new(buffered);
     let answer = pass.write(only, &mut out)?;
     match out.into_inner().flush() {
         Ok(()) => Ok(answer),
-        Err(error) => Err(ToolFault::Write(error)),
+        Err(error) => Err(Failure::from(ToolFault::Write(error))),
     }
 }
 
@@ -122,7 +145,7 @@ fn save_at<R: Files + AllocGlobal, S: CountedRead, A: Allocator>(
     folder: &mut Folder<'_, R>,
     pass: &mut Pass<S, A, Book<Global>>,
     limit: Limit,
-) -> Result<bool, ToolFault> {
+) -> Result<bool, Failure> {
     pass.read_to(limit)?;
     folder.save(pass)?;
     Ok(true)
@@ -134,7 +157,7 @@ fn save_each<R: Files + AllocGlobal, S: CountedRead, A: Allocator>(
     pass: &mut Pass<S, A, Book<Global>>,
     points: Points<'_>,
     list: &str,
-) -> Result<bool, ToolFault> {
+) -> Result<bool, Failure> {
     for text in list.split(',') {
         if let Some(limit) = points.limit(text) {
             save_at(folder, pass, limit)?;
@@ -148,7 +171,7 @@ fn save_every<R: Files + AllocGlobal, S: CountedRead, A: Allocator>(
     folder: &mut Folder<'_, R>,
     pass: &mut Pass<S, A, Book<Global>>,
     count: u64,
-) -> Result<bool, ToolFault> {
+) -> Result<bool, Failure> {
     for _ in 0..u64::MAX {
         let is_more = pass.read_more(count)?;
         folder.save(pass)?;

@@ -1,10 +1,12 @@
 //! The commands over files and standard streams.
 ghost use Rattle.itch_commands.specs.Requests.{IsOverOne};
 
-use crate::checkpoints::{EMPTY_SNAPSHOT, nearest, path_of};
-use crate::live::{run_feed, run_follow, run_live};
+use crate::at::join_at;
+use crate::explaining::said;
+use crate::failure::Failure;
+use crate::live::{follow_names, live_names, run_feed, run_follow, run_live};
 use crate::locate_list::read_only;
-use crate::opened::{open, open_at};
+use crate::opened::open;
 use crate::output::Output;
 use crate::points::run_points;
 use crate::sockets::{run_fetch, run_serve};
@@ -16,17 +18,18 @@ use itch_commands::{
 use itch_frame::{BlockReader, Buffered, Counted, CountedWrite};
 use itch_market::LocateSet;
 use itchsnap_cli::input::Progress;
-use itchsnap_cli::sessions::PIECE;
+use itchsnap_cli::sessions::{PIECE, default_session};
 use itchsnap_cli::words::{Completions, Job, Shell};
 use std::alloc::{Allocator, Global};
+use std::fs::File;
 use std::io::{self, BufReader, BufWriter, Read, Write};
 use std::net::{Net, TcpListener, TcpStream};
 use std::rt::{Clock, Files};
 
 /// Performs the job, with its output on standard output. True is status 0, and false is status 1 with the output written.
-pub fn run<R>(rt: &R, job: &Job<'_>) -> Result<bool, ToolFault>
+pub fn run<R>(rt: &R, job: &Job<'_>) -> Result<bool, Failure>
 where
-    R: Files + Input + Print + Eprint + AllocGlobal + Clock,
+    R: Files<File = File> + Input + Print + Eprint + AllocGlobal + Clock,
     R: Net<Listener = TcpListener, Stream = TcpStream>,
 {
     match job {
@@ -34,26 +37,32 @@ where
             request,
             progress,
             output,
-        } => run_request(rt, *request, *progress, *output),
-        Job::Points(words) => run_points(rt, words),
+        } => Ok(run_request(rt, *request, *progress, *output)?),
+        Job::Points(words) => Ok(run_points(rt, words)?),
         Job::Serve {
             file,
             kind,
             address,
             login,
+            session,
             count,
             progress,
-        } => run_serve(rt, *file, *kind, *address, login, *count, *progress),
+        } => {
+            let session = session.unwrap_or(default_session());
+            Ok(run_serve(
+                rt, *file, *kind, *address, login, session, *count, *progress,
+            )?)
+        }
         Job::Fetch {
             server,
             login,
             from,
             output,
         } => run_fetch(rt, server, login, *from, *output),
-        Job::Live(words) => run_live(rt, words),
-        Job::Follow(words) => run_follow(rt, words),
-        Job::Feed(words) => run_feed(rt, words),
-        Job::Completions(shell) => print_completions(rt, *shell),
+        Job::Live(words) => said(rt, live_names(words), run_live(rt, words)),
+        Job::Follow(words) => said(rt, follow_names(words), run_follow(rt, words)),
+        Job::Feed(words) => Ok(run_feed(rt, words)?),
+        Job::Completions(shell) => Ok(print_completions(rt, *shell)?),
     }
 }
 
@@ -66,40 +75,40 @@ fn print_completions<R: Print + AllocGlobal>(rt: &R, shell: Shell) -> Result<boo
     }
 }
 
-// Performs a request, with its output in the file of a path, or on standard output.
+// Performs a request, with its output in the file of a path, or on standard output. Its words are read first, then files are opened.
 fn run_request<R: Files + Input + Print + Eprint + AllocGlobal + Clock>(
     rt: &R,
     request: Request<'_>,
     progress: bool,
     output: Option<&str>,
-) -> Result<bool, ToolFault> {
+) -> Result<bool, Failure> {
+    let only = match request.only() {
+        Some(words) => Some(read_only(rt, words)?),
+        None => None,
+    };
     let Some(path) = output else {
-        return request_to(rt, request, progress, io::writer(rt));
+        return request_to(rt, request, progress, only, io::writer(rt));
     };
     let (output, file) = Output::create(rt, path)?;
-    output.finish(rt, request_to(rt, request, progress, file))
+    output.finish(rt, request_to(rt, request, progress, only, file))
 }
 
 fn request_to<R: Files + Input + Eprint + AllocGlobal + Clock, W: Write + Drop>(
     rt: &R,
     request: Request<'_>,
     progress: bool,
+    only: Option<LocateSet<Global>>,
     writer: W,
-) -> Result<bool, ToolFault> {
-    let alloc = rt.alloc();
-    let only = match request.only() {
-        Some(words) => Some(read_only(rt, words)?),
-        None => None,
-    };
-    let Ok(buffered) = BufWriter::with_capacity(alloc, PIECE, writer) else {
-        return Err(ToolFault::OutOfMemory);
+) -> Result<bool, Failure> {
+    let Ok(buffered) = BufWriter::with_capacity(rt.alloc(), PIECE, writer) else {
+        return Err(Failure::from(ToolFault::OutOfMemory));
     };
     let mut out = Counted::new(buffered);
     let progress = if progress { Progress::begin(rt) } else { None };
     let answer = answer(rt, request, progress.as_ref(), only, &mut out)?;
     match out.into_inner().flush() {
         Ok(()) => Ok(answer),
-        Err(error) => Err(ToolFault::Write(error)),
+        Err(error) => Err(Failure::from(ToolFault::Write(error))),
     }
 }
 
@@ -110,7 +119,7 @@ fn answer<R: Files + Input + Eprint + AllocGlobal + Clock, W: CountedWrite>(
     progress: Option<&Progress<'_, R>>,
     only: Option<LocateSet<Global>>,
     out: &mut W,
-) -> Result<bool, ToolFault> {
+) -> Result<bool, Failure> {
     let alloc = rt.alloc();
     match request {
         Request::Compare {
@@ -121,7 +130,7 @@ fn answer<R: Files + Input + Eprint + AllocGlobal + Clock, W: CountedWrite>(
         } => {
             let first = open(rt, first, Source::First, progress)?;
             let second = open(rt, second, Source::Second, progress)?;
-            compare_over(alloc, first, second, kind, form, out)
+            Ok(compare_over(alloc, first, second, kind, form, out)?)
         }
         Request::CompareFirst {
             first,
@@ -131,7 +140,7 @@ fn answer<R: Files + Input + Eprint + AllocGlobal + Clock, W: CountedWrite>(
         } => {
             let first = open(rt, first, Source::First, progress)?;
             let second = open(rt, second, Source::Second, progress)?;
-            compare_first_over(alloc, first, second, limit, form, out)
+            Ok(compare_first_over(alloc, first, second, limit, form, out)?)
         }
         Request::Join {
             snapshot,
@@ -141,7 +150,7 @@ fn answer<R: Files + Input + Eprint + AllocGlobal + Clock, W: CountedWrite>(
         } => {
             let snapshot = open(rt, snapshot, Source::Snapshot, progress)?;
             let feed = open(rt, feed, Source::Only, progress)?;
-            join_over(alloc, snapshot, feed, part, selection, only, out)
+            Ok(join_over(alloc, snapshot, feed, part, selection, only, out)?)
         }
         Request::At {
             folder,
@@ -151,7 +160,7 @@ fn answer<R: Files + Input + Eprint + AllocGlobal + Clock, W: CountedWrite>(
         } => join_at(rt, folder, feed, point, selection, progress, only, out),
         _ => {
             let file = open(rt, request.file(Source::Only), Source::Only, progress)?;
-            perform_over(alloc, request, only.as_ref(), file, out)
+            Ok(perform_over(alloc, request, only.as_ref(), file, out)?)
         }
     }
 }
@@ -184,39 +193,8 @@ fn compare_first_over<A: Allocator + Copy, R: Read + Drop, W: CountedWrite>(
     compare_first_blocks(alloc, &mut first, &mut second, limit, form, out)
 }
 
-// Joins a day file to the checkpoint that is nearest to a point of the day. The file is read from there on, if it has places.
-fn join_at<R: Files + Input + Eprint + AllocGlobal + Clock, W: CountedWrite>(
-    rt: &R,
-    folder: &str,
-    feed: Option<&str>,
-    point: Limit,
-    selection: Selection<'_>,
-    progress: Option<&Progress<'_, R>>,
-    only: Option<LocateSet<Global>>,
-    out: &mut W,
-) -> Result<bool, ToolFault> {
-    let alloc = rt.alloc();
-    let checkpoint = nearest(rt, folder, point)?;
-    let (feed, at) = open_at(rt, feed, checkpoint.offset, Source::Only, progress)?;
-    let before = if at == checkpoint.offset {
-        checkpoint.count
-    } else {
-        0
-    };
-    let part = FeedPart {
-        before,
-        limit: point,
-    };
-    if checkpoint.count == 0 {
-        return join_over(alloc, EMPTY_SNAPSHOT, feed, part, selection, only, out);
-    }
-    let path = path_of(alloc, folder, &checkpoint)?;
-    let snapshot = open(rt, Some(path.as_str()), Source::Snapshot, progress)?;
-    join_over(alloc, snapshot, feed, part, selection, only, out)
-}
-
-// Joins a feed to a snapshot.
-fn join_over<A: Allocator + Copy, R: Read + Drop, S: Read + Drop, W: CountedWrite>(
+/// Joins a feed to a snapshot.
+pub fn join_over<A: Allocator + Copy, R: Read + Drop, S: Read + Drop, W: CountedWrite>(
     alloc: A,
     snapshot: R,
     feed: S,

@@ -1,9 +1,10 @@
 //! The two ends of a session over sockets.
 
+use crate::failure::Failure;
 use crate::opened::open;
 use crate::output::Output;
 use crate::password::read_password;
-use itch_codec::Seq;
+use itch_codec::{Alpha, Seq};
 use itch_commands::{FileKind, Source, ToolFault, system_fault};
 use itch_frame::{BlockReader, Buffered, Counted};
 use itchsnap_cli::input::Progress;
@@ -22,6 +23,7 @@ pub fn run_serve<R>(
     kind: FileKind,
     address: SocketAddr,
     login: &LoginWords<'_>,
+    session: Alpha<10>,
     count: u64,
     progress: bool,
 ) -> Result<bool, ToolFault>
@@ -42,7 +44,7 @@ where
         &mut reader,
         kind,
         address,
-        &login.config(),
+        &login.config(session),
         count,
         &mut out,
     )
@@ -56,28 +58,32 @@ pub fn run_fetch<R>(
     login: &LoginWords<'_>,
     from: Option<Seq>,
     output: Option<&str>,
-) -> Result<bool, ToolFault>
+) -> Result<bool, Failure>
 where
     R: Files + Print + AllocGlobal + Net<Stream = TcpStream>,
 {
+    let login = read_login(rt, login, Source::PasswordFile)?;
     let Some(path) = output else {
-        return fetch_to(rt, server, login, from, io::writer(rt));
+        return Ok(fetch_to(rt, server, &login, from, io::writer(rt))?);
     };
     let (output, file) = Output::create(rt, path)?;
-    output.finish(rt, fetch_to(rt, server, login, from, file))
+    let outcome = match fetch_to(rt, server, &login, from, file) {
+        Ok(answer) => Ok(answer),
+        Err(fault) => Err(Failure::from(fault)),
+    };
+    output.finish(rt, outcome)
 }
 
 fn fetch_to<R, W: Write + Drop>(
     rt: &R,
     server: &Server<'_>,
-    login: &LoginWords<'_>,
+    login: &Login,
     from: Option<Seq>,
     writer: W,
 ) -> Result<bool, ToolFault>
 where
     R: Files + AllocGlobal + Net<Stream = TcpStream>,
 {
-    let login = read_login(rt, login, Source::PasswordFile)?;
     let stream = connect(rt, server)?;
     let Ok(buffered) = BufReader::with_capacity(rt.alloc(), PIECE, &stream) else {
         return Err(ToolFault::OutOfMemory);

@@ -5,6 +5,7 @@ use Rattle.itchsnap_cli.specs.declared.words.job.Job.TheVariants.{Files, Points,
 use Rattle.itchsnap_cli.specs.declared.words.live.LiveWords.{LiveWords}
 use Rattle.itchsnap_cli.specs.declared.words.live.FollowWords.{FollowWords}
 use Rattle.itchsnap_cli.specs.declared.words.live.Place.{Place}
+use Rattle.itchsnap_cli.specs.declared.words.live.RecordWords.{RecordWords}
 use Rattle.itchsnap_cli.specs.declared.words.live.FollowForm.{FollowForm}
 use Rattle.itchsnap_cli.specs.declared.words.live.FollowForm.TheVariants as form
 use Rattle.itchsnap_cli.specs.declared.words.session.Password.{Password}
@@ -32,7 +33,7 @@ live_file live Snapshot = option_map (λ s. s.folder.now) live.snapshots
 live_file live PasswordFile = password_file live.login.password
 live_file live Output = None
 live_file live Locates = None
-live_file live Only = begun_with (option_map (λ path. path.now) live.«record») (option_map (λ (place : Place). place.words.now) live.glimpse)
+live_file live Only = begun_with (option_map (λ (r : RecordWords). r.path.now) live.«record») (option_map (λ (place : Place). place.words.now) live.glimpse)
 
 -- what a fault names so where a feed is followed
 abbrev pub follow_file : FollowWords → Source → Option (List ℕ)
@@ -58,8 +59,8 @@ file_of (Files request progress output) source = requests.file_of request source
 file_of (Points words) Output = Some words.folder.now
 file_of (Points words) Locates = requests.file_of_list (option_map (λ list. list.now) words.only)
 file_of (Points words) source = option_map (λ path. path.now) words.file
-file_of (Serve file kind address login count progress) PasswordFile = password_file login.password
-file_of (Serve file kind address login count progress) source = option_map (λ path. path.now) file
+file_of (Serve file kind address login session count progress) PasswordFile = password_file login.password
+file_of (Serve file kind address login session count progress) source = option_map (λ path. path.now) file
 file_of (Fetch server login from output) PasswordFile = password_file login.password
 file_of (Fetch server login from output) Output = option_map (λ path. path.now) output
 file_of (Fetch server login from output) source = None
@@ -79,7 +80,7 @@ is_blocks form.Whole = true
 abbrev pub writes_snapshot : Job → Bool
 writes_snapshot (Files request progress output) = is_binary request
 writes_snapshot (Points words) = false
-writes_snapshot (Serve file kind address login count progress) = false
+writes_snapshot (Serve file kind address login session count progress) = false
 writes_snapshot (Fetch server login from output) = true
 writes_snapshot (Live live) = false
 writes_snapshot (Follow follow) = is_blocks follow.form

@@ -8,7 +8,7 @@
 //!
 //! ```
 //! let login = Login::new("desk", "secret")?;
-//! assert_eq!(login.config().session.text(), "ITCHSNAP");
+//! assert_eq!(login.config(default_session()).session.text(), "ITCHSNAP");
 //! assert_eq!(login.credentials(Alpha::from_text("")?).username.text(), "desk");
 //! ```
 
@@ -24,7 +24,7 @@ mod serve;
 pub use connection::{PIECE, serve_peer, serve_stream};
 pub use ending::{Ending, write_ending};
 pub use fetching::fetch;
-pub use login::{Login, first_line};
+pub use login::{Login, default_session, first_line};
 pub use patient::{Patient, time_left};
 pub use rest::fetch_rest;
 pub use sending::Sending;

@@ -21,9 +21,12 @@ mod request;
 mod session;
 mod time;
 
-pub use commands::usage_fault;
+pub use commands::{VERSION, usage_fault};
 pub use completions::{Completions, Shell};
 pub use job::{Job, read_job};
-pub use live::{FeedWords, FollowForm, FollowWords, LiveWords, Pace, Place, SnapshotWords};
+pub use live::{
+    FeedWords, FollowForm, FollowWords, LiveWords, Pace, Place, RecordWords, SnapshotWords,
+    SyncTime,
+};
 pub use points::{PointWords, Points};
-pub use session::{LoginWords, Password, Server};
+pub use session::{LoginWords, Password, Server, current_session, session_of_file};

@@ -3,7 +3,7 @@ use Rattle.std.specs.Prelude.{ℕ, Bool, true, false, List, [], ◌∷◌, ◌++
 use Rattle.itch_live.specs.declared.gone.Gone.{Gone}
 use Rattle.itch_live.specs.declared.gone.Gone.TheVariants as gone
 use Rattle.itchsnap_live.specs.declared.departure.Departure.{Departure}
-use Rattle.itchsnap_live.specs.declared.departure.Departure.TheVariants.{Answered, Played, Rejected, Left, Fault, CutOff}
+use Rattle.itchsnap_live.specs.declared.departure.Departure.TheVariants.{Answered, Played, Rejected, Left, Fault, CutOff, Slowest}
 
 -- how the connection of a client ended that is gone for this reason
 abbrev pub of_gone : Gone → Departure
@@ -32,6 +32,7 @@ departure_words (Rejected code) = codes "rejected " ++ code ∷ []
 departure_words Left = codes "left"
 departure_words Fault = codes "fault"
 departure_words CutOff = codes "cut off"
+departure_words Slowest = codes "cut off as the slowest"
 
 -- the line of a connection
 abbrev pub departure_line : ℕ → Departure → List ℕ

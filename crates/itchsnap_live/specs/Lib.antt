@@ -1,8 +1,13 @@
+pub mod Budgets
 pub mod Departures
 pub mod FeedLines
+pub mod LiveFaults
+pub mod Openings
 pub mod Outboxes
 pub mod Paces
 pub mod Recordings
+pub mod Routes
 pub mod Savings
 pub mod Sockets
 pub mod Steps
+pub mod Watching

@@ -8,14 +8,14 @@ use Rattle.itchsnap_live.specs.declared.recording.Recording.TheVariants.{Nowhere
 -- its bytes, as far as those of its file are known
 abbrev pub contents_of : {F : Type 0} → (F → Option (List ℕ)) → Recording F → Option (List ℕ)
 contents_of contents (Nowhere failures) = None
-contents_of contents (File file failures) = writer_contents contents file
+contents_of contents (File file failures added) = writer_contents contents file
 
 -- its failures
 abbrev pub failures_of : {F : Type 0} → Recording F → Failures
 failures_of (Nowhere failures) = failures
-failures_of (File file failures) = failures
+failures_of (File file failures added) = failures
 
 -- nothing of it is held back from its file
 abbrev pub IsFlushed : {F : Type 0} → Recording F → Type 0
 IsFlushed (Nowhere failures) = Unit {0}
-IsFlushed (File file failures) = writer_buffer file ≡ []
+IsFlushed (File file failures added) = writer_buffer file ≡ []

@@ -1,12 +1,11 @@
 -- What a follower does about the news of its feed.
-use Rattle.std.specs.Prelude.{ℕ, ◌-◌, true, false, Option, None, Some, Result, Ok, Err}
+use Rattle.std.specs.Prelude.{ℕ, ◌-◌, ◌==◌, ◌&&◌, not, Bool, true, false, Option, None, Some, Result, Ok, Err}
 use Rattle.itch_frame.specs.declared.fault.FrameFault.{FrameFault}
 use Rattle.itch_frame.specs.declared.fault.FrameFault.TheVariants as frame
 use Rattle.itch_market.specs.declared.stop.Stop.{Stop}
 use Rattle.itch_market.specs.declared.stop.Stop.TheVariants as stop
 use Rattle.itch_snapshot.specs.declared.fault.SnapFault.{SnapFault}
 use Rattle.itch_snapshot.specs.declared.fault.SnapFault.TheVariants as snap
-use Rattle.itch_soup.specs.declared.fault.SoupFault.TheVariants as soup
 use Rattle.itch_join.specs.declared.fault.Cause.{Cause}
 use Rattle.itch_join.specs.declared.fault.Cause.TheVariants as cause
 use Rattle.itch_join.specs.declared.fault.JoinFault.{JoinFault}
@@ -17,7 +16,7 @@ use Rattle.itch_commands.specs.declared.fault.ToolFault.{ToolFault}
 use Rattle.itch_commands.specs.declared.fault.ToolFault.TheVariants as tool
 use Rattle.itch_commands.specs.declared.fault.Source.TheVariants.{Only, Snapshot}
 use Rattle.itchsnap_live.specs.declared.step.Step.{Step}
-use Rattle.itchsnap_live.specs.declared.step.Step.TheVariants.{On, Accepted, Joined, Taken, Ended, Lost}
+use Rattle.itchsnap_live.specs.declared.step.Step.TheVariants.{On, Accepted, Joined, Taken, Ended, Rejected, OtherSession, NoMemory, Lost}
 
 -- why a message of the feed is refused, as a replay says it
 abbrev pub stop_of : Cause → Stop
@@ -54,7 +53,7 @@ abbrev pub refusal_of : JoinFault → Result Step ToolFault
 refusal_of (join.Halted number cause) = Err (tool.Stopped Only (record { count = number - 1; stop = stop_of cause }))
 refusal_of (join.BadSnapshot place cause) = Err (tool.Snap Snapshot (snapshot_fault_of place cause))
 refusal_of (join.OutOfMemory true) = Err tool.OutOfMemory
-refusal_of (join.OutOfMemory false) = Ok Lost
+refusal_of (join.OutOfMemory false) = Ok NoMemory
 refusal_of (join.Full cap) = Ok Lost
 refusal_of (join.Conflict number) = Ok Lost
 refusal_of join.BadNumber = Ok Lost
@@ -68,7 +67,11 @@ step_of (news.Joined next) = Ok (Joined next)
 step_of (news.Taken next) = Ok (Taken next)
 step_of news.Ended = Ok Ended
 step_of (news.Broken fault) = Ok Lost
-step_of news.OtherSession = Ok Lost
-step_of (news.Rejected code) = Err (tool.Soup (soup.Rejected code))
+step_of (news.OtherSession named) = Ok (OtherSession named)
+step_of (news.Rejected code) = Ok (Rejected code)
 step_of (news.Refused fault) = refusal_of fault
 step_of (news.Unrecorded fault) = Err (unrecorded fault)
+
+-- a rejection ends the follower where its first login is not authorised: A
+abbrev pub rejection_ends : ℕ → Bool → Bool
+rejection_ends code accepted = code == 65 && not accepted

@@ -4,7 +4,18 @@ use itchsnap_cli::sessions::Listening;
 use mio::net::{TcpListener, TcpStream};
 use mio::{Interest, Registry, Token};
 use std::io::{self, ErrorKind};
-use std::net::{Net, SocketAddr};
+use std::net::{IpAddr, Net, SocketAddr};
+
+/// Who calls.
+#[derive(Drop)]
+pub(crate) enum Caller {
+    /// A client that has connected from this address.
+    Stream(TcpStream, IpAddr),
+    /// Nobody for now.
+    Nobody,
+    /// Someone whom the system cannot give a socket for now.
+    NoDescriptor,
+}
 
 /// A port that is listened on, and whether clients may wait there.
 #[derive(Drop)]
@@ -37,21 +48,30 @@ impl Callers {
         self.are_waiting = true;
     }
 
-    /// The next client that calls, or none for now.
-    pub(crate) fn next(&mut self) -> Option<TcpStream> {
+    /// Whether clients may call.
+    pub(crate) fn are_waiting(&self) -> bool {
+        self.are_waiting
+    }
+
+    /// The next client that calls.
+    pub(crate) fn next(&mut self) -> Caller {
         if !self.are_waiting {
-            return None;
+            return Caller::Nobody;
         }
         match self.listener.accept() {
-            Ok((stream, _)) => {
+            Ok((stream, address)) => {
                 // What is sent is written in pieces as large as it can be, and not to wait.
                 let _ = stream.set_nodelay(true);
-                Some(stream)
+                Caller::Stream(stream, address.ip())
             }
             Err(error) => {
                 // Where the system has no more sockets, it is asked again in the next turn.
                 self.are_waiting = !matches!(error.kind(), ErrorKind::WouldBlock);
-                None
+                if self.are_waiting {
+                    Caller::NoDescriptor
+                } else {
+                    Caller::Nobody
+                }
             }
         }
     }

@@ -1,28 +1,46 @@
 //! A client that is served a snapshot.
 
+use crate::budget::is_slow;
 use crate::departure::{Departure, departure_of};
-use crate::feed_side::SHARE;
 use crate::link::Link;
 use itch_book::OrderBook;
 use itch_live::Desk;
 use mio::event::Event;
 
+/// What is written to one client in one turn, at most.
+const SHARE: usize = 1 << 20;
+
+/// For so long no client is slow: what its socket takes at first says little.
+const FAIR_MS: u64 = 1_000;
+
 /// The connection of the client at a place of a desk.
 #[derive(Drop)]
 pub(crate) struct ClientSide {
     link: Link,
-    // How its connection has ended once it has all of the snapshot that it is sent.
+    // How its connection has ended once it has all of the snapshot that it is sent, since when it is sent that, and how much of it was taken.
     answer: Option<Departure>,
+    since_ms: u64,
+    taken: u64,
 }
 
 impl ClientSide {
-    /// A client that has connected.
+    /// A client whose login is right.
     pub(crate) fn new(link: Link) -> ClientSide {
-        ClientSide { link, answer: None }
+        ClientSide {
+            link,
+            answer: None,
+            since_ms: 0,
+            taken: 0,
+        }
     }
 
     pub(crate) fn number(&self) -> u64 {
         self.link.number()
+    }
+
+    /// Its connection.
+    pub(crate) fn into_link(self) -> Link {
+        self.link
     }
 
     /// Takes note of what is ready.
@@ -35,9 +53,24 @@ impl ClientSide {
         self.link.is_busy(!desk.pending(place).is_empty())
     }
 
-    /// Takes note that it is answered with a snapshot of so many packets, whose End has this number.
-    pub(crate) fn note_answer(&mut self, next: u64, packets: u64) {
-        self.answer = Some(Departure::Answered { next, packets });
+    /// Takes note that it is answered at this moment with a snapshot of so many packets, whose End has this number.
+    pub(crate) fn note_answer(&mut self, next: u64, packets: u64, now_ms: u64) {
+        if self.answer.is_none() {
+            self.answer = Some(Departure::Answered { next, packets });
+            self.since_ms = now_ms;
+        }
+    }
+
+    /// The number of the snapshot that it is sent, and since when, if it takes that slowly.
+    pub(crate) fn slow_since(&self, now_ms: u64) -> Option<(u64, u64)> {
+        let Some(Departure::Answered { next, .. }) = self.answer else {
+            return None;
+        };
+        let passed_ms = now_ms.saturating_sub(self.since_ms);
+        if self.link.has_all() || passed_ms < FAIR_MS || !is_slow(self.taken, passed_ms) {
+            return None;
+        }
+        Some((next, self.since_ms))
     }
 
     /// Reads what it has said, as far as the buffer goes.
@@ -52,16 +85,39 @@ impl ClientSide {
         hand_on(desk, place, &buffer[..count], now_ms);
     }
 
+    /// Has the next write tried, also where the system has not reported room.
+    pub(crate) fn try_to_write(&mut self) {
+        self.link.try_to_write();
+    }
+
     /// Writes what is pending, up to a share. Once it has all, the sending half of the connection is ended.
     pub(crate) fn tell<B: OrderBook>(&mut self, desk: &mut Desk<B>, place: usize, now_ms: u64) {
-        let pending = desk.pending(place);
-        let count = self.link.write(&pending[..pending.len().min(SHARE)]);
-        desk.took(place, count, now_ms);
+        for _ in 0..SHARE {
+            let pending = desk.pending(place);
+            let most = pending.len().min(SHARE);
+            let count = self.link.write(&pending[..most]);
+            desk.took(place, count, now_ms);
+            if self.answer.is_some() {
+                self.taken = self.taken.saturating_add(count as u64);
+            }
+            // The notes come first, and the snapshot after them.
+            if count == 0 || count == SHARE || desk.pending(place).is_empty() {
+                break;
+            }
+        }
         if let Some(guest) = desk.guest(place)
             && guest.is_closing()
         {
             self.link.end_sending();
         }
+    }
+
+    /// How its connection has ended, once it has all that it is told.
+    pub(crate) fn served(&self) -> Option<Departure> {
+        if self.link.has_all() {
+            return self.answer;
+        }
+        None
     }
 
     /// How its connection ended, once it is to be closed. A client that sends no more is told all that it asked for before.
@@ -75,17 +131,12 @@ impl ClientSide {
         };
         let waits = guest.is_waiting() || !guest.pending().is_empty();
         let gone = self.link.ending(guest.why_gone(), waits)?;
-        let served = if self.link.has_all() {
-            self.answer
-        } else {
-            None
-        };
-        Some(departure_of(guest.rejection_code(), served, gone))
+        Some(departure_of(guest.rejection_code(), self.served(), gone))
     }
 }
 
-// Hands on all bytes of a piece.
-fn hand_on<B: OrderBook>(desk: &mut Desk<B>, place: usize, piece: &[u8], now_ms: u64) {
+/// Hands on all bytes of a piece.
+pub(crate) fn hand_on<B: OrderBook>(desk: &mut Desk<B>, place: usize, piece: &[u8], now_ms: u64) {
     let mut from = 0;
     for _ in 0..piece.len() {
         if from < piece.len() {

@@ -1,30 +1,36 @@
 //! The clients that are served snapshots.
 
-use crate::callers::Callers;
-use crate::client::ClientSide;
-use crate::departure::{Departure, write_departure};
-use crate::link::Link;
-use crate::socket::Socket;
+use crate::client::{ClientSide, hand_on};
+use crate::departure::Departure;
+use crate::reception::{Arrival, Reception};
+use crate::seated::Seated;
 use itch_book::OrderBook;
-use itch_commands::ToolFault;
-use itch_frame::CountedWrite;
 use itch_live::Desk;
 use itch_snapshot::snapshot_len;
 use itchsnap_cli::sessions::PIECE;
 use mio::Registry;
 use mio::event::Event;
-use mio::net::TcpStream;
 use std::alloc::{AllocError, Global};
-use std::io;
+
+/// Once a client has waited for so long for room for its snapshot, the slowest one is cut off.
+const ROOM_MS: u64 = 500;
+
+/// Full sockets are tried this often.
+const TRY_MS: u64 = 100;
 
 /// The connections of a desk's clients, one at each of its places.
 #[derive(Drop)]
 pub(crate) struct Clients {
     seats: Vec<Option<ClientSide>>,
+    seated: Seated,
+    // How many may be from one address.
+    per_address: usize,
     // The number of the socket at the first place.
     first_token: usize,
-    // How many clients have connected so far.
-    connected: u64,
+    // Since when somebody has waited for room for a snapshot.
+    crowded_ms: Option<u64>,
+    // When full sockets were tried last.
+    tried_ms: u64,
     buffer: Vec<u8>,
 }
 
@@ -33,12 +39,16 @@ impl Clients {
     pub(crate) fn new(
         alloc: Global,
         places: usize,
+        per_address: usize,
         first_token: usize,
     ) -> Result<Clients, AllocError> {
         Ok(Clients {
             seats: free_seats(alloc, places)?,
+            seated: Seated::new(alloc, places)?,
+            per_address,
             first_token,
-            connected: 0,
+            crowded_ms: None,
+            tried_ms: 0,
             buffer: vec![in alloc; 0; PIECE]?,
         })
     }
@@ -46,6 +56,11 @@ impl Clients {
     /// Whether there is no client.
     pub(crate) fn is_empty(&self) -> bool {
         self.seats.iter().all(|seat| seat.is_none())
+    }
+
+    /// Where what a connection says is read to.
+    pub(crate) fn buffer(&mut self) -> &mut [u8] {
+        self.buffer.as_mut_slice()
     }
 
     fn has_room(&self) -> bool {
@@ -64,6 +79,11 @@ impl Clients {
         false
     }
 
+    /// Whether something is still to be written to a client, whether or not its socket takes it now.
+    pub(crate) fn is_telling<B: OrderBook>(&self, desk: &Desk<B>) -> bool {
+        (0..self.seats.len()).any(|place| !desk.pending(place).is_empty())
+    }
+
     /// Takes note that the socket of this number is ready.
     pub(crate) fn note(&mut self, token: usize, event: &Event) {
         let place = token.saturating_sub(self.first_token);
@@ -72,53 +92,53 @@ impl Clients {
         }
     }
 
-    /// Accepts those who call, as far as there are places. Others wait until one is free.
-    pub(crate) fn accept<B: OrderBook, W: CountedWrite>(
+    /// Gives places to those whose login is right, in the order in which they came, as far as there are places.
+    pub(crate) fn seat<B: OrderBook>(
         &mut self,
-        callers: &mut Callers,
+        reception: &mut Reception,
         registry: &Registry,
         desk: &mut Desk<B>,
         now_ms: u64,
-        out: &mut W,
-    ) -> Result<(), ToolFault> {
+    ) {
         for _ in 0..self.seats.len() {
             if !self.has_room() {
-                return Ok(());
+                return;
             }
-            let Some(stream) = callers.next() else {
-                return Ok(());
+            let Some(arrival) = reception.next_arrival(&self.seated, self.per_address) else {
+                return;
             };
-            self.connected = self.connected.saturating_add(1);
-            if self.admit(stream, registry, desk, now_ms).is_err() {
-                write_departure(out, self.connected, Departure::Fault)?;
-            }
+            self.seat_one(arrival, reception, registry, desk, now_ms);
         }
-        Ok(())
     }
 
     // Gives a client a place. It is turned away where its memory is refused, or its socket cannot be registered.
-    fn admit<B: OrderBook>(
+    fn seat_one<B: OrderBook>(
         &mut self,
-        stream: TcpStream,
+        arrival: Arrival,
+        reception: &mut Reception,
         registry: &Registry,
         desk: &mut Desk<B>,
         now_ms: u64,
-    ) -> io::Result<()> {
+    ) {
+        let Arrival {
+            link,
+            address,
+            words,
+        } = arrival;
+        let mut link = link;
         let Ok(Some(place)) = desk.admit(now_ms) else {
-            return Err(io::Error::from(io::ErrorKind::OutOfMemory));
+            return reception.write_down(link.number(), Departure::Fault);
         };
-        let token = place.saturating_add(self.first_token);
-        match Socket::register(registry, stream, token, true) {
-            Ok(socket) => {
-                let link = Link::new(socket, self.connected);
-                self.set(place, Some(ClientSide::new(link)));
-                Ok(())
-            }
-            Err(error) => {
-                desk.leave(place);
-                Err(error)
-            }
+        if link
+            .move_to(registry, place.saturating_add(self.first_token))
+            .is_err()
+        {
+            desk.leave(place);
+            return reception.write_down(link.number(), Departure::Fault);
         }
+        hand_on(desk, place, words.as_slice(), now_ms);
+        self.set(place, Some(ClientSide::new(link)));
+        self.seated.set(place, Some(address));
     }
 
     // Seats a client at a place, or frees it, which closes the connection.
@@ -140,19 +160,17 @@ impl Clients {
     /// Answers those who wait with the snapshot of the present market. Where its memory is refused, or too many other snapshots
     /// are kept, they go on waiting.
     pub(crate) fn answer<B: OrderBook>(&mut self, desk: &mut Desk<B>, now_ms: u64) {
-        if !self.any_waits(desk) {
-            return;
-        }
         let (Some(next), Some(market)) = (desk.next(), desk.market()) else {
             return;
         };
         let messages = u64::try_from(snapshot_len(market)).unwrap_or(u64::MAX);
         // Also where it ends in an error, some were answered.
         let _ = desk.answer(now_ms);
-        self.note_answers(desk, next, messages.saturating_add(1));
+        self.note_answers(desk, next, messages.saturating_add(1), now_ms);
     }
 
-    fn any_waits<B: OrderBook>(&self, desk: &Desk<B>) -> bool {
+    /// Whether somebody waits for a snapshot.
+    pub(crate) fn any_waits<B: OrderBook>(&self, desk: &Desk<B>) -> bool {
         for place in 0..self.seats.len() {
             if let Some(guest) = desk.guest(place)
                 && guest.is_waiting()
@@ -164,50 +182,150 @@ impl Clients {
     }
 
     // Each who is sent the snapshot of this number has it noted for its line, with how many packets it has.
-    fn note_answers<B: OrderBook>(&mut self, desk: &Desk<B>, next: u64, packets: u64) {
+    fn note_answers<B: OrderBook>(&mut self, desk: &Desk<B>, next: u64, packets: u64, now_ms: u64) {
         for (place, seat) in self.seats.iter_mut().enumerate() {
             if let (Some(client), Some(guest)) = (seat, desk.guest(place))
                 && guest.snapshot() == Some(next)
             {
-                client.note_answer(next, packets);
+                client.note_answer(next, packets, now_ms);
             }
         }
     }
 
-    /// Writes what is pending.
+    /// Takes note that somebody waits, or nobody, after those who could be answered were. Where one has waited for half a second, the one that has been
+    /// sent its snapshot for longest at less than a megabyte a second makes room, with whoever takes the same snapshot as slowly.
+    pub(crate) fn make_room<B: OrderBook>(
+        &mut self,
+        reception: &mut Reception,
+        desk: &mut Desk<B>,
+        now_ms: u64,
+    ) {
+        if !self.any_waits(desk) {
+            self.crowded_ms = None;
+            return;
+        }
+        let since_ms = *self.crowded_ms.get_or_insert(now_ms);
+        if now_ms.saturating_sub(since_ms) < ROOM_MS {
+            return;
+        }
+        let Some(snapshot) = self.slowest(now_ms) else {
+            return;
+        };
+        for place in 0..self.seats.len() {
+            if self.is_slow_at(place, snapshot, now_ms) {
+                self.free(place, Departure::Slowest, reception, desk);
+            }
+        }
+    }
+
+    // The number of the snapshot of the client that has been slow for longest.
+    fn slowest(&self, now_ms: u64) -> Option<u64> {
+        let mut found: Option<(u64, u64)> = None;
+        for seat in self.seats.iter() {
+            if let Some(client) = seat
+                && let Some((snapshot, since_ms)) = client.slow_since(now_ms)
+                && found.is_none_or(|(_, first_ms)| since_ms < first_ms)
+            {
+                found = Some((snapshot, since_ms));
+            }
+        }
+        Some(found?.0)
+    }
+
+    // Whether the client at a place takes this snapshot slowly.
+    fn is_slow_at(&self, place: usize, snapshot: u64, now_ms: u64) -> bool {
+        match self.seats.get(place) {
+            Some(Some(client)) => match client.slow_since(now_ms) {
+                Some((taken, _)) => taken == snapshot,
+                None => false,
+            },
+            _ => false,
+        }
+    }
+
+    /// Writes what is pending. Full sockets are tried too, ten times a second: the system reports room only once a third of a buffer is free.
     pub(crate) fn tell<B: OrderBook>(&mut self, desk: &mut Desk<B>, now_ms: u64) {
+        let tries = now_ms.saturating_sub(self.tried_ms) >= TRY_MS;
+        if tries {
+            self.tried_ms = now_ms;
+        }
         for (place, seat) in self.seats.iter_mut().enumerate() {
             if let Some(client) = seat {
+                if tries {
+                    client.try_to_write();
+                }
                 client.tell(desk, place, now_ms);
             }
         }
     }
 
-    /// Cuts off who is silent, and closes the connection of each that is gone, with a line for it.
-    pub(crate) fn close<B: OrderBook, W: CountedWrite>(
+    /// Cuts off who is silent, closes the connection of each that is gone, and frees the place of each that has all that it is told.
+    pub(crate) fn close<B: OrderBook>(
         &mut self,
+        reception: &mut Reception,
+        registry: &Registry,
         desk: &mut Desk<B>,
         now_ms: u64,
-        out: &mut W,
-    ) -> Result<(), ToolFault> {
+    ) {
         desk.tick(now_ms);
         for place in 0..self.seats.len() {
-            if let Some((number, departure)) = self.departure(desk, place) {
-                self.set(place, None);
+            if let Some(departure) = self.served_at(place) {
+                self.see_off(place, departure, reception, registry, now_ms);
                 desk.leave(place);
-                write_departure(out, number, departure)?;
+            } else if let Some(departure) = self.departure(desk, place) {
+                self.free(place, departure, reception, desk);
             }
         }
-        Ok(())
     }
 
-    // The number of the client at a place, and how its connection ended, once it is to be closed.
-    fn departure<B: OrderBook>(&self, desk: &Desk<B>, place: usize) -> Option<(u64, Departure)> {
-        let Some(Some(client)) = self.seats.get(place) else {
-            return None;
-        };
-        let departure = client.departure(desk, place)?;
-        Some((client.number(), departure))
+    // How the connection of the client at a place has ended, once it has all that it is told.
+    fn served_at(&self, place: usize) -> Option<Departure> {
+        match self.seats.get(place) {
+            Some(Some(client)) => client.served(),
+            _ => None,
+        }
+    }
+
+    // How the connection of the client at a place ended, once it is to be closed.
+    fn departure<B: OrderBook>(&self, desk: &Desk<B>, place: usize) -> Option<Departure> {
+        match self.seats.get(place) {
+            Some(Some(client)) => client.departure(desk, place),
+            _ => None,
+        }
+    }
+
+    // Leaves it to the reception to close the connection of a client that has all.
+    fn see_off(
+        &mut self,
+        place: usize,
+        departure: Departure,
+        reception: &mut Reception,
+        registry: &Registry,
+        now_ms: u64,
+    ) {
+        let address = self.seated.at(place);
+        self.seated.set(place, None);
+        if let Some(seat) = self.seats.get_mut(place)
+            && let (Some(client), Some(address)) = (seat.take(), address)
+        {
+            reception.see_off(client.into_link(), address, departure, registry, now_ms);
+        }
+    }
+
+    // Closes the connection of the client at a place, which has ended so, and frees the place.
+    fn free<B: OrderBook>(
+        &mut self,
+        place: usize,
+        departure: Departure,
+        reception: &mut Reception,
+        desk: &mut Desk<B>,
+    ) {
+        if let Some(Some(client)) = self.seats.get(place) {
+            reception.write_down(client.number(), departure);
+        }
+        self.set(place, None);
+        self.seated.set(place, None);
+        desk.leave(place);
     }
 }
 

@@ -25,6 +25,8 @@ pub enum Departure {
     Fault,
     /// It was silent or took too little for 15 seconds.
     CutOff,
+    /// It was the slowest while another one waited for room.
+    Slowest,
 }
 
 impl From<Gone> for Departure {
@@ -93,6 +95,7 @@ fn words(departure: Departure) -> ArrayVec<u8, 72>
         Departure::Left => plain(b"left"),
         Departure::Fault => plain(b"fault"),
         Departure::CutOff => plain(b"cut off"),
+        Departure::Slowest => plain(b"cut off as the slowest"),
     }
 }
 

@@ -1,9 +1,10 @@
 //! What has become of the feed, in a line.
 
+use itch_codec::Alpha;
 use std::fmt::{self, Display, Formatter};
 
 /// What has become of the connection to the feed, or to the server of a snapshot.
-#[derive(Clone, Copy, Debug)]
+#[derive(Clone, Copy, Debug, PartialEq, Eq)]
 pub(crate) enum FeedLine {
     /// The server of a snapshot accepted the login.
     GlimpseAccepted,
@@ -33,6 +34,47 @@ impl Display for FeedLine {
             FeedLine::Joined(next) => write!(f, "feed: joined at {next}"),
             FeedLine::Lost(next) => write!(f, "feed: lost at {next}"),
             FeedLine::Ended(next) => write!(f, "feed: ended at {next}"),
+        }
+    }
+}
+
+/// Why a server is asked again, where more is known than that it is lost.
+#[derive(Clone, Copy, Debug, PartialEq, Eq)]
+pub(crate) enum Trouble {
+    /// The server of a snapshot rejected the login with this code.
+    GlimpseRejected(u8),
+    /// The feed rejected the login with this code.
+    Rejected(u8),
+    /// The feed is in the first of these sessions, and not in the second, which was asked for.
+    OtherSession(Alpha<10>, Alpha<10>),
+    /// The feed begins with a later message than the next one.
+    Gap { next: u64, begins: u64 },
+    /// Memory was refused for the message of this number.
+    NoMemory(u64),
+}
+
+impl Display for Trouble {
+    fn fmt<W: fmt::Write>(&self, f: &mut Formatter<W>) -> fmt::Result {
+        match self {
+            Trouble::GlimpseRejected(code) => {
+                let letter = char::from(*code);
+                write!(f, "glimpse: rejected {letter}")
+            }
+            Trouble::Rejected(code) => {
+                let letter = char::from(*code);
+                write!(f, "feed: rejected {letter}")
+            }
+            Trouble::OtherSession(named, wanted) => {
+                let (named, wanted) = (named.text().trim(), wanted.text().trim());
+                write!(f, "feed: in session {named}, not in {wanted}")
+            }
+            Trouble::Gap { next, begins } => {
+                write!(
+                    f,
+                    "gap: message {next} is next, and the feed begins with {begins}"
+                )
+            }
+            Trouble::NoMemory(next) => write!(f, "feed: out of memory at {next}"),
         }
     }
 }

@@ -1,16 +1,19 @@
 //! The connection to a feed, or to the server of a snapshot.
 
-use crate::feed_line::FeedLine;
+use crate::fault::LiveFault;
+use crate::feed_line::{FeedLine, Trouble};
+use crate::log::Log;
 use crate::outbox::Outbox;
 use crate::piece::Piece;
 use crate::route::{Route, Servers};
 use crate::socket::{Got, Socket};
-use crate::step::{Step, step_of};
+use crate::step::{Step, rejection_ends, step_of};
 use itch_book::OrderBook;
+use itch_codec::Alpha;
 use itch_commands::ToolFault;
 use itch_frame::CountedWrite;
-use itch_live::Desk;
-use itch_soup::Tick;
+use itch_live::{Desk, Source};
+use itch_soup::{SoupFault, Tick};
 use mio::Registry;
 use mio::event::Event;
 use mio::net::TcpStream;
@@ -18,7 +21,7 @@ use std::alloc::{AllocError, Global};
 use std::io;
 use std::net::Net;
 
-/// What is read of the feed in one turn, at most, and what is written to one client.
+/// What is read of the feed at a time, at most.
 pub(crate) const SHARE: usize = 1 << 18;
 
 // A connection, and what is still to be sent there.
@@ -45,10 +48,16 @@ impl Connection {
 pub(crate) struct FeedSide {
     route: Route,
     token: usize,
+    // The session of the server of snapshots, where that is not the feed's.
+    glimpse_session: Option<Alpha<10>>,
     connection: Option<Connection>,
     again_at: u64,
-    // Whether it was said that the server is lost.
+    // Whether a login was accepted in this connection, and in any.
+    is_accepted: bool,
+    was_accepted: bool,
+    // Whether it was said that the server is lost, and what more was said of it since.
     is_down: bool,
+    trouble: Option<Trouble>,
     piece: Piece,
     // How much may still be read in this turn.
     share: usize,
@@ -59,14 +68,19 @@ impl FeedSide {
     pub(crate) fn new(
         alloc: Global,
         servers: Servers,
+        glimpse_session: Option<Alpha<10>>,
         token: usize,
     ) -> Result<FeedSide, AllocError> {
         Ok(FeedSide {
             route: Route::new(servers),
             token,
+            glimpse_session,
             connection: None,
             again_at: 0,
+            is_accepted: false,
+            was_accepted: false,
             is_down: false,
+            trouble: None,
             piece: Piece::new(alloc)?,
             share: 0,
         })
@@ -87,19 +101,24 @@ impl FeedSide {
         }
     }
 
+    /// Whether a connection is due at this moment.
+    pub(crate) fn is_due(&self, now_ms: u64) -> bool {
+        self.connection.is_none() && now_ms >= self.again_at
+    }
+
     /// Begins a turn: connects where that is due.
     pub(crate) fn begin_turn<R: Net + Eprint, B: OrderBook>(
         &mut self,
-        rt: &R,
+        log: &mut Log<'_, R>,
         registry: &Registry,
         desk: &mut Desk<B>,
         now_ms: u64,
     ) {
         self.share = SHARE;
-        if self.connection.is_none() && now_ms >= self.again_at {
-            match self.connect(rt, registry, desk, now_ms) {
+        if self.is_due(now_ms) {
+            match self.connect(log.runtime(), registry, desk, now_ms) {
                 Ok(connection) => self.connection = Some(connection),
-                Err(_) => self.lose(rt, desk, now_ms),
+                Err(_) => self.lose(log, desk, None, now_ms),
             }
         }
     }
@@ -128,7 +147,7 @@ impl FeedSide {
     /// Ends a turn: sends what is pending, and a heartbeat where one is due. A server that was silent for too long is lost.
     pub(crate) fn end_turn<R: Eprint, B: OrderBook>(
         &mut self,
-        rt: &R,
+        log: &mut Log<'_, R>,
         desk: &mut Desk<B>,
         now_ms: u64,
     ) {
@@ -138,29 +157,38 @@ impl FeedSide {
         let tick = desk.tick_feed(now_ms);
         let sent = connection.send(matches!(tick, Tick::Heartbeat));
         if matches!(tick, Tick::Lost) || sent.is_err() {
-            self.lose(rt, desk, now_ms);
+            self.lose(log, desk, None, now_ms);
         }
     }
 
-    // Drops the connection, to make another one. It is said once that the server is lost, until it accepts a login.
-    fn lose<R: Eprint, B: OrderBook>(&mut self, rt: &R, desk: &Desk<B>, now_ms: u64) {
+    // Drops the connection, to make another one. It is said once that the server is lost, until it accepts a login; what more is known is
+    // said where it changes.
+    fn lose<R: Eprint, B: OrderBook>(
+        &mut self,
+        log: &mut Log<'_, R>,
+        desk: &Desk<B>,
+        why: Option<Trouble>,
+        now_ms: u64,
+    ) {
         let next = desk.next();
-        let wait = self.route.lose(next.is_some());
+        let wait = self.route.lose(next.is_some(), now_ms);
         self.drop_connection(now_ms.saturating_add(wait));
-        if !self.is_down {
-            self.is_down = true;
-            say(
-                rt,
-                match next {
-                    Some(next) => FeedLine::Lost(next),
-                    None => FeedLine::GlimpseLost,
-                },
-            );
+        let is_known = self.is_down && (why.is_none() || self.trouble == why);
+        self.is_down = true;
+        if is_known {
+            return;
         }
+        match (&why, next) {
+            (Some(trouble), _) => log.say(trouble),
+            (None, Some(next)) => log.say(&FeedLine::Lost(next)),
+            (None, None) => log.say(&FeedLine::GlimpseLost),
+        }
+        self.trouble = why;
     }
 
     fn drop_connection(&mut self, again_at: u64) {
         self.connection = None;
+        self.is_accepted = false;
         self.piece.clear();
         self.again_at = again_at;
     }
@@ -170,17 +198,17 @@ impl FeedSide {
     /// A message that is taken is written to `record`.
     pub(crate) fn step<R: Eprint, B: OrderBook, W: CountedWrite>(
         &mut self,
-        rt: &R,
+        log: &mut Log<'_, R>,
         desk: &mut Desk<B>,
         now_ms: u64,
         record: &mut W,
-    ) -> Result<Option<Step>, ToolFault> {
+    ) -> Result<Option<Step>, LiveFault> {
         if self.piece.is_empty() {
             match self.fill() {
                 Ok(Got::Bytes(_)) => {}
                 Ok(Got::Nothing) => return Ok(None),
                 Ok(Got::Ended) | Err(_) => {
-                    self.lose(rt, desk, now_ms);
+                    self.lose(log, desk, None, now_ms);
                     return Ok(None);
                 }
             }
@@ -188,8 +216,23 @@ impl FeedSide {
         let (count, news) = desk.hear_feed(self.piece.bytes(), now_ms, record);
         self.piece.passed(count);
         let step = step_of(news)?;
-        self.follow(rt, desk, step, now_ms);
+        self.follow(log, desk, &step, now_ms)?;
         Ok(Some(step))
+    }
+
+    /// Has so many bytes read once more in this turn.
+    pub(crate) fn renew(&mut self) {
+        self.share = SHARE;
+    }
+
+    /// Whether the server has accepted a login.
+    pub(crate) fn was_accepted(&self) -> bool {
+        self.was_accepted
+    }
+
+    /// Whether the feed has ended its session.
+    pub(crate) fn is_over(&self) -> bool {
+        self.connection.is_none() && self.again_at == u64::MAX
     }
 
     // Reads the next piece, as far as this turn's share goes.
@@ -208,39 +251,110 @@ impl FeedSide {
     }
 
     // What a step is for the connection.
-    fn follow<R: Eprint, B: OrderBook>(&mut self, rt: &R, desk: &Desk<B>, step: Step, now_ms: u64) {
-        match step {
+    fn follow<R: Eprint, B: OrderBook>(
+        &mut self,
+        log: &mut Log<'_, R>,
+        desk: &Desk<B>,
+        step: &Step,
+        now_ms: u64,
+    ) -> Result<(), LiveFault> {
+        match *step {
             Step::On | Step::Taken(_) => {}
-            Step::Accepted(next) => {
-                self.is_down = false;
-                self.route.accept();
-                say(
-                    rt,
-                    match desk.next() {
-                        Some(_) => FeedLine::Accepted(next),
-                        None => FeedLine::GlimpseAccepted,
-                    },
-                );
-            }
+            Step::Accepted(begins) => self.accept(log, desk, begins, now_ms),
             Step::Joined(next) => {
                 self.drop_connection(now_ms);
                 self.route.begin();
-                say(rt, FeedLine::Joined(next));
+                self.was_accepted = false;
+                log.say(&FeedLine::Joined(next));
             }
-            Step::Ended => match desk.next() {
-                Some(next) => {
-                    self.drop_connection(u64::MAX);
-                    say(rt, FeedLine::Ended(next));
-                }
-                // A server of snapshots has ended before its End of Snapshot.
-                None => self.lose(rt, desk, now_ms),
-            },
-            Step::Lost => self.lose(rt, desk, now_ms),
+            Step::Ended => self.end(log, desk, now_ms),
+            Step::Rejected(code) => self.reject(log, desk, code, now_ms)?,
+            Step::OtherSession(named) => self.refuse(log, desk, named, now_ms)?,
+            Step::NoMemory => {
+                let line = desk.next().map(Trouble::NoMemory);
+                self.lose(log, desk, line, now_ms);
+            }
+            Step::Lost => self.lose(log, desk, None, now_ms),
+        }
+        Ok(())
+    }
+
+    // The login was accepted from a number on. Where that is not the next one, messages are missing: the server is asked again.
+    fn accept<R: Eprint, B: OrderBook>(
+        &mut self,
+        log: &mut Log<'_, R>,
+        desk: &Desk<B>,
+        begins: u64,
+        now_ms: u64,
+    ) {
+        let line = match desk.next() {
+            Some(next) if begins > next => {
+                return self.lose(log, desk, Some(Trouble::Gap { next, begins }), now_ms);
+            }
+            Some(_) => FeedLine::Accepted(begins),
+            None => FeedLine::GlimpseAccepted,
+        };
+        self.is_accepted = true;
+        self.was_accepted = true;
+        self.is_down = false;
+        self.trouble = None;
+        self.route.accept(now_ms);
+        log.say(&line);
+    }
+
+    // The server has ended its session. One that has sent no message yet is asked again, and so is a server of snapshots that has not sent
+    // its End of Snapshot.
+    fn end<R: Eprint, B: OrderBook>(&mut self, log: &mut Log<'_, R>, desk: &Desk<B>, now_ms: u64) {
+        match desk.next() {
+            Some(next) if self.is_accepted && next > 1 => {
+                self.drop_connection(u64::MAX);
+                log.say(&FeedLine::Ended(next));
+            }
+            _ => self.lose(log, desk, None, now_ms),
         }
     }
-}
 
-// Says a line on standard error. That it cannot be written there is no reason to stop.
-fn say<R: Eprint>(rt: &R, line: FeedLine) {
-    let _ = rt.eprintln(&line);
+    fn reject<R: Eprint, B: OrderBook>(
+        &mut self,
+        log: &mut Log<'_, R>,
+        desk: &Desk<B>,
+        code: u8,
+        now_ms: u64,
+    ) -> Result<(), LiveFault> {
+        if rejection_ends(code, self.was_accepted) {
+            return Err(LiveFault::Tool(ToolFault::Soup(SoupFault::Rejected(code))));
+        }
+        let line = match desk.next() {
+            Some(_) => Trouble::Rejected(code),
+            None => Trouble::GlimpseRejected(code),
+        };
+        self.lose(log, desk, Some(line), now_ms);
+        Ok(())
+    }
+
+    // The server is in another session. One that was accepted before is asked again: its clients go on to have the market that they logged in to.
+    fn refuse<R: Eprint, B: OrderBook>(
+        &mut self,
+        log: &mut Log<'_, R>,
+        desk: &Desk<B>,
+        named: Alpha<10>,
+        now_ms: u64,
+    ) -> Result<(), LiveFault> {
+        let (server, wanted) = match desk.next() {
+            Some(_) => (Source::Live, desk.session()),
+            None => (Source::Glimpse, self.glimpse_session.or(desk.session())),
+        };
+        match wanted {
+            Some(wanted) if !self.was_accepted => Err(LiveFault::OtherSession {
+                server,
+                named,
+                wanted,
+            }),
+            _ => {
+                let line = wanted.map(|wanted| Trouble::OtherSession(named, wanted));
+                self.lose(log, desk, line, now_ms);
+                Ok(())
+            }
+        }
+    }
 }

@@ -1,6 +1,9 @@
 //! `follow`: the messages of a feed from a snapshot on.
 
+use crate::fault::LiveFault;
 use crate::feed_side::{FeedSide, SHARE};
+use crate::log::Log;
+use crate::naming::nobody;
 use crate::route::Servers;
 use crate::step::Step;
 use crate::turns::Turns;
@@ -9,13 +12,13 @@ use itch_codec::{decode, encode, json};
 use itch_commands::{ToolFault, write_text};
 use itch_frame::{Counted, CountedWrite, FrameFault, write_block};
 use itch_join::Joiner;
-use itch_live::{Desk, Follower};
+use itch_live::{Desk, Follower, Sessions};
 use itch_market::Market;
 use itch_snapshot::SnapshotIter;
-use itch_soup::{Credentials, ServerConfig};
+use itch_soup::Credentials;
 use itchsnap_cli::sessions::Sending;
 use itchsnap_cli::words::FollowForm;
-use std::alloc::Global;
+use std::alloc::{AllocError, Global};
 use std::io::Write;
 use std::net::Net;
 use std::rt::Clock;
@@ -33,6 +36,8 @@ const MOMENT_MS: u64 = 100;
 pub struct Following {
     /// Whom the follower logs in as.
     pub credentials: Credentials,
+    /// The sessions that are named beforehand.
+    pub sessions: Sessions,
     pub form: FollowForm,
 }
 
@@ -44,26 +49,33 @@ pub struct Following {
 ///
 /// # Faults
 ///
-/// A login that is rejected, a message that is refused, and a failed write.
+/// A first login that is not authorised, or is accepted in another session than the one that is named or that the snapshot is of; a message
+/// that is refused; and a failed write.
 pub fn follow_feed<R, W: Write>(
     rt: &R,
     servers: Servers,
     following: &Following,
     out: &mut Sending<W>,
-) -> Result<bool, ToolFault>
+) -> Result<bool, LiveFault>
 where
     R: Net + Clock + Eprint + AllocGlobal,
 {
-    let alloc = rt.alloc();
-    let joiner: Joiner<IndexedBook<Global>> = Joiner::new(alloc, 0);
-    let follower = Follower::new(alloc, following.credentials, joiner, 0)?;
-    let mut tail = Tail {
-        rt,
-        turns: Turns::begin(rt, rt, EVENTS)?,
-        feed: FeedSide::new(alloc, servers, FEED)?,
-        desk: Desk::new(alloc, nobody(following.credentials), follower, 0)?,
-        block: Vec::new(alloc),
-    };
+    let joiner: Joiner<IndexedBook<Global>> = Joiner::new(rt.alloc(), 0);
+    follow(rt, servers, following, joiner, out)
+}
+
+// Follows the feed to its end, over any book.
+fn follow<R, B: OrderBook<Alloc = Global>, W: Write>(
+    rt: &R,
+    servers: Servers,
+    following: &Following,
+    joiner: Joiner<B>,
+    out: &mut Sending<W>,
+) -> Result<bool, LiveFault>
+where
+    R: Net + Clock + Eprint + AllocGlobal,
+{
+    let mut tail = Tail::new(rt, servers, following, joiner)?;
     for _turn in 0..u64::MAX {
         if tail.turn(following.form, out)? {
             break;
@@ -72,45 +84,75 @@ where
     Ok(true)
 }
 
-// There is no place at the desk, so nobody logs in.
-fn nobody(credentials: Credentials) -> ServerConfig {
-    ServerConfig {
-        username: credentials.username,
-        password: credentials.password,
-        session: credentials.session,
-    }
+// A desk without places.
+fn closed_desk<B: OrderBook<Alloc = Global>>(
+    alloc: Global,
+    following: &Following,
+    joiner: Joiner<B>,
+) -> Result<Desk<B>, AllocError> {
+    let closed = nobody(following.credentials);
+    let follower = Follower::new(alloc, following.credentials, following.sessions, joiner, 0)?;
+    Desk::new(alloc, closed, follower, 0)
 }
 
 // A desk without places, and the connection of its follower.
 #[derive(Drop)]
-struct Tail<'a, R: Clock, B: OrderBook> {
-    rt: &'a R,
-    turns: Turns<'a, R>,
+struct Tail<'r, R: Clock, B: OrderBook> {
+    log: Log<'r, R>,
+    turns: Turns<'r, R>,
     feed: FeedSide,
     desk: Desk<B>,
+    // Whether the feed's session is named.
+    is_named: bool,
     // The block of the message that is shown as a line.
     block: Vec<u8>,
 }
 
-impl<R: Net + Clock + Eprint, B: OrderBook<Alloc = Global>> Tail<'_, R, B> {
+impl<'r, R, B: OrderBook<Alloc = Global>> Tail<'r, R, B>
+where
+    R: Net + Clock + Eprint + AllocGlobal,
+{
+    // No connection yet.
+    fn new(
+        rt: &'r R,
+        servers: Servers,
+        following: &Following,
+        joiner: Joiner<B>,
+    ) -> Result<Tail<'r, R, B>, LiveFault> {
+        let desk = closed_desk(rt.alloc(), following, joiner)?;
+        let log = Log::new(rt)?;
+        let turns = Turns::begin(rt, rt, EVENTS)?;
+        let feed = FeedSide::new(rt.alloc(), servers, following.sessions.glimpse, FEED)?;
+        Ok(Tail {
+            log,
+            turns,
+            feed,
+            desk,
+            is_named: following.sessions.feed.is_some(),
+            block: Vec::new(rt.alloc()),
+        })
+    }
+
     // Waits until something has come or is due, and writes it. True once the feed has ended its session.
     fn turn<W: Write>(
         &mut self,
         form: FollowForm,
         out: &mut Sending<W>,
-    ) -> Result<bool, ToolFault> {
+    ) -> Result<bool, LiveFault> {
         let most_ms = if self.feed.is_busy() { 0 } else { MOMENT_MS };
         let now_ms = self.turns.wait(most_ms)?;
         for event in self.turns.events().iter() {
             self.feed.note(event);
         }
-        self.feed
-            .begin_turn(self.rt, self.turns.registry(), &mut self.desk, now_ms);
-        let ended = self.steps(form, now_ms, out);
-        self.feed.end_turn(self.rt, &mut self.desk, now_ms);
+        self.feed.begin_turn(&mut self.log, self.turns.registry(), &mut self.desk, now_ms);
+        let ended = match self.steps(form, now_ms, out) {
+            Err(fault) if !self.is_named => Err(fault.after_glimpse()),
+            ended => ended,
+        };
+        self.feed.end_turn(&mut self.log, &mut self.desk, now_ms);
         // What came before a fault is written too.
         match (ended, out.flush()) {
-            (Ok(_), Err(error)) => Err(ToolFault::Write(error)),
+            (Ok(_), Err(error)) => Err(LiveFault::Tool(ToolFault::Write(error))),
             (ended, _) => ended,
         }
     }
@@ -121,11 +163,11 @@ impl<R: Net + Clock + Eprint, B: OrderBook<Alloc = Global>> Tail<'_, R, B> {
         form: FollowForm,
         now_ms: u64,
         out: &mut Sending<W>,
-    ) -> Result<bool, ToolFault> {
+    ) -> Result<bool, LiveFault> {
         for _packet in 0..SHARE {
             let step = match form {
                 FollowForm::Json => self.show_step(now_ms, out)?,
-                _ => self.feed.step(self.rt, &mut self.desk, now_ms, out)?,
+                _ => self.feed.step(&mut self.log, &mut self.desk, now_ms, out)?,
             };
             match step {
                 Some(Step::Joined(_)) if matches!(form, FollowForm::Whole) => {
@@ -133,7 +175,7 @@ impl<R: Net + Clock + Eprint, B: OrderBook<Alloc = Global>> Tail<'_, R, B> {
                         write_messages(market, out)?;
                     }
                 }
-                Some(Step::Ended) if self.desk.next().is_some() => return Ok(true),
+                Some(Step::Ended) if self.feed.is_over() => return Ok(true),
                 Some(_) => {}
                 None => break,
             }
@@ -146,11 +188,16 @@ impl<R: Net + Clock + Eprint, B: OrderBook<Alloc = Global>> Tail<'_, R, B> {
         &mut self,
         now_ms: u64,
         out: &mut W,
-    ) -> Result<Option<Step>, ToolFault> {
+    ) -> Result<Option<Step>, LiveFault> {
         self.block.clear();
         let mut block = Counted::new(&mut self.block);
-        let step = match self.feed.step(self.rt, &mut self.desk, now_ms, &mut block) {
-            Err(ToolFault::Write(_)) => return Err(ToolFault::OutOfMemory),
+        let step = match self
+            .feed
+            .step(&mut self.log, &mut self.desk, now_ms, &mut block)
+        {
+            Err(LiveFault::Tool(ToolFault::Write(_))) => {
+                return Err(LiveFault::Tool(ToolFault::OutOfMemory));
+            }
             step => step?,
         };
         if let Some(Step::Taken(next)) = step {

@@ -9,34 +9,51 @@
 //! a [`Departure`] and its line for each client, and when a message is due.
 #![tactic(auto)]
 
+mod budget;
 mod callers;
 mod client;
 mod clients;
 mod departure;
+mod fault;
 mod feed_line;
 mod feed_side;
 mod follow;
 mod line;
 mod link;
 mod live;
+mod log;
+mod naming;
+mod opening;
 mod outbox;
 mod pace;
 mod piece;
 mod play;
 mod playback;
 mod player_side;
+mod reception;
+mod record;
 mod recording;
+mod refusals;
 mod resuming;
 mod route;
 mod saving;
+mod seated;
+mod session_file;
 mod socket;
+mod spare;
+mod start;
 mod step;
 mod turns;
+mod watch;
 
+pub use budget::{is_slow, may_encode};
 pub use departure::{Departure, departure_of, write_departure};
+pub use fault::{Detail, LiveFault, Names, Owned, RecordFault};
 pub use follow::{Following, follow_feed};
 pub use live::{Serving, serve_live};
+pub use opening::{Opening, opening_of};
 pub use pace::is_due;
 pub use play::{Playing, play_feed};
-pub use route::Servers;
-pub use step::{Step, step_of};
+pub use route::{Servers, wait_after};
+pub use step::{Step, rejection_ends, step_of};
+pub use watch::{Change, Seen, change_of};

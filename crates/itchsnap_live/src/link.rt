@@ -4,7 +4,9 @@ ghost use Rattle.itchsnap_live.specs.Departures.{ending};
 
 use crate::socket::{Got, Socket};
 use itch_live::Gone;
+use mio::Registry;
 use mio::event::Event;
+use std::io;
 
 /// The connection of a client, and how far it has ended.
 #[derive(Drop)]
@@ -41,6 +43,16 @@ impl Link {
     /// Whether there is something to read, or to write if something is pending, before anything else is ready.
     pub(crate) fn is_busy(&self, is_pending: bool) -> bool {
         self.socket.is_readable() || (is_pending && self.socket.is_writable())
+    }
+
+    /// Registers its socket under another number.
+    pub(crate) fn move_to(&mut self, registry: &Registry, token: usize) -> io::Result<()> {
+        self.socket.move_to(registry, token)
+    }
+
+    /// Has the next write tried, also where the system has not reported room.
+    pub(crate) fn try_to_write(&mut self) {
+        self.socket.try_to_write();
     }
 
     /// Reads what the client has said into the front of a buffer that is not empty, and returns how many bytes that is.

@@ -1,54 +1,69 @@
 //! `live`: a feed that is followed, and the snapshot of its present market for each client that asks.
 
+use crate::budget::Budget;
 use crate::callers::Callers;
 use crate::clients::Clients;
+use crate::fault::{LiveFault, RecordFault};
 use crate::feed_side::{FeedSide, SHARE};
-use crate::recording::Recording;
-use crate::resuming::{at_the_first, resume};
+use crate::log::Log;
+use crate::naming::nobody;
+use crate::reception::Reception;
+use crate::record::{Record, RecordLoss};
+use crate::resuming::at_the_first;
 use crate::route::Servers;
-use crate::saving::{is_wanted, save};
+use crate::saving::Saver;
+use crate::spare::{SPARED, Spare};
+use crate::start::Start;
 use crate::step::{Step, record_fault};
 use crate::turns::{Turns, called};
 use itch_book::{IndexedBook, OrderBook};
+use itch_codec::{Alpha, Seq};
 use itch_commands::ToolFault;
 use itch_frame::CountedWrite;
-use itch_frame::tally::Failures;
 use itch_join::Joiner;
-use itch_live::{Desk, Follower};
-use itch_soup::{Credentials, ServerConfig};
-use itchsnap_cli::words::SnapshotWords;
+use itch_live::{Desk, Follower, Sessions};
+use itch_soup::Credentials;
+use itchsnap_cli::sessions::Login;
+use itchsnap_cli::words::{RecordWords, SnapshotWords, current_session};
 use mio::Token;
-use std::alloc::Global;
+use std::alloc::{AllocError, Global};
+use std::fs::File;
 use std::net::{Net, SocketAddr};
 use std::rt::{Clock, Files};
 
-/// The numbers of the sockets: the port that is listened on, the feed, and from here on the places of clients.
+/// The numbers of the sockets: the port that is listened on, the feed, and from here on the places of clients, and after those the reception.
 const LISTENER: usize = 0;
 
 const FEED: usize = 1;
 
 const PLACES: usize = 2;
 
-/// How many sockets are reported ready at once.
-const EVENTS: usize = 256;
-
 /// The moment is looked at this often, where no socket is ready.
 const MOMENT_MS: u64 = 100;
+
+/// The same, where somebody waits for a snapshot that the time does not allow yet.
+const SOON_MS: u64 = 10;
+
+/// The feed is read for so long in one turn, at most.
+const READING_MS: u64 = 20;
 
 /// What a live server serves, to whom, and what it keeps.
 #[derive(Clone, Copy)]
 pub struct Serving<'a> {
     pub address: SocketAddr,
     /// Who may log in.
-    pub config: ServerConfig,
+    pub login: Login,
     /// Whom it logs in as.
     pub credentials: Credentials,
-    /// How many clients it has at a time.
+    /// The feed's session, and that of the server of snapshots if it is another, where they are named.
+    pub session: Option<Alpha<10>>,
+    pub glimpse_session: Option<Alpha<10>>,
+    /// How many clients it has at a time, and how many of them from one address.
     pub clients: usize,
+    pub clients_per_address: usize,
     /// Whether it begins with a snapshot, and not with the feed's first message.
     pub from_snapshot: bool,
-    /// The day file that each message is appended to.
-    pub record: Option<&'a str>,
+    pub record: Option<RecordWords<'a>>,
     pub snapshots: Option<SnapshotWords<'a>>,
     /// Whether it serves on once the feed has ended.
     pub stay: bool,
@@ -61,79 +76,226 @@ pub struct Serving<'a> {
 ///
 /// # Faults
 ///
-/// A login to the feed that is rejected, and a message that is refused; a record, a snapshot or a line that cannot be written;
-/// `Socket` if the port cannot be listened on.
+/// A first login to the feed that is not authorised, or is accepted in another session than the one that is named or recorded; a message that
+/// is refused; a record that is another day's, in use, changed by another process or cannot be written; a folder of snapshots that is in use or
+/// not there; `Socket` if the port cannot be listened on.
 pub fn serve_live<R, W: CountedWrite>(
     rt: &R,
     servers: Servers,
     serving: &Serving<'_>,
     out: &mut W,
-) -> Result<bool, ToolFault>
+) -> Result<bool, LiveFault>
 where
-    R: Net + Clock + Files + Eprint + AllocGlobal,
+    R: Net + Clock + Files<File = File> + Eprint + AllocGlobal,
 {
-    let mut joiner: Joiner<IndexedBook<Global>> = Joiner::new(rt.alloc(), 0);
+    let joiner: Joiner<IndexedBook<Global>> = Joiner::new(rt.alloc(), 0);
+    serve(rt, servers, serving, joiner, out)
+}
+
+// Serves until it is over, with any book.
+fn serve<R, B: OrderBook<Alloc = Global>, W: CountedWrite>(
+    rt: &R,
+    servers: Servers,
+    serving: &Serving<'_>,
+    joiner: Joiner<B>,
+    out: &mut W,
+) -> Result<bool, LiveFault>
+where
+    R: Net + Clock + Files<File = File> + Eprint + AllocGlobal,
+{
+    let mut server = opened(rt, servers, serving, joiner)?;
+    server.run(out)
+}
+
+// Opens what a server works on, and waits until the session of its feed is known.
+fn opened<'r, 'a, R, B: OrderBook<Alloc = Global>>(
+    rt: &'r R,
+    servers: Servers,
+    serving: &'a Serving<'a>,
+    joiner: Joiner<B>,
+) -> Result<Server<'r, 'a, R, B>, LiveFault>
+where
+    R: Net + Clock + Files<File = File> + Eprint + AllocGlobal,
+{
+    let saver = open_folder(rt, serving)?;
+    let mut joiner = joiner;
+    let record = open_record(rt, serving, &mut joiner)?;
+    let follower = follower_of(rt.alloc(), serving, &record, joiner)?;
+    Server::new(rt, servers, serving, follower, record, saver)
+}
+
+// Opens the folder of snapshots, if there is to be one.
+fn open_folder<'a, R: Files<File = File>>(
+    rt: &R,
+    serving: &Serving<'a>,
+) -> Result<Option<Saver<'a>>, LiveFault> {
+    match serving.snapshots {
+        Some(words) => Ok(Some(Saver::open(rt, words)?)),
+        None => Ok(None),
+    }
+}
+
+// Opens the record, if there is to be one, and brings the joiner to its end.
+fn open_record<'a, R: Files<File = File> + Eprint + AllocGlobal, B: OrderBook>(
+    rt: &R,
+    serving: &Serving<'a>,
+    joiner: &mut Joiner<B>,
+) -> Result<Record<'a>, LiveFault> {
     if !serving.from_snapshot {
-        at_the_first(&mut joiner)?;
+        at_the_first(joiner)?;
     }
-    let mut record: Recording<R::File> = match serving.record {
-        Some(path) => resume(rt, path, &mut joiner)?,
-        None => Recording::Nowhere(Failures::none()),
+    match serving.record {
+        Some(words) => Record::open(rt, words, serving.session, joiner),
+        None => Ok(Record::none()),
+    }
+}
+
+// What follows the feed, in the session that is named or recorded.
+fn follower_of<B: OrderBook<Alloc = Global>>(
+    alloc: Global,
+    serving: &Serving<'_>,
+    record: &Record<'_>,
+    joiner: Joiner<B>,
+) -> Result<Follower<B>, AllocError> {
+    let sessions = Sessions {
+        feed: serving.session.or(record.session()),
+        glimpse: serving.glimpse_session,
     };
-    let follower = Follower::new(rt.alloc(), serving.credentials, joiner, 0)?;
-    let desk = Desk::new(rt.alloc(), serving.config, follower, serving.clients)?;
-    let mut server = Server::new(rt, servers, serving, desk)?;
-    for _turn in 0..u64::MAX {
-        if server.is_over() {
-            break;
-        }
-        server.turn(&mut record, out)?;
-    }
-    Ok(true)
+    Follower::new(alloc, serving.credentials, sessions, joiner, 0)
+}
+
+// Listens on the port of a server.
+fn listen<R: Net + Clock + Eprint>(
+    rt: &R,
+    start: &Start<'_, R>,
+    serving: &Serving<'_>,
+) -> Result<Callers, ToolFault> {
+    called(Callers::listen(rt, start.turns.registry(), serving.address, LISTENER))
+}
+
+// The desk under the name of the feed's session, once that is known.
+fn named_desk<R, B: OrderBook<Alloc = Global>>(
+    alloc: Global,
+    serving: &Serving<'_>,
+    follower: Follower<B>,
+    start: &mut Start<'_, R>,
+) -> Result<Desk<B>, LiveFault>
+where
+    R: Net + Clock + Eprint + AllocGlobal,
+{
+    let closed = nobody(serving.credentials);
+    let mut desk = Desk::new(alloc, closed, follower, 0)?;
+    let found = start.find_session(&mut desk, u64::MAX)?;
+    let Some(session) = found else {
+        return Err(LiveFault::Tool(ToolFault::TooMany));
+    };
+    let config = serving.login.config(session);
+    Ok(Desk::new(alloc, config, desk.into_follower(), serving.clients)?)
 }
 
 // A desk, and its sockets.
 #[derive(Drop)]
-struct Server<'a, R: Clock, B: OrderBook> {
-    rt: &'a R,
+struct Server<'r, 'a, R: Clock, B: OrderBook> {
     serving: &'a Serving<'a>,
-    turns: Turns<'a, R>,
+    log: Log<'r, R>,
+    turns: Turns<'r, R>,
     callers: Callers,
     feed: FeedSide,
     desk: Desk<B>,
+    reception: Reception,
     clients: Clients,
+    budget: Budget,
+    record: Record<'a>,
+    saver: Option<Saver<'a>>,
+    spare: Spare,
     // Whether the feed has ended its session.
     has_ended: bool,
 }
 
-impl<'a, R, B: OrderBook<Alloc = Global>> Server<'a, R, B>
+impl<'r, 'a, R, B: OrderBook<Alloc = Global>> Server<'r, 'a, R, B>
 where
-    R: Net + Clock + Files + Eprint + AllocGlobal,
+    R: Net + Clock + Files<File = File> + Eprint + AllocGlobal,
 {
-    // Listens on the port, and says so.
+    // Listens on the port, says so, and waits until the session of the feed is known.
     fn new(
-        rt: &'a R,
+        rt: &'r R,
         servers: Servers,
         serving: &'a Serving<'a>,
+        follower: Follower<B>,
+        record: Record<'a>,
+        saver: Option<Saver<'a>>,
+    ) -> Result<Server<'r, 'a, R, B>, LiveFault> {
+        let mut start = Start::new(rt, servers, serving.glimpse_session, FEED)?;
+        let callers = listen(rt, &start, serving)?;
+        let desk = named_desk(rt.alloc(), serving, follower, &mut start)?;
+        Server::open(rt.alloc(), serving, start, desk, callers, record, saver)
+    }
+
+    // Opens the reception of a desk, and its places.
+    fn open(
+        alloc: Global,
+        serving: &'a Serving<'a>,
+        start: Start<'r, R>,
         desk: Desk<B>,
-    ) -> Result<Server<'a, R, B>, ToolFault> {
-        let alloc = rt.alloc();
-        let turns = Turns::begin(rt, rt, EVENTS)?;
-        let callers = called(Callers::listen(rt, turns.registry(), serving.address, LISTENER))?;
+        callers: Callers,
+        record: Record<'a>,
+        saver: Option<Saver<'a>>,
+    ) -> Result<Server<'r, 'a, R, B>, LiveFault> {
+        let places = serving.clients;
+        let config = serving
+            .login
+            .config(desk.session().unwrap_or(current_session()));
+        let first_room = PLACES.saturating_add(places);
+        let reception = Reception::new(alloc, config, Seq::new(1).unwrap(), first_room)?;
+        let clients = Clients::new(alloc, places, serving.clients_per_address, PLACES)?;
+        let spare = Spare::new(alloc, SPARED)?;
+        let Start {
+            log,
+            turns,
+            feed,
+            token: _,
+        } = start;
         Ok(Server {
-            rt,
             serving,
+            log,
             turns,
             callers,
-            feed: FeedSide::new(alloc, servers, FEED)?,
+            feed,
             desk,
-            clients: Clients::new(alloc, serving.clients, PLACES)?,
+            reception,
+            clients,
+            budget: Budget::new(),
+            record,
+            saver,
+            spare,
             has_ended: false,
         })
     }
 
+    // Serves until it is over.
+    fn run<W: CountedWrite>(&mut self, out: &mut W) -> Result<bool, LiveFault> {
+        self.begin()?;
+        for _turn in 0..u64::MAX {
+            if self.is_over() {
+                break;
+            }
+            self.turn(out)?;
+        }
+        self.finish()?;
+        Ok(true)
+    }
+
+    // Those who called while the session was not known are accepted now. The record has the session, if the feed has confirmed it.
+    fn begin(&mut self) -> Result<(), LiveFault> {
+        self.callers.note();
+        if self.feed.was_accepted() {
+            self.begin_record()?;
+        }
+        Ok(())
+    }
+
     fn is_over(&self) -> bool {
-        self.is_closed() && self.clients.is_empty()
+        self.is_closed() && self.clients.is_empty() && self.reception.is_empty()
     }
 
     // Whether no client is accepted any more.
@@ -142,89 +304,250 @@ where
     }
 
     // Waits until something is ready or due, and does it.
-    fn turn<W: CountedWrite>(
-        &mut self,
-        record: &mut Recording<R::File>,
-        out: &mut W,
-    ) -> Result<(), ToolFault> {
-        let is_busy = self.feed.is_busy() || self.clients.is_busy(&self.desk);
-        let now_ms = self.turns.wait(if is_busy { 0 } else { MOMENT_MS })?;
+    fn turn<W: CountedWrite>(&mut self, out: &mut W) -> Result<(), LiveFault> {
+        let most_ms = self.patience_ms();
+        let now_ms = self.turns.wait(most_ms)?;
         self.note();
-        self.follow(now_ms, record)?;
-        self.serve(now_ms, out)
+        self.follow(now_ms)?;
+        self.serve(now_ms)?;
+        self.watch(now_ms)?;
+        self.write_lines(now_ms, out);
+        Ok(())
+    }
+
+    // How long there is nothing to do unless something is ready.
+    fn patience_ms(&self) -> u64 {
+        if self.feed.is_busy() || self.clients.is_busy(&self.desk) || self.reception.is_busy() {
+            return 0;
+        }
+        if self.clients.any_waits(&self.desk) {
+            return SOON_MS;
+        }
+        MOMENT_MS
     }
 
     // Takes note of what is ready.
     fn note(&mut self) {
+        let first_room = PLACES.saturating_add(self.serving.clients);
         for event in self.turns.events().iter() {
             let Token(token) = event.token();
             match token {
                 LISTENER => self.callers.note(),
                 FEED => self.feed.note(event),
-                _ => self.clients.note(token, event),
+                _ if token < first_room => self.clients.note(token, event),
+                _ => self.reception.note(token, event),
             }
         }
     }
 
     // Does what the feed has sent. The record has it afterwards, also where that ends in a fault.
-    fn follow(&mut self, now_ms: u64, record: &mut Recording<R::File>) -> Result<(), ToolFault> {
-        self.feed
-            .begin_turn(self.rt, self.turns.registry(), &mut self.desk, now_ms);
-        let done = self.steps(now_ms, record);
-        self.feed.end_turn(self.rt, &mut self.desk, now_ms);
-        let done = match (done, record.flush()) {
-            (Ok(()), Err(error)) => Err(ToolFault::Write(error)),
-            (done, _) => done,
-        };
-        match done {
-            Ok(()) => Ok(()),
-            Err(fault) => Err(record_fault(fault, self.desk.next())),
+    fn follow(&mut self, now_ms: u64) -> Result<(), LiveFault> {
+        if self.feed.is_due(now_ms) {
+            self.spare.release();
         }
+        self.feed.begin_turn(&mut self.log, self.turns.registry(), &mut self.desk, now_ms);
+        let done = self.read_feed(now_ms);
+        self.feed.end_turn(&mut self.log, &mut self.desk, now_ms);
+        let flushed = match self.record.flush() {
+            Ok(()) => Ok(()),
+            Err(error) => self.lose_record(RecordLoss::System(error)),
+        };
+        done?;
+        flushed
     }
 
-    // Does what the feed has sent, up to a share of bytes, each packet of which is three bytes at least. A snapshot may take long to write:
-    // what comes meanwhile belongs to the next turn, and its moment.
-    fn steps(&mut self, now_ms: u64, record: &mut Recording<R::File>) -> Result<(), ToolFault> {
-        for _packet in 0..SHARE {
-            match self.feed.step(self.rt, &mut self.desk, now_ms, record)? {
-                Some(Step::Taken(next)) => {
-                    if self.save(next, record)? {
-                        break;
-                    }
-                }
-                Some(Step::Ended) => self.has_ended = self.desk.next().is_some(),
-                Some(_) => {}
-                None => break,
+    // Does what the feed has sent until nothing more has come, but for no longer than its share of the time.
+    fn read_feed(&mut self, now_ms: u64) -> Result<(), LiveFault> {
+        let until_ms = now_ms.saturating_add(READING_MS);
+        for _share in 0..u64::MAX {
+            let is_held_up = self.steps(now_ms)?;
+            if is_held_up || !self.feed.is_busy() || self.turns.now()? >= until_ms {
+                break;
             }
+            self.feed.renew();
         }
         Ok(())
     }
 
-    // Writes the snapshot after a message, where one is asked for, and says whether it is.
-    fn save(&self, next: u64, record: &mut Recording<R::File>) -> Result<bool, ToolFault> {
-        match (&self.serving.snapshots, self.desk.market()) {
-            (Some(words), Some(market)) if is_wanted(words.every, next) => {
-                save(self.rt, words.folder, market, next, record)?;
-                Ok(true)
+    // Does what the feed has sent, up to a share of bytes, each packet of which is three bytes at least, and says whether a snapshot was written
+    // meanwhile. That may take long: what comes after it belongs to the next turn, and its moment.
+    fn steps(&mut self, now_ms: u64) -> Result<bool, LiveFault> {
+        for _packet in 0..SHARE {
+            let Some(step) = self.step(now_ms)? else {
+                break;
+            };
+            if self.act(&step, now_ms)? {
+                return Ok(true);
             }
-            _ => Ok(false),
+        }
+        Ok(false)
+    }
+
+    // The feed's next step. A message that could not be recorded is taken where the record is optional.
+    fn step(&mut self, now_ms: u64) -> Result<Option<Step>, LiveFault> {
+        let recording = &mut self.record.recording;
+        match self
+            .feed
+            .step(&mut self.log, &mut self.desk, now_ms, recording)
+        {
+            Ok(step) => Ok(step),
+            Err(fault) => {
+                self.fail(fault)?;
+                Ok(Some(Step::On))
+            }
         }
     }
 
-    // Does what the clients have sent, and sends them what they are told. Once the feed has ended none is accepted, unless it stays.
-    fn serve<W: CountedWrite>(&mut self, now_ms: u64, out: &mut W) -> Result<(), ToolFault> {
-        if !self.is_closed() {
-            self.clients.accept(
-                &mut self.callers,
-                self.turns.registry(),
-                &mut self.desk,
-                now_ms,
-                out,
-            )?;
+    // Goes on without the record where that is what failed, and is optional.
+    fn fail(&mut self, fault: LiveFault) -> Result<(), LiveFault> {
+        match fault.write_error() {
+            Some(error) => self.lose_record(RecordLoss::System(error)),
+            None => Err(self.explained(fault)),
         }
+    }
+
+    // Does what a step asks for, and says whether that may have taken long.
+    fn act(&mut self, step: &Step, now_ms: u64) -> Result<bool, LiveFault> {
+        match *step {
+            Step::Taken(next) => return self.save(next, now_ms),
+            Step::Accepted(_) => self.begin_record()?,
+            Step::Ended => self.has_ended = self.feed.is_over(),
+            _ => {}
+        }
+        Ok(false)
+    }
+
+    // The record has the feed's session before it has a message.
+    fn begin_record(&mut self) -> Result<(), LiveFault> {
+        if let Some(session) = self.desk.session() {
+            self.record.begin(self.log.runtime(), session)?;
+        }
+        Ok(())
+    }
+
+    // Writes the snapshot after a message, where one is asked for, and says whether it is. The record has each message that the snapshot has.
+    fn save(&mut self, next: u64, now_ms: u64) -> Result<bool, LiveFault> {
+        if !self.saver.as_ref().is_some_and(|saver| saver.wants(next)) {
+            return Ok(false);
+        }
+        if let Err(error) = self.record.flush() {
+            self.lose_record(RecordLoss::System(error))?;
+        }
+        self.spare.release();
+        let saved = match (&mut self.saver, self.desk.market()) {
+            (Some(saver), Some(market)) => {
+                let recording = &mut self.record.recording;
+                saver.save(&mut self.log, market, next, now_ms, recording)
+            }
+            _ => Ok(()),
+        };
+        match saved {
+            Ok(()) => Ok(true),
+            Err(error) => {
+                self.lose_record(RecordLoss::System(error))?;
+                Ok(true)
+            }
+        }
+    }
+
+    // Goes on without the record where that is allowed.
+    fn lose_record(&mut self, loss: RecordLoss) -> Result<(), LiveFault> {
+        if self.record.is_optional() {
+            self.log.say(&loss);
+            self.record.give_up();
+            return Ok(());
+        }
+        Err(match loss {
+            RecordLoss::Changed(change) => LiveFault::Record(RecordFault::Changed(change)),
+            RecordLoss::System(error) => LiveFault::Tool(record_fault(
+                ToolFault::Write(error),
+                self.desk.next(),
+            )),
+        })
+    }
+
+    // The fault of a feed that refuses to go on: with its session, or with the one of the record or of the snapshot, which it is not in.
+    fn explained(&self, fault: LiveFault) -> LiveFault {
+        let session = self.desk.session();
+        if self.record.session().is_some() {
+            return fault.of_record().of_message(session);
+        }
+        if self.serving.from_snapshot && self.serving.session.is_none() {
+            return fault.after_glimpse().of_message(session);
+        }
+        fault.of_message(session)
+    }
+
+    // Does what the clients have sent, and sends them what they are told. Once the feed has ended none is accepted, unless it stays.
+    fn serve(&mut self, now_ms: u64) -> Result<(), LiveFault> {
+        if !self.is_closed() {
+            self.reception.accept(
+                self.log.runtime(),
+                &mut self.callers,
+                &mut self.spare,
+                self.turns.registry(),
+                now_ms,
+            );
+        }
+        self.reception.turn(now_ms, self.clients.buffer());
+        self.clients.seat(
+            &mut self.reception,
+            self.turns.registry(),
+            &mut self.desk,
+            now_ms,
+        );
         self.clients.hear(&mut self.desk, now_ms);
-        self.clients.answer(&mut self.desk, now_ms);
+        self.answer(now_ms)?;
         self.clients.tell(&mut self.desk, now_ms);
-        self.clients.close(&mut self.desk, now_ms, out)
+        self.clients.close(
+            &mut self.reception,
+            self.turns.registry(),
+            &mut self.desk,
+            now_ms,
+        );
+        Ok(())
+    }
+
+    // Answers all who wait, as often as the time allows.
+    fn answer(&mut self, now_ms: u64) -> Result<(), LiveFault> {
+        if !self.clients.any_waits(&self.desk) || self.desk.market().is_none() {
+            return Ok(());
+        }
+        let idle = !self.feed.is_busy() && !self.clients.is_telling(&self.desk);
+        if !self.budget.allows(now_ms, idle) {
+            return Ok(());
+        }
+        let begun_ms = self.turns.now()?;
+        self.clients.answer(&mut self.desk, now_ms);
+        self.budget.spend(begun_ms, self.turns.now()?);
+        self.clients
+            .make_room(&mut self.reception, &mut self.desk, now_ms);
+        Ok(())
+    }
+
+    fn watch(&mut self, now_ms: u64) -> Result<(), LiveFault> {
+        match self.record.watch(self.log.runtime(), now_ms) {
+            Ok(()) => Ok(()),
+            Err(loss) => self.lose_record(loss),
+        }
+    }
+
+    // Writes the lines of the connections that have ended.
+    fn write_lines<W: CountedWrite>(&mut self, now_ms: u64, out: &mut W) {
+        for _ in 0..u64::MAX {
+            let Some((number, departure)) = self.reception.next_ended() else {
+                break;
+            };
+            self.log.departs(out, number, departure);
+        }
+        self.log.report(now_ms);
+    }
+
+    // Has all of the record on disk.
+    fn finish(&mut self) -> Result<(), LiveFault> {
+        match self.record.finish() {
+            Ok(()) => Ok(()),
+            Err(error) => self.lose_record(RecordLoss::System(error)),
+        }
     }
 }

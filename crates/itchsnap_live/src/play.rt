@@ -1,11 +1,13 @@
 //! `feed`: a day file that is played as a live feed, to each client from the number on that it asks for.
 
 use crate::callers::Callers;
-use crate::departure::{Departure, write_departure};
-use crate::link::Link;
+use crate::departure::Departure;
+use crate::log::Log;
 use crate::playback::Playback;
-use crate::player_side::PlayerSide;
-use crate::socket::Socket;
+use crate::player_side::{PlayerSide, hand_on};
+use crate::reception::{Arrival, Reception};
+use crate::seated::Seated;
+use crate::spare::Spare;
 use crate::turns::{Turns, called};
 use itch_codec::Seq;
 use itch_commands::ToolFault;
@@ -15,8 +17,8 @@ use itch_soup::ServerConfig;
 use itchsnap_cli::sessions::PIECE;
 use itchsnap_cli::words::Pace;
 use mio::Token;
-use mio::net::TcpStream;
 use std::alloc::{AllocError, Global};
+use std::fs::File;
 use std::io::Read;
 use std::net::{Net, SocketAddr};
 use std::rt::{Clock, Files};
@@ -25,10 +27,13 @@ const LISTENER: usize = 0;
 
 const PLACES: usize = 1;
 
+/// Where the sockets of those begin that hold no place.
+const ROOMS: usize = PLACES + CLIENTS;
+
 /// How many clients a feed has at a time.
 const CLIENTS: usize = 64;
 
-const EVENTS: usize = 64;
+const EVENTS: usize = 1_024;
 
 /// The moment is looked at this often, where no socket is ready; and where a message is not due yet.
 const MOMENT_MS: u64 = 100;
@@ -61,7 +66,7 @@ pub fn play_feed<R, W: CountedWrite>(
     out: &mut W,
 ) -> Result<bool, ToolFault>
 where
-    R: Net + Clock + Files + Eprint + AllocGlobal,
+    R: Net + Clock + Files<File = File> + Eprint + AllocGlobal,
 {
     let total = Playback::open(rt, playing.path)?.count()?;
     let Some(end) = Seq::new(total.saturating_add(1)) else {
@@ -79,23 +84,26 @@ where
 
 // The clients of a feed.
 #[derive(Drop)]
-struct Players<'a, R: Clock + Files> {
+struct Players<'a, R: Clock> {
     rt: &'a R,
+    log: Log<'a, R>,
     playing: &'a Playing<'a>,
     // The number after that of the last message.
     end: Seq,
     turns: Turns<'a, R>,
     callers: Callers,
-    clients: Vec<Option<PlayerSide<R::File>>>,
-    // How many clients have connected, and how many connections have ended.
-    connected: u64,
+    reception: Reception,
+    clients: Vec<Option<PlayerSide<File>>>,
+    seated: Seated,
+    spare: Spare,
+    // How many connections have ended.
     ended: u64,
     buffer: Vec<u8>,
 }
 
 impl<'a, R> Players<'a, R>
 where
-    R: Net + Clock + Files + Eprint + AllocGlobal,
+    R: Net + Clock + Files<File = File> + Eprint + AllocGlobal,
 {
     // Listens on the port, and says so.
     fn new(rt: &'a R, playing: &'a Playing<'a>, end: Seq) -> Result<Players<'a, R>, ToolFault> {
@@ -103,12 +111,15 @@ where
         let callers = called(Callers::listen(rt, turns.registry(), playing.address, LISTENER))?;
         Ok(Players {
             rt,
+            log: Log::new(rt)?,
             playing,
             end,
             turns,
             callers,
+            reception: Reception::new(rt.alloc(), playing.config, end, ROOMS)?,
             clients: no_clients(rt.alloc())?,
-            connected: 0,
+            seated: Seated::new(rt.alloc(), CLIENTS)?,
+            spare: Spare::new(rt.alloc(), 0)?,
             ended: 0,
             buffer: vec![in rt.alloc(); 0; PIECE]?,
         })
@@ -119,13 +130,26 @@ where
         let most_ms = self.patience_ms();
         let now_ms = self.turns.wait(most_ms)?;
         self.note();
-        self.accept(now_ms, out)?;
+        self.reception.accept(
+            self.rt,
+            &mut self.callers,
+            &mut self.spare,
+            self.turns.registry(),
+            now_ms,
+        );
+        self.reception.turn(now_ms, self.buffer.as_mut_slice());
+        self.seat(now_ms);
         self.play(now_ms);
-        self.close(out)
+        self.close();
+        self.write_lines(now_ms, out);
+        Ok(())
     }
 
     // How long there is nothing to do unless something is ready.
     fn patience_ms(&self) -> u64 {
+        if self.reception.is_busy() {
+            return 0;
+        }
         let mut most_ms = MOMENT_MS;
         for client in self.clients.iter() {
             if let Some(client) = client {
@@ -146,31 +170,29 @@ where
             let Token(token) = event.token();
             if token == LISTENER {
                 self.callers.note();
+            } else if token >= ROOMS {
+                self.reception.note(token, event);
             } else if let Some(Some(client)) = self.clients.get_mut(token.saturating_sub(PLACES)) {
                 client.note(event);
             }
         }
     }
 
-    // Accepts those who call, as far as there are places. Others wait until one is free.
-    fn accept<W: CountedWrite>(&mut self, now_ms: u64, out: &mut W) -> Result<(), ToolFault> {
+    // Gives places to those whose login is right, in the order in which they came, as far as there are places.
+    fn seat(&mut self, now_ms: u64) {
         for place in 0..self.clients.len() {
             if self.is_taken(place) {
                 continue;
             }
-            let Some(stream) = self.callers.next() else {
-                return Ok(());
+            let Some(arrival) = self.reception.next_arrival(&self.seated, CLIENTS) else {
+                return;
             };
-            self.connected = self.connected.saturating_add(1);
-            match self.seat(stream, place, now_ms) {
+            let number = arrival.link.number();
+            match self.seat_one(arrival, place, now_ms) {
                 Ok(client) => self.set(place, Some(client)),
-                Err(_) => {
-                    self.ended = self.ended.saturating_add(1);
-                    write_departure(out, self.connected, Departure::Fault)?;
-                }
+                Err(_) => self.reception.write_down(number, Departure::Fault),
             }
         }
-        Ok(())
     }
 
     fn is_taken(&self, place: usize) -> bool {
@@ -178,25 +200,26 @@ where
     }
 
     // Seats a client at a place, or frees it, which closes the connection.
-    fn set(&mut self, place: usize, client: Option<PlayerSide<R::File>>) {
+    fn set(&mut self, place: usize, client: Option<PlayerSide<File>>) {
         if let Some(seat) = self.clients.get_mut(place) {
             *seat = client;
         }
     }
 
     // A client with the file opened for it.
-    fn seat(
+    fn seat_one(
         &self,
-        stream: TcpStream,
+        arrival: Arrival,
         place: usize,
         now_ms: u64,
-    ) -> Result<PlayerSide<R::File>, ToolFault> {
+    ) -> Result<PlayerSide<File>, ToolFault> {
         let playback = Playback::open(self.rt, self.playing.path)?;
         let total = self.end.value() - 1;
-        let player = Player::new(self.rt.alloc(), self.playing.config, total, now_ms)?;
-        let token = place.saturating_add(PLACES);
-        let socket = called(Socket::register(self.turns.registry(), stream, token, true))?;
-        let link = Link::new(socket, self.connected);
+        let mut player = Player::new(self.rt.alloc(), self.playing.config, total, now_ms)?;
+        let Arrival { link, words, .. } = arrival;
+        let mut link = link;
+        called(link.move_to(self.turns.registry(), place.saturating_add(PLACES)))?;
+        hand_on(&mut player, words.as_slice(), now_ms);
         Ok(PlayerSide::new(link, player, playback))
     }
 
@@ -211,15 +234,25 @@ where
     }
 
     // Closes the connection of each that is gone.
-    fn close<W: CountedWrite>(&mut self, out: &mut W) -> Result<(), ToolFault> {
+    fn close(&mut self) {
         for place in 0..self.clients.len() {
             if let Some((number, departure)) = self.departure(place) {
                 self.set(place, None);
-                self.ended = self.ended.saturating_add(1);
-                write_departure(out, number, departure)?;
+                self.reception.write_down(number, departure);
             }
         }
-        Ok(())
+    }
+
+    // Writes the lines of the connections that have ended.
+    fn write_lines<W: CountedWrite>(&mut self, now_ms: u64, out: &mut W) {
+        for _ in 0..u64::MAX {
+            let Some((number, departure)) = self.reception.next_ended() else {
+                break;
+            };
+            self.ended = self.ended.saturating_add(1);
+            self.log.departs(out, number, departure);
+        }
+        self.log.report(now_ms);
     }
 
     // The number of the client at a place, and how its connection ended, once it is to be closed.

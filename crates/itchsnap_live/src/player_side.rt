@@ -1,7 +1,6 @@
 //! A client that a day file is played to.
 
 use crate::departure::{Departure, departure_of};
-use crate::feed_side::SHARE;
 use crate::link::Link;
 use crate::pace::is_due;
 use crate::playback::Playback;
@@ -14,6 +13,9 @@ use std::io::Read;
 
 /// How many messages are played to one client in one turn, at most.
 const MESSAGES: usize = 4_096;
+
+/// What is written to one client in one turn, at most.
+const SHARE: usize = 1 << 18;
 
 /// The longest message that fits a packet.
 const LONGEST: usize = 65_534;
@@ -165,8 +167,8 @@ impl<F: Read + Drop> PlayerSide<F> {
     }
 }
 
-// Hands on all bytes of a piece.
-fn hand_on(player: &mut Player<Global>, piece: &[u8], now_ms: u64) {
+/// Hands on all bytes of a piece.
+pub(crate) fn hand_on(player: &mut Player<Global>, piece: &[u8], now_ms: u64) {
     let mut from = 0;
     for _ in 0..piece.len() {
         if from < piece.len() {

@@ -5,6 +5,7 @@ ghost use Rattle.itchsnap_live.specs.Recordings.{contents_of, failures_of, IsFlu
 use itch_frame::CountedWrite;
 use itch_frame::tally::Failures;
 use std::alloc::Global;
+use std::fs::OpenFile;
 use std::io::{self, BufWriter, ErrorKind, Write};
 
 /// Where the messages of a feed are recorded, if they are.
@@ -14,10 +15,20 @@ pub(crate) enum Recording<F: Write + Drop> {
     File {
         file: BufWriter<F, Global>,
         failures: Failures,
+        // How many bytes were added.
+        added: u64,
     },
 }
 
 impl<F: Write + Drop> Recording<F> {
+    /// How many bytes were added.
+    pub(crate) fn added(&self) -> u64 {
+        match self {
+            Recording::Nowhere(_) => 0,
+            Recording::File { added, .. } => *added,
+        }
+    }
+
     /// Flushes what is held of the record.
     pub(crate) fn flush(&mut self) -> io::Result<()>
         ensures { OnOk result (IsFlushed self.new) }
@@ -25,6 +36,16 @@ impl<F: Write + Drop> Recording<F> {
         match self {
             Recording::Nowhere(_) => Ok(()),
             Recording::File { file, .. } => file.flush(),
+        }
+    }
+}
+
+impl<F: Write + OpenFile + Drop> Recording<F> {
+    /// Waits until what was flushed is on disk.
+    pub(crate) fn sync(&self) -> io::Result<()> {
+        match self {
+            Recording::Nowhere(_) => Ok(()),
+            Recording::File { file, .. } => file.get_ref().sync_data(),
         }
     }
 }
@@ -37,8 +58,15 @@ impl<F: Write + Drop> CountedWrite for Recording<F> {
     fn write_some(&mut self, buf: &[u8]) -> io::Result<usize> {
         match self {
             Recording::Nowhere(_) => Ok(buf.len()),
-            Recording::File { file, failures } => match file.write(buf) {
-                Ok(count) if count > 0 || buf.is_empty() => Ok(count),
+            Recording::File {
+                file,
+                failures,
+                added,
+            } => match file.write(buf) {
+                Ok(count) if count > 0 || buf.is_empty() => {
+                    *added = added.saturating_add(count as u64);
+                    Ok(count)
+                }
                 Ok(_) => Err(failures.add(io::Error::from(ErrorKind::WriteZero))),
                 Err(error) => Err(failures.add(error)),
             },

@@ -1,19 +1,15 @@
-//! A record that is gone on with.
-ghost use Rattle.std.specs.Prelude.{IfOk};
+//! What a record has: its messages are replayed before more are added.
 
-use crate::recording::Recording;
+use crate::fault::{LiveFault, RecordFault};
 use crate::step::stop_of;
 use itch_book::OrderBook;
-use itch_commands::{Source, ToolFault, system_fault};
-use itch_frame::tally::Failures;
+use itch_commands::ToolFault;
 use itch_frame::{BlockReader, Buffered, CountedRead, FrameFault};
 use itch_join::{JoinFault, Joiner, Live};
 use itch_market::{Refusal, ReplayEnd, Stop};
 use itchsnap_cli::sessions::PIECE;
 use std::alloc::{Allocator, Global};
-use std::fs::{self, OpenFile, OpenOptions};
-use std::io::{self, BufReader, BufWriter, ErrorKind};
-use std::rt::Files;
+use std::io::{BufReader, Read};
 
 /// The End of Snapshot of a market with no messages.
 const NOTHING_BEFORE: &[u8] = b"G                   1";
@@ -26,97 +22,74 @@ pub(crate) fn at_the_first<B: OrderBook>(joiner: &mut Joiner<B>) -> Result<(), T
     }
 }
 
-/// Opens a record to append to, replays what it has, and drops a block at its end that was not written whole.
-///
-/// A message that is refused is the fault (`Stopped`), and leaves the file as it is.
-pub(crate) fn resume<R: Files + AllocGlobal, B: OrderBook>(
-    rt: &R,
-    path: &str,
-    joiner: &mut Joiner<B>,
-) -> Result<Recording<R::File>, ToolFault> {
-    let whole = match fs::open(rt, path) {
-        Ok(file) => replay(blocks_of(rt.alloc(), file)?, joiner)?,
-        Err(error) if matches!(error.kind(), ErrorKind::NotFound) => 0,
-        Err(error) => return Err(record_fault(error)),
-    };
-    let file = match open_at(rt, path, whole) {
-        Ok(file) => file,
-        Err(error) => return Err(record_fault(error)),
-    };
-    match BufWriter::with_capacity(rt.alloc(), PIECE, file) {
-        Ok(file) => Ok(Recording::File {
-            file,
-            failures: Failures::none(),
-        }),
-        Err(_) => Err(ToolFault::OutOfMemory),
-    }
+/// The whole messages of a record: how many they are, and how many bytes their blocks are.
+#[derive(Clone, Copy, Debug, PartialEq, Eq)]
+pub(crate) struct Whole {
+    pub messages: u64,
+    pub bytes: u64,
 }
 
-fn blocks_of<F: io::Read + Drop>(
+/// Replays the messages of a record: those that `check` counts, up to the end of the file, to a block of length 0 or to a
+/// block that was not written whole.
+///
+/// A message that is refused is the fault.
+pub(crate) fn replay_record<F: Read + Drop, B: OrderBook>(
     alloc: Global,
     file: F,
-) -> Result<BlockReader<Buffered<F, Global>, Global>, ToolFault> {
-    match BufReader::with_capacity(alloc, PIECE, file) {
-        Ok(buffered) => Ok(BlockReader::new(alloc, Buffered::new(buffered))?),
-        Err(_) => Err(ToolFault::OutOfMemory),
+    joiner: &mut Joiner<B>,
+) -> Result<Whole, LiveFault> {
+    let Ok(buffered) = BufReader::with_capacity(alloc, PIECE, file) else {
+        return Err(LiveFault::Tool(ToolFault::OutOfMemory));
+    };
+    let blocks = BlockReader::new(alloc, Buffered::new(buffered))?;
+    match replay(blocks, joiner) {
+        Ok(whole) => Ok(whole),
+        Err(end) => Err(LiveFault::Record(RecordFault::Refused(end))),
     }
 }
 
-// Opens a file to append to, cut to this many bytes.
-fn open_at<R: Files>(rt: &R, path: &str, len: u64) -> io::Result<R::File> {
-    let mut how = OpenOptions::new();
-    how.append(true).create(true);
-    let file = how.open(rt, path)?;
-    file.set_len(len)?;
-    Ok(file)
-}
-
-// Replays the blocks of a record, and returns how many bytes the whole ones are.
 fn replay<R: CountedRead, A: Allocator, B: OrderBook>(
     blocks: BlockReader<R, A>,
     joiner: &mut Joiner<B>,
-) -> Result<u64, ToolFault>
+) -> Result<Whole, ReplayEnd>
 where
     R: Drop,
 {
     let mut blocks = blocks;
     let mut bytes = 0u64;
     for count in 0..u64::MAX {
-        match blocks.next_block() {
+        match blocks.next_message() {
             Ok(Some(payload)) => {
                 take(joiner, count, payload)?;
                 bytes = bytes.saturating_add(payload.len() as u64 + 2);
             }
-            Ok(None) | Err(FrameFault::Truncated { .. }) => return Ok(bytes),
-            Err(fault) => return Err(stopped(count, Stop::Frame(fault))),
+            Ok(None) | Err(FrameFault::Truncated { .. }) => {
+                return Ok(Whole {
+                    messages: count,
+                    bytes,
+                });
+            }
+            Err(fault) => {
+                return Err(ReplayEnd {
+                    count,
+                    stop: Stop::Frame(fault),
+                });
+            }
         }
     }
-    Ok(bytes)
+    Ok(Whole {
+        messages: u64::MAX,
+        bytes,
+    })
 }
 
 // Takes the message after so many.
-fn take<B: OrderBook>(joiner: &mut Joiner<B>, count: u64, payload: &[u8]) -> Result<(), ToolFault> {
-    match joiner.live(count.saturating_add(1), payload) {
-        Ok(Live::Applied { .. }) => Ok(()),
-        Err(JoinFault::Halted { cause, .. }) => Err(stopped(count, stop_of(cause))),
-        Err(JoinFault::OutOfMemory { .. }) => Err(stopped(count, Stop::Rule(Refusal::OutOfMemory))),
-        _ => Err(stopped(count, Stop::TooManyMessages)),
-    }
-}
-
-fn stopped(count: u64, stop: Stop) -> ToolFault {
-    ToolFault::Stopped {
-        file: Source::Only,
-        end: ReplayEnd { count, stop },
-    }
-}
-
-fn record_fault(error: io::Error) -> ToolFault {
-    system_fault(
-        error,
-        ToolFault::Open {
-            file: Source::Only,
-            error,
-        },
-    )
+fn take<B: OrderBook>(joiner: &mut Joiner<B>, count: u64, payload: &[u8]) -> Result<(), ReplayEnd> {
+    let stop = match joiner.live(count.saturating_add(1), payload) {
+        Ok(Live::Applied { .. }) => return Ok(()),
+        Err(JoinFault::Halted { cause, .. }) => stop_of(cause),
+        Err(JoinFault::OutOfMemory { .. }) => Stop::Rule(Refusal::OutOfMemory),
+        _ => Stop::TooManyMessages,
+    };
+    Err(ReplayEnd { count, stop })
 }

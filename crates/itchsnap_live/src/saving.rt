@@ -4,6 +4,8 @@ ghost use Rattle.itch_snapshot.specs.Snapshot.{snap};
 ghost use Rattle.itchsnap_live.specs.Recordings.{IsFlushed};
 ghost use Rattle.itchsnap_live.specs.Savings.{is_wanted};
 
+use crate::fault::{LiveFault, Owned};
+use crate::log::Log;
 use crate::recording::Recording;
 use itch_book::OrderBook;
 use itch_codec::{GREATEST_SEQ, Seq};
@@ -11,9 +13,120 @@ use itch_commands::{Source, ToolFault, system_fault, write_closed};
 use itch_market::Market;
 use itch_snapshot::snapshot_len;
 use itchsnap_cli::sessions::{PIECE, Sending};
-use std::fs;
-use std::io::{self, BufWriter};
+use itchsnap_cli::words::SnapshotWords;
+use std::fmt::{self, Display, Formatter};
+use std::fs::{self, File, TryLockError};
+use std::io::{self, BufWriter, ErrorKind};
 use std::rt::Files;
+
+/// Snapshots that cannot be written are reported this often.
+const REPORT_MS: u64 = 60_000;
+
+/// A folder that snapshots are written to, by this process alone.
+#[derive(Drop)]
+pub(crate) struct Saver<'a> {
+    words: SnapshotWords<'a>,
+    // It holds the lock.
+    _folder: File,
+    // How many were not written since that was said, and when it was.
+    missed: u64,
+    reported_ms: Option<u64>,
+}
+
+// What is said of snapshots that are not written: how many, and why the last one is not.
+#[derive(Drop)]
+struct Missed<'a> {
+    count: u64,
+    folder: &'a str,
+    messages: u64,
+    fault: &'a ToolFault,
+}
+
+impl Display for Missed<'_> {
+    fn fmt<W: fmt::Write>(&self, f: &mut Formatter<W>) -> fmt::Result {
+        let Missed {
+            count,
+            folder,
+            messages,
+            fault,
+        } = self;
+        write!(
+            f,
+            "snapshots: {count} not written, the last one {folder}/{messages}.snap: "
+        )?;
+        match fault {
+            ToolFault::Open { error, .. } | ToolFault::Write(error) => write!(f, "{error}"),
+            ToolFault::OutOfMemory => f.write_str("out of memory"),
+            _ => f.write_str("too many messages"),
+        }
+    }
+}
+
+impl<'a> Saver<'a> {
+    /// Looks at the folder, and locks it.
+    pub(crate) fn open<R: Files<File = File>>(
+        rt: &R,
+        words: SnapshotWords<'a>,
+    ) -> Result<Saver<'a>, LiveFault> {
+        let folder = match open_folder(rt, words.folder) {
+            Ok(folder) => folder,
+            Err(error) => return Err(LiveFault::Tool(folder_fault(error))),
+        };
+        match folder.try_lock() {
+            Ok(()) => {}
+            Err(TryLockError::WouldBlock) => return Err(LiveFault::InUse(Owned::Snapshots)),
+            Err(TryLockError::Error(error)) => return Err(LiveFault::Tool(folder_fault(error))),
+        }
+        Ok(Saver {
+            words,
+            _folder: folder,
+            missed: 0,
+            reported_ms: None,
+        })
+    }
+
+    /// Whether a snapshot is wanted of the market before this number.
+    pub(crate) fn wants(&self, next: u64) -> bool {
+        is_wanted(self.words.every, next)
+    }
+
+    /// Writes the snapshot of the market before this number. One that cannot be written is reported, and no more: the error is that of the
+    /// record, which has to have each message that the snapshot has.
+    pub(crate) fn save<R: Files<File = File> + Eprint + AllocGlobal, B: OrderBook>(
+        &mut self,
+        log: &mut Log<'_, R>,
+        market: &Market<B>,
+        next: u64,
+        now_ms: u64,
+        recording: &mut Recording<File>,
+    ) -> io::Result<()> {
+        match save(log.runtime(), self.words.folder, market, next, recording) {
+            Ok(()) => {}
+            Err(Unsaved::Record(error)) => return Err(error),
+            Err(Unsaved::Snapshot(fault)) => self.miss(log, &fault, next, now_ms),
+        }
+        Ok(())
+    }
+
+    // Takes note of a snapshot that is not written, and says so where that is due.
+    fn miss<R: Eprint>(&mut self, log: &mut Log<'_, R>, fault: &ToolFault, next: u64, now_ms: u64) {
+        self.missed = self.missed.saturating_add(1);
+        let is_due = match self.reported_ms {
+            Some(reported_ms) => now_ms.saturating_sub(reported_ms) >= REPORT_MS,
+            None => true,
+        };
+        if is_due {
+            log.say(&Missed {
+                count: self.missed,
+                folder: self.words.folder,
+                messages: next.saturating_sub(1),
+                fault,
+            });
+            self.missed = 0;
+            self.reported_ms = Some(now_ms);
+        }
+    }
+}
 
 /// Whether a snapshot is wanted of the market before this number: after each so many messages.
 pub(crate) fn is_wanted(every: u64, next: u64) -> bool
@@ -23,26 +136,60 @@ pub(crate) fn is_wanted(every: u64, next: u64) -> bool
     messages > 0 && every > 0 && messages % every == 0
 }
 
-/// Writes the snapshot of the market before this number, in canonical form, to a file beside, which then gets its name: so a file of
-/// that name is whole. The record is flushed before, so it has each message that the snapshot has.
-pub(crate) fn save<R: Files + AllocGlobal, B: OrderBook>(
+// Opens a folder: a file is none.
+fn open_folder<R: Files<File = File>>(rt: &R, path: &str) -> io::Result<File> {
+    if !fs::metadata(rt, path)?.is_dir() {
+        return Err(io::Error::from(ErrorKind::NotADirectory));
+    }
+    fs::open(rt, path)
+}
+
+// Why a snapshot is not written.
+#[derive(Debug, Drop)]
+enum Unsaved {
+    // The record could not be flushed.
+    Record(io::Error),
+    // The snapshot itself could not be written.
+    Snapshot(ToolFault),
+}
+
+impl From<ToolFault> for Unsaved {
+    fn from(fault: ToolFault) -> Unsaved {
+        Unsaved::Snapshot(fault)
+    }
+}
+
+// Writes the snapshot of the market before this number. The record is flushed before, so it has each message that the snapshot has.
+fn save<R: Files<File = File> + AllocGlobal, B: OrderBook>(
     rt: &R,
     folder: &str,
     market: &Market<B>,
     next: u64,
-    recording: &mut Recording<R::File>,
-) -> Result<(), ToolFault>
+    recording: &mut Recording<File>,
+) -> Result<(), Unsaved>
     ensures { OnOk result (IsFlushed recording.new) }
 {
+    if let Err(error) = recording.flush() {
+        return Err(Unsaved::Record(error));
+    }
+    write_snapshot(rt, folder, market, next)?;
+    Ok(())
+}
+
+// Writes the snapshot of the market before this number, in canonical form, to a file beside, which gets its name once it is on disk: so a file
+// of that name is whole.
+fn write_snapshot<R: Files<File = File> + AllocGlobal, B: OrderBook>(
+    rt: &R,
+    folder: &str,
+    market: &Market<B>,
+    next: u64,
+) -> Result<(), ToolFault> {
     let messages = next.saturating_sub(1);
     let Some(next) = Seq::new(next) else {
         return Err(ToolFault::TooMany);
     };
     if snapshot_len(market) >= u128::from(GREATEST_SEQ) {
         return Err(ToolFault::TooMany);
-    }
-    if let Err(error) = recording.flush() {
-        return Err(ToolFault::Write(error));
     }
     let path = format!(in rt.alloc(); "{folder}/{messages}.snap")?;
     let beside = format!(in rt.alloc(); "{path}.part")?;
@@ -53,7 +200,7 @@ pub(crate) fn save<R: Files + AllocGlobal, B: OrderBook>(
     }
 }
 
-fn write_file<R: Files + AllocGlobal, B: OrderBook>(
+fn write_file<R: Files<File = File> + AllocGlobal, B: OrderBook>(
     rt: &R,
     path: &str,
     market: &Market<B>,
@@ -75,6 +222,18 @@ fn write_file<R: Files + AllocGlobal, B: OrderBook>(
         Err(fault) => return Err(fault),
     }
     match out.flush() {
+        Ok(()) => sync(rt, path),
+        Err(error) => Err(folder_fault(error)),
+    }
+}
+
+// Waits until a file is on disk.
+fn sync<R: Files<File = File>>(rt: &R, path: &str) -> Result<(), ToolFault> {
+    let file = match fs::open(rt, path) {
+        Ok(file) => file,
+        Err(error) => return Err(folder_fault(error)),
+    };
+    match file.sync_all() {
         Ok(()) => Ok(()),
         Err(error) => Err(folder_fault(error)),
     }

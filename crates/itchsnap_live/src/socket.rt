@@ -64,6 +64,20 @@ impl Socket {
         self.writable
     }
 
+    /// Registers it under another number. What is ready is reported anew.
+    pub(crate) fn move_to(&mut self, registry: &Registry, token: usize) -> io::Result<()> {
+        registry.reregister(
+            &mut self.stream,
+            Token(token),
+            Interest::READABLE | Interest::WRITABLE,
+        )
+    }
+
+    /// Has the next write tried, also where the system has not reported room: it does so only once a third of its buffer is free.
+    pub(crate) fn try_to_write(&mut self) {
+        self.writable = true;
+    }
+
     /// Reads what is there into the front of a buffer that is not empty.
     pub(crate) fn read(&mut self, buffer: &mut [u8]) -> io::Result<Got>
         ensures { IfOk result (IsWithin (length buffer.new)) }

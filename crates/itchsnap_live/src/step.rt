@@ -1,14 +1,14 @@
 //! What a follower does about the news of its feed.
 ghost use Rattle.std.specs.Prelude.{◌≡◌};
-ghost use Rattle.itchsnap_live.specs.Steps.{record_fault, refusal_of, snapshot_fault_of, step_of, stop_of, unrecorded};
+ghost use Rattle.itchsnap_live.specs.Steps.{record_fault, refusal_of, rejection_ends, snapshot_fault_of, step_of, stop_of, unrecorded};
 
+use itch_codec::Alpha;
 use itch_commands::{Source, ToolFault};
 use itch_frame::FrameFault;
 use itch_join::{Cause, JoinFault};
 use itch_live::News;
 use itch_market::{ReplayEnd, Stop};
 use itch_snapshot::SnapFault;
-use itch_soup::SoupFault;
 
 /// What a follower does next.
 #[derive(Clone, Copy, Debug)]
@@ -23,6 +23,12 @@ pub enum Step {
     Taken(u64),
     /// The server has ended its session.
     Ended,
+    /// The server rejected the login with this code.
+    Rejected(u8),
+    /// The server is in this session, and not in the one that was asked for.
+    OtherSession(Alpha<10>),
+    /// Memory was refused for a message, which was not taken.
+    NoMemory,
     /// This connection is of no use any more: it connects again.
     Lost,
 }
@@ -31,7 +37,7 @@ pub enum Step {
 ///
 /// # Faults
 ///
-/// A login that is rejected; a message of the feed that is no message or breaks an order rule (`Stopped`), or one of the
+/// A message of the feed that is no message or breaks an order rule (`Stopped`), or one of the
 /// snapshot (`Snap`); and a message that could not be recorded. All else is mended by a new connection.
 pub fn step_of(news: News) -> Result<Step, ToolFault>
     ensures { result ≡ step_of news }
@@ -42,8 +48,9 @@ pub fn step_of(news: News) -> Result<Step, ToolFault>
         News::Joined { next } => Ok(Step::Joined(next)),
         News::Taken { next } => Ok(Step::Taken(next)),
         News::Ended => Ok(Step::Ended),
-        News::Broken(_) | News::OtherSession => Ok(Step::Lost),
-        News::Rejected(code) => Err(ToolFault::Soup(SoupFault::Rejected(code))),
+        News::Broken(_) => Ok(Step::Lost),
+        News::OtherSession { named } => Ok(Step::OtherSession(named)),
+        News::Rejected(code) => Ok(Step::Rejected(code)),
         News::Refused(fault) => refusal_of(fault),
         News::Unrecorded(fault) => Err(unrecorded(fault)),
     }
@@ -67,12 +74,20 @@ fn refusal_of(fault: JoinFault) -> Result<Step, ToolFault>
         }),
         // It was applied, and is not recorded: no connection would send it again.
         JoinFault::OutOfMemory { taken: true } => Err(ToolFault::OutOfMemory),
-        JoinFault::OutOfMemory { taken: false }
-        | JoinFault::Full { .. }
+        JoinFault::OutOfMemory { taken: false } => Ok(Step::NoMemory),
+        JoinFault::Full { .. }
         | JoinFault::Conflict { .. }
         | JoinFault::BadNumber
         | JoinFault::Joined => Ok(Step::Lost),
     }
+}
+
+/// Whether a rejection ends the follower: its first login, which had the wrong user name or password. A server that has accepted it before, or
+/// that lacks the session or the number for now, is asked again.
+pub fn rejection_ends(code: u8, was_accepted: bool) -> bool
+    ensures { result ≡ rejection_ends code was_accepted }
+{
+    code == b'A' && !was_accepted
 }
 
 // The fault of a message that could not be recorded.

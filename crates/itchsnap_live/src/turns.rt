@@ -44,6 +44,11 @@ impl<'a, C: Clock> Turns<'a, C> {
             // A wait that a signal cuts off ends so too. The process may have been stopped: nobody is silent who was not asked.
             self.poll(0)?;
         }
+        self.now()
+    }
+
+    /// How many milliseconds have passed since the beginning.
+    pub(crate) fn now(&self) -> Result<u64, ToolFault> {
         let passed = called(self.begun.elapsed(self.clock))?;
         Ok(u64::try_from(passed.as_millis()).unwrap_or(u64::MAX))
     }

@@ -1,10 +1,10 @@
 //! Clients: what each is sent, beside the others, and when it is cut off.
 use crate::messages::{
-    AAPL, ACCEPTED_1, ADD_1, ADD_2, CLIENT_HEARTBEAT, END_3, EVENT, FEED_FROM_1, LOGIN, LOGIN_2,
-    LOGIN_BLANK, LOGIN_OTHER, LOGIN_WRONG, LOGOUT, REFUSED_SESSION, REFUSED_USER, SNAPSHOT_2,
-    SNAPSHOT_4,
+    AAPL, ACCEPTED_1, ADD_1, ADD_2, CLIENT_HEARTBEAT, END_3, EVENT, FEED_FROM_1, HEARTBEAT, LOGIN,
+    LOGIN_2, LOGIN_BLANK, LOGIN_OTHER, LOGIN_WRONG, LOGOUT, REFUSED_SESSION, REFUSED_USER,
+    SNAPSHOT_2, SNAPSHOT_4, WELCOME,
 };
-use crate::steps::{Brought, Standing, Step, check, desk_of, take_steps};
+use crate::steps::{Brought, Standing, Step, UNKNOWN, check, desk_of, take_steps};
 use itch_book::{IndexedBook, OrderBook};
 use itch_frame::testing::FuseWriter;
 use itch_live::{Desk, Gone, laws};
@@ -14,7 +14,8 @@ use std::test::Fail;
 
 type Index = IndexedBook<Global>;
 
-// Two messages of the feed come, and a client; two more come, and another. Each is sent the snapshot of its moment.
+// Two messages of the feed come, and a client; two more come, and another. Each is accepted at once, and sent the snapshot of its
+// moment.
 const TWO_CLIENTS: &[Step<'static>] = &[
     Step::Connect(FEED_FROM_1),
     Step::Feed(ACCEPTED_1, Brought::Accepted(1)),
@@ -26,33 +27,38 @@ const TWO_CLIENTS: &[Step<'static>] = &[
     Step::Answer,
     Step::Pending(0, b""),
     Step::Hear(0, CLIENT_HEARTBEAT),
+    Step::Accepted(0, false),
     Step::Hear(0, LOGIN),
-    Step::Pending(0, b""),
+    Step::Accepted(0, true),
+    Step::Pending(0, WELCOME),
     Step::Answer,
+    Step::Pending(0, WELCOME),
+    Step::Take(0, 33),
     Step::Pending(0, SNAPSHOT_2),
     Step::Pending(1, b""),
     Step::Feed(ADD_1, Brought::Taken(4)),
     Step::Feed(ADD_2, Brought::Taken(5)),
     Step::Hear(1, LOGIN_BLANK),
+    Step::Take(1, 33),
     Step::Answer,
     Step::Pending(1, SNAPSHOT_4),
     Step::Pending(0, SNAPSHOT_2),
-    Step::Take(0, 33),
+    Step::Take(0, 15),
     Step::Pending(
         0,
-        b"\0\x0dSS\0\0\0\0\0\0\0\0\0\0O\
-        \0\x28SR\0\x01\0\0\0\0\0\0\0\0AAPL    QN\0\0\0dNCZ PNN1N\0\0\0\0N\
+        b"\0\x28SR\0\x01\0\0\0\0\0\0\0\0AAPL    QN\0\0\0dNCZ PNN1N\0\0\0\0N\
         \0\x16SG                   3\0\x01Z",
     ),
     Step::Hear(0, LOGOUT),
     Step::Stands(0, Standing::Gone(Gone::Left)),
+    Step::Accepted(0, false),
     Step::Pending(0, b""),
     Step::Stands(1, Standing::There),
     Step::Leave(0),
     Step::Stands(0, Standing::Free),
     Step::Hear(0, LOGIN),
     Step::Admit(Some(0)),
-    Step::Take(1, 195),
+    Step::Take(1, 162),
     Step::Pending(1, b""),
     Step::Stands(1, Standing::Closing),
     Step::Hear(1, CLIENT_HEARTBEAT),
@@ -73,7 +79,8 @@ const EARLY: &[Step<'static>] = &[
     Step::Admit(Some(0)),
     Step::Hear(0, LOGIN),
     Step::Answer,
-    Step::Pending(0, b""),
+    Step::Pending(0, WELCOME),
+    Step::Take(0, 33),
     Step::Connect(FEED_FROM_1),
     Step::Feed(ACCEPTED_1, Brought::Accepted(1)),
     Step::Feed(EVENT, Brought::Nothing),
@@ -88,6 +95,67 @@ const EARLY: &[Step<'static>] = &[
 #[test]
 fn before_the_market(rt: HostRuntime) -> Result<(), Fail> {
     check::<Index>(&rt, rt.alloc(), rt.alloc(), true, EARLY)
+}
+
+// While a login waits, its client is sent a heartbeat a second, and is not cut off while it takes them, also where no moment was told
+// for a long time: the other one takes none. No heartbeat comes between the packets of the answer.
+const WAITING: &[Step<'static>] = &[
+    Step::Admit(Some(0)),
+    Step::Admit(Some(1)),
+    Step::Hear(0, LOGIN),
+    Step::Hear(1, LOGIN),
+    Step::Take(0, 33),
+    Step::Take(1, 33),
+    Step::At(1_000),
+    Step::Tick,
+    Step::Pending(0, b""),
+    Step::At(1_001),
+    Step::Tick,
+    Step::Pending(0, HEARTBEAT),
+    Step::Pending(1, HEARTBEAT),
+    Step::At(3_000),
+    Step::Tick,
+    Step::Pending(0, HEARTBEAT),
+    Step::Take(0, 3),
+    Step::At(14_999),
+    Step::Tick,
+    Step::Pending(0, HEARTBEAT),
+    Step::Take(0, 3),
+    Step::At(16_000),
+    Step::Tick,
+    Step::Pending(0, HEARTBEAT),
+    Step::Take(0, 3),
+    Step::Stands(1, Standing::There),
+    Step::At(16_001),
+    Step::Tick,
+    Step::Stands(1, Standing::Gone(Gone::Silent)),
+    Step::At(60_000),
+    Step::Tick,
+    Step::Pending(0, HEARTBEAT),
+    Step::At(60_001),
+    Step::Tick,
+    Step::Stands(0, Standing::There),
+    Step::Take(0, 1),
+    Step::Connect(FEED_FROM_1),
+    Step::Feed(ACCEPTED_1, Brought::Accepted(1)),
+    Step::Feed(EVENT, Brought::Nothing),
+    Step::Feed(AAPL, Brought::Nothing),
+    Step::Feed(END_3, Brought::Joined(3)),
+    Step::Answer,
+    Step::Pending(0, b"\x01H"),
+    Step::Take(0, 2),
+    Step::Pending(0, SNAPSHOT_2),
+    Step::At(70_000),
+    Step::Tick,
+    Step::Pending(0, SNAPSHOT_2),
+    Step::At(75_001),
+    Step::Tick,
+    Step::Stands(0, Standing::Gone(Gone::Silent)),
+];
+
+#[test]
+fn heartbeats_while_waiting(rt: HostRuntime) -> Result<(), Fail> {
+    check::<Index>(&rt, rt.alloc(), rt.alloc(), true, WAITING)
 }
 
 // A login that is refused is told so, whatever follows it, and what is no login cuts off.
@@ -141,13 +209,14 @@ fn refused(rt: HostRuntime) -> Result<(), Fail> {
     check::<Index>(&rt, rt.alloc(), rt.alloc(), false, REFUSED)
 }
 
-// 15 seconds without a word before the login, without taking the answer, and after the last byte of it. Heartbeats do not help one
+// 15 seconds without a word before the login, without taking the answer, and after the last byte of it: these cut off. Heartbeats do not help one
 // that takes nothing, nor does a byte now and then.
 const CUT_OFF: &[Step<'static>] = &[
     Step::Admit(Some(0)),
     Step::Admit(Some(1)),
     Step::At(14_000),
     Step::Hear(1, LOGIN),
+    Step::Take(1, 33),
     Step::At(14_999),
     Step::Tick,
     Step::Stands(0, Standing::There),
@@ -167,9 +236,10 @@ const CUT_OFF: &[Step<'static>] = &[
     Step::Leave(1),
     Step::Admit(Some(0)),
     Step::Hear(0, LOGIN),
+    Step::Take(0, 33),
     Step::Answer,
     Step::At(40_000),
-    Step::Take(0, 60),
+    Step::Take(0, 27),
     Step::Stands(0, Standing::Closing),
     Step::At(54_999),
     Step::Hear(0, CLIENT_HEARTBEAT),
@@ -186,14 +256,14 @@ fn cut_off(rt: HostRuntime) -> Result<(), Fail> {
 }
 
 // The snapshot after eight system events.
-const SNAPSHOT_8: &[u8] = b"\0\x1fA  ITCHSNAP                   1\
-    \0\x0dSS\0\0\0\0\0\0\0\0\0\0O\0\x16SG                   9\0\x01Z";
+const SNAPSHOT_8: &[u8] = b"\0\x0dSS\0\0\0\0\0\0\0\0\0\0O\0\x16SG                   9\0\x01Z";
 
 // Eight clients are sent eight different snapshots. The ninth waits until one of them leaves, and who comes at the same number is
 // sent the same as it.
 const NINTH: &[Step<'static>] = &[
     Step::Admit(Some(8)),
     Step::Hear(8, LOGIN),
+    Step::Take(8, 33),
     Step::Answer,
     Step::Pending(8, b""),
     Step::Stands(8, Standing::There),
@@ -202,13 +272,15 @@ const NINTH: &[Step<'static>] = &[
     Step::Pending(8, SNAPSHOT_8),
     Step::Admit(Some(3)),
     Step::Hear(3, LOGIN),
+    Step::Take(3, 33),
     Step::Answer,
     Step::Pending(3, SNAPSHOT_8),
-    Step::Take(3, 75),
+    Step::Take(3, 42),
     Step::Stands(3, Standing::Closing),
     Step::Feed(EVENT, Brought::Taken(10)),
     Step::Admit(Some(9)),
     Step::Hear(9, LOGIN),
+    Step::Take(9, 33),
     Step::Answer,
     Step::Pending(9, b""),
     Step::Leave(8),
@@ -217,12 +289,12 @@ const NINTH: &[Step<'static>] = &[
     Step::Leave(3),
     Step::Answer,
     Step::Stands(9, Standing::There),
-    Step::Take(9, 75),
+    Step::Take(9, 42),
     Step::Stands(9, Standing::Closing),
 ];
 
 fn check_nine<B: OrderBook>(rt: &impl Abort, alloc: Global, memory: B::Alloc) -> Result<(), Fail> {
-    let mut desk: Desk<B> = desk_of(rt, memory, false, 10)?;
+    let mut desk: Desk<B> = desk_of(rt, memory, UNKNOWN, false, 10)?;
     let mut record = FuseWriter::new(alloc, 5, None);
     let begins = [
         Step::Connect(FEED_FROM_1),
@@ -250,5 +322,7 @@ fn the_ninth_snapshot(rt: HostRuntime) -> Result<(), Fail> {
 #[test]
 fn the_laws() {
     laws::sent_in_order();
+    laws::waiting_goes_on();
+    laws::only_the_silent_are_cut_off();
     laws::same_answers();
 }

@@ -1,7 +1,7 @@
 //! The feed: its logins, its loss in the middle of a message, its end, and its record.
 use crate::messages::{
     AAPL, ACCEPTED_1, ACCEPTED_3, ADD_1, ADD_2, ADD_AT_9, DAY, DAY_FROM_3, END_3, ENDED, EVENT,
-    FEED_FROM_1, FEED_FROM_3, FEED_FROM_3_BLANK, FEED_FROM_5, HEARTBEAT, REJECTED,
+    FEED_FROM_1, FEED_FROM_3, FEED_FROM_5, HEARTBEAT, MONDAY_FROM_1, REJECTED,
 };
 use crate::steps::{Brought, Step, check, desk, take_steps};
 use itch_book::{IndexedBook, OrderBook};
@@ -50,7 +50,7 @@ const NEXT_DAY: &[Step<'static>] = &[
     Step::Connect(FEED_FROM_3),
     Step::Feed(
         b"\0\x1fA   TUESDAY                   3",
-        Brought::OtherSession,
+        Brought::OtherSession(*b"   TUESDAY"),
     ),
     Step::Feed(ADD_1, Brought::Broken),
     Step::Feed(ACCEPTED_3, Brought::Broken),
@@ -100,19 +100,19 @@ fn begun_elsewhere(rt: HostRuntime) -> Result<(), Fail> {
     check::<Index>(&rt, rt.alloc(), rt.alloc(), false, ELSEWHERE)
 }
 
-// The snapshot of a GLIMPSE server, lost once, and then the feed from its number on.
+// The snapshot of a GLIMPSE server, lost once, and then the feed from its number on, in the session that the GLIMPSE server named.
 const GLIMPSE: &[Step<'static>] = &[
     Step::Next(None),
     Step::Connect(FEED_FROM_1),
     Step::Feed(ACCEPTED_1, Brought::Accepted(1)),
     Step::Feed(EVENT, Brought::Nothing),
-    Step::Connect(FEED_FROM_1),
+    Step::Connect(MONDAY_FROM_1),
     Step::Feed(ACCEPTED_1, Brought::Accepted(1)),
     Step::Feed(EVENT, Brought::Nothing),
     Step::Feed(AAPL, Brought::Nothing),
     Step::Feed(END_3, Brought::Joined(3)),
     Step::Next(Some(3)),
-    Step::Connect(FEED_FROM_3_BLANK),
+    Step::Connect(FEED_FROM_3),
     Step::Feed(ACCEPTED_3, Brought::Accepted(3)),
     Step::Feed(ADD_1, Brought::Taken(4)),
     Step::Feed(ADD_2, Brought::Taken(5)),

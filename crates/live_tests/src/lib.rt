@@ -17,4 +17,6 @@ mod players;
 #[cfg(test)]
 mod refused_memory;
 #[cfg(test)]
+mod sessions;
+#[cfg(test)]
 mod steps;

@@ -1,7 +1,12 @@
 //! What the tables send: messages of TotalView-ITCH 5.0, and the packets of SoupBinTCP 3.00 with them, as blocks.
 
-/// The logins of the server, for the feed's messages from 1 and from 3 on, the second in the session that was named first.
+/// The logins of the server: for the feed's messages from 1 on, in any session, in the one named MONDAY, and in that named
+/// SNAPSHOTS; and from 3 on, the last one in any session.
 pub(crate) const FEED_FROM_1: &[u8] = b"Luser  secret                                 1";
+
+pub(crate) const MONDAY_FROM_1: &[u8] = b"Luser  secret    MONDAY                       1";
+
+pub(crate) const SNAPSHOTS_FROM_1: &[u8] = b"Luser  secret    SNAPSHOTS                    1";
 
 pub(crate) const FEED_FROM_3: &[u8] = b"Luser  secret    MONDAY                       3";
 
@@ -13,6 +18,13 @@ pub(crate) const FEED_FROM_5: &[u8] = b"Luser  secret    MONDAY                 
 pub(crate) const ACCEPTED_1: &[u8] = b"\0\x1fA    MONDAY                   1";
 
 pub(crate) const ACCEPTED_3: &[u8] = b"\0\x1fA    MONDAY                   3";
+
+/// Others accept: the next day's feed, and a server of snapshots that has its own name for the session.
+pub(crate) const TUESDAY_1: &[u8] = b"\0\x1fA   TUESDAY                   1";
+
+pub(crate) const TUESDAY_3: &[u8] = b"\0\x1fA   TUESDAY                   3";
+
+pub(crate) const SNAPSHOTS_1: &[u8] = b"\0\x1fA SNAPSHOTS                   1";
 
 /// The feed rejects: no such session.
 pub(crate) const REJECTED: &[u8] = b"\0\x02JS";
@@ -66,14 +78,15 @@ pub(crate) const CLIENT_HEARTBEAT: &[u8] = b"\0\x01R";
 
 pub(crate) const LOGOUT: &[u8] = b"\0\x01O";
 
+/// A client's login is accepted.
+pub(crate) const WELCOME: &[u8] = b"\0\x1fA  ITCHSNAP                   1";
+
 /// The snapshot after two messages and after four.
-pub(crate) const SNAPSHOT_2: &[u8] = b"\0\x1fA  ITCHSNAP                   1\
-    \0\x0dSS\0\0\0\0\0\0\0\0\0\0O\
+pub(crate) const SNAPSHOT_2: &[u8] = b"\0\x0dSS\0\0\0\0\0\0\0\0\0\0O\
     \0\x28SR\0\x01\0\0\0\0\0\0\0\0AAPL    QN\0\0\0dNCZ PNN1N\0\0\0\0N\
     \0\x16SG                   3\0\x01Z";
 
-pub(crate) const SNAPSHOT_4: &[u8] = b"\0\x1fA  ITCHSNAP                   1\
-    \0\x0dSS\0\0\0\0\0\0\0\0\0\0O\
+pub(crate) const SNAPSHOT_4: &[u8] = b"\0\x0dSS\0\0\0\0\0\0\0\0\0\0O\
     \0\x28SR\0\x01\0\0\0\0\0\0\0\0AAPL    QN\0\0\0dNCZ PNN1N\0\0\0\0N\
     \0\x25SA\0\x01\0\0\0\0\0\0\0\0\0\0\0\0\0\0\0\x01B\0\0\0dAAPL    \0\x16\xe3\x60\
     \0\x25SA\0\x01\0\0\0\0\0\0\0\0\0\0\0\0\0\0\0\x02B\0\0\0\xc8AAPL    \0\x16\xe3\x60\

@@ -2,6 +2,7 @@
 use crate::equal::{holds_in, same_in};
 use crate::messages::{
     AAPL, ACCEPTED_1, ACCEPTED_3, ADD_1, EVENT, FEED_FROM_1, FEED_FROM_3, LOGIN, SNAPSHOT_2,
+    WELCOME,
 };
 use crate::steps::{Brought, Standing, Step, desk, take_steps};
 use itch_book::{IndexedBook, OrderBook};
@@ -72,7 +73,8 @@ fn refuse_answer<B: OrderBook>(
             holds_in(rt, 2, answered.is_ok());
             return nth;
         }
-        holds_in(rt, 2, answered.is_err() && desk.pending(0).is_empty());
+        holds_in(rt, 2, answered.is_err());
+        same_in(rt, 2, desk.pending(0), WELCOME);
     }
     panic!(rt; "more than 16 allocations")
 }
@@ -93,8 +95,9 @@ fn check_clients<B: OrderBook>(
     holds_in(rt, 5, refuse_answer(rt, refusing, &mut desk) > 1);
     refusing.arm(0);
     let rest = [
+        Step::Take(0, 33),
         Step::Pending(0, SNAPSHOT_2),
-        Step::Take(0, 117),
+        Step::Take(0, 84),
         Step::Stands(0, Standing::Closing),
         Step::Tick,
         Step::Leave(0),

@@ -4,7 +4,7 @@ use itch_book::OrderBook;
 use itch_codec::Alpha;
 use itch_frame::testing::FuseWriter;
 use itch_join::{JoinFault, Joiner};
-use itch_live::{Desk, Follower, Gone, News};
+use itch_live::{Desk, Follower, Gone, News, Sessions};
 use itch_soup::{Credentials, ServerConfig, Tick};
 use std::alloc::{AllocError, Global};
 use std::process::Abort;
@@ -23,6 +23,8 @@ pub(crate) enum Step<'a> {
     FeedTick(Tick),
     /// The number of the next message.
     Next(Option<u64>),
+    /// The feed's session, as a server writes it.
+    Session(Option<&'a [u8]>),
     /// A client comes, and is given this place.
     Admit(Option<usize>),
     /// A client says this, of which all is taken.
@@ -37,6 +39,8 @@ pub(crate) enum Step<'a> {
     Tick,
     /// A client is there, is closing, or is gone.
     Stands(usize, Standing),
+    /// The login of a client was accepted, or was not.
+    Accepted(usize, bool),
     /// The login of a client was rejected with this code, or with none.
     Rejected(usize, Option<u8>),
     /// The connection of a client is closed.
@@ -54,7 +58,7 @@ pub(crate) enum Brought {
     Taken(u64),
     Ended,
     Rejected(u8),
-    OtherSession,
+    OtherSession([u8; 10]),
     Broken,
     OutOfOrder,
     NoMemory,
@@ -79,7 +83,7 @@ pub(crate) fn what_came(news: &News) -> Brought {
         News::Taken { next } => Brought::Taken(*next),
         News::Ended => Brought::Ended,
         News::Rejected(code) => Brought::Rejected(*code),
-        News::OtherSession => Brought::OtherSession,
+        News::OtherSession { named } => Brought::OtherSession(*named.bytes()),
         News::Broken(_) => Brought::Broken,
         News::Refused(JoinFault::Full { .. }) => Brought::OutOfOrder,
         News::Refused(JoinFault::OutOfMemory { .. }) => Brought::NoMemory,
@@ -108,19 +112,34 @@ pub(crate) fn credentials(rt: &impl Abort) -> Credentials {
     }
 }
 
+/// No session is known beforehand.
+pub(crate) const UNKNOWN: Sessions = Sessions {
+    feed: None,
+    glimpse: None,
+};
+
+/// These sessions are known beforehand.
+pub(crate) fn known(rt: &impl Abort, feed: Option<&str>, glimpse: Option<&str>) -> Sessions {
+    Sessions {
+        feed: feed.map(|name| alpha(rt, name)),
+        glimpse: glimpse.map(|name| alpha(rt, name)),
+    }
+}
+
 /// A desk with two places, whose market is that of no messages, or none yet where it begins with a GLIMPSE server.
 pub(crate) fn desk<B: OrderBook>(
     rt: &impl Abort,
     memory: B::Alloc,
     glimpse: bool,
 ) -> Result<Desk<B>, AllocError> {
-    desk_of(rt, memory, glimpse, 2)
+    desk_of(rt, memory, UNKNOWN, glimpse, 2)
 }
 
-/// The same with so many places.
+/// The same with so many places, and with these sessions.
 pub(crate) fn desk_of<B: OrderBook>(
     rt: &impl Abort,
     memory: B::Alloc,
+    sessions: Sessions,
     glimpse: bool,
     places: usize,
 ) -> Result<Desk<B>, AllocError> {
@@ -129,7 +148,7 @@ pub(crate) fn desk_of<B: OrderBook>(
         let joined = joiner.snapshot(b"G                   1");
         assert!(rt; joined.is_ok());
     }
-    let follower = Follower::new(memory, credentials(rt), joiner, 0)?;
+    let follower = Follower::new(memory, credentials(rt), sessions, joiner, 0)?;
     Desk::new(memory, config(rt), follower, places)
 }
 
@@ -146,6 +165,22 @@ fn stands_at<B: OrderBook>(desk: &Desk<B>, place: usize) -> Standing {
     match desk.guest(place) {
         None => Standing::Free,
         Some(guest) => how_it_stands(guest.is_gone(), guest.why_gone(), guest.is_closing()),
+    }
+}
+
+fn is_accepted_at<B: OrderBook>(desk: &Desk<B>, place: usize) -> bool {
+    match desk.guest(place) {
+        None => false,
+        Some(guest) => guest.is_accepted(),
+    }
+}
+
+// Whether the feed's session is this one.
+fn is_session<B: OrderBook>(desk: &Desk<B>, want: Option<&[u8]>) -> bool {
+    match (desk.session(), want) {
+        (Some(session), Some(want)) => &session.bytes()[..] == want,
+        (None, None) => true,
+        _ => false,
     }
 }
 
@@ -210,6 +245,7 @@ pub(crate) fn take_step<B: OrderBook>(
         Step::Feed(bytes, want) => same_in(rt, at, feed(desk, bytes, 7, now, record), want),
         Step::FeedTick(want) => same_in(rt, at, desk.tick_feed(now), want),
         Step::Next(want) => same_in(rt, at, desk.next(), want),
+        Step::Session(want) => holds_in(rt, at, is_session(desk, want)),
         Step::Admit(want) => same_in(rt, at, desk.admit(now)?, want),
         Step::Hear(place, bytes) => same_in(rt, at, hear(desk, place, bytes, now), bytes.len()),
         Step::Answer => desk.answer(now)?,
@@ -217,6 +253,7 @@ pub(crate) fn take_step<B: OrderBook>(
         Step::Take(place, count) => holds_in(rt, at, take(desk, place, count, now)),
         Step::Tick => desk.tick(now),
         Step::Stands(place, want) => same_in(rt, at, stands_at(desk, place), want),
+        Step::Accepted(place, want) => same_in(rt, at, is_accepted_at(desk, place), want),
         Step::Rejected(place, want) => same_in(rt, at, rejection_at(desk, place), want),
         Step::Leave(place) => desk.leave(place),
         Step::Recorded(want) => same_in(rt, at, record.written(), want),

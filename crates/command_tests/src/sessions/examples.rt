@@ -2,7 +2,7 @@
 
 use itch_codec::Alpha;
 use itchsnap_cli::input::Tally;
-use itchsnap_cli::sessions::Login;
+use itchsnap_cli::sessions::{Login, default_session};
 use std::test::Fail;
 
 #[test]
@@ -19,6 +19,6 @@ fn a_login_is_for_both_ends(rt: HostRuntime) {
     let (Ok(login), Ok(any)) = (Login::new("desk", "secret"), Alpha::from_text("")) else {
         panic!(rt; "a login");
     };
-    assert_eq!(rt; login.config().session.text(), "ITCHSNAP");
+    assert_eq!(rt; login.config(default_session()).session.text(), "ITCHSNAP");
     assert_eq!(rt; login.credentials(any).username.text(), "desk");
 }

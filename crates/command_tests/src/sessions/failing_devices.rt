@@ -8,7 +8,7 @@ use itch_frame::{BlockReader, CountedRead};
 use itch_market::Market;
 use itch_snapshot::snapshot_len;
 use itch_soup::Credentials;
-use itchsnap_cli::sessions::{Login, Sending, fetch, fetch_rest, serve_peer};
+use itchsnap_cli::sessions::{Login, Sending, default_session, fetch, fetch_rest, serve_peer};
 use std::alloc::{Allocator, Global};
 use std::io::{self, Write};
 use std::process::Abort;
@@ -136,7 +136,7 @@ fn is_fault<R: CountedRead, A: Allocator, B: OrderBook, W: Write>(
     writer: &mut Sending<W>,
     next: Seq,
 ) -> bool {
-    let config = login(rt).config();
+    let config = login(rt).config(default_session());
     let market: Market<B> = Market::new(alloc);
     assert!(rt; snapshot_len(&market) < 100);
     serve_peer(reader, writer, &market, next, &config).is_none()

@@ -1,13 +1,13 @@
 //! `compare --first`: after how many messages the markets of two files first differ.
-ghost use Rattle.std.specs.Prelude.{◌≡◌, ◌<◌, ◌^◌, ◌↔◌, None, is_none, length, IsTrue, MatchResult};
+ghost use Rattle.std.specs.Prelude.{◌≡◌, ◌<◌, ◌^◌, ◌↔◌, None, is_none, length, IsTrue, IfNone, IfSome, MatchResult};
 ghost use Rattle.itch_frame.specs.Reading.{bytes_left};
 ghost use Rattle.itch_market.specs.Content.{Content};
 ghost use Rattle.itch_market.specs.Effects.{effect};
-ghost use Rattle.itch_market.specs.Replays.{Counts};
+ghost use Rattle.itch_market.specs.Replays.{Counts, step_of};
 ghost use Rattle.itch_market.specs.SameMarkets.{Same};
 ghost use Rattle.itch_snapshot.specs.Snapshot.{snap};
 ghost use Rattle.itch_commands.specs.Commands.{ComparesFirst};
-ghost use Rattle.itch_commands.specs.FirstDifferences.{AreAlike, FindsFirst, LeavesChange, ReadsChange, Steps, TakesChange, first_line};
+ghost use Rattle.itch_commands.specs.FirstDifferences.{AreAlike, FindsFirst, LeavesChange, ReadsChange, Steps, TakesChange, first_line, no_change};
 ghost use Rattle.itch_commands.specs.Limits.{counted};
 ghost use Rattle.itch_commands.specs.Outputs.{WritesOutput};
 ghost use Rattle.itch_commands.specs.Readings.{FromBlocks, FromReader};
@@ -23,7 +23,7 @@ use crate::writing::write_text;
 use itch_book::OrderBook;
 use itch_codec::{MOST_MESSAGES, Message, decode};
 use itch_frame::{BlockReader, CountedRead, CountedWrite};
-use itch_market::{Market, Stop, look_ahead, next_message, same_message};
+use itch_market::{Market, NotTaken, Stop, look_ahead, next_message, same_message};
 use itch_snapshot::same_market;
 use std::alloc::Allocator;
 
@@ -141,17 +141,58 @@ fn step<R: CountedRead, A: Allocator, B: OrderBook>(
         return Ok(None);
     }
     look_ahead(reader, market, count);
+    match change_at_hand(reader, market, count == MOST_MESSAGES, limit) {
+        Some(Ok(change)) => return Ok(change),
+        Some(Err(why)) => return no_change(Stop::from(why), limit, file, count),
+        None => {}
+    }
     match read_change(reader, market, count == MOST_MESSAGES, limit) {
         Ok(change) => Ok(change),
-        Err(stop) => match stopped(stop, limit.after, file, count) {
-            Ok(_count) => Ok(None),
-            Err(fault) => Err(fault),
-        },
+        Err(stop) => no_change(stop, limit, file, count),
     }
 }
 
-// Applies the next message, unless there were as many as may be (`is_full`), and returns the plainest one with its effect; or
-// returns none if it is late.
+// What a step returns whose file stops after so many messages: none, unless more messages are wanted.
+fn no_change(
+    stop: Stop,
+    limit: Limit,
+    file: Source,
+    count: u64,
+) -> Result<Option<Message<'static>>, ToolFault>
+    ensures { result ≡ no_change stop limit file count }
+{
+    match stopped(stop, limit.after, file, count) {
+        Ok(_count) => Ok(None),
+        Err(fault) => Err(fault),
+    }
+}
+
+// Applies the next message if it lies at hand, and returns the plainest one with its effect; or returns none if it is late. Where none
+// lies at hand, or where there were as many as may be (`is_full`), nothing changes.
+#[inline(always)]
+fn change_at_hand<R: CountedRead, A: Allocator, B: OrderBook>(
+    reader: &mut BlockReader<R, A>,
+    market: &mut Market<B>,
+    is_full: bool,
+    limit: Limit,
+) -> Option<Result<Option<Message<'static>>, NotTaken>>
+    ensures change { IfSome result (λ taken. ReadsChange limit is_full market.old (bytes_left R.remaining reader.old) (bytes_left R.remaining reader.new) (step_of taken) market.new) }
+    ensures failures { IfSome result (λ taken. R.failures reader.new.reader ≡ R.failures reader.old.reader) }
+    ensures reader { IfSome result (λ taken. LeavesChange (step_of taken) reader.old reader.new) }
+    ensures none { IfNone result ((reader.new ≡ reader.old) × (market.new ≡ market.old)) }
+{
+    if is_full {
+        return None;
+    }
+    let payload = reader.next_at_hand()?;
+    if payload.is_empty() {
+        return Some(Err(NotTaken::Ended));
+    }
+    Some(take_change(market, payload, limit))
+}
+
+// The same of a message that may have to be read.
+#[inline(never)]
 fn read_change<R: CountedRead, A: Allocator, B: OrderBook>(
     reader: &mut BlockReader<R, A>,
     market: &mut Market<B>,
@@ -164,24 +205,33 @@ fn read_change<R: CountedRead, A: Allocator, B: OrderBook>(
     ensures reader { LeavesChange result reader.old reader.new }
 {
     let payload = next_message(reader, is_full)?;
-    take_change(market, payload, limit)
+    match take_change(market, payload, limit) {
+        Ok(change) => Ok(change),
+        Err(why) => Err(Stop::from(why)),
+    }
 }
 
 // Applies the message of a payload, and returns the plainest one with its effect; or returns none if it is late.
+#[inline(always)]
 fn take_change<B: OrderBook>(
     market: &mut Market<B>,
     payload: &[u8],
     limit: Limit,
-) -> Result<Option<Message<'static>>, Stop>
-    ensures { TakesChange limit market.old payload.now result market.new }
+) -> Result<Option<Message<'static>>, NotTaken>
+    ensures { TakesChange limit market.old payload.now (step_of result) market.new }
 {
-    let message = decode(payload)?;
+    let message = match decode(payload) {
+        Ok(message) => message,
+        Err(fault) => return Err(NotTaken::Undecoded(fault)),
+    };
     if limit.is_late(&message) {
         return Ok(None);
     }
     let change = market.plain(&message);
-    market.apply(&message)?;
-    Ok(Some(change))
+    match market.apply(&message) {
+        Ok(()) => Ok(Some(change)),
+        Err(why) => Err(NotTaken::Refused(why)),
+    }
 }
 
 // Whether two markets are the same, which were so before these changes. The markets are settled and compared only if the changes do

@@ -2,7 +2,7 @@
 ghost use Rattle.std.specs.Prelude.{◌≡◌, ℕ, ◌<◌, ◌≤◌, ◌-◌, ◌^◌, List, length, None, IfSome, true};
 ghost use Rattle.std.specs.List.{AllByRecursion};
 ghost use Rattle.itch_commands.specs.Limits.{IsEarly};
-ghost use Rattle.itch_commands.specs.Marks.{IsMark, is_before, is_in, is_within, later, mark_past, nearer};
+ghost use Rattle.itch_commands.specs.Marks.{IsMark, is_before, is_in, is_nearer, is_within, later, mark_past};
 
 use crate::limit::Limit;
 use itch_codec::Message;
@@ -52,15 +52,11 @@ impl Mark {
         is_within(limit.after, self.count) && is_before(limit.until, self.latest)
     }
 
-    /// The one of the two that is in this part with more messages; this one, unless the other one is.
-    pub fn nearer(self, other: Mark, limit: Limit) -> Mark
-        ensures { result ≡ nearer limit self other }
+    /// Whether it is nearer to the end of a part than another one: it is in the part, and has more messages.
+    pub fn is_nearer(&self, other: &Mark, limit: Limit) -> bool
+        ensures { result ≡ is_nearer limit self.now other.now }
     {
-        if other.is_in(limit) && self.count < other.count {
-            other
-        } else {
-            self
-        }
+        self.is_in(limit) && other.count < self.count
     }
 }
 

@@ -40,31 +40,38 @@ impl Login {
         }
     }
 
-    /// The login that a server of the session `ITCHSNAP` accepts.
-    pub fn config(&self) -> ServerConfig
+    /// The login that a server of this session accepts.
+    pub fn config(&self, served: Alpha<10>) -> ServerConfig
         ensures username { result.username ≡ self.now.username }
         ensures password { result.password ≡ self.now.password }
-        ensures session { result.session ≡ padded_to 10 (codes "ITCHSNAP") }
+        ensures session { result.session ≡ served }
     {
         ServerConfig {
             username: self.username,
             password: self.password,
-            session: Alpha::from_text("ITCHSNAP").unwrap(),
+            session: served,
         }
     }
 
     /// What a client logs in with, for this session, or for whichever is served if it is blank.
-    pub fn credentials(&self, session: Alpha<10>) -> Credentials
+    pub fn credentials(&self, asked: Alpha<10>) -> Credentials
         ensures username { result.username ≡ self.now.username }
         ensures password { result.password ≡ self.now.password }
-        ensures session { result.session ≡ session }
+        ensures session { result.session ≡ asked }
     {
         Credentials {
             username: self.username,
             password: self.password,
-            session,
+            session: asked,
         }
     }
+}
+
+/// The session of a server that is told no other: `ITCHSNAP`.
+pub fn default_session() -> Alpha<10>
+    ensures { result ≡ padded_to 10 (codes "ITCHSNAP") }
+{
+    Alpha::from_text("ITCHSNAP").unwrap()
 }
 
 /// The first line of a text, without its line feed.

@@ -8,7 +8,7 @@ use std::alloc::{AllocError, Global};
 /// The program's version, the toolchain that it is proved with, as `rt version` prints it, and whether it is a released build. In
 /// the released program `./make-release` replaces the last words by a text of the same length: `release` and the beginning of the
 /// hash of the sources.
-const VERSION: &str =
+pub const VERSION: &str =
     "0.1.0 (proved with rattle-kit-13f logic dac8208d650f15bf, not a released build)";
 
 /// A command: its name, what it does, its arguments in the order of the help, and an example.
@@ -152,6 +152,7 @@ const COMMANDS: [Entry; 14] = [
             Argument::Recorded,
             Argument::Count,
             Argument::Progress,
+            Argument::Live(LiveArgument::NamedSession),
             Argument::Bind,
             Argument::ListenedPort,
             Argument::User,
@@ -184,13 +185,18 @@ const COMMANDS: [Entry; 14] = [
             Argument::Live(LiveArgument::GlimpseIfAny),
             Argument::Live(LiveArgument::FeedUser),
             Argument::Live(LiveArgument::FeedPasswordFile),
+            Argument::Live(LiveArgument::Session),
+            Argument::Live(LiveArgument::GlimpseSession),
             Argument::Bind,
             Argument::ListenedPort,
             Argument::User,
             Argument::Password,
             Argument::PasswordFile,
             Argument::Live(LiveArgument::Clients),
+            Argument::Live(LiveArgument::ClientsPerAddress),
             Argument::Live(LiveArgument::Record),
+            Argument::Live(LiveArgument::Sync),
+            Argument::Live(LiveArgument::RecordOptional),
             Argument::Live(LiveArgument::Snapshots),
             Argument::Live(LiveArgument::Every),
             Argument::Live(LiveArgument::Stay),
@@ -203,6 +209,8 @@ const COMMANDS: [Entry; 14] = [
         takes: &[
             Argument::Live(LiveArgument::Feed),
             Argument::Live(LiveArgument::Glimpse),
+            Argument::Live(LiveArgument::Session),
+            Argument::Live(LiveArgument::GlimpseSession),
             Argument::User,
             Argument::Password,
             Argument::PasswordFile,
@@ -220,6 +228,7 @@ const COMMANDS: [Entry; 14] = [
             Argument::Live(LiveArgument::Clock),
             Argument::Live(LiveArgument::Count),
             Argument::Live(LiveArgument::StayAtEnd),
+            Argument::Live(LiveArgument::NamedSession),
             Argument::Bind,
             Argument::ListenedPort,
             Argument::User,

@@ -12,9 +12,10 @@ use crate::words::points::{PointWords, read_points};
 use crate::words::request::{read_kind, read_output, read_path, read_request};
 use crate::words::session::{
     LoginWords, Password, Server, read_address, read_from, read_login, read_number, read_server,
+    read_session,
 };
 use clap::{ArgMatches, Error};
-use itch_codec::Seq;
+use itch_codec::{Alpha, Seq};
 use itch_commands::{FileKind, Request, Source, list_file};
 use std::alloc::Global;
 use std::net::SocketAddr;
@@ -37,6 +38,8 @@ pub enum Job<'a> {
         kind: FileKind,
         address: SocketAddr,
         login: LoginWords<'a>,
+        /// The session that logins are accepted in, where it is named.
+        session: Option<Alpha<10>>,
         count: u64,
         progress: bool,
     },
@@ -113,7 +116,7 @@ fn live_file<'a>(live: &LiveWords<'a>, source: Source) -> Option<&'a str>
             Some(snapshots) => Some(snapshots.folder),
             None => None,
         },
-        (Source::Only, Some(path), _) => Some(path),
+        (Source::Only, Some(record), _) => Some(record.path),
         (Source::Only, None, Some(glimpse)) => Some(glimpse.words),
         (Source::Only, None, None) | (Source::Output | Source::Locates, _, _) => None,
     }
@@ -242,6 +245,7 @@ fn read_serve<'a>(
         kind: read_kind(alloc, options)?,
         address: read_address(alloc, options)?,
         login: read_login(alloc, options, password)?,
+        session: read_session(alloc, options, "session")?,
         count: read_number(alloc, options, "count")?,
         progress: options.get_flag("progress"),
     })

@@ -2,9 +2,10 @@
 
 use crate::words::commands::usage_fault;
 use crate::words::request::read_count;
-use crate::words::session::{LoginWords, Password, read_address, read_login};
+use crate::words::session::{LoginWords, Password, read_address, read_login, read_session};
 use crate::words::time::read_digits;
 use clap::{ArgMatches, Error};
+use itch_codec::Alpha;
 use std::alloc::Global;
 use std::net::SocketAddr;
 
@@ -27,6 +28,27 @@ pub struct SnapshotWords<'a> {
     pub every: u64,
 }
 
+/// When the record is synced to disk.
+#[derive(Clone, Copy, Debug, PartialEq, Eq)]
+pub enum SyncTime {
+    /// When the system writes it.
+    Never,
+    /// Once a second, if something was added.
+    EverySecond,
+    /// Whenever messages were added, before a client is sent them.
+    EveryMessage,
+}
+
+/// The record of a live server.
+#[derive(Clone, Copy, Debug, PartialEq, Eq)]
+pub struct RecordWords<'a> {
+    /// The day file that each message is appended to.
+    pub path: &'a str,
+    pub sync: SyncTime,
+    /// Whether the server goes on without a record that cannot be written.
+    pub is_optional: bool,
+}
+
 /// What a live server is told.
 #[derive(Clone, Copy, Debug, PartialEq, Eq)]
 pub struct LiveWords<'a> {
@@ -38,10 +60,15 @@ pub struct LiveWords<'a> {
     pub login: LoginWords<'a>,
     /// Whom it logs in as itself.
     pub feed_login: LoginWords<'a>,
+    /// The feed's session, where it is named.
+    pub session: Option<Alpha<10>>,
+    /// The session of the server of snapshots, where it is not the feed's.
+    pub glimpse_session: Option<Alpha<10>>,
     /// How many clients it has at a time.
     pub clients: u64,
-    /// The day file that each message is appended to.
-    pub record: Option<&'a str>,
+    /// How many of them may be from one address, if there is a limit.
+    pub clients_per_address: Option<u64>,
+    pub record: Option<RecordWords<'a>>,
     pub snapshots: Option<SnapshotWords<'a>>,
     /// Whether it serves on once the feed has ended.
     pub stay: bool,
@@ -64,6 +91,10 @@ pub struct FollowWords<'a> {
     pub feed: Place<'a>,
     pub glimpse: Place<'a>,
     pub login: LoginWords<'a>,
+    /// The feed's session, where it is named.
+    pub session: Option<Alpha<10>>,
+    /// The session of the server of snapshots, where it is not the feed's.
+    pub glimpse_session: Option<Alpha<10>>,
     pub form: FollowForm,
 }
 
@@ -84,6 +115,8 @@ pub struct FeedWords<'a> {
     pub file: &'a str,
     pub address: SocketAddr,
     pub login: LoginWords<'a>,
+    /// The session that logins are accepted in, where it is named.
+    pub session: Option<Alpha<10>>,
     pub pace: Pace,
     /// After how many connections it ends, if it does.
     pub count: Option<u64>,
@@ -99,7 +132,7 @@ pub fn read_live<'a>(
 ) -> Result<LiveWords<'a>, Error> {
     let login = read_login(alloc, options, password)?;
     let glimpse = read_place_if_any(alloc, options, "glimpse")?;
-    let record = options.get_str("record");
+    let record = read_record(alloc, options)?;
     if glimpse.is_some() && record.is_some() {
         return Err(usage_fault(
             alloc,
@@ -112,7 +145,10 @@ pub fn read_live<'a>(
         address: read_address(alloc, options)?,
         login,
         feed_login: read_feed_login(options, login),
+        session: read_session(alloc, options, "session")?,
+        glimpse_session: read_glimpse_session(alloc, options, glimpse.is_some())?,
         clients: read_counted(alloc, options, "clients")?.unwrap_or(CLIENTS),
+        clients_per_address: read_counted(alloc, options, "clients-per-address")?,
         record,
         snapshots: read_snapshots(alloc, options)?,
         stay: options.get_flag("stay"),
@@ -129,6 +165,8 @@ pub fn read_follow<'a>(
         feed: read_place(alloc, options, "feed")?,
         glimpse: read_place(alloc, options, "glimpse")?,
         login: read_login(alloc, options, password)?,
+        session: read_session(alloc, options, "session")?,
+        glimpse_session: read_session(alloc, options, "glimpse-session")?,
         form: read_follow_form(alloc, options)?,
     })
 }
@@ -143,10 +181,55 @@ pub fn read_feed<'a>(
         file: read_played(alloc, options)?,
         address: read_address(alloc, options)?,
         login: read_login(alloc, options, password)?,
+        session: read_session(alloc, options, "session")?,
         pace: read_pace(alloc, options)?,
         count: read_counted(alloc, options, "count")?,
         stay: options.get_flag("stay"),
     })
+}
+
+fn read_record<'a>(
+    alloc: Global,
+    options: &ArgMatches<'a>,
+) -> Result<Option<RecordWords<'a>>, Error> {
+    let sync = read_sync(alloc, options)?;
+    let is_optional = options.get_flag("record-optional");
+    match options.get_str("record") {
+        Some(path) => Ok(Some(RecordWords {
+            path,
+            sync: sync.unwrap_or(SyncTime::EverySecond),
+            is_optional,
+        })),
+        None if sync.is_some() || is_optional => Err(usage_fault(
+            alloc,
+            "--sync and --record-optional go with --record",
+        )?),
+        None => Ok(None),
+    }
+}
+
+fn read_sync<'a>(alloc: Global, options: &ArgMatches<'a>) -> Result<Option<SyncTime>, Error> {
+    match options.get_str("sync") {
+        None => Ok(None),
+        Some("no") => Ok(Some(SyncTime::Never)),
+        Some("second") => Ok(Some(SyncTime::EverySecond)),
+        Some("message") => Ok(Some(SyncTime::EveryMessage)),
+        Some(_) => Err(usage_fault(alloc, "--sync takes no, second or message")?),
+    }
+}
+
+fn read_glimpse_session<'a>(
+    alloc: Global,
+    options: &ArgMatches<'a>,
+    has_glimpse: bool,
+) -> Result<Option<Alpha<10>>, Error> {
+    match read_session(alloc, options, "glimpse-session")? {
+        Some(_) if !has_glimpse => Err(usage_fault(
+            alloc,
+            "--glimpse-session goes with --glimpse",
+        )?),
+        session => Ok(session),
+    }
 }
 
 // Whom a live server logs in as: a name and a password of its own where they are given, and otherwise those of its clients.

@@ -1,5 +1,9 @@
 //! The two ends of a session, as the command line has them: where a server listens, or is, and the login to it.
 
+ghost use Rattle.std.specs.Prelude.{◌≡◌, []};
+ghost use Rattle.itch_codec.specs.Text.{padded_to};
+
+use crate::sessions::default_session;
 use crate::words::commands::usage_fault;
 use crate::words::request::read_count;
 use crate::words::time::read_digits;
@@ -64,7 +68,7 @@ pub fn read_server<'a>(alloc: Global, options: &ArgMatches<'a>) -> Result<Server
     Ok(Server {
         host: options.get_str("host").unwrap_or("127.0.0.1"),
         port: read_port(alloc, options)?,
-        session: read_session(alloc, options)?,
+        session: read_session(alloc, options, "session")?.unwrap_or(current_session()),
         timeout: read_count(alloc, options, "timeout", "--timeout takes decimal digits")?,
     })
 }
@@ -125,10 +129,42 @@ fn read_port<'a>(alloc: Global, options: &ArgMatches<'a>) -> Result<u16, Error> 
     }
 }
 
-fn read_session<'a>(alloc: Global, options: &ArgMatches<'a>) -> Result<Alpha<10>, Error> {
-    let name = options.get_str("session");
-    match Alpha::from_text(name.unwrap_or("")) {
-        Ok(session) if name.is_none_or(|name| !name.is_empty()) => Ok(session),
+/// The session after an option, if it is given.
+pub fn read_session<'a>(
+    alloc: Global,
+    options: &ArgMatches<'a>,
+    option: &str,
+) -> Result<Option<Alpha<10>>, Error> {
+    let Some(name) = options.get_str(option) else {
+        return Ok(None);
+    };
+    match Alpha::from_text(name) {
+        Ok(session) if !name.is_empty() => Ok(Some(session)),
         _ => Err(usage_fault(alloc, "a session has 1 to 10 printable characters")?),
+    }
+}
+
+/// The name by which a login asks for the current session.
+pub fn current_session() -> Alpha<10>
+    ensures { result ≡ padded_to 10 [] }
+{
+    Alpha::from_text("").unwrap()
+}
+
+/// The session of a day file that is played: its name up to the first dot, or the last ten characters of that; `ITCHSNAP` where these are not
+/// printable.
+pub fn session_of_file(path: &str) -> Alpha<10> {
+    let name = match path.rsplit_once('/') {
+        Some((_, name)) => name,
+        None => path,
+    };
+    let stem = match name.split_once('.') {
+        Some((stem, _)) => stem,
+        None => name,
+    };
+    let from = stem.len().saturating_sub(10);
+    match stem.get(from..).map(Alpha::from_text) {
+        Some(Ok(session)) if !stem.is_empty() => session,
+        _ => default_session(),
     }
 }

@@ -1,32 +1,41 @@
-use Rattle.std.proofs.Common.{arith, rules}
-use Rattle.std.proofs.lemmas.Result.{err_from_is_err_and}
-use Rattle.std.proofs.lemmas.Str.Pattern.{split_parts}
-use Rattle.itch_commands.proofs.StockNames.{found_first, found_on, found_last, name_fails, last_fails}
+use Rattle.std.proofs.Common.{[], sym, ap, subst, ◌∙◌}
+use Rattle.itch_market.specs.Content.{Content}
+use Rattle.itch_commands.specs.Stocks.{names_of}
+use Rattle.itch_commands.proofs.StockNames.{StocksSoFar, stocks_begun, stock_passed, stock_added, stocks_found, stock_missing}
 use Rattle.itch_commands.proofs.stocks.stock_locates.Goals as goal
 
-pub loop-name-init : goal.loop-name-init
-loop-name-init g c = record { so_far = found_first _ _ _ c.new-set.ensures; utf8 = c.utf8.names }
+pub loop-locate-init : goal.loop-locate-init
+loop-locate-init g c =
+    let listings = Content.securities c.args.market.now in
+    subst (λ left. StocksSoFar listings (names_of c.args.names.now) [] left c.in_ok-stocks.stocks c.new-set.result) (sym c.locates-locate-items.ensures ∙ sym c.into_iter-locate-iterator.ensures.into_iter_gives)
+    (stocks_begun listings (names_of c.args.names.now) c.in_ok-stocks.stocks c.new-set.result c.in_ok-stocks.ensures c.new-set.ensures)
 
-pub loop-name-preserved : goal.loop-name-preserved
-loop-name-preserved g c =
-    let cut = rw c.in-Some.is at (split_parts 44 c.loop-name.rest.now c.split_once.result c.split_once.ensures.cases (omega arith)) in record {
-      so_far = found_on _ _ _ _ c.loop-name.invariant.so_far _ _ _ cut.0 cut.1 c.in_ok-insert_stock.ensures;
-      utf8 = search rules;
-    }
+pub loop-locate-preserved-in-Continue-branch-2 : goal.loop-locate-preserved-in-Continue-branch-2
+loop-locate-preserved-in-Continue-branch-2 g c =
+    let listings = Content.securities c.args.market.now in
+    let names = names_of c.args.names.now in
+    let loop = c.loop-locate in
+    let so_far = subst (λ left. StocksSoFar listings names loop.yielded left loop.stocks loop.set) c.in-Some.ensures.steps loop.invariant in
+    stock_added listings names loop.yielded c.next.new.self c.in-Some.locate loop.stocks loop.set so_far c.pass_locate.new.stocks c.insert.new.self c.pass_locate.ensures.passed
+    (sym c.pass_locate.ensures.one ∙ c.if-pass_locate.true) c.in_ok-insert.ensures.ok
 
-pub returns-in_err-insert_stock : goal.returns-in_err-insert_stock
-returns-in_err-insert_stock g c =
-    let cut = rw c.in-Some.is at (split_parts 44 c.loop-name.rest.now c.split_once.result c.split_once.ensures.cases (omega arith)) in
-    let p = err_from_is_err_and c.from_residual.result c.from_residual.ensures.1 in
-    rw (p.1, p.2) (name_fails _ _ _ _ c.loop-name.invariant.so_far _ _ _ cut.0 cut.1 c.in_err-insert_stock.ensures)
+pub loop-locate-preserved : goal.loop-locate-preserved
+loop-locate-preserved g c =
+    let listings = Content.securities c.args.market.now in
+    let names = names_of c.args.names.now in
+    let loop = c.loop-locate in
+    let so_far = subst (λ left. StocksSoFar listings names loop.yielded left loop.stocks loop.set) c.in-Some.ensures.steps loop.invariant in
+    stock_passed listings names loop.yielded c.next.new.self c.in-Some.locate loop.stocks loop.set so_far c.pass_locate.new.stocks c.pass_locate.ensures.passed
+    (sym c.pass_locate.ensures.one ∙ c.if-pass_locate.false)
 
-pub returns-in_err-insert_stock-2 : goal.returns-in_err-insert_stock-2
-returns-in_err-insert_stock-2 g c =
-    let whole = rw c.in_default.is at (split_parts 44 c.loop-name.rest.now c.split_once.result c.split_once.ensures.cases (omega arith)) in
-    let p = err_from_is_err_and c.from_residual-in_err-insert_stock-2.result c.from_residual-in_err-insert_stock-2.ensures.1 in
-    rw (p.1, p.2) (last_fails _ _ _ _ c.loop-name.invariant.so_far _ whole c.in_err-insert_stock-2.ensures)
+pub returns-then-have_all_come : goal.returns-then-have_all_come
+returns-then-have_all_come g c =
+    let loop = c.loop-locate in
+    stocks_found (Content.securities c.args.market.now) (names_of c.args.names.now) loop.yielded loop.locate-iterator loop.stocks loop.set loop.invariant c.in-None.ensures.steps.0
+    (sym c.have_all_come.ensures ∙ c.if-have_all_come.true)
 
 pub returns : goal.returns
 returns g c =
-    let whole = rw c.in_default.is at (split_parts 44 c.loop-name.rest.now c.split_once.result c.split_once.ensures.cases (omega arith)) in
-    found_last _ _ _ _ c.loop-name.invariant.so_far _ whole c.in_ok-insert_stock-2.ensures
+    let loop = c.loop-locate in
+    stock_missing (Content.securities c.args.market.now) (names_of c.args.names.now) loop.yielded loop.locate-iterator loop.stocks loop.set loop.invariant c.in-None.ensures.steps.0
+    (sym c.have_all_come.ensures ∙ c.if-have_all_come.false)

@@ -5,5 +5,5 @@ pub returns-clause-held : goal.returns-clause-held
 returns-clause-held g c = λ config begun past d history. within_longest g.W.CountedWrite.contents g.W.CountedWrite.failures config begun past d history
 
 pub returns-clause-snapshots : goal.returns-clause-snapshots
-returns-clause-snapshots g c = λ config begun past d text markets history.
-    longest_within g.W.CountedWrite.contents g.W.CountedWrite.failures config begun past d text markets history
+returns-clause-snapshots g c = λ config begun past d markets history.
+    longest_within g.W.CountedWrite.contents g.W.CountedWrite.failures config begun past d markets history

@@ -1,11 +1,10 @@
-use Rattle.std.proofs.Common.{◌∙◌, ◌-◌, ℕ, [], ◌∷◌, map, drop, Ok, Err, sym, ap, subst}
+use Rattle.std.proofs.Common.{ℕ, [], ◌∷◌, map}
 use Rattle.std.proofs.lemmas.Result.{err_from_is_err_and}
 use Rattle.itch_soup.specs.declared.packet.Packet.TheVariants as is
 use Rattle.itch_soup.specs.Packets.{packet_spelling}
 use Rattle.itch_soup.specs.Servers.{acceptance}
-use Rattle.itch_soup.specs.Sending.{session_packets, messages_from, FitPackets}
-use Rattle.itch_soup.proofs.SentBlocks.{sent_short}
-use Rattle.itch_soup.proofs.SentSessions.{snap_fits, all_counted, failed_at_data, sent_with_end}
+use Rattle.itch_soup.specs.Sending.{session_packets, messages_from}
+use Rattle.itch_soup.proofs.SentBlocks.{sent_then, sent_short}
 use Rattle.itch_soup.proofs.sending.write_session.Goals as goal
 
 pub returns-in_err-write_acceptance-clause-packets : goal.returns-in_err-write_acceptance-clause-packets
@@ -16,36 +15,8 @@ returns-in_err-write_acceptance-clause-packets g c =
     (map packet_spelling (is.LoginAccepted (acceptance c.args.config.now c.args.from) ∷ [])) (map packet_spelling (session_packets (messages_from c.args.from c.args.market.now c.args.next)))
     c.in_err-write_acceptance.field-0.0 c.in_err-write_acceptance.ensures)
 
-pub write_messages-requires-clause-fit : goal.write_messages-requires-clause-fit
-write_messages-requires-clause-fit g c =
-    subst FitPackets (sym (c.pass_over.ensures ∙ ap (drop (c.value-passed.result - 1)) c.new-messages.ensures)) (snap_fits c.args.market.now (c.value-passed.result - 1) c.recall_invariant.ensures.good)
-
-pub returns-in_err-count-clause-packets : goal.returns-in_err-count-clause-packets
-returns-in_err-count-clause-packets g c =
-    let p = err_from_is_err_and c.from_residual-in_err-count.result c.from_residual-in_err-count.ensures.1 in
-    rw (p.1, p.2)
-    (failed_at_data g.W.CountedWrite.contents g.W.CountedWrite.failures c.args.market.now c.args.next c.args.from c.args.config.now c.pass_over.new.messages (c.value-passed.result - 1) c.messages_before_end.result
-    (c.pass_over.ensures ∙ ap (drop (c.value-passed.result - 1)) c.new-messages.ensures) (ap (λ n. n - 1) c.value-passed.ensures.value) c.messages_before_end.ensures
-    (Unit {0}) ℕ c.args.writer.now c.write_acceptance.new.writer c.write_messages.new.writer tt c.in_err-count.field-0.0 c.in_ok-write_acceptance.ensures c.in_err-count.ensures.packets)
-
-pub returns-in_err-end-clause-packets : goal.returns-in_err-end-clause-packets
-returns-in_err-end-clause-packets g c =
-    let p = err_from_is_err_and c.from_residual-in_err-end.result c.from_residual-in_err-end.ensures.1 in
-    rw (p.1, p.2)
-    (sent_with_end g.W.CountedWrite.contents g.W.CountedWrite.failures c.args.market.now c.args.next c.args.from c.args.config.now c.pass_over.new.messages (c.value-passed.result - 1) c.messages_before_end.result
-    (c.pass_over.ensures ∙ ap (drop (c.value-passed.result - 1)) c.new-messages.ensures) (ap (λ n. n - 1) c.value-passed.ensures.value) c.messages_before_end.ensures
-    {S = Unit {0}} {T = ℕ} {U = ℕ} c.args.writer.now c.write_acceptance.new.writer c.write_messages.new.writer c.write_end.new.writer tt c.in_ok-count.count (Err c.in_err-end.field-0.0)
-    c.in_ok-write_acceptance.ensures c.in_ok-count.ensures.packets c.in_err-end.ensures.packets)
-
 pub returns-clause-packets : goal.returns-clause-packets
 returns-clause-packets g c =
-    sent_with_end g.W.CountedWrite.contents g.W.CountedWrite.failures c.args.market.now c.args.next c.args.from c.args.config.now c.pass_over.new.messages (c.value-passed.result - 1) c.messages_before_end.result
-    (c.pass_over.ensures ∙ ap (drop (c.value-passed.result - 1)) c.new-messages.ensures) (ap (λ n. n - 1) c.value-passed.ensures.value) c.messages_before_end.ensures
-    {S = Unit {0}} {T = ℕ} {U = ℕ} c.args.writer.now c.write_acceptance.new.writer c.write_messages.new.writer c.write_end.new.writer tt c.in_ok-count.count (Ok c.in_ok-end.end)
-    c.in_ok-write_acceptance.ensures c.in_ok-count.ensures.packets c.in_ok-end.ensures.packets
-
-pub returns-clause-count : goal.returns-clause-count
-returns-clause-count g c =
-    all_counted g.W.CountedWrite.contents g.W.CountedWrite.failures c.args.market.now c.args.next c.args.from c.args.config.now c.pass_over.new.messages (c.value-passed.result - 1) c.messages_before_end.result
-    (c.pass_over.ensures ∙ ap (drop (c.value-passed.result - 1)) c.new-messages.ensures) (ap (λ n. n - 1) c.value-passed.ensures.value) c.messages_before_end.ensures
-    c.in_ok-count.count c.in_ok-end.end c.in_ok-count.ensures.count c.in_ok-end.ensures.count
+    sent_then g.W.CountedWrite.contents g.W.CountedWrite.failures {S = Unit {0}} {T = ℕ} c.args.writer.now c.write_acceptance.new.writer c.write_answer.new.writer
+    (map packet_spelling (is.LoginAccepted (acceptance c.args.config.now c.args.from) ∷ [])) (map packet_spelling (session_packets (messages_from c.args.from c.args.market.now c.args.next)))
+    tt c.write_answer.result c.in_ok-write_acceptance.ensures c.write_answer.ensures.packets

@@ -19,9 +19,16 @@ pub enum LiveArgument {
     GlimpseIfAny,
     FeedUser,
     FeedPasswordFile,
+    // The sessions of both, and the one that `feed` and `serve` name.
+    Session,
+    GlimpseSession,
+    NamedSession,
     // What `live` keeps, and for whom.
     Clients,
+    ClientsPerAddress,
     Record,
+    Sync,
+    RecordOptional,
     Snapshots,
     Every,
     Stay,
@@ -62,6 +69,24 @@ impl LiveArgument {
                 "FILE",
                 "A file whose first line is the password to the feed, if another",
             ),
+            LiveArgument::Session => text(
+                alloc,
+                "session",
+                "S",
+                "The feed's session [default: the record's, or the first that the feed names]",
+            ),
+            LiveArgument::GlimpseSession => text(
+                alloc,
+                "glimpse-session",
+                "S",
+                "The session of the snapshot server [default: the feed's]",
+            ),
+            LiveArgument::NamedSession => text(
+                alloc,
+                "session",
+                "S",
+                "The session that logins are accepted in, 1 to 10 printable characters",
+            ),
             LiveArgument::Clients => number(
                 alloc,
                 "clients",
@@ -69,11 +94,29 @@ impl LiveArgument {
                 "Serve N clients at a time, if not 64",
             )
             .value_parser(clap::value_parser!(u64).range(1..=MOST_CLIENTS)),
+            LiveArgument::ClientsPerAddress => number(
+                alloc,
+                "clients-per-address",
+                "N",
+                "Serve at most N of them from one address [default: no limit]",
+            )
+            .value_parser(clap::value_parser!(u64).range(1..=MOST_CLIENTS)),
             LiveArgument::Record => text(
                 alloc,
                 "record",
                 "FILE",
                 "Append each message to a day file, which is replayed first",
+            ),
+            LiveArgument::Sync => text(
+                alloc,
+                "sync",
+                "WHEN",
+                "Sync the record to disk: no, second or message [default: second]",
+            ),
+            LiveArgument::RecordOptional => flag(
+                alloc,
+                "record-optional",
+                "Serve on without the record if it cannot be written",
             ),
             LiveArgument::Snapshots => text(
                 alloc,

@@ -4,8 +4,8 @@ use Rattle.itch_table.proofs.CountLemmas.{count_more}
 use Rattle.itch_table.proofs.TableLemmas.{near_puts, near_parted, far_puts, far_parted}
 use Rattle.itch_table.proofs.table.Table.insert.Goals as goal
 
-pub invariant_of-self-then-is_near : goal.invariant_of-self-then-is_near
-invariant_of-self-then-is_near g c =
+pub invariant_of-self-then-pays : goal.invariant_of-self-then-pays
+invariant_of-self-then-pays g c =
     let near = c.self.inside.near in let far = c.self.inside.far.entries in let next = c.insert.new.self in let key = c.args.key in let link = c.args.link in
     let new : at (record { near = near; far = far }) key ≡ None = ap (λ t. at t key) c.self.view_is ∙ c.requires.new_key in
     record {

@@ -1,0 +1,156 @@
+-- A client that waits is answered, and one that is silent is cut off.
+use Rattle.std.proofs.Common.{◌≡◌, ℕ, ◌-◌, ◌+◌, ◌<◌, ◌≤◌, nat_lt, nat_le, ◌==◌, Bool, true, false, not, cond, if◌then◌else◌, ◌&&◌, ◌||◌, List, [], ◌∷◌, length, Option, None, Some, refl, sym, ap, subst, ◌∙◌, ◌⊎◌, inl, inr, is_some, arith}
+use Rattle.std.specs.Option.{option_or}
+use Rattle.std.proofs.lemmas.Bool.{leb-true, ltb-false}
+use Rattle.itch_frame.specs.declared.tally.Failures.{Failures}
+use Rattle.itch_join.specs.Positions.{Position}
+use Rattle.itch_soup.specs.declared.login.ServerConfig.{ServerConfig}
+use Rattle.itch_soup.specs.declared.packet.LoginRequest.{LoginRequest}
+use Rattle.itch_soup.specs.declared.server.ServerAct.{ServerAct}
+use Rattle.itch_soup.specs.declared.server.ServerAct.TheVariants as act
+use Rattle.itch_soup.specs.Servers.{server_answer}
+use Rattle.itch_live.specs.declared.gone.Gone.{Gone}
+use Rattle.itch_live.specs.declared.gone.Gone.TheVariants as reason
+use Rattle.itch_live.specs.Guests as guests
+use Rattle.itch_live.specs.Guests.{Guest, session_bytes, is_waiting, is_silent, gone_for, after_act, login_in}
+use Rattle.itch_live.specs.Seats.{guest_at, answered_seat}
+use Rattle.itch_live.specs.Kept.{kept, kept_bytes, most_snapshots}
+use Rattle.itch_live.specs.Follows.{Following}
+use Rattle.itch_live.specs.Stories as stories
+use Rattle.itch_live.specs.Stories.{Happening, Story, Becomes}
+use Rattle.itch_live.specs.Desks.{Desk, with_shot, answered_with, answered, Answers, Event, Step, History}
+use Rattle.itch_live.specs.Fairness.{HasRoom, IsCutOff}
+use Rattle.itch_live.proofs.Places.{within, at_first}
+use Rattle.itch_live.proofs.Present.{AreFitting, right_shot, all_fit}
+
+is_first : (place count : ℕ) → place < count → nat_lt place count ≡ true
+is_first place count below = by_test (nat_lt place count) refl where
+  by_test : (b : Bool) → nat_lt place count ≡ b → nat_lt place count ≡ true
+  by_test true h = h
+  by_test false h = let above = ltb-false place count h in absurd (omega (arith, above, below))
+
+-- where there is room, there is a snapshot
+shot_of : (k : Option (List ℕ)) (b : Bool) (w : List ℕ) → (is_some k ≡ true) ⊎ (b ≡ true) → (bytes : List ℕ) × (option_or k (if b then Some w else None) ≡ Some bytes)
+shot_of (Some bytes) b w room = (bytes, refl)
+shot_of None true w room = (w, refl)
+shot_of None false w (inl some) = absurd (cc)
+shot_of None false w (inr few) = absurd (cc)
+
+room_is : (d : Desk) (j : Position) → HasRoom d j → (is_some (kept_bytes d.seats j.next) ≡ true) ⊎ (nat_lt (length (kept d.seats)) most_snapshots ≡ true)
+room_is d j (inl some) = inl some
+room_is d j (inr few) = inr (is_first (length (kept d.seats)) most_snapshots few)
+
+module _ {W : Type 0} (contents : W → Option (List ℕ)) (failures : W → Failures) where
+  pub answered_now : (config : ServerConfig) (begun : Following) (past : List (Event W)) (at : Event W) (d : Desk) (now count k : ℕ) (j : Position) (g : Guest)
+      → History contents failures config begun (at ∷ past) d → at.call ≡ Answers now count → length at.before.seats ≤ count → at.before.following.joining.state.joined ≡ Some j
+      → HasRoom at.before j → guest_at at.before.seats k ≡ Some g → is_waiting g ≡ true → guest_at d.seats k ≡ Some (guests.answered g (session_bytes j.market j.next) j.next now)
+  answered_now config begun past at d now count k j g (took, before) call all there room here waits =
+      let e : Desk = at.before in
+      let step : d ≡ answered e count now = subst (λ c. Step contents failures e c d) call took in
+      let inside : k < length e.seats = within e.seats k g here in
+      let first : nat_lt k count ≡ true = is_first k count (omega (arith, inside, all)) in
+      let shot = shot_of (kept_bytes e.seats j.next) (nat_lt (length (kept e.seats)) most_snapshots) (session_bytes j.market j.next) (room_is e j room) in
+      let right : shot.0 ≡ session_bytes j.market j.next =
+      right_shot e.seats j shot.0 (subst (λ o. AreFitting o e.seats) there (all_fit contents failures config begun past e before)) shot.1 in
+      ap (λ (x : Desk). guest_at x.seats k) step
+      ∙ ap (λ o. guest_at (answered_with o e count now).seats k) there
+      ∙ ap (λ s. guest_at (with_shot s e j.next count now).seats k) shot.1
+      ∙ at_first (answered_seat shot.0 j.next now) e.seats count k refl
+      ∙ ap (λ b. cond b (answered_seat shot.0 j.next now (guest_at e.seats k)) (guest_at e.seats k)) first
+      ∙ ap (answered_seat shot.0 j.next now) here
+      ∙ ap (λ b. Some (if b then guests.answered g shot.0 j.next now else g)) waits
+      ∙ ap (λ bytes. Some (guests.answered g bytes j.next now)) right
+
+-- silence ---------------------------------------------------------------------
+
+abbrev pub IsSilence : Option Gone → Type 0
+IsSilence None = ⊥
+IsSilence (Some reason.Silent) = Unit {0}
+IsSilence (Some other) = ⊥
+
+-- for another reason none is silent that was not before
+left_first : (o : Option Gone) → IsSilence (option_or o (Some reason.Left)) → IsSilence o
+left_first None h = absurd h
+left_first (Some why) h = h
+
+fault_first : (o : Option Gone) → IsSilence (option_or o (Some reason.Fault)) → IsSilence o
+fault_first None h = absurd h
+fault_first (Some why) h = h
+
+by_act : (a : ServerAct) (login : Option LoginRequest) (now : ℕ) (g : Guest) → IsSilence (after_act a login now g).gone → IsSilence g.gone
+by_act (act.Accept n) login now g h = h
+by_act (act.Reject code) login now g h = h
+by_act act.Nothing login now g h = h
+by_act act.Close login now g h = left_first g.gone h
+by_act (act.Fault fault) login now g h = fault_first g.gone h
+
+same_gone : (g h : Guest) → h ≡ g → IsSilence h.gone → IsSilence g.gone
+same_gone g h same is = subst (λ (x : Guest). IsSilence x.gone) same is
+
+-- one that falls silent does so at a moment
+abbrev pub Falls : Guest → Happening → Type 0
+Falls f happening = (now : ℕ) × (happening ≡ stories.Ticks now) × (is_silent f now ≡ true)
+
+kept_gone : (b : Bool) (g h f : Guest) → g.gone ≡ f.gone → h.gone ≡ f.gone → IsSilence (if b then g else h).gone → IsSilence f.gone
+kept_gone true g h f one other is = subst IsSilence one is
+kept_gone false g h f one other is = subst IsSilence other is
+
+falls : (config : ServerConfig) (f g : Guest) (happening : Happening) → Becomes config f happening g → IsSilence g.gone → IsSilence f.gone ⊎ Falls f happening
+falls config f g (stories.Hears piece now n) (inl (deaf, all, same)) is = inl (same_gone f g same is)
+falls config f g (stories.Hears piece now n) (inr (hears, (held, takes, inl (payload, block, inl (packet, spelled, heard))))) is =
+    inl (by_act (server_answer f.session packet) (login_in packet) now _ (same_gone _ g heard is))
+falls config f g (stories.Hears piece now n) (inr (hears, (held, takes, inl (payload, block, inr (fault, at, heard))))) is = inl (fault_first f.gone (same_gone _ g heard is))
+falls config f g (stories.Hears piece now n) (inr (hears, (held, takes, inr (none, heard)))) is = inl (same_gone _ g heard is)
+falls config f g (stories.Answers m next now) same is =
+    inl (kept_gone (is_waiting f) (guests.answered f (session_bytes m next) next now) f f refl refl (same_gone _ g same is))
+falls config f g (stories.Takes count now) (fits, same) is = inl (by_notes f.notes (same_gone _ g same is)) where
+  by_notes : (notes : List ℕ) → IsSilence (guests.took_of notes f count now).gone → IsSilence f.gone
+  by_notes [] h =
+      kept_gone (nat_lt 0 count && (nat_le 65536 (f.taken + count - f.marked) || f.taken + count == length (guests.bytes_of f.told)))
+      (record f { taken = f.taken + count; moved = now; marked = f.taken + count }) (record f { taken = f.taken + count }) f refl refl h
+  by_notes (b ∷ notes) h = h
+falls config f g (stories.Ticks now) same is = by_test (is_silent f now) refl (same_gone _ g same is) where
+  by_test : (b : Bool) → is_silent f now ≡ b → IsSilence (if b then gone_for reason.Silent f else (if guests.is_idle f now then guests.with_heartbeat f now else f)).gone
+      → IsSilence f.gone ⊎ Falls f (stories.Ticks now)
+  by_test true silent h = inr (now, refl, silent)
+  by_test false talks h = inl (kept_gone (guests.is_idle f now) (guests.with_heartbeat f now) f f refl refl h)
+falls config f g stories.Leaves same is = inl (left_first f.gone (same_gone _ g same is))
+
+both_hold : (a b : Bool) → (not a && b) ≡ true → (a ≡ false) × (b ≡ true)
+both_hold true b h = absurd (cc)
+both_hold false true h = (refl, refl)
+both_hold false false h = absurd (cc)
+
+cut : (config : ServerConfig) (begun : ℕ) (past : List Happening) (g : Guest) (sent : List ℕ) → Story config begun past g sent → IsSilence g.gone → IsCutOff config begun past
+cut config begun [] g sent (is, none) silent = absurd (same_gone _ g is silent)
+cut config begun (e ∷ past) g sent (f, so_far, story, becomes, sends) silent = by_case (λ before. cut config begun past f so_far story before) (falls config f g e becomes silent) where
+  by_case : (IsSilence f.gone → IsCutOff config begun past) → IsSilence f.gone ⊎ Falls f e → IsCutOff config begun (e ∷ past)
+  by_case so (inl before) =
+      let c = so before in
+      record {
+        later = e ∷ c.later;
+        before = c.before;
+        now = c.now;
+        place = ap (λ es. e ∷ es) c.place;
+        silent = c.silent;
+        so_far = c.so_far;
+        story = c.story;
+        waits_not = c.waits_not;
+        long = c.long;
+      }
+  by_case so (inr (now, ticks, is)) =
+      let both = both_hold (guests.is_patient f) (nat_le 15000 (now - f.moved)) is in
+      record {
+        later = [];
+        before = past;
+        now = now;
+        place = ap (λ x. x ∷ past) ticks;
+        silent = f;
+        so_far = so_far;
+        story = story;
+        waits_not = both.0;
+        long = leb-true 15000 (now - f.moved) both.1;
+      }
+
+pub cut_off : (config : ServerConfig) (begun : ℕ) (past : List Happening) (g : Guest) (sent : List ℕ) → Story config begun past g sent → g.gone ≡ Some reason.Silent → IsCutOff config begun past
+cut_off config begun past g sent story silent = cut config begun past g sent story (subst IsSilence (sym silent) tt)

@@ -1,0 +1,44 @@
+//! What a client's login has come to.
+ghost use Rattle.std.specs.Prelude.{◌≡◌, None, is_some};
+ghost use Rattle.itch_live.specs.Guests as guests;
+
+use itch_soup::LoginRequest;
+
+/// What a client's login has come to.
+#[derive(Clone, Copy)]
+pub(crate) enum Login {
+    /// None was answered yet.
+    Awaited,
+    /// It was accepted.
+    Accepted(LoginRequest),
+    /// It was rejected with this code.
+    Rejected { code: u8 },
+}
+
+impl Login {
+    /// The login that was accepted, if there is one.
+    pub(crate) fn accepted(login: Option<LoginRequest>) -> Login
+        ensures asked { guests.asked_of result ≡ login }
+        ensures rejection { guests.rejection_of result ≡ None }
+    {
+        match login {
+            Some(login) => Login::Accepted(login),
+            None => Login::Awaited,
+        }
+    }
+
+    pub(crate) fn is_accepted(&self) -> bool
+        ensures { result ≡ is_some (guests.asked_of self.now) }
+    {
+        matches!(self, Login::Accepted(_))
+    }
+
+    pub(crate) fn rejection(&self) -> Option<u8>
+        ensures { result ≡ guests.rejection_of self.now }
+    {
+        match self {
+            Login::Rejected { code } => Some(*code),
+            _ => None,
+        }
+    }
+}

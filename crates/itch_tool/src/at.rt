@@ -1,0 +1,89 @@
+//! The snapshot at a point of the day, from the checkpoint that is nearest to it.
+
+use crate::checkpoints::{Checkpoint, EMPTY_SNAPSHOT, nearest, path_of};
+use crate::failure::Failure;
+use crate::feed::{FeedFault, open_after};
+use crate::opened::open;
+use crate::run::join_over;
+use itch_commands::snap::{Unfit, has_each};
+use itch_commands::{FeedPart, Limit, Selection, Source, ToolFault, read_locates};
+use itch_frame::CountedWrite;
+use itch_market::LocateSet;
+use itchsnap_cli::input::Progress;
+use std::alloc::{AllocError, Global};
+use std::rt::{Clock, Files};
+
+/// Joins a day file to the checkpoint that is nearest to a point of the day. The file is read from there on.
+pub fn join_at<R: Files + Input + Eprint + AllocGlobal + Clock, W: CountedWrite>(
+    rt: &R,
+    folder: &str,
+    feed: Option<&str>,
+    point: Limit,
+    selection: Selection<'_>,
+    progress: Option<&Progress<'_, R>>,
+    only: Option<LocateSet<Global>>,
+    out: &mut W,
+) -> Result<bool, Failure> {
+    let alloc = rt.alloc();
+    let checkpoint = nearest(rt, folder, point)?;
+    if !has_wanted(alloc, &checkpoint, only.as_ref())? {
+        return Err(unfit(alloc, Unfit::Partial, folder, feed)?);
+    }
+    let feed = match open_after(rt, feed, &checkpoint, progress) {
+        Ok(feed) => feed,
+        Err(FeedFault::Tool(fault)) => return Err(Failure::from(fault)),
+        Err(FeedFault::Unfit(why)) => return Err(unfit(alloc, why, folder, feed)?),
+    };
+    let part = FeedPart {
+        before: checkpoint.mark.count,
+        limit: point,
+    };
+    if checkpoint.mark.count == 0 {
+        return Ok(join_over(alloc, EMPTY_SNAPSHOT, feed, part, selection, only, out)?);
+    }
+    let path = path_of(alloc, folder, &checkpoint)?;
+    let joined = match open(rt, Some(path.as_str()), Source::Snapshot, progress) {
+        Ok(snapshot) => join_over(alloc, snapshot, feed, part, selection, only, out),
+        Err(fault) => Err(fault),
+    };
+    match joined {
+        Ok(answer) => Ok(answer),
+        Err(fault) => Err(Failure::at(alloc, fault, Source::Snapshot, path.as_str())),
+    }
+}
+
+// Whether the snapshot of a checkpoint has each locate that is wanted. What has a stock may be at any locate.
+fn has_wanted(
+    alloc: Global,
+    checkpoint: &Checkpoint,
+    only: Option<&LocateSet<Global>>,
+) -> Result<bool, ToolFault> {
+    let (Some(list), Some(wanted)) = (&checkpoint.only, only) else {
+        return Ok(checkpoint.only.is_none());
+    };
+    match read_locates(alloc, list.as_str()) {
+        Ok(kept) => Ok(has_each(&kept, wanted)),
+        Err(ToolFault::OutOfMemory) => Err(ToolFault::OutOfMemory),
+        Err(_) => Ok(false),
+    }
+}
+
+// The failure of a checkpoint that does not fit, with what there is to say of it.
+fn unfit(
+    alloc: Global,
+    why: Unfit,
+    folder: &str,
+    feed: Option<&str>,
+) -> Result<Failure, AllocError> {
+    let feed = feed.unwrap_or("standard input");
+    let detail = match why {
+        Unfit::Partial => {
+            format!(in alloc; "{folder}: its snapshots were made with --only, of fewer locates")?
+        }
+        Unfit::Beyond => format!(in alloc; "{feed}: it ends before the checkpoint in {folder}")?,
+        Unfit::OtherDay => {
+            format!(in alloc; "{folder}: its snapshots are of another day file than {feed}")?
+        }
+    };
+    Ok(Failure::Checkpoint { why, detail })
+}

@@ -1,0 +1,138 @@
+//! The feed of a checkpoint, opened right after the messages that the checkpoint has.
+
+use crate::checkpoints::Checkpoint;
+use crate::opened::{read_fault, size};
+use itch_commands::snap::{Fingerprint, MOST_FIRST, MOST_LAST, Passed, Unfit, why_unfit};
+use itch_commands::{Source, ToolFault, system_fault};
+use itchsnap_cli::input::{Opened, Progress, Watched};
+use itchsnap_cli::sessions::PIECE;
+use std::alloc::{AllocError, Global};
+use std::fs;
+use std::io::{self, ErrorKind, Read, Seek, SeekFrom};
+use std::rt::{Clock, Files};
+
+/// Why a feed is not read on from a checkpoint.
+#[derive(Drop)]
+pub enum FeedFault {
+    Tool(ToolFault),
+    Unfit(Unfit),
+}
+
+impl From<ToolFault> for FeedFault {
+    fn from(fault: ToolFault) -> FeedFault {
+        FeedFault::Tool(fault)
+    }
+}
+
+impl From<AllocError> for FeedFault {
+    fn from(_error: AllocError) -> FeedFault {
+        FeedFault::Tool(ToolFault::OutOfMemory)
+    }
+}
+
+/// Opens the feed of a checkpoint, from its offset on. Where the index says what the bytes before are, they have to be those: of a file
+/// as many are read as a fingerprint has, and of a pipe all.
+pub fn open_after<'a, R: Files + Input + Eprint + AllocGlobal + Clock>(
+    rt: &R,
+    path: Option<&str>,
+    checkpoint: &Checkpoint,
+    progress: Option<&'a Progress<'a, R>>,
+) -> Result<Watched<'a, Opened<R::File, R::Reader>, R>, FeedFault> {
+    let offset = checkpoint.mark.offset;
+    let Some(path) = path else {
+        return read_after(rt, Opened::Standard(rt.reader()), checkpoint, progress);
+    };
+    let mut file = match fs::open(rt, path) {
+        Ok(file) => file,
+        Err(error) => {
+            return Err(FeedFault::Tool(system_fault(
+                error,
+                ToolFault::Open {
+                    file: Source::Only,
+                    error,
+                },
+            )));
+        }
+    };
+    let Some(size) = size(rt, path) else {
+        return read_after(rt, Opened::File(file), checkpoint, progress);
+    };
+    if size < offset {
+        return Err(FeedFault::Unfit(Unfit::Beyond));
+    }
+    let found = found_in(seek_after(rt.alloc(), &mut file, offset), checkpoint)?;
+    refuse(why_unfit(checkpoint.fingerprint, found))?;
+    if let Some(progress) = progress {
+        progress.add_file(Some(size - offset));
+    }
+    Ok(Watched::new(Opened::File(file), progress))
+}
+
+// The same where there is no way to the offset but through all bytes before.
+fn read_after<'a, R: Files + Input + Eprint + AllocGlobal + Clock>(
+    rt: &R,
+    opened: Opened<R::File, R::Reader>,
+    checkpoint: &Checkpoint,
+    progress: Option<&'a Progress<'a, R>>,
+) -> Result<Watched<'a, Opened<R::File, R::Reader>, R>, FeedFault> {
+    if let Some(progress) = progress {
+        progress.add_file(None);
+    }
+    let mut opened = Watched::new(opened, progress);
+    let offset = checkpoint.mark.offset;
+    let found = found_in(read_before(rt.alloc(), &mut opened, offset), checkpoint)?;
+    refuse(why_unfit(checkpoint.fingerprint, found))?;
+    Ok(opened)
+}
+
+fn refuse(why: Option<Unfit>) -> Result<(), FeedFault> {
+    match why {
+        Some(why) => Err(FeedFault::Unfit(why)),
+        None => Ok(()),
+    }
+}
+
+// The fingerprint that was found; none where the feed ended first.
+fn found_in(
+    found: io::Result<Fingerprint>,
+    checkpoint: &Checkpoint,
+) -> Result<Option<Fingerprint>, FeedFault> {
+    match found {
+        Ok(found) => Ok(Some(found)),
+        Err(error) if error.kind() == ErrorKind::UnexpectedEof => Ok(None),
+        Err(error) => Err(FeedFault::from(read_fault(checkpoint.mark.count, error))),
+    }
+}
+
+// Goes to an offset of a file. Returns the fingerprint of what is before it.
+fn seek_after<F: Read + Seek>(alloc: Global, file: &mut F, offset: u64) -> io::Result<Fingerprint> {
+    let most = usize::try_from(offset).unwrap_or(usize::MAX);
+    let mut first = vec![in alloc; 0; most.min(MOST_FIRST)]?;
+    file.read_exact(&mut first)?;
+    let mut last = [0; MOST_LAST];
+    let last = &mut last[..most.min(MOST_LAST)];
+    file.seek(SeekFrom::Start(offset - last.len() as u64))?;
+    file.read_exact(last)?;
+    Ok(Fingerprint::of(&first, last, b""))
+}
+
+// Reads up to an offset. Returns the fingerprint of what was read.
+fn read_before<F: Read>(alloc: Global, file: &mut F, offset: u64) -> io::Result<Fingerprint> {
+    let mut passed = Passed::new(alloc)?;
+    let mut buffer = vec![in alloc; 0; PIECE]?;
+    let mut left = offset;
+    for _piece in 0..u64::MAX {
+        let most = usize::try_from(left).unwrap_or(PIECE).min(buffer.len());
+        if most == 0 {
+            break;
+        }
+        let piece = &mut buffer[..most];
+        file.read_exact(piece)?;
+        passed.pass(piece)?;
+        left = left.saturating_sub(most as u64);
+    }
+    match passed.fingerprint(offset) {
+        Some(found) => Ok(found),
+        None => Err(io::Error::from(ErrorKind::UnexpectedEof)),
+    }
+}

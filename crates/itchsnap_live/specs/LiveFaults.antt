@@ -1,0 +1,25 @@
+-- The status that a live server ends with.
+use Rattle.std.specs.Prelude.{ℕ}
+use Rattle.itch_commands.specs.Statuses.{status_of, stop_status}
+use Rattle.itchsnap_live.specs.declared.fault.LiveFault.{LiveFault}
+use Rattle.itchsnap_live.specs.declared.fault.LiveFault.TheVariants.{Tool, Record, InUse, OtherSession, Refused, GlimpseSession}
+use Rattle.itchsnap_live.specs.declared.fault.RecordFault.{RecordFault}
+use Rattle.itchsnap_live.specs.declared.fault.RecordFault.TheVariants as «record»
+
+-- that of a record: as of a day file that is replayed; 3 where its file was changed
+abbrev pub record_status : RecordFault → ℕ
+record_status («record».Refused end) = stop_status end.stop
+record_status «record».UnknownSession = 1
+record_status «record».BadSession = 1
+record_status («record».NotOf session named) = 1
+record_status («record».OtherSession session named) = 1
+record_status («record».Changed change) = 3
+
+-- that of a fault
+abbrev pub live_status : LiveFault → ℕ
+live_status (Tool fault) = status_of fault
+live_status (Record fault) = record_status fault
+live_status (InUse owned) = 3
+live_status (Refused fault session) = status_of fault
+live_status (OtherSession server named wanted) = 1
+live_status (GlimpseSession snapshot feed) = 1

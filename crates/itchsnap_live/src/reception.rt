@@ -1,0 +1,452 @@
+//! Connections that hold no place of a server: those that have not logged in yet, and those that are told no more.
+
+use crate::callers::{Caller, Callers};
+use crate::departure::{Departure, departure_of};
+use crate::link::Link;
+use crate::opening::{Opening, opening_of};
+use crate::refusals::Refusals;
+use crate::seated::Seated;
+use crate::socket::Socket;
+use crate::spare::Spare;
+use arrayvec::ArrayVec;
+use itch_codec::Seq;
+use itch_live::Gone;
+use itch_soup::{Origin, ServerAct, ServerConfig, ServerSession, parse_packet};
+use mio::Registry;
+use mio::event::Event;
+use mio::net::TcpStream;
+use std::alloc::{AllocError, Global};
+use std::fs::File;
+use std::net::IpAddr;
+use std::rt::Files;
+
+/// How many there are at most.
+const ROOM: usize = 1_000;
+
+/// So many are accepted in one turn, at most.
+const MOST_ACCEPTED: usize = 64;
+
+/// How long a connection has to log in, or to close once it is told no more.
+const PATIENCE_MS: u64 = 15_000;
+
+/// Where there is no room, one that has been there for so long without a login makes room.
+const GRACE_MS: u64 = 1_000;
+
+/// What is kept of what a connection says: a login after its length, and some more.
+const KEPT: usize = 64;
+
+/// A connection whose login is right, and what it has said: its login, and what it may have said after that.
+#[derive(Drop)]
+pub(crate) struct Arrival {
+    pub link: Link,
+    pub address: IpAddr,
+    pub words: ArrayVec<u8, KEPT>,
+}
+
+// What a connection waits for.
+#[derive(Clone, Copy)]
+enum Stage {
+    // It has not sent a whole login.
+    Opening,
+    // Its login is right, and it waits for a place.
+    Ready,
+    // Its login was rejected: it is told so, once the moment has come.
+    Rejected { code: u8, at_ms: u64 },
+    // It is told no more, and its connection has ended so.
+    Over(Departure),
+}
+
+#[derive(Drop)]
+struct Visitor {
+    link: Link,
+    address: IpAddr,
+    since_ms: u64,
+    stage: Stage,
+    session: ServerSession,
+    words: ArrayVec<u8, KEPT>,
+    // How many bytes of an uninteresting packet are still to come.
+    skipped: usize,
+}
+
+/// The connections that hold no place.
+#[derive(Drop)]
+pub(crate) struct Reception {
+    config: ServerConfig,
+    // The number after that of the last message there is to log in for.
+    end_number: Seq,
+    rooms: Vec<Option<Visitor>>,
+    // The number of the socket in the first room.
+    first_token: usize,
+    // How many connections there have been, how many are here, and from which room on nobody is.
+    connected: u64,
+    present: usize,
+    end: usize,
+    refusals: Refusals,
+    // Those that have ended, and whose lines are not written yet.
+    ended: Vec<(u64, Departure)>,
+}
+
+impl Visitor {
+    // Whether there is something to read before anything else is ready.
+    fn is_busy(&self) -> bool {
+        match self.stage {
+            Stage::Opening | Stage::Over(_) => self.link.is_busy(false),
+            Stage::Ready => self.words.remaining_capacity() > 0 && self.link.is_busy(false),
+            Stage::Rejected { .. } => false,
+        }
+    }
+
+    fn new(link: Link, address: IpAddr, session: ServerSession, now_ms: u64) -> Visitor {
+        Visitor {
+            link,
+            address,
+            since_ms: now_ms,
+            stage: Stage::Opening,
+            session,
+            words: ArrayVec::new(),
+            skipped: 0,
+        }
+    }
+
+    // Reads what it has said, as far as that is kept, and does what it means.
+    fn turn(&mut self, now_ms: u64, buffer: &mut [u8]) {
+        match self.stage {
+            Stage::Opening => {
+                self.read(buffer);
+                self.hear(now_ms);
+            }
+            Stage::Ready => self.read(buffer),
+            Stage::Rejected { code, at_ms } if now_ms >= at_ms => {
+                self.link.write(&[0, 2, b'J', code]);
+                self.link.end_sending();
+                self.stage = Stage::Over(Departure::Rejected(code));
+            }
+            Stage::Rejected { .. } => {}
+            Stage::Over(_) => {
+                self.link.read(buffer);
+            }
+        }
+    }
+
+    // Reads what there is room for, but for what is passed over.
+    fn read(&mut self, buffer: &mut [u8]) {
+        if self.skipped > 0 {
+            let most = self.skipped.min(buffer.len());
+            let count = self.link.read(&mut buffer[..most]);
+            self.skipped = self.skipped.saturating_sub(count);
+            return;
+        }
+        let most = self.words.remaining_capacity().min(buffer.len());
+        if most == 0 {
+            return;
+        }
+        let count = self.link.read(&mut buffer[..most]);
+        let _ = self.words.try_extend_from_slice(&buffer[..count.min(most)]);
+    }
+
+    // Hears its packets up to its login. What comes after that is kept.
+    fn hear(&mut self, now_ms: u64) {
+        for _ in 0..KEPT {
+            match opening_of(self.words.as_slice()) {
+                Opening::Begun => return,
+                Opening::Packet(length) => {
+                    if self.hear_packet(length, now_ms) {
+                        return;
+                    }
+                    self.pass(length.saturating_add(2));
+                }
+                Opening::Passed(length) => {
+                    self.pass(length);
+                    return;
+                }
+                Opening::Broken => {
+                    self.stage = Stage::Over(Departure::Fault);
+                    return;
+                }
+            }
+        }
+    }
+
+    // Does what a packet means, and says whether it was the last one that is heard here.
+    fn hear_packet(&mut self, length: usize, now_ms: u64) -> bool {
+        let end = length.saturating_add(2).min(self.words.len());
+        let payload = &self.words[end.min(2)..end];
+        let Ok(packet) = parse_packet(payload, Origin::Client) else {
+            self.stage = Stage::Over(Departure::Fault);
+            return true;
+        };
+        match self.session.on_packet(&packet, now_ms) {
+            ServerAct::Nothing => return false,
+            ServerAct::Accept { .. } => self.stage = Stage::Ready,
+            ServerAct::Reject(code) => {
+                self.stage = Stage::Rejected {
+                    code,
+                    at_ms: now_ms,
+                };
+            }
+            ServerAct::Close => self.stage = Stage::Over(Departure::Left),
+            ServerAct::Fault(_) => self.stage = Stage::Over(Departure::Fault),
+        }
+        true
+    }
+
+    // Passes over bytes, of which some may still have to come.
+    fn pass(&mut self, count: usize) {
+        let here = count.min(self.words.len());
+        self.skipped = count.saturating_sub(here);
+        self.words.drain(..here);
+    }
+
+    // How its connection ended, once it is to be closed. One whose login was heard is told what that comes to, also where it sends no more.
+    fn departure(&self, now_ms: u64) -> Option<Departure> {
+        let waits = matches!(self.stage, Stage::Ready | Stage::Rejected { .. });
+        let gone = self.link.ending(None, waits);
+        let is_late = now_ms.saturating_sub(self.since_ms) >= PATIENCE_MS;
+        match self.stage {
+            Stage::Over(departure @ (Departure::Left | Departure::Fault)) => Some(departure),
+            Stage::Over(departure) if gone.is_some() || is_late => Some(departure),
+            Stage::Over(_) => None,
+            Stage::Rejected { code, .. } if gone.is_some() || is_late => Some(Departure::Rejected(
+                code,
+            )),
+            Stage::Rejected { .. } => None,
+            Stage::Opening if is_late => Some(departure_of(None, None, Gone::Silent)),
+            Stage::Opening | Stage::Ready => Some(departure_of(None, None, gone?)),
+        }
+    }
+}
+
+impl Reception {
+    /// Nobody yet. Sockets will be registered from this number on, and logins are judged by this configuration, for the messages before
+    /// this number.
+    pub(crate) fn new(
+        alloc: Global,
+        config: ServerConfig,
+        end_number: Seq,
+        first_token: usize,
+    ) -> Result<Reception, AllocError> {
+        let mut rooms = Vec::with_capacity(alloc, ROOM)?;
+        for _room in 0..ROOM {
+            rooms.push(None)?;
+        }
+        Ok(Reception {
+            config,
+            end_number,
+            rooms,
+            first_token,
+            connected: 0,
+            present: 0,
+            end: 0,
+            refusals: Refusals::new(alloc)?,
+            ended: Vec::with_capacity(alloc, 2 * ROOM)?,
+        })
+    }
+
+    /// Whether nobody is there.
+    pub(crate) fn is_empty(&self) -> bool {
+        self.present == 0
+    }
+
+    /// Whether there is something to read before anything else is ready.
+    pub(crate) fn is_busy(&self) -> bool {
+        self.rooms.iter().take(self.end).any(|room| match room {
+            Some(visitor) => visitor.is_busy(),
+            None => false,
+        })
+    }
+
+    /// Takes note that the socket of this number is ready.
+    pub(crate) fn note(&mut self, token: usize, event: &Event) {
+        let place = token.saturating_sub(self.first_token);
+        if let Some(Some(visitor)) = self.rooms.get_mut(place) {
+            visitor.link.note(event);
+        }
+    }
+
+    /// Accepts those who call. Where there is no room, or no descriptor that is not spared, one that has been there for a second without a
+    /// login makes room.
+    pub(crate) fn accept<R: Files<File = File>>(
+        &mut self,
+        rt: &R,
+        callers: &mut Callers,
+        spare: &mut Spare,
+        registry: &Registry,
+        now_ms: u64,
+    ) {
+        for _ in 0..MOST_ACCEPTED {
+            if !callers.are_waiting() {
+                return;
+            }
+            let room = self.free_room();
+            let (Some(place), true) = (room, room.is_some() && spare.hold(rt)) else {
+                if self.make_room(now_ms) {
+                    continue;
+                }
+                return;
+            };
+            match callers.next() {
+                Caller::Stream(stream, address) => self.admit(
+                    place, stream, address, registry, now_ms,
+                ),
+                Caller::Nobody => return,
+                Caller::NoDescriptor => {
+                    if !self.make_room(now_ms) {
+                        return;
+                    }
+                }
+            }
+        }
+    }
+
+    fn free_room(&self) -> Option<usize> {
+        if self.present >= self.rooms.len() {
+            return None;
+        }
+        self.rooms.iter().position(|room| room.is_none())
+    }
+
+    // Has the one that has been there for longest without a login leave, if that is a second.
+    fn make_room(&mut self, now_ms: u64) -> bool {
+        let mut oldest: Option<(usize, u64)> = None;
+        for (place, room) in self.rooms.iter().enumerate() {
+            if let Some(visitor) = room
+                && matches!(visitor.stage, Stage::Opening)
+                && oldest.is_none_or(|(_, since_ms)| visitor.since_ms < since_ms)
+            {
+                oldest = Some((place, visitor.since_ms));
+            }
+        }
+        match oldest {
+            Some((place, since_ms)) if now_ms.saturating_sub(since_ms) >= GRACE_MS => {
+                self.end(place, Departure::CutOff);
+                true
+            }
+            _ => false,
+        }
+    }
+
+    fn admit(
+        &mut self,
+        place: usize,
+        stream: TcpStream,
+        address: IpAddr,
+        registry: &Registry,
+        now_ms: u64,
+    ) {
+        self.connected = self.connected.saturating_add(1);
+        let token = place.saturating_add(self.first_token);
+        let session = ServerSession::new(self.config, self.end_number.value() - 1, now_ms);
+        match Socket::register(registry, stream, token, true) {
+            Ok(socket) => {
+                let link = Link::new(socket, self.connected);
+                self.put(place, Visitor::new(link, address, session, now_ms));
+            }
+            Err(_) => self.write_down(self.connected, Departure::Fault),
+        }
+    }
+
+    fn put(&mut self, place: usize, visitor: Visitor) {
+        if let Some(room) = self.rooms.get_mut(place) {
+            *room = Some(visitor);
+            self.present = self.present.saturating_add(1);
+            self.end = self.end.max(place.saturating_add(1));
+        }
+    }
+
+    fn take(&mut self, place: usize) -> Option<Visitor> {
+        let visitor = self.rooms.get_mut(place)?.take()?;
+        self.present = self.present.saturating_sub(1);
+        if self.present == 0 {
+            self.end = 0;
+        }
+        Some(visitor)
+    }
+
+    // Closes a connection, which has ended so.
+    fn end(&mut self, place: usize, departure: Departure) {
+        if let Some(visitor) = self.take(place) {
+            self.write_down(visitor.link.number(), departure);
+        }
+    }
+
+    /// Takes note of how a connection has ended, for its line.
+    pub(crate) fn write_down(&mut self, number: u64, departure: Departure) {
+        let _ = self.ended.push((number, departure));
+    }
+
+    /// Takes note of a connection whose client is told no more: it is closed once the client closes it.
+    pub(crate) fn see_off(
+        &mut self,
+        link: Link,
+        address: IpAddr,
+        departure: Departure,
+        registry: &Registry,
+        now_ms: u64,
+    ) {
+        let number = link.number();
+        let Some(place) = self.free_room() else {
+            return self.write_down(number, departure);
+        };
+        let mut link = link;
+        if link
+            .move_to(registry, place.saturating_add(self.first_token))
+            .is_err()
+        {
+            return self.write_down(number, departure);
+        }
+        let session = ServerSession::new(self.config, self.end_number.value() - 1, now_ms);
+        let mut visitor = Visitor::new(link, address, session, now_ms);
+        visitor.stage = Stage::Over(departure);
+        self.put(place, visitor);
+    }
+
+    /// Hears what everyone has said, and closes the connections that are over.
+    pub(crate) fn turn(&mut self, now_ms: u64, buffer: &mut [u8]) {
+        for place in 0..self.end {
+            self.turn_at(place, now_ms, buffer);
+        }
+    }
+
+    fn turn_at(&mut self, place: usize, now_ms: u64, buffer: &mut [u8]) {
+        let Some(Some(visitor)) = self.rooms.get_mut(place) else {
+            return;
+        };
+        let was_opening = matches!(visitor.stage, Stage::Opening);
+        visitor.turn(now_ms, buffer);
+        if was_opening && let Stage::Rejected { code, .. } = visitor.stage {
+            let at_ms = now_ms.saturating_add(self.refusals.delay_of(visitor.address, now_ms));
+            visitor.stage = Stage::Rejected { code, at_ms };
+        }
+        if let Some(departure) = visitor.departure(now_ms) {
+            self.end(place, departure);
+        }
+    }
+
+    /// Takes out the one of those whose login is right that came first, of an address that has fewer than so many clients.
+    pub(crate) fn next_arrival(&mut self, seated: &Seated, most: usize) -> Option<Arrival> {
+        let mut first: Option<(usize, u64)> = None;
+        for (place, room) in self.rooms.iter().take(self.end).enumerate() {
+            if let Some(visitor) = room
+                && matches!(visitor.stage, Stage::Ready)
+                && first.is_none_or(|(_, number)| visitor.link.number() < number)
+                && seated.of(visitor.address) < most
+            {
+                first = Some((place, visitor.link.number()));
+            }
+        }
+        let visitor = self.take(first?.0)?;
+        Some(Arrival {
+            link: visitor.link,
+            address: visitor.address,
+            words: visitor.words,
+        })
+    }
+
+    /// The number of a connection that has ended, and how, once for each.
+    pub(crate) fn next_ended(&mut self) -> Option<(u64, Departure)> {
+        if self.ended.is_empty() {
+            return None;
+        }
+        Some(self.ended.remove(0))
+    }
+}

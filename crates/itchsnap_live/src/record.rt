@@ -1,0 +1,282 @@
+//! The record of a live server: a day file that this process alone appends to, and the session that it is of.
+
+use crate::fault::{LiveFault, Owned, RecordFault};
+use crate::recording::Recording;
+use crate::resuming::replay_record;
+use crate::session_file::{read_session, write_session};
+use crate::watch::{Change, Seen, change_of};
+use itch_book::OrderBook;
+use itch_codec::Alpha;
+use itch_commands::{Source, ToolFault, system_fault};
+use itch_frame::tally::Failures;
+use itch_join::Joiner;
+use itchsnap_cli::sessions::PIECE;
+use itchsnap_cli::words::{RecordWords, SyncTime};
+use std::fmt::{self, Display, Formatter};
+use std::fs::{self, File, OpenOptions, TryLockError};
+use std::io::{self, BufWriter, ErrorKind};
+use std::rt::Files;
+
+/// The record is looked at, and synced, this often.
+const WATCH_MS: u64 = 1_000;
+
+/// A record, or none.
+#[derive(Drop)]
+pub(crate) struct Record<'a> {
+    pub(crate) recording: Recording<File>,
+    kept: Option<Kept<'a>>,
+}
+
+// The file of a record.
+#[derive(Drop)]
+struct Kept<'a> {
+    words: RecordWords<'a>,
+    // As it was opened, without what did not belong to it.
+    opened: Seen,
+    // The session of the messages that it has, where it has any, and whether the file beside it names that.
+    session: Option<Alpha<10>>,
+    is_named: bool,
+    // How many of the bytes that were added are on disk.
+    synced: u64,
+    watched_ms: u64,
+}
+
+impl<'a> Record<'a> {
+    /// No record.
+    pub(crate) fn none() -> Record<'a> {
+        Record {
+            recording: Recording::Nowhere(Failures::none()),
+            kept: None,
+        }
+    }
+
+    /// Opens a record to append to, for this process alone, replays what it has, and drops what is not a whole message at its end. It has
+    /// to be of this session, if one is named. A record that is refused stays as it is.
+    pub(crate) fn open<R: Files<File = File> + Eprint + AllocGlobal, B: OrderBook>(
+        rt: &R,
+        words: RecordWords<'a>,
+        named: Option<Alpha<10>>,
+        joiner: &mut Joiner<B>,
+    ) -> Result<Record<'a>, LiveFault> {
+        let path = words.path;
+        let file = open_alone(rt, path)?;
+        let mut opened = seen(&file)?;
+        let beside = if opened.length == 0 {
+            None
+        } else {
+            read_session(rt, path)?
+        };
+        let session = session_of(opened.length, beside, named)?;
+        let whole = replay_record(rt.alloc(), open_again(rt, path)?, joiner)?;
+        if whole.bytes < opened.length {
+            let (rest, messages) = (opened.length - whole.bytes, whole.messages);
+            let _ = eprintln!(rt; "record: dropped {rest} bytes after message {messages}");
+            cut(&file, whole.bytes)?;
+            opened.length = whole.bytes;
+        }
+        let Ok(file) = BufWriter::with_capacity(rt.alloc(), PIECE, file) else {
+            return Err(LiveFault::Tool(ToolFault::OutOfMemory));
+        };
+        Ok(Record {
+            recording: Recording::File {
+                file,
+                failures: Failures::none(),
+                added: 0,
+            },
+            kept: Some(Kept {
+                words,
+                opened,
+                session,
+                is_named: beside.is_some(),
+                synced: 0,
+                watched_ms: 0,
+            }),
+        })
+    }
+
+    /// The session of the messages that it has, if it has any.
+    pub(crate) fn session(&self) -> Option<Alpha<10>> {
+        self.kept.as_ref()?.session
+    }
+
+    /// Whether the server goes on without it where it cannot be written.
+    pub(crate) fn is_optional(&self) -> bool {
+        match &self.kept {
+            Some(kept) => kept.words.is_optional,
+            None => true,
+        }
+    }
+
+    /// Notes the session of the messages that are to come: the file beside the record has it before the record has a message.
+    pub(crate) fn begin<R: Files<File = File> + AllocGlobal>(
+        &mut self,
+        rt: &R,
+        session: Alpha<10>,
+    ) -> Result<(), ToolFault> {
+        if let Some(kept) = &mut self.kept
+            && !kept.is_named
+        {
+            write_session(rt, kept.words.path, &session)?;
+            kept.session = Some(session);
+            kept.is_named = true;
+        }
+        Ok(())
+    }
+
+    /// Hands what was added to the system, and waits until it is on disk where that is asked for.
+    pub(crate) fn flush(&mut self) -> io::Result<()> {
+        self.recording.flush()?;
+        match &self.kept {
+            Some(kept) if matches!(kept.words.sync, SyncTime::EveryMessage) => self.sync(),
+            _ => Ok(()),
+        }
+    }
+
+    // Waits until what was added is on disk.
+    fn sync(&mut self) -> io::Result<()> {
+        let added = self.recording.added();
+        if let Some(kept) = &mut self.kept
+            && added > kept.synced
+        {
+            self.recording.sync()?;
+            kept.synced = added;
+        }
+        Ok(())
+    }
+
+    /// Once a second: syncs what was added where that is asked for, and says what another process did to the file, if it did anything.
+    pub(crate) fn watch<R: Files<File = File>>(
+        &mut self,
+        rt: &R,
+        now_ms: u64,
+    ) -> Result<(), RecordLoss> {
+        let added = self.recording.added();
+        let Some(kept) = &mut self.kept else {
+            return Ok(());
+        };
+        if now_ms < kept.watched_ms.saturating_add(WATCH_MS) {
+            return Ok(());
+        }
+        kept.watched_ms = now_ms;
+        let written = Seen {
+            length: kept.opened.length.saturating_add(added),
+            ..kept.opened
+        };
+        let found = match fs::metadata(rt, kept.words.path) {
+            Ok(metadata) => Some(Seen::of(&metadata)),
+            Err(error) if matches!(error.kind(), ErrorKind::NotFound) => None,
+            Err(error) => return Err(RecordLoss::System(error)),
+        };
+        if let Some(change) = change_of(written, found) {
+            return Err(RecordLoss::Changed(change));
+        }
+        if matches!(kept.words.sync, SyncTime::EverySecond)
+            && let Err(error) = self.sync()
+        {
+            return Err(RecordLoss::System(error));
+        }
+        Ok(())
+    }
+
+    /// Hands what was added to the system, and waits until it is on disk unless that is not asked for.
+    pub(crate) fn finish(&mut self) -> io::Result<()> {
+        self.recording.flush()?;
+        match &self.kept {
+            Some(kept) if matches!(kept.words.sync, SyncTime::Never) => Ok(()),
+            _ => self.sync(),
+        }
+    }
+
+    /// Gives it up.
+    pub(crate) fn give_up(&mut self) {
+        *self = Record::none();
+    }
+}
+
+/// Why a record cannot be written any more.
+#[derive(Debug, Drop)]
+pub(crate) enum RecordLoss {
+    /// Another process did something to its file.
+    Changed(Change),
+    /// A call of the system failed.
+    System(io::Error),
+}
+
+impl Display for RecordLoss {
+    fn fmt<W: fmt::Write>(&self, f: &mut Formatter<W>) -> fmt::Result {
+        match self {
+            RecordLoss::Changed(change) => write!(f, "record: given up: {change}"),
+            RecordLoss::System(error) => write!(f, "record: given up: {error}"),
+        }
+    }
+}
+
+// The session of a record of so many bytes, where the file beside it names one, or the command line: where both do, they have to be the same. One
+// without a message is of no day.
+fn session_of(
+    length: u64,
+    beside: Option<Alpha<10>>,
+    named: Option<Alpha<10>>,
+) -> Result<Option<Alpha<10>>, LiveFault> {
+    if length == 0 {
+        return Ok(None);
+    }
+    match (beside, named) {
+        (None, None) => Err(LiveFault::Record(RecordFault::UnknownSession)),
+        (Some(session), None) | (None, Some(session)) => Ok(Some(session)),
+        (Some(session), Some(named)) => {
+            if session.text().trim() == named.text().trim() {
+                return Ok(Some(session));
+            }
+            Err(LiveFault::Record(RecordFault::NotOf { session, named }))
+        }
+    }
+}
+
+// Opens a file to append to, which no other process may open so.
+fn open_alone<R: Files<File = File>>(rt: &R, path: &str) -> Result<File, LiveFault> {
+    let mut how = OpenOptions::new();
+    how.append(true).create(true);
+    let file = match how.open(rt, path) {
+        Ok(file) => file,
+        Err(error) => return Err(open_fault(error)),
+    };
+    match file.try_lock() {
+        Ok(()) => Ok(file),
+        Err(TryLockError::WouldBlock) => Err(LiveFault::InUse(Owned::Record)),
+        Err(TryLockError::Error(error)) => Err(open_fault(error)),
+    }
+}
+
+// Opens it to read.
+fn open_again<R: Files<File = File>>(rt: &R, path: &str) -> Result<File, LiveFault> {
+    match fs::open(rt, path) {
+        Ok(file) => Ok(file),
+        Err(error) => Err(open_fault(error)),
+    }
+}
+
+fn seen(file: &File) -> Result<Seen, LiveFault> {
+    match file.metadata() {
+        Ok(metadata) => Ok(Seen::of(&metadata)),
+        Err(error) => Err(open_fault(error)),
+    }
+}
+
+fn cut(file: &File, length: u64) -> Result<(), LiveFault> {
+    match file.set_len(length) {
+        Ok(()) => Ok(()),
+        Err(error) => Err(open_fault(error)),
+    }
+}
+
+// The record cannot be opened.
+fn open_fault(error: io::Error) -> LiveFault {
+    LiveFault::Tool(system_fault(
+        error,
+        ToolFault::Open {
+            file: Source::Only,
+            error,
+        },
+    ))
+}

@@ -1,0 +1,111 @@
+//! A feed before its session is known.
+
+use crate::fault::LiveFault;
+use crate::feed_side::{FeedSide, SHARE};
+use crate::log::Log;
+use crate::recording::Recording;
+use crate::route::Servers;
+use crate::turns::Turns;
+use itch_book::OrderBook;
+use itch_codec::Alpha;
+use itch_frame::tally::Failures;
+use itch_live::Desk;
+use mio::Token;
+use std::alloc::Global;
+use std::fs::File;
+use std::net::Net;
+use std::rt::Clock;
+
+/// The moment is looked at this often, where no socket is ready.
+const MOMENT_MS: u64 = 100;
+
+/// How many sockets are reported ready at once.
+const EVENTS: usize = 1_024;
+
+/// What follows a feed until its session is known, under whose name clients are served.
+#[derive(Drop)]
+pub(crate) struct Start<'r, R: Clock> {
+    pub log: Log<'r, R>,
+    pub turns: Turns<'r, R>,
+    pub feed: FeedSide,
+    /// The number of the feed's socket.
+    pub token: usize,
+}
+
+impl<'r, R> Start<'r, R>
+where
+    R: Net + Clock + Eprint + AllocGlobal,
+{
+    /// No connection yet. The feed's socket will have this number.
+    pub(crate) fn new(
+        rt: &'r R,
+        servers: Servers,
+        glimpse_session: Option<Alpha<10>>,
+        token: usize,
+    ) -> Result<Start<'r, R>, LiveFault> {
+        let log = Log::new(rt)?;
+        let turns = Turns::begin(rt, rt, EVENTS)?;
+        let feed = FeedSide::new(rt.alloc(), servers, glimpse_session, token)?;
+        Ok(Start {
+            log,
+            turns,
+            feed,
+            token,
+        })
+    }
+
+    /// Follows the feed for a desk without places until its session is known, or for so many milliseconds.
+    pub(crate) fn find_session<B: OrderBook<Alloc = Global>>(
+        &mut self,
+        desk: &mut Desk<B>,
+        most_ms: u64,
+    ) -> Result<Option<Alpha<10>>, LiveFault> {
+        for _turn in 0..u64::MAX {
+            if let Some(session) = desk.session() {
+                return Ok(Some(session));
+            }
+            if self.turns.now()? >= most_ms {
+                break;
+            }
+            self.turn(desk)?;
+        }
+        Ok(None)
+    }
+
+    fn turn<B: OrderBook<Alloc = Global>>(&mut self, desk: &mut Desk<B>) -> Result<(), LiveFault> {
+        let most_ms = if self.feed.is_busy() { 0 } else { MOMENT_MS };
+        let now_ms = self.turns.wait(most_ms)?;
+        self.note();
+        self.feed
+            .begin_turn(&mut self.log, self.turns.registry(), desk, now_ms);
+        let done = self.steps(desk, now_ms);
+        self.feed.end_turn(&mut self.log, desk, now_ms);
+        done
+    }
+
+    // Takes note of what is ready.
+    fn note(&mut self) {
+        for event in self.turns.events().iter() {
+            let Token(token) = event.token();
+            if token == self.token {
+                self.feed.note(event);
+            }
+        }
+    }
+
+    // Does what the feed has sent, up to a share of bytes, or until it has named its session.
+    fn steps<B: OrderBook<Alloc = Global>>(
+        &mut self,
+        desk: &mut Desk<B>,
+        now_ms: u64,
+    ) -> Result<(), LiveFault> {
+        let mut nowhere: Recording<File> = Recording::Nowhere(Failures::none());
+        for _packet in 0..SHARE {
+            let step = self.feed.step(&mut self.log, desk, now_ms, &mut nowhere)?;
+            if step.is_none() || desk.session().is_some() {
+                break;
+            }
+        }
+        Ok(())
+    }
+}

@@ -1,0 +1,71 @@
+"""Runs that may not cost more than others: the memory that order references far apart take, and the time that `compare --first` takes.
+
+RUNS has a function for each run, named for what it shows; it is given the program, and yields what differs.
+"""
+import struct
+import subprocess
+import sys
+from typing import NamedTuple
+
+import large
+from common import differs
+from living import folder_with
+
+ORDERS = 300_000
+# A process of little memory starts the program and tells what that took: the memory of the one that starts it counts too.
+MEASURE = """
+import resource, subprocess, sys
+status = subprocess.run(sys.argv[1:], stdout=subprocess.DEVNULL).returncode
+used = resource.getrusage(resource.RUSAGE_CHILDREN)
+print(status, used.ru_utime, used.ru_maxrss)
+"""
+
+
+class Cost(NamedTuple):
+    status: int
+    seconds: float
+    kilobytes: int
+
+
+def cost(*words):
+    """What a command takes: user time and memory."""
+    done = subprocess.run([sys.executable, "-c", MEASURE, *words], capture_output=True, check=True, timeout=60)
+    status, seconds, kilobytes = done.stdout.split()
+    return Cost(int(status), float(seconds), int(kilobytes))
+
+
+def orders_apart(step):
+    """A day of orders that stay, with references so far apart."""
+    start, end = large.block(b"A", 1, bytes(8))[:13], b"B" + struct.pack(">I8sI", 100, large.stock(1), 10_000)
+    # The length is that of the whole.
+    start = struct.pack(">H", len(start) + 8 + len(end) - 2) + start[2:]
+    return large.entry(1) + b"".join(start + struct.pack(">Q", step * place) + end for place in range(1, ORDERS + 1))
+
+
+def references_far_apart_take_little_memory(program):
+    """With a page of the table of references for each order, or for each order and seven more pages beside it."""
+    dense, *sparse = (orders_apart(step) for step in (1, 32, 256))
+    with folder_with(dense=dense, pages=sparse[0], eighths=sparse[1]) as folder:
+        least = cost(program, "snap", folder / "dense")
+        yield from differs("dense", least.status, 0)
+        for name in "pages", "eighths":
+            taken = cost(program, "snap", folder / name)
+            if taken.status or taken.kilobytes > 3 * least.kilobytes:
+                yield f"{name}: {taken}, and {least.kilobytes} kilobytes for dense ones"
+
+
+def the_first_difference_takes_little_longer_than_two_checks(program):
+    """Of messages that are not decoded, as short as they can be."""
+    with folder_with(day=b"\0\1z" * 2_000_000) as folder:
+        check, first = ([cost(program, *words) for _ in range(3)] for words in
+                        (("check", folder / "day"), ("compare", "--first", folder / "day", folder / "day")))
+        yield from differs("ended", {it.status for it in check + first}, {0})
+        one, both = (min(it.seconds for it in costs) for costs in (check, first))
+        if both > 2.5 * 2 * one:
+            yield f"{both:.3f} seconds, and {one:.3f} for a check"
+
+
+RUNS = [
+    references_far_apart_take_little_memory,
+    the_first_difference_takes_little_longer_than_two_checks,
+]
