@@ -52,9 +52,9 @@ recorded() {
     done 2>/dev/null <"$top/release/RECORD"
 }
 
-# A built program as it is released, on standard output: its text of an unreleased build says the release of these sources.
+# A built program as it is released, on standard output: each text of an unreleased build says the release of these sources.
 stamped() {
-    LC_ALL=C sed "s/$unreleased/release ${2:0:12}/" "$1"
+    LC_ALL=C sed "s/$unreleased/release ${2:0:12}/g" "$1"
 }
 
 # Whether this machine runs the released program: it needs Linux on x86-64 with the instructions of x86-64-v2, and glibc 2.34, without
