@@ -1,5 +1,5 @@
 -- Where two files stand after some messages of each, and one step more.
-use Rattle.std.proofs.Common.{◌≡◌, ℕ, zero, suc, Result, ◌+◌, ◌-◌, ◌^◌, ◌≤◌, ◌<◌, ◌==◌, Bool, true, false, List, [], ◌∷◌, ◌++◌, map, take, length, Option, None, Some, IfSome, is_some, Ok, Err, inl, inr, refl, sym, ap, subst, ◌∙◌, ◌↔◌, arith}
+use Rattle.std.proofs.Common.{◌≡◌, ℕ, zero, suc, Result, ◌+◌, ◌-◌, ◌^◌, ◌≤◌, ◌<◌, ◌==◌, ◌⊎◌, Bool, true, false, List, [], ◌∷◌, ◌++◌, map, take, length, Option, None, Some, IfSome, Ok, Err, inl, inr, refl, sym, ap, subst, ◌∙◌, ◌↔◌, arith}
 use Rattle.std.specs.List.{AllByRecursion}
 use Rattle.std.proofs.KnownBytes.{Consumes-nil}
 use Rattle.std.proofs.lemmas.Bool.{cases_lt}
@@ -21,12 +21,12 @@ use Rattle.itch_market.specs.declared.stop.Stop.{Stop}
 use Rattle.itch_market.specs.declared.stop.Stop.TheVariants.{End, Frame, Codec, Rule, TooManyMessages}
 use Rattle.itch_market.proofs.Causes.{no_reason}
 use Rattle.itch_market.proofs.GoodMarkets.{empty_good, effect_good, laid_good}
-use Rattle.itch_market.proofs.PlainMessages.{plain_effect, plain_same}
+use Rattle.itch_market.proofs.PlainMessages.{plain_same}
 use Rattle.itch_market.proofs.ReplayReaders.{Standing, standing_first, standing_on, standing_stops, standing_short}
 use Rattle.itch_market.proofs.SameMarkets.{laid_is_same, same_back, same_chain}
 use Rattle.itch_snapshot.specs.Snapshot.{snap}
 use Rattle.itch_join.proofs.Premises.{laid_empty}
-use Rattle.itch_commands.specs.FirstDifferences.{IsSameAt, IsWithin, limited_to, count_of, ReadsUpTo, IsRefusedAfter, AppliesNext, AreAlike, Steps, FindsFirst}
+use Rattle.itch_commands.specs.FirstDifferences.{IsChange, IsSameAt, IsWithin, limited_to, count_of, ReadsUpTo, IsRefusedAfter, AppliesNext, AreAlike, Steps, FindsFirst}
 use Rattle.itch_commands.specs.Limits.{IsBefore, most_of}
 use Rattle.itch_commands.specs.Readings.{AreTaken, TakesEarly, IsEnough, LeavesDay, ReadsDay, ReadsMarket, CountsRead, stopped}
 use Rattle.itch_commands.specs.declared.fault.Source.{Source}
@@ -164,7 +164,7 @@ module _ {R : Type 0} (remaining : R → Option (List ℕ)) (failures : R → Fa
       so_far : Goes old mid count p m → SoFar limit empty (bytes_left remaining old) (bytes_left remaining mid) count m
       so_far stands = record { payloads = p; takes = stands.takes; good = stands.good }
 
-      goes_on : (change : Message) → Goes old mid count p m → AppliesNext limit (count == 10 ^ 19 - 1) m (bytes_left remaining mid) (bytes_left remaining new) change n
+      goes_on : (change : Option Message) → Goes old mid count p m → AppliesNext limit (count == 10 ^ 19 - 1) m (bytes_left remaining mid) (bytes_left remaining new) change n
           → failures new.reader ≡ failures mid.reader → LeavesReaderFirst mid 1 None new → StandsOn true old new count p n
       goes_on change stands (x, off, room, step, plainest) uncounted leaves =
           let next = taken_more limit empty (bytes_left remaining old) (bytes_left remaining mid) (bytes_left remaining new) count m n p x stands.takes stands.good off room step in
@@ -188,10 +188,10 @@ module _ {R : Type 0} (remaining : R → Option (List ℕ)) (failures : R → Fa
       }
 
       -- the next message is applied, or there is none
-      pub stands_on : (goes : Bool) (change : Option Message) → IsBefore limit count → Stands goes old mid count p m
-          → Steps remaining failures file limit count goes m mid new (Ok change) n → StandsOn (is_some change) old new count p n
-      stands_on false (Some change) before stands (is, same, unread) = absurd (cc)
-      stands_on false None before stands (is, same, unread) = record {
+      pub stands_on : (goes went : Bool) (change : Option Message) → IsBefore limit count → Stands goes old mid count p m
+          → Steps remaining failures file limit count goes m mid new (Ok went) change n → StandsOn went old new count p n
+      stands_on false true change before stands (is, none, same, unread) = absurd (cc)
+      stands_on false false change before stands (is, none, same, unread) = record {
         payloads = p;
         stands = record {
           fewer = omega (arith, stands.fewer);
@@ -201,18 +201,18 @@ module _ {R : Type 0} (remaining : R → Option (List ℕ)) (failures : R → Fa
         };
         front = λ k within. refl;
       }
-      stands_on true (Some change) before stands (step, uncounted, leaves) = goes_on change stands step uncounted leaves
-      stands_on true None before stands (inl ((same, late), uncounted, leaves)) =
+      stands_on true true change before stands (step, uncounted, leaves) = goes_on change stands step uncounted leaves
+      stands_on true false change before stands (none, inl ((same, late), uncounted, leaves)) =
           over stands same (inr (inl (before, late))) uncounted
           (late_leaves file limit count old mid new stands.standing (late_given limit.until (message_of late.0) late.2.1) leaves)
-      stands_on true None before stands (inr (whole, ((same, ends), uncounted, leaves))) =
+      stands_on true false change before stands (none, inr (whole, ((same, ends), uncounted, leaves))) =
           over stands same (inr (inr (whole, ends))) uncounted (inr (inr (whole, standing_stops old mid new count End stands.standing leaves)))
 
       -- or it is refused
-      pub refused_there : (goes : Bool) (fault : ToolFault) → IsBefore limit count → Stands goes old mid count p m → Steps remaining failures file limit count goes m mid new (Err fault) n
-          → (goes ≡ true) × (length p ≡ count) × IsRefusedAfter remaining failures file limit old new fault p
-      refused_there false fault before stands (is, same, unread) = absurd (cc)
-      refused_there true fault before stands (stop, is, (step, counts, leaves)) =
+      pub refused_there : (goes : Bool) (fault : ToolFault) (change : Option Message) → IsBefore limit count → Stands goes old mid count p m
+          → Steps remaining failures file limit count goes m mid new (Err fault) change n → (goes ≡ true) × (length p ≡ count) × IsRefusedAfter remaining failures file limit old new fault p
+      refused_there false fault change before stands (is, none, same, unread) = absurd (cc)
+      refused_there true fault change before stands (stop, is, (step, counts, leaves)) =
           let from = bytes_left remaining old in
           let to = bytes_left remaining new in
           let halts = stops_there limit empty from (bytes_left remaining mid) to count m n (so_far stands) stop before step in
@@ -261,33 +261,39 @@ same_later p q count k short brief later same =
     subst (λ x. Same (run (map message_of x)) (run (map message_of (take k q)))) one
     (subst (λ y. Same (run (map message_of (take count p))) (run (map message_of y))) other same)
 
--- what a step changed: nothing, or what a message does, which is not refused
+-- what a step changed: nothing but the order in which orders are laid, or what a message does, which is not refused
 abbrev Changed : Content → Option Message → Content → Type 0
-Changed m None n = n ≡ m
+Changed m None n = (n ≡ m) ⊎ (n ≡ laid m)
 Changed m (Some change) n = (message : Message) × IsMessage message × (reason m message ≡ None) × (change ≡ plain m message) × (n ≡ laid (effect m message))
 
-changed_so : {R : Type 0} (remaining : R → Option (List ℕ)) (failures : R → Failures) (file : Source) (limit : Limit) (count : ℕ) (goes : Bool) (m n : Content) (old new : Reading R)
-    (change : Option Message) → Steps remaining failures file limit count goes m old new (Ok change) n → Changed m change n
-changed_so remaining failures file limit count false m n old new (Some change) (is, same, unread) = absurd (cc)
-changed_so remaining failures file limit count false m n old new None (is, same, unread) = same
-changed_so remaining failures file limit count true m n old new (Some change) ((payload, off, room, (early, (clean, fits, next)), plainest), uncounted, leaves) =
-    (message_of payload, fits, no_reason m payload clean, plainest, next)
-changed_so remaining failures file limit count true m n old new None (inl ((same, late), uncounted, leaves)) = same
-changed_so remaining failures file limit count true m n old new None (inr (whole, ((same, ends), uncounted, leaves))) = same
+-- what a message that was applied changed
+changed_by : (m n : Content) (message : Message) (change : Option Message) → IsMessage message → reason m message ≡ None → n ≡ laid (effect m message) → IsChange m message change
+    → Changed m change n
+changed_by m n message None fits clean next nothing = inr (next ∙ ap laid (nothing m))
+changed_by m n message (Some change) fits clean next plainest = (message, fits, clean, plainest, next)
 
--- a message with a plainest one that changes nothing leaves the market as it was
-unchanged : (m n : Content) (change : Message) → IsGood m → Changed m (Some change) n → ((k : Content) → effect k change ≡ k) → n ≡ laid m
-unchanged m n change good (message, fits, clean, plainest, next) none =
-    next ∙ ap laid (sym (plain_effect m message good) ∙ ap (effect m) (sym plainest) ∙ none m)
+-- what none changed
+unchanged : (m n : Content) (change : Option Message) → change ≡ None → n ≡ m → Changed m change n
+unchanged m n change none same = subst (λ c. Changed m c n) (sym none) (inl same)
+
+changed_so : {R : Type 0} (remaining : R → Option (List ℕ)) (failures : R → Failures) (file : Source) (limit : Limit) (count : ℕ) (goes : Bool) (m n : Content) (old new : Reading R)
+    (went : Bool) (change : Option Message) → Steps remaining failures file limit count goes m old new (Ok went) change n → Changed m change n
+changed_so remaining failures file limit count false m n old new went change (is, none, same, unread) = unchanged m n change none same
+changed_so remaining failures file limit count true m n old new true change ((payload, off, room, (early, (clean, fits, next)), plainest), uncounted, leaves) =
+    changed_by m n (message_of payload) change fits (no_reason m payload clean) next plainest
+changed_so remaining failures file limit count true m n old new false change (none, inl ((same, late), uncounted, leaves)) = unchanged m n change none same
+changed_so remaining failures file limit count true m n old new false change (none, inr (whole, ((same, ends), uncounted, leaves))) = unchanged m n change none same
+
+-- a market in which nothing was changed is the same
+still : (m n : Content) → IsGood m → Changed m None n → Same m n
+still m n good (inl same) = subst (Same m) (sym same) (same_self m)
+still m n good (inr same) = subst (Same m) (sym same) (same_back (laid m) m (laid_is_same m good))
 
 -- so changes that are alike leave markets the same that were so
 alike_same : (m n x y : Content) (change also : Option Message) → IsGood m → IsGood n → Same m n → Changed m change x → Changed n also y → AreAlike change also → Same x y
-alike_same m n x y None None good fine same one other alike = subst (λ b. Same x b) (sym other) (subst (λ a. Same a n) (sym one) same)
-alike_same m n x y (Some change) None good fine same one other none =
-    subst (λ b. Same x b) (sym other) (subst (λ a. Same a n) (sym (unchanged m x change good one none)) (same_chain (laid m) m n (laid_is_same m good) same))
-alike_same m n x y None (Some also) good fine same one other none =
-    subst (λ a. Same a y) (sym one)
-    (subst (λ b. Same m b) (sym (unchanged n y also fine other none)) (same_chain m n (laid n) same (same_back (laid n) n (laid_is_same n fine))))
+alike_same m n x y None None good fine same one other alike = same_chain x m y (same_back m x (still m x good one)) (same_chain m n y same (still n y fine other))
+alike_same m n x y (Some change) None good fine same one other none = absurd none
+alike_same m n x y None (Some also) good fine same one other none = absurd none
 alike_same m n x y (Some change) (Some also) good fine same (message, fits, clean, plainest, next) (another, fit, free, plainer, following) alike =
     (laid_alike (effect m message) (effect n another) x y (effect_good m message good fits clean) (effect_good n another fine fit free) next following).1
     (plain_same m n message another good fine same fits clean (sym plainest ∙ alike ∙ plainer))
@@ -317,10 +323,10 @@ module _ {R S : Type 0} (remaining : R → Option (List ℕ)) (failures : R → 
 
   module _ (b : Reading R) (d : Reading S) (count : ℕ) (goes too : Bool) (m n : Content) (before : IsBefore limit count) (paired : Paired b d count count goes too m n) where
     -- the first file is refused
-    pub first_refused : (to : Reading R) (x : Content) (fault : ToolFault) → Steps remaining failures First limit count goes m b to (Err fault) x
+    pub first_refused : (to : Reading R) (change : Option Message) (x : Content) (fault : ToolFault) → Steps remaining failures First limit count goes m b to (Err fault) change x
         → FindsFirst remaining failures remaining_then failed_then limit a to c d (Err fault)
-    first_refused to x fault steps =
-        let refused = refused_there remaining failures First limit a b to count paired.p m x goes fault before paired.one steps in
+    first_refused to change x fault steps =
+        let refused = refused_there remaining failures First limit a b to count paired.p m x goes fault change before paired.one steps in
         inl (
           paired.p,
           paired.q,
@@ -330,20 +336,20 @@ module _ {R S : Type 0} (remaining : R → Option (List ℕ)) (failures : R → 
           λ k within. paired.same k (omega (arith, refused.1, within)),
         )
 
-    module _ (to : Reading R) (change : Option Message) (x : Content) (steps : Steps remaining failures First limit count goes m b to (Ok change) x) where
-      first_on : StandsOn remaining failures First limit (is_some change) a to count paired.p x
-      first_on = stands_on remaining failures First limit a b to count paired.p m x goes change before paired.one steps
+    module _ (to : Reading R) (went : Bool) (change : Option Message) (x : Content) (steps : Steps remaining failures First limit count goes m b to (Ok went) change x) where
+      first_on : StandsOn remaining failures First limit went a to count paired.p x
+      first_on = stands_on remaining failures First limit a b to count paired.p m x goes went change before paired.one steps
 
       -- the second file is
-      pub second_refused : (up : Reading S) (y : Content) (fault : ToolFault) → Steps remaining_then failed_then Second limit count too n d up (Err fault) y
+      pub second_refused : (up : Reading S) (also : Option Message) (y : Content) (fault : ToolFault) → Steps remaining_then failed_then Second limit count too n d up (Err fault) also y
           → FindsFirst remaining failures remaining_then failed_then limit a to c up (Err fault)
-      second_refused up y fault next =
-          let refused = refused_there remaining_then failed_then Second limit c d up count paired.q n y too fault before paired.other next in
+      second_refused up also y fault next =
+          let refused = refused_there remaining_then failed_then Second limit c d up count paired.q n y too fault also before paired.other next in
           inr (
             first_on.payloads,
             paired.q,
             subst (λ k. ReadsUpTo remaining failures First limit (k + 1) a to first_on.payloads) (sym refused.1)
-                (up_to remaining failures First limit (is_some change) a to (count + 1) first_on.payloads x (within_more limit.after count before) first_on.stands),
+                (up_to remaining failures First limit went a to (count + 1) first_on.payloads x (within_more limit.after count before) first_on.stands),
             refused.2,
             λ k within. along k (omega (arith, refused.1, within)),
           ) where
@@ -351,10 +357,10 @@ module _ {R S : Type 0} (remaining : R → Option (List ℕ)) (failures : R → 
             along k within = subst (λ z. Same (run (map message_of z)) (run (map message_of (take k paired.q)))) (sym (first_on.front k within)) (paired.same k within)
 
       -- neither is
-      pub both_on : (up : Reading S) (also : Option Message) (y : Content) → Steps remaining_then failed_then Second limit count too n d up (Ok also) y
-          → Paired to up (count + 1) count (is_some change) (is_some also) x y
-      both_on up also y next =
-          let second_on = stands_on remaining_then failed_then Second limit c d up count paired.q n y too also before paired.other next in
+      pub both_on : (up : Reading S) (follows : Bool) (also : Option Message) (y : Content) → Steps remaining_then failed_then Second limit count too n d up (Ok follows) also y
+          → Paired to up (count + 1) count went follows x y
+      both_on up follows also y next =
+          let second_on = stands_on remaining_then failed_then Second limit c d up count paired.q n y too follows also before paired.other next in
           record {
             p = first_on.payloads;
             q = second_on.payloads;
@@ -365,16 +371,17 @@ module _ {R S : Type 0} (remaining : R → Option (List ℕ)) (failures : R → 
           }
 
       -- and changes that are alike leave the markets the same
-      pub alike_on : (up : Reading S) (also : Option Message) (y : Content) → Steps remaining_then failed_then Second limit count too n d up (Ok also) y → AreAlike change also → Same x y
-      alike_on up also y next alike =
+      pub alike_on : (up : Reading S) (follows : Bool) (also : Option Message) (y : Content) → Steps remaining_then failed_then Second limit count too n d up (Ok follows) also y
+          → AreAlike change also → Same x y
+      alike_on up follows also y next alike =
           let one = stands_applied remaining failures First limit goes a b count paired.p m paired.one in
           let other = stands_applied remaining_then failed_then Second limit too c d count paired.q n paired.other in
           let same : Same m n = (same_there limit paired.p paired.q m n count one other
           (stands_within remaining failures First limit goes a b count paired.p m paired.one)
           (stands_within remaining_then failed_then Second limit too c d count paired.q n paired.other)).1 (paired.same count (omega arith)) in
           alike_same m n x y change also (applied_good limit paired.p m one) (applied_good limit paired.q n other) same
-          (changed_so remaining failures First limit count goes m x b to change steps)
-          (changed_so remaining_then failed_then Second limit count too n y d up also next) alike
+          (changed_so remaining failures First limit count goes m x b to went change steps)
+          (changed_so remaining_then failed_then Second limit count too n y d up follows also next) alike
 
   module _ (b : Reading R) (d : Reading S) (count last : ℕ) (goes too : Bool) (m n : Content) (paired : Paired b d count last goes too m n) where
     one_applied : AreApplied limit paired.p m

@@ -61,42 +61,47 @@ count_of (tool.Stopped at end) = Some end.count
 count_of (tool.Short at count) = Some count
 count_of fault = None
 
--- what a message of a payload does, of which the plainest one with its effect is returned; or it is late, or the reading stops
-abbrev pub TakesChange : Limit → Content → List ℕ → Result (Option Message) Stop → Content → Type 0
-TakesChange limit m payload (Ok (Some change)) n = TakesPayload limit m payload (Ok true) n × (change ≡ plain m (message_of payload))
-TakesChange limit m payload (Ok None) n = TakesPayload limit m payload (Ok false) n
-TakesChange limit m payload (Err stop) n = TakesPayload limit m payload (Err stop) n
+-- what a message changes: what the plainest one with its effect does, or nothing in any market
+abbrev pub IsChange : Content → Message → Option Message → Type 0
+IsChange m message (Some change) = change ≡ plain m message
+IsChange m message None = (k : Content) → effect k message ≡ k
 
--- the next message is applied, and this is the plainest one with its effect
-abbrev pub AppliesNext : Limit → Bool → Content → Option (List ℕ) → Option (List ℕ) → Message → Content → Type 0
+-- a message of a payload is applied, and what it changes is known; or it is late, or the reading stops
+abbrev pub TakesChange : Limit → Content → List ℕ → Result Bool Stop → Option Message → Content → Type 0
+TakesChange limit m payload (Ok true) change n = TakesPayload limit m payload (Ok true) n × IsChange m (message_of payload) change
+TakesChange limit m payload (Ok false) change n = TakesPayload limit m payload (Ok false) n × (change ≡ None)
+TakesChange limit m payload (Err stop) change n = TakesPayload limit m payload (Err stop) n
+
+-- the next message is applied, and this is what it changes
+abbrev pub AppliesNext : Limit → Bool → Content → Option (List ℕ) → Option (List ℕ) → Option Message → Content → Type 0
 AppliesNext limit full m old new change n =
-    (payload : List ℕ) × TakesOff old new payload × (full ≡ false) × TakesPayload limit m payload (Ok true) n × (change ≡ plain m (message_of payload))
+    (payload : List ℕ) × TakesOff old new payload × (full ≡ false) × TakesPayload limit m payload (Ok true) n × IsChange m (message_of payload) change
 
 -- what one block does
-abbrev pub ReadsChange : Limit → Bool → Content → Option (List ℕ) → Option (List ℕ) → Result (Option Message) Stop → Content → Type 0
-ReadsChange limit full m old new (Ok (Some change)) n = AppliesNext limit full m old new change n
-ReadsChange limit full m old new (Ok None) n = TakesNext limit full m old new (Ok false) n
-ReadsChange limit full m old new (Err stop) n = TakesNext limit full m old new (Err stop) n
+abbrev pub ReadsChange : Limit → Bool → Content → Option (List ℕ) → Option (List ℕ) → Result Bool Stop → Option Message → Content → Type 0
+ReadsChange limit full m old new (Ok true) change n = AppliesNext limit full m old new change n
+ReadsChange limit full m old new (Ok false) change n = TakesNext limit full m old new (Ok false) n × (change ≡ None)
+ReadsChange limit full m old new (Err stop) change n = TakesNext limit full m old new (Err stop) n
 
--- what a step returns where a file stops after this many messages: none, unless more are wanted
-abbrev pub no_change : Stop → Limit → Source → ℕ → Result (Option Message) ToolFault
-no_change stop limit file count = none_of (stopped stop limit.after file count)
+-- what a step returns where a file stops after this many messages: there is none, unless more are wanted
+abbrev pub over : Stop → Limit → Source → ℕ → Result Bool ToolFault
+over stop limit file count = none_of (stopped stop limit.after file count)
   where
-    none_of : Result ℕ ToolFault → Result (Option Message) ToolFault
-    none_of (Ok count) = Ok None
+    none_of : Result ℕ ToolFault → Result Bool ToolFault
+    none_of (Ok count) = Ok false
     none_of (Err fault) = Err fault
 
 -- where the reader of blocks is left: after the message, whether it is applied or late, or where the reading stopped
-abbrev pub LeavesChange : {R : Type 0} → Result (Option Message) Stop → Reading R → Reading R → Type 0
-LeavesChange (Ok change) old new = LeavesReaderFirst old 1 None new
+abbrev pub LeavesChange : {R : Type 0} → Result Bool Stop → Reading R → Reading R → Type 0
+LeavesChange (Ok goes) old new = LeavesReaderFirst old 1 None new
 LeavesChange (Err stop) old new = LeavesReaderFirst old 0 (Some stop) new
 
--- Changes of two markets that are the same leave the same: the same plainest messages do, and one that changes nothing beside no message.
+-- changes of two markets that are the same leave the same: the same plainest messages do, and no change of either
 abbrev pub AreAlike : Option Message → Option Message → Type 0
 AreAlike None None = ⊤
 AreAlike (Some one) (Some other) = one ≡ other
-AreAlike (Some one) None = (m : Content) → effect m one ≡ m
-AreAlike None (Some other) = (m : Content) → effect m other ≡ m
+AreAlike (Some one) None = ⊥
+AreAlike None (Some other) = ⊥
 
 module _ {R : Type 0} (remaining : R → Option (List ℕ)) (failures : R → Failures) where
   -- What was read of a file after this many messages of each: as many, and nothing after them; or all that is wanted, if that is fewer.
@@ -119,17 +124,19 @@ module _ {R : Type 0} (remaining : R → Option (List ℕ)) (failures : R → Fa
       × Counts stop (failures old.reader) (failures new.reader) × LeavesReaderFirst old 0 (Some stop) new
 
   -- What a step of a file does after this many messages: nothing if no more of it is wanted; otherwise it applies the next one, and
-  -- returns the plainest one with its effect, or finds that there is none.
-  abbrev pub Steps : Source → Limit → ℕ → Bool → Content → Reading R → Reading R → Result (Option Message) ToolFault → Content → Type 0
-  Steps file limit count false m old new result n = (result ≡ Ok None) × (n ≡ m) × (new ≡ old)
-  Steps file limit count true m old new (Ok (Some change)) n =
+  -- gives what that changes, or finds that there is none.
+  abbrev pub Steps : Source → Limit → ℕ → Bool → Content → Reading R → Reading R → Result Bool ToolFault → Option Message → Content → Type 0
+  Steps file limit count false m old new result change n = (result ≡ Ok false) × (change ≡ None) × (n ≡ m) × (new ≡ old)
+  Steps file limit count true m old new (Ok true) change n =
       AppliesNext limit (count == 10 ^ 19 - 1) m (bytes_left remaining old) (bytes_left remaining new) change n
       × (failures new.reader ≡ failures old.reader) × LeavesReaderFirst old 1 None new
-  Steps file limit count true m old new (Ok None) n =
-      (TakesNext limit (count == 10 ^ 19 - 1) m (bytes_left remaining old) (bytes_left remaining new) (Ok false) n
+  Steps file limit count true m old new (Ok false) change n =
+      (change ≡ None)
+      × ((TakesNext limit (count == 10 ^ 19 - 1) m (bytes_left remaining old) (bytes_left remaining new) (Ok false) n
       × (failures new.reader ≡ failures old.reader) × LeavesReaderFirst old 1 None new)
-      ⊎ ((limit.after ≡ None) × StopsAt limit count m old new End n)
-  Steps file limit count true m old new (Err fault) n = (stop : Stop) × (stopped stop limit.after file count ≡ Err fault) × StopsAt limit count m old new stop n
+      ⊎ ((limit.after ≡ None) × StopsAt limit count m old new End n))
+  Steps file limit count true m old new (Err fault) change n =
+      (stop : Stop) × (stopped stop limit.after file count ≡ Err fault) × StopsAt limit count m old new stop n
 
 module _ {R S : Type 0} (remaining : R → Option (List ℕ)) (failures : R → Failures) (remaining_then : S → Option (List ℕ)) (failed_then : S → Failures) where
   -- the first file is refused, and the markets before that were the same

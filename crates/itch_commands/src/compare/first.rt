@@ -1,5 +1,5 @@
 //! `compare --first`: after how many messages the markets of two files first differ.
-ghost use Rattle.std.specs.Prelude.{◌≡◌, ◌<◌, ◌^◌, ◌↔◌, None, is_none, length, IsTrue, IfNone, IfSome, MatchResult};
+ghost use Rattle.std.specs.Prelude.{◌≡◌, ◌<◌, ◌^◌, ◌↔◌, None, is_none, length, IsTrue, IfNone, IfSome, MatchResult, true};
 ghost use Rattle.itch_frame.specs.Reading.{bytes_left};
 ghost use Rattle.itch_market.specs.Content.{Content};
 ghost use Rattle.itch_market.specs.Effects.{effect};
@@ -7,7 +7,7 @@ ghost use Rattle.itch_market.specs.Replays.{Counts, step_of};
 ghost use Rattle.itch_market.specs.SameMarkets.{Same};
 ghost use Rattle.itch_snapshot.specs.Snapshot.{snap};
 ghost use Rattle.itch_commands.specs.Commands.{ComparesFirst};
-ghost use Rattle.itch_commands.specs.FirstDifferences.{AreAlike, FindsFirst, LeavesChange, ReadsChange, Steps, TakesChange, first_line, no_change};
+ghost use Rattle.itch_commands.specs.FirstDifferences.{AreAlike, FindsFirst, LeavesChange, ReadsChange, Steps, TakesChange, first_line, over};
 ghost use Rattle.itch_commands.specs.Limits.{counted};
 ghost use Rattle.itch_commands.specs.Outputs.{WritesOutput};
 ghost use Rattle.itch_commands.specs.Readings.{FromBlocks, FromReader};
@@ -108,25 +108,45 @@ fn first_difference<R: CountedRead, S: CountedRead, A: Allocator, C: Allocator, 
 {
     let mut one: Market<B> = Market::new(alloc);
     let mut other: Market<B> = Market::new(alloc);
+    let mut change = None;
+    let mut other_change = None;
     let mut one_goes = true;
     let mut other_goes = true;
     for count in 0..limit.most() {
         if !one_goes && !other_goes {
             return Ok(None);
         }
-        let change = step(first, &mut one, one_goes, count, limit, Source::First)?;
-        let other_change = step(second, &mut other, other_goes, count, limit, Source::Second)?;
+        let went = step(
+            first,
+            &mut one,
+            one_goes,
+            count,
+            limit,
+            Source::First,
+            &mut change,
+        )?;
+        let other_went = step(
+            second,
+            &mut other,
+            other_goes,
+            count,
+            limit,
+            Source::Second,
+            &mut other_change,
+        )?;
         if !still_same(&mut one, &mut other, &change, &other_change) {
             return Ok(Some(count + 1));
         }
-        one_goes = change.is_some();
-        other_goes = other_change.is_some();
+        one_goes = went;
+        other_goes = other_went;
     }
     Ok(None)
 }
 
-// Applies the next message of a file after `count` others, and returns the plainest one with its effect. It returns none if no more
-// are wanted, and reads nothing if that is so already (`goes` is false).
+// Applies the next message of a file after `count` others, and says what it changes: it writes the plainest message with that effect
+// where the caller keeps it, so that nothing is moved. It returns false if there is none, or no more are wanted; if that was so
+// already (`goes` is false), it reads nothing.
+#[inline(always)]
 fn step<R: CountedRead, A: Allocator, B: OrderBook>(
     reader: &mut BlockReader<R, A>,
     market: &mut Market<B>,
@@ -134,49 +154,72 @@ fn step<R: CountedRead, A: Allocator, B: OrderBook>(
     count: u64,
     limit: Limit,
     file: Source,
-) -> Result<Option<Message<'static>>, ToolFault>
-    ensures { Steps R.remaining R.failures file limit count goes market.old reader.old reader.new result market.new }
+    change: &mut Option<Message<'static>>,
+) -> Result<bool, ToolFault>
+    ensures { Steps R.remaining R.failures file limit count goes market.old reader.old reader.new result change.new market.new }
 {
     if !goes {
-        return Ok(None);
+        *change = None;
+        return Ok(false);
     }
     look_ahead(reader, market, count);
-    match change_at_hand(reader, market, count == MOST_MESSAGES, limit) {
-        Some(Ok(change)) => return Ok(change),
-        Some(Err(why)) => return no_change(Stop::from(why), limit, file, count),
-        None => {}
-    }
-    match read_change(reader, market, count == MOST_MESSAGES, limit) {
-        Ok(change) => Ok(change),
-        Err(stop) => no_change(stop, limit, file, count),
+    match change_at_hand(reader, market, count == MOST_MESSAGES, limit, change) {
+        Some(Ok(went)) => Ok(went),
+        Some(Err(why)) => over(Stop::from(why), limit, file, count, change),
+        None => read_step(reader, market, count, limit, file, change),
     }
 }
 
-// What a step returns whose file stops after so many messages: none, unless more messages are wanted.
-fn no_change(
+// The same of a message that may have to be read. A function of its own keeps what few messages need out of the loop.
+#[cold]
+#[inline(never)]
+fn read_step<R: CountedRead, A: Allocator, B: OrderBook>(
+    reader: &mut BlockReader<R, A>,
+    market: &mut Market<B>,
+    count: u64,
+    limit: Limit,
+    file: Source,
+    change: &mut Option<Message<'static>>,
+) -> Result<bool, ToolFault>
+    ensures { Steps R.remaining R.failures file limit count true market.old reader.old reader.new result change.new market.new }
+{
+    match read_change(reader, market, count == MOST_MESSAGES, limit, change) {
+        Ok(went) => Ok(went),
+        Err(stop) => over(stop, limit, file, count, change),
+    }
+}
+
+// What a step returns whose file stops after so many messages: there is none, unless more messages are wanted.
+#[cold]
+#[inline(never)]
+fn over(
     stop: Stop,
     limit: Limit,
     file: Source,
     count: u64,
-) -> Result<Option<Message<'static>>, ToolFault>
-    ensures { result ≡ no_change stop limit file count }
+    change: &mut Option<Message<'static>>,
+) -> Result<bool, ToolFault>
+    ensures result { result ≡ over stop limit file count }
+    ensures change { change.new ≡ None }
 {
+    *change = None;
     match stopped(stop, limit.after, file, count) {
-        Ok(_count) => Ok(None),
+        Ok(_count) => Ok(false),
         Err(fault) => Err(fault),
     }
 }
 
-// Applies the next message if it lies at hand, and returns the plainest one with its effect; or returns none if it is late. Where none
-// lies at hand, or where there were as many as may be (`is_full`), nothing changes.
+// Applies the next message if it lies at hand, and says what it changes; or returns false if it is late. Where none lies at hand, or
+// where there were as many as may be (`is_full`), neither reader nor market changes.
 #[inline(always)]
 fn change_at_hand<R: CountedRead, A: Allocator, B: OrderBook>(
     reader: &mut BlockReader<R, A>,
     market: &mut Market<B>,
     is_full: bool,
     limit: Limit,
-) -> Option<Result<Option<Message<'static>>, NotTaken>>
-    ensures change { IfSome result (λ taken. ReadsChange limit is_full market.old (bytes_left R.remaining reader.old) (bytes_left R.remaining reader.new) (step_of taken) market.new) }
+    change: &mut Option<Message<'static>>,
+) -> Option<Result<bool, NotTaken>>
+    ensures change { IfSome result (λ taken. ReadsChange limit is_full market.old (bytes_left R.remaining reader.old) (bytes_left R.remaining reader.new) (step_of taken) change.new market.new) }
     ensures failures { IfSome result (λ taken. R.failures reader.new.reader ≡ R.failures reader.old.reader) }
     ensures reader { IfSome result (λ taken. LeavesChange (step_of taken) reader.old reader.new) }
     ensures none { IfNone result ((reader.new ≡ reader.old) × (market.new ≡ market.old)) }
@@ -188,50 +231,71 @@ fn change_at_hand<R: CountedRead, A: Allocator, B: OrderBook>(
     if payload.is_empty() {
         return Some(Err(NotTaken::Ended));
     }
-    Some(take_change(market, payload, limit))
+    Some(take_change(market, payload, limit, change))
 }
 
 // The same of a message that may have to be read.
-#[inline(never)]
 fn read_change<R: CountedRead, A: Allocator, B: OrderBook>(
     reader: &mut BlockReader<R, A>,
     market: &mut Market<B>,
     is_full: bool,
     limit: Limit,
-) -> Result<Option<Message<'static>>, Stop>
-    ensures change { ReadsChange limit is_full market.old (bytes_left R.remaining reader.old) (bytes_left R.remaining reader.new) result market.new }
+    change: &mut Option<Message<'static>>,
+) -> Result<bool, Stop>
+    ensures change { ReadsChange limit is_full market.old (bytes_left R.remaining reader.old) (bytes_left R.remaining reader.new) result change.new market.new }
     ensures failures { MatchResult result (λ _. R.failures reader.new.reader ≡ R.failures reader.old.reader)
         (λ stop. Counts stop (R.failures reader.old.reader) (R.failures reader.new.reader)) }
     ensures reader { LeavesChange result reader.old reader.new }
 {
     let payload = next_message(reader, is_full)?;
-    match take_change(market, payload, limit) {
-        Ok(change) => Ok(change),
+    match take_change(market, payload, limit, change) {
+        Ok(went) => Ok(went),
         Err(why) => Err(Stop::from(why)),
     }
 }
 
-// Applies the message of a payload, and returns the plainest one with its effect; or returns none if it is late.
+// Applies the message of a payload, and says what it changes; or returns false if it is late.
 #[inline(always)]
 fn take_change<B: OrderBook>(
     market: &mut Market<B>,
     payload: &[u8],
     limit: Limit,
-) -> Result<Option<Message<'static>>, NotTaken>
-    ensures { TakesChange limit market.old payload.now (step_of result) market.new }
+    change: &mut Option<Message<'static>>,
+) -> Result<bool, NotTaken>
+    ensures { TakesChange limit market.old payload.now (step_of result) change.new market.new }
 {
     let message = match decode(payload) {
         Ok(message) => message,
         Err(fault) => return Err(NotTaken::Undecoded(fault)),
     };
     if limit.is_late(&message) {
-        return Ok(None);
+        *change = None;
+        return Ok(false);
     }
-    let change = market.plain(&message);
+    if changes_nothing(&message) {
+        *change = None;
+    } else {
+        *change = Some(market.plain(&message));
+    }
     match market.apply(&message) {
-        Ok(()) => Ok(Some(change)),
+        Ok(()) => Ok(true),
         Err(why) => Err(NotTaken::Refused(why)),
     }
+}
+
+// Whether a message changes no market, as far as its type tells.
+#[inline(always)]
+fn changes_nothing(message: &Message<'_>) -> bool
+    ensures { IsTrue result → (m : Content) → effect m message.now ≡ m }
+{
+    matches!(
+        message,
+        Message::Trade(_)
+            | Message::CrossTrade(_)
+            | Message::BrokenTrade(_)
+            | Message::End { .. }
+            | Message::Other(_)
+    )
 }
 
 // Whether two markets are the same, which were so before these changes. The markets are settled and compared only if the changes do
@@ -263,20 +327,10 @@ fn are_alike(one: &Option<Message<'_>>, other: &Option<Message<'_>>) -> bool
     match one {
         Some(change) => match other {
             Some(other) => same_message(change, other),
-            None => is_nothing(change),
+            None => false,
         },
-        None => match other {
-            Some(change) => is_nothing(change),
-            None => true,
-        },
+        None => other.is_none(),
     }
-}
-
-// Whether this is the plainest message that changes nothing.
-fn is_nothing(change: &Message<'_>) -> bool
-    ensures { IsTrue result → (m : Content) → effect m change.now ≡ m }
-{
-    matches!(change, Message::BrokenTrade(_))
 }
 
 fn write_first<W: CountedWrite>(

@@ -10,49 +10,49 @@ loop-count-init g c = paired_first _ _ _ _ _ _ _ _ _ c.new-one.ensures c.new-oth
 pub returns-then-not-other_goes : goal.returns-then-not-other_goes
 returns-then-not-other_goes g c = both_over _ _ _ _ _ _ _ _ _ _ _ _ _ _ c.if-not-one_goes.true c.if-not-other_goes.true c.loop-count.invariant
 
-pub returns-in_err-change : goal.returns-in_err-change
-returns-in_err-change g c =
+pub returns-in_err-went : goal.returns-in_err-went
+returns-in_err-went g c =
     let p = err_from_is_err_and c.from_residual.result c.from_residual.ensures.1 in
     let before = before_most c.args.limit.after c.loop-count.count (rw c.most-count-end.ensures at c.loop-count-test.true) in
-    rw (p.1, p.2) (first_refused _ _ _ _ _ _ _ _ _ _ _ _ _ _ before c.loop-count.invariant c.step.new.reader c.step.new.market _ c.in_err-change.ensures)
+    rw (p.1, p.2) (first_refused _ _ _ _ _ _ _ _ _ _ _ _ _ _ before c.loop-count.invariant c.step.new.reader c.step.new.change c.step.new.market _ c.in_err-went.ensures)
 
-pub returns-in_err-other_change : goal.returns-in_err-other_change
-returns-in_err-other_change g c =
-    let p = err_from_is_err_and c.from_residual-in_err-other_change.result c.from_residual-in_err-other_change.ensures.1 in
+pub returns-in_err-other_went : goal.returns-in_err-other_went
+returns-in_err-other_went g c =
+    let p = err_from_is_err_and c.from_residual-in_err-other_went.result c.from_residual-in_err-other_went.ensures.1 in
     let before = before_most c.args.limit.after c.loop-count.count (rw c.most-count-end.ensures at c.loop-count-test.true) in
     rw (p.1, p.2)
-    (second_refused _ _ _ _ _ _ _ _ _ _ _ _ _ _ before c.loop-count.invariant c.step.new.reader c.in_ok-change.change c.step.new.market c.in_ok-change.ensures c.step-in-loop-count.new.reader
-    c.step-in-loop-count.new.market _ c.in_err-other_change.ensures)
+    (second_refused _ _ _ _ _ _ _ _ _ _ _ _ _ _ before c.loop-count.invariant c.step.new.reader c.in_ok-went.went c.step.new.change c.step.new.market c.in_ok-went.ensures c.step-in-loop-count.new.reader
+    c.step-in-loop-count.new.change c.step-in-loop-count.new.market _ c.in_err-other_went.ensures)
 
 pub still_same-requires-clause-few : goal.still_same-requires-clause-few
 still_same-requires-clause-few g c =
     let before = before_most c.args.limit.after c.loop-count.count (rw c.most-count-end.ensures at c.loop-count-test.true) in
     paired_few _ _ _ _ _ _ _ _ _ _ _ _ _ _ _
-    (both_on _ _ _ _ _ _ _ _ _ _ _ _ _ _ before c.loop-count.invariant c.step.new.reader c.in_ok-change.change c.step.new.market c.in_ok-change.ensures c.step-in-loop-count.new.reader
-    c.in_ok-other_change.other_change c.step-in-loop-count.new.market c.in_ok-other_change.ensures)
+    (both_on _ _ _ _ _ _ _ _ _ _ _ _ _ _ before c.loop-count.invariant c.step.new.reader c.in_ok-went.went c.step.new.change c.step.new.market c.in_ok-went.ensures c.step-in-loop-count.new.reader
+    c.in_ok-other_went.other_went c.step-in-loop-count.new.change c.step-in-loop-count.new.market c.in_ok-other_went.ensures)
 
 pub still_same-requires-clause-alike : goal.still_same-requires-clause-alike
 still_same-requires-clause-alike g c =
     let before = before_most c.args.limit.after c.loop-count.count (rw c.most-count-end.ensures at c.loop-count-test.true) in
     λ alike.
-    alike_on _ _ _ _ _ _ _ _ _ _ _ _ _ _ before c.loop-count.invariant c.step.new.reader c.in_ok-change.change c.step.new.market c.in_ok-change.ensures c.step-in-loop-count.new.reader
-    c.in_ok-other_change.other_change c.step-in-loop-count.new.market c.in_ok-other_change.ensures alike
+    alike_on _ _ _ _ _ _ _ _ _ _ _ _ _ _ before c.loop-count.invariant c.step.new.reader c.in_ok-went.went c.step.new.change c.step.new.market c.in_ok-went.ensures c.step-in-loop-count.new.reader
+    c.in_ok-other_went.other_went c.step-in-loop-count.new.change c.step-in-loop-count.new.market c.in_ok-other_went.ensures alike
 
 pub returns-then-not-still_same : goal.returns-then-not-still_same
 returns-then-not-still_same g c =
     let before = before_most c.args.limit.after c.loop-count.count (rw c.most-count-end.ensures at c.loop-count-test.true) in
     differ_now _ _ _ _ _ _ _ _ _ _ _ _ _ _ _
-    (both_on _ _ _ _ _ _ _ _ _ _ _ _ _ _ before c.loop-count.invariant c.step.new.reader c.in_ok-change.change c.step.new.market c.in_ok-change.ensures c.step-in-loop-count.new.reader
-    c.in_ok-other_change.other_change c.step-in-loop-count.new.market c.in_ok-other_change.ensures)
+    (both_on _ _ _ _ _ _ _ _ _ _ _ _ _ _ before c.loop-count.invariant c.step.new.reader c.in_ok-went.went c.step.new.change c.step.new.market c.in_ok-went.ensures c.step-in-loop-count.new.reader
+    c.in_ok-other_went.other_went c.step-in-loop-count.new.change c.step-in-loop-count.new.market c.in_ok-other_went.ensures)
     refl (within_more c.args.limit.after c.loop-count.count before) (λ same. let no = c.if-not-still_same.ensures.same.1 same in cc)
 
 pub loop-count-preserved : goal.loop-count-preserved
 loop-count-preserved g c =
     let before = before_most c.args.limit.after c.loop-count.count (rw c.most-count-end.ensures at c.loop-count-test.true) in
-    rw (c.is_some-one_goes.ensures, c.is_some-other_goes.ensures, c.if-not-still_same.ensures.one, c.if-not-still_same.ensures.other)
+    rw (c.if-not-still_same.ensures.one, c.if-not-still_same.ensures.other)
     (still_same _ _ _ _ _ _ _ _ _ _ _ _ _ _ _
-    (both_on _ _ _ _ _ _ _ _ _ _ _ _ _ _ before c.loop-count.invariant c.step.new.reader c.in_ok-change.change c.step.new.market c.in_ok-change.ensures c.step-in-loop-count.new.reader
-    c.in_ok-other_change.other_change c.step-in-loop-count.new.market c.in_ok-other_change.ensures)
+    (both_on _ _ _ _ _ _ _ _ _ _ _ _ _ _ before c.loop-count.invariant c.step.new.reader c.in_ok-went.went c.step.new.change c.step.new.market c.in_ok-went.ensures c.step-in-loop-count.new.reader
+    c.in_ok-other_went.other_went c.step-in-loop-count.new.change c.step-in-loop-count.new.market c.in_ok-other_went.ensures)
     refl (c.if-not-still_same.ensures.same.0 refl))
 
 pub returns : goal.returns
