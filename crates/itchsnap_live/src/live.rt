@@ -3,7 +3,7 @@
 use crate::budget::Budget;
 use crate::callers::Callers;
 use crate::clients::Clients;
-use crate::fault::{LiveFault, RecordFault};
+use crate::fault::LiveFault;
 use crate::feed_side::{FeedSide, SHARE};
 use crate::log::Log;
 use crate::opened::{follower_of, listen, named_desk, open_folder, open_record};
@@ -14,11 +14,10 @@ use crate::route::Servers;
 use crate::saving::Saver;
 use crate::spare::{SPARED, Spare};
 use crate::start::Start;
-use crate::step::{Step, record_fault};
+use crate::step::Step;
 use crate::turns::Turns;
 use itch_book::{IndexedBook, OrderBook};
 use itch_codec::{Alpha, Seq};
-use itch_commands::ToolFault;
 use itch_frame::CountedWrite;
 use itch_join::Joiner;
 use itch_live::{Desk, Follower};
@@ -362,13 +361,15 @@ where
         }
         self.has_asked = true;
         self.spare.release();
-        let rt = self.log.runtime();
-        let joiner: Joiner<B> = Joiner::new(rt.alloc(), 0);
-        let servers = self.feed.servers();
-        match ask_session(rt, servers, address, &self.serving.credentials, joiner)? {
-            Some(named) => agreed(session, named),
-            None => Ok(()),
-        }
+        let joiner: Joiner<B> = Joiner::new(self.log.runtime().alloc(), 0);
+        let asked = ask_session(
+            &self.log,
+            &self.feed,
+            address,
+            &self.serving.credentials,
+            joiner,
+        );
+        agreed(session, asked)
     }
 
     // The record has the feed's session before it has a message.
@@ -395,13 +396,10 @@ where
             }
             _ => Ok(()),
         };
-        match saved {
-            Ok(()) => Ok(true),
-            Err(error) => {
-                self.lose_record(RecordLoss::System(error))?;
-                Ok(true)
-            }
+        if let Err(error) = saved {
+            self.lose_record(RecordLoss::System(error))?;
         }
+        Ok(true)
     }
 
     // Goes on without the record where that is allowed.
@@ -411,25 +409,19 @@ where
             self.record.give_up();
             return Ok(());
         }
-        Err(match loss {
-            RecordLoss::Changed(change) => LiveFault::Record(RecordFault::Changed(change)),
-            RecordLoss::System(error) => LiveFault::Tool(record_fault(
-                ToolFault::Write(error),
-                self.desk.next(),
-            )),
-        })
+        Err(loss.fault(self.desk.next()))
     }
 
     // The fault of a feed that refuses to go on: with its session, or with the one of the record or of the snapshot, which it is not in.
     fn explained(&self, fault: LiveFault) -> LiveFault {
-        let (session, server) = (self.desk.session(), self.feed.server());
+        let fault = fault.of_message(self.desk.session(), self.feed.server());
         if self.record.session().is_some() {
-            return fault.of_record().of_message(session, server);
+            return fault.of_record();
         }
         if self.serving.from_snapshot && self.serving.session.is_none() {
-            return fault.after_glimpse().of_message(session, server);
+            return fault.after_glimpse();
         }
-        fault.of_message(session, server)
+        fault
     }
 
     // Does what the clients have sent, and sends them what they are told. Once the feed has ended none is accepted, unless it stays.

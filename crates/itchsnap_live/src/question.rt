@@ -4,9 +4,10 @@ ghost use Rattle.itch_soup.specs.Names.{session_name};
 ghost use Rattle.itchsnap_live.specs.Questions.{asks_session, is_another};
 
 use crate::fault::{LiveFault, RecordFault};
+use crate::feed_side::FeedSide;
+use crate::log::Log;
 use crate::naming::nobody;
 use crate::resuming::at_the_first;
-use crate::route::Servers;
 use crate::start::Start;
 use itch_book::OrderBook;
 use itch_codec::Alpha;
@@ -46,29 +47,37 @@ fn name_of(session: &Alpha<10>) -> &[u8]
     after_spaces(session.text().as_bytes())
 }
 
-/// The fault of a record of one session, where the feed is in another.
-pub(crate) fn agreed(session: Alpha<10>, named: Alpha<10>) -> Result<(), LiveFault> {
-    if is_another(&session, &named) {
-        return Err(LiveFault::Record(RecordFault::OtherSession { session, named }));
+/// The fault of a record of one session, where the feed says that it is in another.
+pub(crate) fn agreed(session: Alpha<10>, asked: Option<Alpha<10>>) -> Result<(), LiveFault> {
+    if let Some(named) = asked {
+        if is_another(&session, &named) {
+            return Err(LiveFault::Record(RecordFault::OtherSession { session, named }));
+        }
     }
     Ok(())
 }
 
-/// Asks the server of this address which session it is in, by a login for whichever that is; none where it does not answer within two seconds.
+/// Asks a feed's server of this address which session it is in, by a login for whichever that is; none where it does not answer within two seconds, or cannot be
+/// asked.
 pub(crate) fn ask_session<R, B>(
-    rt: &R,
-    servers: Servers<'_>,
+    log: &Log<'_, R>,
+    feed: &FeedSide<'_>,
     address: SocketAddr,
     credentials: &Credentials,
     joiner: Joiner<B>,
-) -> Result<Option<Alpha<10>>, LiveFault>
+) -> Option<Alpha<10>>
 where
     R: Net + Clock + Eprint + AllocGlobal,
     B: OrderBook<Alloc = Global>,
 {
-    let mut start = Start::new(rt, servers, None, FEED)?;
-    let mut desk = nameless_desk(rt.alloc(), credentials, joiner)?;
-    Ok(start.ask(address, &mut desk, MOST_MS))
+    let rt = log.runtime();
+    let Ok(mut start) = Start::new(rt, feed.servers(), None, FEED) else {
+        return None;
+    };
+    let Ok(mut desk) = nameless_desk(rt.alloc(), credentials, joiner) else {
+        return None;
+    };
+    start.ask(address, &mut desk, MOST_MS)
 }
 
 // A desk without places whose follower has no session yet.
