@@ -157,9 +157,11 @@ def an_address_in_use_is_a_failed_socket(program):
 
 
 def an_unknown_host_cannot_be_opened(program):
+    """Neither the feed of `follow` nor its server of snapshots."""
     quick = {"RES_OPTIONS": "timeout:1 attempts:1", "LOCALDOMAIN": ""}
     with tempfile.TemporaryDirectory() as folder:
-        for words in (("live", "--feed", "no-such-host.invalid:9", "--port", "0"), ("follow", "--feed", "127.0.0.1:9", "--glimpse", "no-such-host.invalid:9")):
+        for servers in (("no-such-host.invalid:9", "127.0.0.1:9"), ("127.0.0.1:9", "no-such-host.invalid:9")):
+            words = "follow", "--feed", servers[0], "--glimpse", servers[1]
             status, output, error = ended_in(folder, program, *words, *WORDS, **quick)
             if (status, output) != (3, b"") or not error.startswith(b"itchsnap: cannot open\n  no-such-host.invalid:9: failed to lookup address information"):
                 yield f"{words}: {status}, {output!r}, {error!r}"
@@ -170,7 +172,7 @@ def words_that_do_not_go_together_are_refused(program):
     follow_words = ["follow", "--feed", "h:1", "--glimpse", "h:2", *WORDS]
     feed_words = ["feed", "day", "--port", "0", *WORDS]
     rows = [[*live_words, "--record", "r", "--glimpse", "h:2"], [*live_words, "--snapshots", "d"], [*live_words, "--every", "5"],
-            [*live_words, "--clients", "0"], [*live_words, "--clients", "1001"], [*live_words, "--feed", "h"], ["live", *WORDS, "--port", "0"],
+            [*live_words, "--clients", "0"], [*live_words, "--clients", "1001"], ["live", *WORDS, "--port", "0"],
             [*follow_words, "--whole", "--json"], follow_words[:3] + list(WORDS), [*feed_words, "--rate", "5", "--clock", "2"], [*feed_words, "--rate", "0"],
             ["feed", "-", "--port", "0", *WORDS], ["feed", "--port", "0", *WORDS], ["live", "--feed", "h:1", "--user", "user", "--port", "0"]]
     rows += [["live", "--feed", place, "--port", "0", *WORDS] for place in ("", ":1", "h:0", "h:65536", "h:x", "::1:5", "[::1]", "[::1:5", "h:+5", "h:")]

@@ -35,6 +35,37 @@ def a_record_of_another_day_is_refused(program):
         yield from differs("its session", (folder / "record.session").read_bytes(), b"DAY1\n")
 
 
+def a_feed_that_rejects_the_session_of_a_record_is_asked_for_its_own(program):
+    """Once: by a login for whichever it is. Both sessions are named then, and the record stays as it is."""
+    day, _ = day_of(50)
+    kept = b"".join(split(day)[:20])
+    rejected = sends(b"\0\x02JS")
+
+    def second_day(peer, login):
+        (plays(day, session=b"DAY2") if session_in(login).strip() in (b"", b"DAY2") else rejected)(peer, login)
+
+    line = b"itchsnap: record: of session DAY1, but the feed is in DAY2\n  record\n"
+    with folder_with(day=day, **recorded(kept, "DAY1")) as folder:
+        with Feed(second_day) as feed:
+            got = live_in(folder, program, feed.port, "--record", "record")
+            yield from differs("ended", got, (1, b"", b"feed: rejected S\n" + line))
+            yield from differs("asked", [session_in(it).strip() for it in feed.logins], [b"DAY1", b""])
+        with Running(program, "feed", folder / "day", "--port", "0", "--session", "DAY2", *WORDS) as feed:
+            got = live_in(folder, program, feed.port, "--record", "record")
+            yield from differs("of this program", got, (1, b"", b"feed: rejected S\n" + line))
+        yield from differs("the record", (folder / "record").read_bytes(), kept)
+        # One that is in the same session, or does not say, is asked again for that of the record.
+        with Feed(rejected, sends(acceptance(1, b"DAY1")), rejected, plays(day, until=30, session=b"DAY1"), rejected, plays(day, then=ENDED, session=b"DAY1")) as feed:
+            got = live_in(folder, program, feed.port, "--record", "record")
+            yield from differs("the same", got[:2], (0, b""))
+            yield from differs("asked for it", [session_in(it).strip() for it in feed.logins], [b"DAY1", b""] + [b"DAY1"] * 4)
+        yield from differs("the whole record", (folder / "record").read_bytes(), day)
+        (folder / "record").write_bytes(kept)
+        with Feed(rejected, rejected, plays(day, then=ENDED, session=b"DAY1")) as feed:
+            got = live_in(folder, program, feed.port, "--record", "record")
+            yield from differs("no answer", (got[:2], [session_in(it).strip() for it in feed.logins]), ((0, b""), [b"DAY1", b"", b"DAY1"]))
+
+
 def a_record_keeps_its_session(program):
     """It is written before the first message, asked for after a restart, and clients are accepted in it."""
     day, wanted = day_of(60)
@@ -247,6 +278,7 @@ def a_server_names_its_session(program):
 
 RUNS = [
     a_record_of_another_day_is_refused,
+    a_feed_that_rejects_the_session_of_a_record_is_asked_for_its_own,
     a_record_keeps_its_session,
     a_record_without_a_session_file_is_refused,
     an_empty_record_is_of_no_day,

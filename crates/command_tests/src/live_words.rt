@@ -2,10 +2,11 @@
 
 use crate::equal::{holds_in, same_in};
 use crate::words::{asked, words};
-use itchsnap_cli::words::{Job, Password, read_job};
+use itchsnap_cli::words::{Feeds, Job, MOST_FEEDS, Password, read_job};
 use std::test::Fail;
 
-const FEED: &str = "feed: Place { words: \"h:1\", host: \"h\", port: 1 }";
+const FEED: &str =
+    "feeds: Feeds { first: Place { words: \"h:1\", host: \"h\", port: 1 }, others: [None, None, None, None, None, None, None] }";
 
 const LOGIN: &str = "LoginWords { user: \"user\", .. }";
 
@@ -48,6 +49,45 @@ fn words_of_a_live_server_are_read(rt: HostRuntime) -> Result<(), Fail> {
         same_in(&rt, line.as_str(), found.as_str(), wanted.as_str());
     }
     Ok(())
+}
+
+#[test]
+fn a_feed_may_have_several_servers(rt: HostRuntime) -> Result<(), Fail> {
+    for (more, last) in [
+        ("", Some("h:1")),
+        (" --feed g:2", Some("g:2")),
+        (
+            " --feed b:2 --feed c:3 --feed d:4 --feed e:5 --feed f:6 --feed g:7 --feed [::1]:8",
+            Some("[::1]:8"),
+        ),
+        (
+            " --feed b:2 --feed c:3 --feed d:4 --feed e:5 --feed f:6 --feed g:7 --feed i:8 --feed j:9",
+            None,
+        ),
+        (" --feed h", None),
+    ] {
+        let line = format!(in rt.alloc();
+            "live --feed h:1{more} --port 0 --user user --pass secret"
+        )?;
+        let words = words(rt.alloc(), line.as_str())?;
+        let found = match read_job(rt.alloc(), words.as_slice(), false, None) {
+            Ok(Job::Live(live)) => last_of(&live.feeds),
+            _ => None,
+        };
+        holds_in(&rt, line.as_str(), found == last);
+    }
+    Ok(())
+}
+
+// The words of the last server.
+fn last_of<'a>(feeds: &Feeds<'a>) -> Option<&'a str> {
+    let mut last = None;
+    for place in 0..MOST_FEEDS {
+        if let Some(place) = feeds.get(place) {
+            last = Some(place.words);
+        }
+    }
+    last
 }
 
 #[test]

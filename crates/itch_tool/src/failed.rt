@@ -44,7 +44,7 @@ impl<'a> DeviceName<'a> {
             (Some(Job::Live(live)), Device::Socket) => DeviceName::Address(live.address),
             (Some(Job::Feed(feed)), Device::Socket) => DeviceName::Address(feed.address),
             (Some(Job::Follow(follow)), Device::Socket) => {
-                DeviceName::Server(follow.feed.host, follow.feed.port)
+                DeviceName::Server(follow.feeds.first.host, follow.feeds.first.port)
             }
             (Some(Job::Fetch { server, .. }), Device::Socket) => {
                 DeviceName::Server(server.host, server.port)

@@ -11,10 +11,9 @@ use itchsnap_cli::words::{
 use itchsnap_live::{
     Following, LiveFault, Names, Playing, Servers, Serving, follow_feed, play_feed, serve_live,
 };
-use std::alloc::Global;
 use std::fs::File;
 use std::io::{self, BufWriter};
-use std::net::{Net, SocketAddr, ToSocketAddrs};
+use std::net::{Net, ToSocketAddrs};
 use std::rt::{Clock, Files};
 
 /// Follows a feed, and serves the snapshot of its present market. The line of each client is written once it is gone.
@@ -25,11 +24,8 @@ where
     let login = read_login(rt, &words.login, Source::PasswordFile)?;
     let own = read_login(rt, &words.feed_login, Source::Second)?;
     let servers = Servers {
-        feed: look_up(rt, words.feed, Source::First)?,
-        glimpse: match words.glimpse {
-            Some(glimpse) => look_up(rt, glimpse, Source::Only)?,
-            None => Vec::new(rt.alloc()),
-        },
+        feeds: words.feeds,
+        glimpse: words.glimpse,
     };
     let serving = Serving {
         address: words.address,
@@ -61,9 +57,11 @@ where
     R: Net + Clock + Files<File = File> + Print + Eprint + AllocGlobal,
 {
     let login = read_login(rt, &words.login, Source::PasswordFile)?;
+    look_up(rt, words.feeds.first, Source::First)?;
+    look_up(rt, words.glimpse, Source::Only)?;
     let servers = Servers {
-        feed: look_up(rt, words.feed, Source::First)?,
-        glimpse: look_up(rt, words.glimpse, Source::Only)?,
+        feeds: words.feeds,
+        glimpse: Some(words.glimpse),
     };
     let following = Following {
         credentials: login.credentials(current_session()),
@@ -97,31 +95,18 @@ where
     play_feed(rt, &playing, &mut out)
 }
 
-// The addresses of a server. `source` says in a fault which one it is.
-fn look_up<R: Net + AllocGlobal>(
-    rt: &R,
-    place: Place<'_>,
-    source: Source,
-) -> Result<Vec<SocketAddr>, ToolFault> {
-    let found = match (place.host, place.port).to_socket_addrs(rt) {
-        Ok(found) => found,
-        Err(error) => {
-            return Err(system_fault(
+// Looks up the name of a server: one that cannot be found at the start ends what follows a feed. `source` says in a fault which one it is.
+fn look_up<R: Net>(rt: &R, place: Place<'_>, source: Source) -> Result<(), ToolFault> {
+    match (place.host, place.port).to_socket_addrs(rt) {
+        Ok(_) => Ok(()),
+        Err(error) => Err(system_fault(
+            error,
+            ToolFault::Open {
+                file: source,
                 error,
-                ToolFault::Open {
-                    file: source,
-                    error,
-                },
-            ));
-        }
-    };
-    let mut addresses: Vec<SocketAddr, Global> = Vec::new(rt.alloc());
-    for address in found {
-        if addresses.push(address).is_err() {
-            return Err(ToolFault::OutOfMemory);
-        }
+            },
+        )),
     }
-    Ok(addresses)
 }
 
 /// The names of what a live server works on.
@@ -135,7 +120,7 @@ pub fn live_names<'a>(words: &LiveWords<'a>) -> Names<'a> {
             Some(snapshots) => snapshots.folder,
             None => "",
         },
-        feed: words.feed.words,
+        feeds: words.feeds,
     }
 }
 
@@ -144,6 +129,6 @@ pub fn follow_names<'a>(words: &FollowWords<'a>) -> Names<'a> {
     Names {
         record: "",
         snapshots: "",
-        feed: words.feed.words,
+        feeds: words.feeds,
     }
 }

@@ -4,7 +4,7 @@ use Rattle.itchsnap_cli.specs.declared.words.job.Job.{Job}
 use Rattle.itchsnap_cli.specs.declared.words.job.Job.TheVariants.{Files, Points, Serve, Fetch, Live, Follow, Feed, Completions}
 use Rattle.itchsnap_cli.specs.declared.words.live.LiveWords.{LiveWords}
 use Rattle.itchsnap_cli.specs.declared.words.live.FollowWords.{FollowWords}
-use Rattle.itchsnap_cli.specs.declared.words.live.Place.{Place}
+use Rattle.itchsnap_cli.specs.declared.words.places.Place.{Place}
 use Rattle.itchsnap_cli.specs.declared.words.live.RecordWords.{RecordWords}
 use Rattle.itchsnap_cli.specs.declared.words.live.FollowForm.{FollowForm}
 use Rattle.itchsnap_cli.specs.declared.words.live.FollowForm.TheVariants as form
@@ -27,7 +27,7 @@ begun_with None glimpse = glimpse
 
 -- what a fault of a live server names so
 abbrev pub live_file : LiveWords → Source → Option (List ℕ)
-live_file live First = Some live.feed.words.now
+live_file live First = Some live.feeds.first.words.now
 live_file live Second = password_file live.feed_login.password
 live_file live Snapshot = option_map (λ s. s.folder.now) live.snapshots
 live_file live PasswordFile = password_file live.login.password
@@ -37,7 +37,7 @@ live_file live Only = begun_with (option_map (λ (r : RecordWords). r.path.now) 
 
 -- what a fault names so where a feed is followed
 abbrev pub follow_file : FollowWords → Source → Option (List ℕ)
-follow_file follow First = Some follow.feed.words.now
+follow_file follow First = Some follow.feeds.first.words.now
 follow_file follow PasswordFile = password_file follow.login.password
 follow_file follow Only = Some follow.glimpse.words.now
 follow_file follow Second = Some follow.glimpse.words.now

@@ -16,6 +16,7 @@ mod commands;
 mod completions;
 mod job;
 mod live;
+mod places;
 mod points;
 mod request;
 mod session;
@@ -25,8 +26,8 @@ pub use commands::{VERSION, usage_fault};
 pub use completions::{Completions, Shell};
 pub use job::{Job, read_job};
 pub use live::{
-    FeedWords, FollowForm, FollowWords, LiveWords, Pace, Place, RecordWords, SnapshotWords,
-    SyncTime,
+    FeedWords, FollowForm, FollowWords, LiveWords, Pace, RecordWords, SnapshotWords, SyncTime,
 };
+pub use places::{Feeds, MOST_FEEDS, Place};
 pub use points::{PointWords, Points};
 pub use session::{LoginWords, Password, Server, current_session, session_of_file};

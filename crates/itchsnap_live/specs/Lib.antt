@@ -5,6 +5,7 @@ pub mod LiveFaults
 pub mod Openings
 pub mod Outboxes
 pub mod Paces
+pub mod Questions
 pub mod Recordings
 pub mod Routes
 pub mod Savings

@@ -20,6 +20,6 @@ abbrev pub live_status : LiveFault → ℕ
 live_status (Tool fault) = status_of fault
 live_status (Record fault) = record_status fault
 live_status (InUse owned) = 3
-live_status (Refused fault session) = status_of fault
+live_status (Refused fault session server) = status_of fault
 live_status (OtherSession server named wanted) = 1
 live_status (GlimpseSession snapshot feed) = 1

@@ -7,6 +7,7 @@ use itch_codec::Alpha;
 use itch_commands::{ToolFault, stop_status};
 use itch_live::Source;
 use itch_market::ReplayEnd;
+use itchsnap_cli::words::Feeds;
 use std::alloc::AllocError;
 use std::error::Error;
 use std::fmt::{self, Display, Formatter};
@@ -33,6 +34,8 @@ pub enum LiveFault {
     Refused {
         fault: ToolFault,
         session: Alpha<10>,
+        /// The place of the server that sent it.
+        server: usize,
     },
     /// The snapshot is of one session, and the feed is in another.
     GlimpseSession {
@@ -48,13 +51,13 @@ pub enum Owned {
     Snapshots,
 }
 
-/// The names that the second line of a fault may have: the paths of the record and of the folder of snapshots, and the feed's address, as they were
-/// written.
+/// The names that the second line of a fault may have, as they were written: the paths of the record and of the folder of snapshots, and the feed's
+/// servers.
 #[derive(Clone, Copy, Debug)]
 pub struct Names<'a> {
     pub record: &'a str,
     pub snapshots: &'a str,
-    pub feed: &'a str,
+    pub feeds: Feeds<'a>,
 }
 
 /// Why a record cannot be continued.
@@ -98,7 +101,7 @@ impl LiveFault {
         let Names {
             record,
             snapshots,
-            feed,
+            feeds,
         } = names;
         match self {
             LiveFault::Tool(_) => None,
@@ -107,7 +110,14 @@ impl LiveFault {
             LiveFault::Record(_) => Some(Detail::Path(record)),
             LiveFault::InUse(Owned::Record) => Some(Detail::InUse(record)),
             LiveFault::InUse(Owned::Snapshots) => Some(Detail::InUse(snapshots)),
-            LiveFault::Refused { session, .. } => Some(Detail::Feed(feed, *session)),
+            LiveFault::Refused {
+                session,
+                server,
+                ..
+            } => {
+                let place = feeds.get(*server).unwrap_or(feeds.first);
+                Some(Detail::Feed(place.words, *session))
+            }
             LiveFault::OtherSession { server, named, .. } => match server {
                 Source::Glimpse => Some(Detail::GlimpseSession(*named)),
                 Source::Live => None,
@@ -141,13 +151,13 @@ impl LiveFault {
         }
     }
 
-    /// The same fault of a feed in this session: that of a message which was refused names it.
-    pub(crate) fn of_message(self, session: Option<Alpha<10>>) -> LiveFault {
+    /// The same fault of a feed in this session, whose server has this place: that of a message which was refused names both.
+    pub(crate) fn of_message(self, session: Option<Alpha<10>>, server: usize) -> LiveFault {
         let Some(session) = session else {
             return self;
         };
         match self {
-            LiveFault::Tool(fault) => of_tool(fault, session),
+            LiveFault::Tool(fault) => of_tool(fault, session, server),
             _ => self,
         }
     }
@@ -169,9 +179,13 @@ impl LiveFault {
     }
 }
 
-fn of_tool(fault: ToolFault, session: Alpha<10>) -> LiveFault {
+fn of_tool(fault: ToolFault, session: Alpha<10>, server: usize) -> LiveFault {
     match &fault {
-        ToolFault::Stopped { .. } => LiveFault::Refused { fault, session },
+        ToolFault::Stopped { .. } => LiveFault::Refused {
+            fault,
+            session,
+            server,
+        },
         _ => LiveFault::Tool(fault),
     }
 }

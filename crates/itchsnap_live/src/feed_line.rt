@@ -38,11 +38,32 @@ impl Display for FeedLine {
     }
 }
 
+/// A line about a server, with its name where it is one of several.
+#[derive(Clone, Copy)]
+pub(crate) struct Named<'a, L> {
+    pub line: L,
+    pub name: Option<&'a str>,
+}
+
+impl<L: Display> Display for Named<'_, L> {
+    fn fmt<W: fmt::Write>(&self, f: &mut Formatter<W>) -> fmt::Result {
+        let line = &self.line;
+        match self.name {
+            Some(name) => write!(f, "{line} ({name})"),
+            None => write!(f, "{line}"),
+        }
+    }
+}
+
 /// Why a server is asked again, where more is known than that it is lost.
 #[derive(Clone, Copy, Debug, PartialEq, Eq)]
 pub(crate) enum Trouble {
+    /// No address is found for the name of the server of a snapshot.
+    GlimpseUnknown,
     /// The server of a snapshot rejected the login with this code.
     GlimpseRejected(u8),
+    /// No address is found for the feed's name.
+    Unknown,
     /// The feed rejected the login with this code.
     Rejected(u8),
     /// The feed is in the first of these sessions, and not in the second, which was asked for.
@@ -53,9 +74,18 @@ pub(crate) enum Trouble {
     NoMemory(u64),
 }
 
+impl Trouble {
+    /// Whether a line about it names the server, also where there is only one.
+    pub(crate) fn is_of_a_name(&self) -> bool {
+        matches!(self, Trouble::GlimpseUnknown | Trouble::Unknown)
+    }
+}
+
 impl Display for Trouble {
     fn fmt<W: fmt::Write>(&self, f: &mut Formatter<W>) -> fmt::Result {
         match self {
+            Trouble::GlimpseUnknown => f.write_str("glimpse: not found"),
+            Trouble::Unknown => f.write_str("feed: not found"),
             Trouble::GlimpseRejected(code) => {
                 let letter = char::from(*code);
                 write!(f, "glimpse: rejected {letter}")

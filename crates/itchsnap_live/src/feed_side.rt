@@ -1,25 +1,28 @@
 //! The connection to a feed, or to the server of a snapshot.
 
 use crate::fault::LiveFault;
-use crate::feed_line::{FeedLine, Trouble};
+use crate::feed_line::{FeedLine, Named, Trouble};
 use crate::log::Log;
 use crate::outbox::Outbox;
 use crate::piece::Piece;
 use crate::route::{Route, Servers};
 use crate::socket::{Got, Socket};
 use crate::step::{Step, rejection_ends, step_of};
+use crate::turns::Turns;
 use itch_book::OrderBook;
 use itch_codec::Alpha;
 use itch_commands::ToolFault;
 use itch_frame::CountedWrite;
 use itch_live::{Desk, Source};
 use itch_soup::{SoupFault, Tick};
+use itchsnap_cli::words::MOST_FEEDS;
 use mio::Registry;
 use mio::event::Event;
 use mio::net::TcpStream;
 use std::alloc::{AllocError, Global};
 use std::io;
-use std::net::Net;
+use std::net::{Net, SocketAddr};
+use std::rt::Clock;
 
 /// What is read of the feed at a time, at most.
 pub(crate) const SHARE: usize = 1 << 18;
@@ -45,8 +48,10 @@ impl Connection {
 
 /// The connection of a desk's follower, which is made again where it was lost.
 #[derive(Drop)]
-pub(crate) struct FeedSide {
-    route: Route,
+pub(crate) struct FeedSide<'a> {
+    route: Route<'a>,
+    // The address that was connected to last.
+    address: Option<SocketAddr>,
     token: usize,
     // The session of the server of snapshots, where that is not the feed's.
     glimpse_session: Option<Alpha<10>>,
@@ -55,24 +60,26 @@ pub(crate) struct FeedSide {
     // Whether a login was accepted in this connection, and in any.
     is_accepted: bool,
     was_accepted: bool,
-    // Whether it was said that the server is lost, and what more was said of it since.
+    // Whether it was said that the server is lost, and what more was said since of each server.
     is_down: bool,
-    trouble: Option<Trouble>,
+    troubles: [Option<Trouble>; MOST_FEEDS],
     piece: Piece,
     // How much may still be read in this turn.
     share: usize,
 }
 
-impl FeedSide {
+impl<'a> FeedSide<'a> {
     /// No connection yet. Its socket will be registered under this number.
     pub(crate) fn new(
         alloc: Global,
-        servers: Servers,
+        servers: Servers<'a>,
         glimpse_session: Option<Alpha<10>>,
         token: usize,
-    ) -> Result<FeedSide, AllocError> {
+    ) -> Result<FeedSide<'a>, AllocError> {
+        let piece = Piece::new(alloc)?;
         Ok(FeedSide {
-            route: Route::new(servers),
+            route: Route::new(alloc, servers),
+            address: None,
             token,
             glimpse_session,
             connection: None,
@@ -80,8 +87,8 @@ impl FeedSide {
             is_accepted: false,
             was_accepted: false,
             is_down: false,
-            trouble: None,
-            piece: Piece::new(alloc)?,
+            troubles: [None; MOST_FEEDS],
+            piece,
             share: 0,
         })
     }
@@ -107,34 +114,45 @@ impl FeedSide {
     }
 
     /// Begins a turn: connects where that is due.
-    pub(crate) fn begin_turn<R: Net + Eprint, B: OrderBook>(
+    pub(crate) fn begin_turn<R: Net + Clock + Eprint, B: OrderBook>(
         &mut self,
         log: &mut Log<'_, R>,
-        registry: &Registry,
+        turns: &Turns<'_, R>,
         desk: &mut Desk<B>,
         now_ms: u64,
     ) {
         self.share = SHARE;
-        if self.is_due(now_ms) {
-            match self.connect(log.runtime(), registry, desk, now_ms) {
-                Ok(connection) => self.connection = Some(connection),
-                Err(_) => self.lose(log, desk, None, now_ms),
-            }
+        if !self.is_due(now_ms) {
+            return;
+        }
+        let live = desk.next().is_some();
+        self.address = self.route.next(log.runtime(), live);
+        // To look up a name may take long.
+        let now_ms = turns.now().unwrap_or(now_ms);
+        let Some(address) = self.address else {
+            let why = if live {
+                Trouble::Unknown
+            } else {
+                Trouble::GlimpseUnknown
+            };
+            return self.lose(log, desk, Some(why), now_ms);
+        };
+        match self.connect(log.runtime(), turns.registry(), address, desk, now_ms) {
+            Ok(connection) => self.connection = Some(connection),
+            Err(_) => self.lose(log, desk, None, now_ms),
         }
     }
 
-    // Begins to connect to the next address. Its login is sent once it is connected.
+    // Begins to connect to an address. Its login is sent once it is connected.
     fn connect<N: Net, B: OrderBook>(
         &mut self,
         net: &N,
         registry: &Registry,
+        address: SocketAddr,
         desk: &mut Desk<B>,
         now_ms: u64,
     ) -> io::Result<Connection> {
         let login = desk.connect(now_ms);
-        let Some(address) = self.route.next(desk.next().is_some()) else {
-            return Err(io::Error::from(io::ErrorKind::NotFound));
-        };
         let stream = TcpStream::connect(net, address)?;
         // A login or a heartbeat is not to wait for what follows it.
         let _ = stream.set_nodelay(true);
@@ -171,19 +189,39 @@ impl FeedSide {
         now_ms: u64,
     ) {
         let next = desk.next();
+        let server = self.route.server();
+        let name = self.name(next.is_some(), why.is_some_and(|it| it.is_of_a_name()));
         let wait = self.route.lose(next.is_some(), now_ms);
         self.drop_connection(now_ms.saturating_add(wait));
-        let is_known = self.is_down && (why.is_none() || self.trouble == why);
+        let is_known = self.is_down && (why.is_none() || self.trouble_of(server) == why);
         self.is_down = true;
         if is_known {
             return;
         }
-        match (&why, next) {
-            (Some(trouble), _) => log.say(trouble),
+        match (why, next) {
+            (Some(line), _) => log.say(&Named { line, name }),
             (None, Some(next)) => log.say(&FeedLine::Lost(next)),
             (None, None) => log.say(&FeedLine::GlimpseLost),
         }
-        self.trouble = why;
+        if let Some(trouble) = self.troubles.get_mut(server) {
+            *trouble = why;
+        }
+    }
+
+    // What was said last of a server of the feed.
+    fn trouble_of(&self, server: usize) -> Option<Trouble> {
+        match self.troubles.as_slice().get(server) {
+            Some(trouble) => *trouble,
+            None => None,
+        }
+    }
+
+    // What the server is called, where it is one of several, or a line is about its name.
+    fn name(&self, live: bool, is_of_a_name: bool) -> Option<&'a str> {
+        if is_of_a_name || (live && !self.route.servers().feeds.is_one()) {
+            return self.route.name(live);
+        }
+        None
     }
 
     fn drop_connection(&mut self, again_at: u64) {
@@ -223,6 +261,31 @@ impl FeedSide {
     /// Has so many bytes read once more in this turn.
     pub(crate) fn renew(&mut self) {
         self.share = SHARE;
+    }
+
+    /// The servers that it may connect to.
+    pub(crate) fn servers(&self) -> Servers<'a> {
+        self.route.servers()
+    }
+
+    /// Has it connect to this address alone.
+    pub(crate) fn keep_to(&mut self, address: SocketAddr) {
+        self.route.keep_to(address);
+    }
+
+    /// The address that was connected to last.
+    pub(crate) fn address(&self) -> Option<SocketAddr> {
+        self.address
+    }
+
+    /// The place of the server that is connected to, or is next, among those of the feed.
+    pub(crate) fn server(&self) -> usize {
+        self.route.server()
+    }
+
+    /// Whether a connection was lost, or was not made, since a login was accepted.
+    pub(crate) fn is_down(&self) -> bool {
+        self.is_down
     }
 
     /// Whether the server has accepted a login.
@@ -297,9 +360,10 @@ impl FeedSide {
         self.is_accepted = true;
         self.was_accepted = true;
         self.is_down = false;
-        self.trouble = None;
+        self.troubles = [None; MOST_FEEDS];
         self.route.accept(now_ms);
-        log.say(&line);
+        let name = self.name(desk.next().is_some(), false);
+        log.say(&Named { line, name });
     }
 
     // The server has ended its session. One that has sent no message yet is asked again, and so is a server of snapshots that has not sent

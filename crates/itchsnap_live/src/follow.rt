@@ -53,7 +53,7 @@ pub struct Following {
 /// that is refused; and a failed write.
 pub fn follow_feed<R, W: Write>(
     rt: &R,
-    servers: Servers,
+    servers: Servers<'_>,
     following: &Following,
     out: &mut Sending<W>,
 ) -> Result<bool, LiveFault>
@@ -67,7 +67,7 @@ where
 // Follows the feed to its end, over any book.
 fn follow<R, B: OrderBook<Alloc = Global>, W: Write>(
     rt: &R,
-    servers: Servers,
+    servers: Servers<'_>,
     following: &Following,
     joiner: Joiner<B>,
     out: &mut Sending<W>,
@@ -97,10 +97,10 @@ fn closed_desk<B: OrderBook<Alloc = Global>>(
 
 // A desk without places, and the connection of its follower.
 #[derive(Drop)]
-struct Tail<'r, R: Clock, B: OrderBook> {
+struct Tail<'r, 'a, R: Clock, B: OrderBook> {
     log: Log<'r, R>,
     turns: Turns<'r, R>,
-    feed: FeedSide,
+    feed: FeedSide<'a>,
     desk: Desk<B>,
     // Whether the feed's session is named.
     is_named: bool,
@@ -108,17 +108,17 @@ struct Tail<'r, R: Clock, B: OrderBook> {
     block: Vec<u8>,
 }
 
-impl<'r, R, B: OrderBook<Alloc = Global>> Tail<'r, R, B>
+impl<'r, 'a, R, B: OrderBook<Alloc = Global>> Tail<'r, 'a, R, B>
 where
     R: Net + Clock + Eprint + AllocGlobal,
 {
     // No connection yet.
     fn new(
         rt: &'r R,
-        servers: Servers,
+        servers: Servers<'a>,
         following: &Following,
         joiner: Joiner<B>,
-    ) -> Result<Tail<'r, R, B>, LiveFault> {
+    ) -> Result<Tail<'r, 'a, R, B>, LiveFault> {
         let desk = closed_desk(rt.alloc(), following, joiner)?;
         let log = Log::new(rt)?;
         let turns = Turns::begin(rt, rt, EVENTS)?;
@@ -144,7 +144,8 @@ where
         for event in self.turns.events().iter() {
             self.feed.note(event);
         }
-        self.feed.begin_turn(&mut self.log, self.turns.registry(), &mut self.desk, now_ms);
+        self.feed
+            .begin_turn(&mut self.log, &self.turns, &mut self.desk, now_ms);
         let ended = match self.steps(form, now_ms, out) {
             Err(fault) if !self.is_named => Err(fault.after_glimpse()),
             ended => ended,

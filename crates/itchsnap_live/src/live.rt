@@ -3,30 +3,29 @@
 use crate::budget::Budget;
 use crate::callers::Callers;
 use crate::clients::Clients;
-use crate::fault::{LiveFault, RecordFault};
+use crate::fault::LiveFault;
 use crate::feed_side::{FeedSide, SHARE};
 use crate::log::Log;
-use crate::naming::nobody;
+use crate::opened::{follower_of, listen, named_desk, open_folder, open_record};
+use crate::question::{agreed, ask_session, asks_session};
 use crate::reception::Reception;
 use crate::record::{Record, RecordLoss};
-use crate::resuming::at_the_first;
 use crate::route::Servers;
 use crate::saving::Saver;
 use crate::spare::{SPARED, Spare};
 use crate::start::Start;
-use crate::step::{Step, record_fault};
-use crate::turns::{Turns, called};
+use crate::step::Step;
+use crate::turns::Turns;
 use itch_book::{IndexedBook, OrderBook};
 use itch_codec::{Alpha, Seq};
-use itch_commands::ToolFault;
 use itch_frame::CountedWrite;
 use itch_join::Joiner;
-use itch_live::{Desk, Follower, Sessions};
+use itch_live::{Desk, Follower};
 use itch_soup::Credentials;
 use itchsnap_cli::sessions::Login;
 use itchsnap_cli::words::{RecordWords, SnapshotWords, current_session};
 use mio::Token;
-use std::alloc::{AllocError, Global};
+use std::alloc::Global;
 use std::fs::File;
 use std::net::{Net, SocketAddr};
 use std::rt::{Clock, Files};
@@ -81,7 +80,7 @@ pub struct Serving<'a> {
 /// not there; `Socket` if the port cannot be listened on.
 pub fn serve_live<R, W: CountedWrite>(
     rt: &R,
-    servers: Servers,
+    servers: Servers<'_>,
     serving: &Serving<'_>,
     out: &mut W,
 ) -> Result<bool, LiveFault>
@@ -95,7 +94,7 @@ where
 // Serves until it is over, with any book.
 fn serve<R, B: OrderBook<Alloc = Global>, W: CountedWrite>(
     rt: &R,
-    servers: Servers,
+    servers: Servers<'_>,
     serving: &Serving<'_>,
     joiner: Joiner<B>,
     out: &mut W,
@@ -110,7 +109,7 @@ where
 // Opens what a server works on, and waits until the session of its feed is known.
 fn opened<'r, 'a, R, B: OrderBook<Alloc = Global>>(
     rt: &'r R,
-    servers: Servers,
+    servers: Servers<'a>,
     serving: &'a Serving<'a>,
     joiner: Joiner<B>,
 ) -> Result<Server<'r, 'a, R, B>, LiveFault>
@@ -124,75 +123,6 @@ where
     Server::new(rt, servers, serving, follower, record, saver)
 }
 
-// Opens the folder of snapshots, if there is to be one.
-fn open_folder<'a, R: Files<File = File>>(
-    rt: &R,
-    serving: &Serving<'a>,
-) -> Result<Option<Saver<'a>>, LiveFault> {
-    match serving.snapshots {
-        Some(words) => Ok(Some(Saver::open(rt, words)?)),
-        None => Ok(None),
-    }
-}
-
-// Opens the record, if there is to be one, and brings the joiner to its end.
-fn open_record<'a, R: Files<File = File> + Eprint + AllocGlobal, B: OrderBook>(
-    rt: &R,
-    serving: &Serving<'a>,
-    joiner: &mut Joiner<B>,
-) -> Result<Record<'a>, LiveFault> {
-    if !serving.from_snapshot {
-        at_the_first(joiner)?;
-    }
-    match serving.record {
-        Some(words) => Record::open(rt, words, serving.session, joiner),
-        None => Ok(Record::none()),
-    }
-}
-
-// What follows the feed, in the session that is named or recorded.
-fn follower_of<B: OrderBook<Alloc = Global>>(
-    alloc: Global,
-    serving: &Serving<'_>,
-    record: &Record<'_>,
-    joiner: Joiner<B>,
-) -> Result<Follower<B>, AllocError> {
-    let sessions = Sessions {
-        feed: serving.session.or(record.session()),
-        glimpse: serving.glimpse_session,
-    };
-    Follower::new(alloc, serving.credentials, sessions, joiner, 0)
-}
-
-// Listens on the port of a server.
-fn listen<R: Net + Clock + Eprint>(
-    rt: &R,
-    start: &Start<'_, R>,
-    serving: &Serving<'_>,
-) -> Result<Callers, ToolFault> {
-    called(Callers::listen(rt, start.turns.registry(), serving.address, LISTENER))
-}
-
-// The desk under the name of the feed's session, once that is known.
-fn named_desk<R, B: OrderBook<Alloc = Global>>(
-    alloc: Global,
-    serving: &Serving<'_>,
-    follower: Follower<B>,
-    start: &mut Start<'_, R>,
-) -> Result<Desk<B>, LiveFault>
-where
-    R: Net + Clock + Eprint + AllocGlobal,
-{
-    let closed = nobody(serving.credentials);
-    let mut desk = Desk::new(alloc, closed, follower, 0)?;
-    let found = start.find_session(&mut desk, u64::MAX)?;
-    let Some(session) = found else {
-        return Err(LiveFault::Tool(ToolFault::TooMany));
-    };
-    let config = serving.login.config(session);
-    Ok(Desk::new(alloc, config, desk.into_follower(), serving.clients)?)
-}
-
 // A desk, and its sockets.
 #[derive(Drop)]
 struct Server<'r, 'a, R: Clock, B: OrderBook> {
@@ -200,7 +130,7 @@ struct Server<'r, 'a, R: Clock, B: OrderBook> {
     log: Log<'r, R>,
     turns: Turns<'r, R>,
     callers: Callers,
-    feed: FeedSide,
+    feed: FeedSide<'a>,
     desk: Desk<B>,
     reception: Reception,
     clients: Clients,
@@ -208,8 +138,9 @@ struct Server<'r, 'a, R: Clock, B: OrderBook> {
     record: Record<'a>,
     saver: Option<Saver<'a>>,
     spare: Spare,
-    // Whether the feed has ended its session.
+    // Whether the feed has ended its session, and whether it was asked which one that is.
     has_ended: bool,
+    has_asked: bool,
 }
 
 impl<'r, 'a, R, B: OrderBook<Alloc = Global>> Server<'r, 'a, R, B>
@@ -219,14 +150,14 @@ where
     // Listens on the port, says so, and waits until the session of the feed is known.
     fn new(
         rt: &'r R,
-        servers: Servers,
+        servers: Servers<'a>,
         serving: &'a Serving<'a>,
         follower: Follower<B>,
         record: Record<'a>,
         saver: Option<Saver<'a>>,
     ) -> Result<Server<'r, 'a, R, B>, LiveFault> {
         let mut start = Start::new(rt, servers, serving.glimpse_session, FEED)?;
-        let callers = listen(rt, &start, serving)?;
+        let callers = listen(rt, &start, serving.address, LISTENER)?;
         let desk = named_desk(rt.alloc(), serving, follower, &mut start)?;
         Server::open(rt.alloc(), serving, start, desk, callers, record, saver)
     }
@@ -235,7 +166,7 @@ where
     fn open(
         alloc: Global,
         serving: &'a Serving<'a>,
-        start: Start<'r, R>,
+        start: Start<'r, 'a, R>,
         desk: Desk<B>,
         callers: Callers,
         record: Record<'a>,
@@ -269,6 +200,7 @@ where
             saver,
             spare,
             has_ended: false,
+            has_asked: false,
         })
     }
 
@@ -345,7 +277,8 @@ where
         if self.feed.is_due(now_ms) {
             self.spare.release();
         }
-        self.feed.begin_turn(&mut self.log, self.turns.registry(), &mut self.desk, now_ms);
+        self.feed
+            .begin_turn(&mut self.log, &self.turns, &mut self.desk, now_ms);
         let done = self.read_feed(now_ms);
         self.feed.end_turn(&mut self.log, &mut self.desk, now_ms);
         let flushed = match self.record.flush() {
@@ -412,9 +345,31 @@ where
             Step::Taken(next) => return self.save(next, now_ms),
             Step::Accepted(_) => self.begin_record()?,
             Step::Ended => self.has_ended = self.feed.is_over(),
+            Step::Rejected(code) => self.question(code)?,
             _ => {}
         }
         Ok(false)
+    }
+
+    // A feed that has not the session of the record is asked once which one it is in.
+    fn question(&mut self, code: u8) -> Result<(), LiveFault> {
+        let (Some(session), Some(address)) = (self.record.session(), self.feed.address()) else {
+            return Ok(());
+        };
+        if !asks_session(code, self.feed.was_accepted(), self.has_asked) {
+            return Ok(());
+        }
+        self.has_asked = true;
+        self.spare.release();
+        let joiner: Joiner<B> = Joiner::new(self.log.runtime().alloc(), 0);
+        let asked = ask_session(
+            &self.log,
+            &self.feed,
+            address,
+            &self.serving.credentials,
+            joiner,
+        );
+        agreed(session, asked)
     }
 
     // The record has the feed's session before it has a message.
@@ -441,13 +396,10 @@ where
             }
             _ => Ok(()),
         };
-        match saved {
-            Ok(()) => Ok(true),
-            Err(error) => {
-                self.lose_record(RecordLoss::System(error))?;
-                Ok(true)
-            }
+        if let Err(error) = saved {
+            self.lose_record(RecordLoss::System(error))?;
         }
+        Ok(true)
     }
 
     // Goes on without the record where that is allowed.
@@ -457,25 +409,19 @@ where
             self.record.give_up();
             return Ok(());
         }
-        Err(match loss {
-            RecordLoss::Changed(change) => LiveFault::Record(RecordFault::Changed(change)),
-            RecordLoss::System(error) => LiveFault::Tool(record_fault(
-                ToolFault::Write(error),
-                self.desk.next(),
-            )),
-        })
+        Err(loss.fault(self.desk.next()))
     }
 
     // The fault of a feed that refuses to go on: with its session, or with the one of the record or of the snapshot, which it is not in.
     fn explained(&self, fault: LiveFault) -> LiveFault {
-        let session = self.desk.session();
+        let fault = fault.of_message(self.desk.session(), self.feed.server());
         if self.record.session().is_some() {
-            return fault.of_record().of_message(session);
+            return fault.of_record();
         }
         if self.serving.from_snapshot && self.serving.session.is_none() {
-            return fault.after_glimpse().of_message(session);
+            return fault.after_glimpse();
         }
-        fault.of_message(session)
+        fault
     }
 
     // Does what the clients have sent, and sends them what they are told. Once the feed has ended none is accepted, unless it stays.

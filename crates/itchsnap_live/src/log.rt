@@ -24,6 +24,7 @@ pub(crate) struct Log<'a, R> {
     rt: &'a R,
     output: Outlet,
     error: Outlet,
+    is_mute: bool,
     lost: u64,
     reported_ms: u64,
 }
@@ -37,6 +38,7 @@ impl<'a, R: Eprint> Log<'a, R> {
             rt,
             output: Outlet::new(rt, OUTPUT)?,
             error: Outlet::new(rt, ERROR)?,
+            is_mute: false,
             lost: 0,
             reported_ms: 0,
         })
@@ -47,8 +49,16 @@ impl<'a, R: Eprint> Log<'a, R> {
         self.rt
     }
 
+    /// Says nothing from now on.
+    pub(crate) fn mute(&mut self) {
+        self.is_mute = true;
+    }
+
     /// Says a line on standard error.
     pub(crate) fn say<L: Display>(&mut self, line: &L) {
+        if self.is_mute {
+            return;
+        }
         if !self.error.has_room() || self.rt.eprintln(line).is_err() {
             self.lost = self.lost.saturating_add(1);
         }

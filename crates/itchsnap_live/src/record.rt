@@ -4,6 +4,7 @@ use crate::fault::{LiveFault, Owned, RecordFault};
 use crate::recording::Recording;
 use crate::resuming::replay_record;
 use crate::session_file::{read_session, write_session};
+use crate::step::record_fault;
 use crate::watch::{Change, Seen, change_of};
 use itch_book::OrderBook;
 use itch_codec::Alpha;
@@ -200,6 +201,18 @@ pub(crate) enum RecordLoss {
     Changed(Change),
     /// A call of the system failed.
     System(io::Error),
+}
+
+impl RecordLoss {
+    /// The fault of a server that does not go on without its record, where the feed's next message has this number.
+    pub(crate) fn fault(self, next: Option<u64>) -> LiveFault {
+        match self {
+            RecordLoss::Changed(change) => LiveFault::Record(RecordFault::Changed(change)),
+            RecordLoss::System(error) => {
+                LiveFault::Tool(record_fault(ToolFault::Write(error), next))
+            }
+        }
+    }
 }
 
 impl Display for RecordLoss {

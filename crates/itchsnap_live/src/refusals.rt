@@ -1,6 +1,6 @@
 //! How long a rejection waits: whoever guesses passwords is told of each guess later than of the one before.
 
-use crate::route::wait_after;
+use crate::spot::wait_after;
 use std::alloc::{AllocError, Global};
 use std::net::IpAddr;
 

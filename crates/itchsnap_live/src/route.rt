@@ -1,108 +1,126 @@
-//! The addresses of a feed and of a server of snapshots, which of them is tried next, and when.
-ghost use Rattle.std.specs.Prelude.{◌≡◌};
-ghost use Rattle.itchsnap_live.specs.Routes.{wait_after};
+//! The servers of a feed and of snapshots, which address of them is tried next, and when.
 
-use std::net::SocketAddr;
+use crate::spot::{Spot, pause_after, spot_after};
+use itchsnap_cli::words::{Feeds, Place};
+use std::alloc::Global;
+use std::net::{Net, SocketAddr, ToSocketAddrs};
 
-/// How long a follower waits before it connects again, after the first failure and at most; and for how long a server has to stay
-/// before the next failure counts as the first.
-const FIRST_WAIT_MS: u64 = 100;
-
-const LONGEST_WAIT_MS: u64 = 5_000;
-
-const STEADY_MS: u64 = 60_000;
-
-/// The addresses of a feed, and of a server of snapshots. Where a host has more than one, they are tried in turn.
-#[derive(Drop)]
-pub struct Servers {
-    pub feed: Vec<SocketAddr>,
+/// The servers of a feed, and the server of snapshots. Where a name has more than one address, they are tried in turn.
+#[derive(Clone, Copy)]
+pub struct Servers<'a> {
+    pub feeds: Feeds<'a>,
     /// None where the feed's first message is asked for.
-    pub glimpse: Vec<SocketAddr>,
+    pub glimpse: Option<Place<'a>>,
 }
 
-impl Servers {
-    // The addresses of the feed, or of the server of snapshots.
-    fn of(&self, live: bool) -> &[SocketAddr] {
+impl<'a> Servers<'a> {
+    // A server of the feed, or that of snapshots.
+    fn get(&self, live: bool, server: usize) -> Option<Place<'a>> {
         if live {
-            self.feed.as_slice()
-        } else {
-            self.glimpse.as_slice()
+            return self.feeds.get(server);
         }
+        if server == 0 { self.glimpse } else { None }
     }
 }
 
 /// Which address is tried next.
 #[derive(Drop)]
-pub(crate) struct Route {
-    servers: Servers,
-    // The place of that address, and how many were tried since one accepted a login.
-    place: usize,
-    tries: usize,
+pub(crate) struct Route<'a> {
+    servers: Servers<'a>,
+    spot: Spot,
+    // The addresses that were found for the name of the server at that spot.
+    found: Vec<SocketAddr>,
+    // The one address that is tried, where there is only one.
+    only: Option<SocketAddr>,
     // How long the last wait was, and when a login was accepted since.
     wait_ms: u64,
     accepted_ms: Option<u64>,
 }
 
-impl Route {
+impl<'a> Route<'a> {
     /// Begins with the first address.
-    pub(crate) fn new(servers: Servers) -> Route {
+    pub(crate) fn new(alloc: Global, servers: Servers<'a>) -> Route<'a> {
         Route {
             servers,
-            place: 0,
-            tries: 0,
+            spot: Spot::FIRST,
+            found: Vec::new(alloc),
+            only: None,
             wait_ms: 0,
             accepted_ms: None,
         }
     }
 
-    /// The address of the feed, or of the server of snapshots, to connect to.
-    pub(crate) fn next(&mut self, live: bool) -> Option<SocketAddr> {
-        let addresses = self.servers.of(live);
-        let address = addresses.get(self.place).or(addresses.first()).copied()?;
-        self.tries = self.tries.saturating_add(1);
-        Some(address)
+    /// Leads to this address alone.
+    pub(crate) fn keep_to(&mut self, address: SocketAddr) {
+        self.only = Some(address);
+    }
+
+    pub(crate) fn servers(&self) -> Servers<'a> {
+        self.servers
+    }
+
+    /// The place of the server that is connected to, or is next, among those of the feed.
+    pub(crate) fn server(&self) -> usize {
+        self.spot.server
+    }
+
+    /// What that server is called on the command line.
+    pub(crate) fn name(&self, live: bool) -> Option<&'a str> {
+        match self.servers.get(live, self.spot.server) {
+            Some(place) => Some(place.words),
+            None => None,
+        }
+    }
+
+    /// The address to connect to, if one is found. The name of a server is looked up whenever its turn comes.
+    pub(crate) fn next<N: Net>(&mut self, net: &N, live: bool) -> Option<SocketAddr> {
+        if self.only.is_some() {
+            return self.only;
+        }
+        if self.spot.address == 0 {
+            self.look_up(net, live);
+        }
+        self.found.get(self.spot.address).copied()
+    }
+
+    fn look_up<N: Net>(&mut self, net: &N, live: bool) {
+        self.found.clear();
+        let Some(place) = self.servers.get(live, self.spot.server) else {
+            return;
+        };
+        let Ok(addresses) = (place.host, place.port).to_socket_addrs(net) else {
+            return;
+        };
+        for address in addresses {
+            if self.found.push(address).is_err() {
+                break;
+            }
+        }
     }
 
     /// Takes note that a login was accepted there at this moment.
     pub(crate) fn accept(&mut self, now_ms: u64) {
-        self.tries = 0;
         self.accepted_ms = Some(now_ms);
     }
 
-    /// Begins with the first address of another server.
+    /// Begins with the first address of another kind of server.
     pub(crate) fn begin(&mut self) {
-        self.place = 0;
-        self.tries = 0;
+        self.spot = Spot::FIRST;
     }
 
-    /// Takes note that the connection is lost, and returns how many milliseconds to wait before the next one. Other addresses of a host
-    /// that does not accept a login are tried first.
+    /// Takes note that the connection is lost, or was not made, and returns how many milliseconds to wait before the next one.
     pub(crate) fn lose(&mut self, live: bool, now_ms: u64) -> u64 {
-        if self.tries > 0 && self.tries < self.servers.of(live).len() {
-            self.place = self.place.saturating_add(1);
-            return 0;
-        }
-        if self.tries > 0 {
-            self.begin();
-        }
         let stayed_ms = match self.accepted_ms.take() {
             Some(accepted_ms) => now_ms.saturating_sub(accepted_ms),
             None => 0,
         };
-        self.wait_ms = wait_after(self.wait_ms, stayed_ms);
-        self.wait_ms
+        let has_another = self
+            .servers
+            .get(live, self.spot.server.saturating_add(1))
+            .is_some();
+        self.spot = spot_after(self.spot, self.found.len(), has_another);
+        let pause = pause_after(self.wait_ms, stayed_ms, self.spot.is_first());
+        self.wait_ms = pause.counts_ms;
+        pause.wait_ms
     }
-}
-
-/// How long to wait before the next connection: twice as long as before the last one, from a tenth of a second to five seconds. A server that
-/// stayed for a minute is asked again as after a first failure.
-pub fn wait_after(last_ms: u64, stayed_ms: u64) -> u64
-    ensures { result ≡ wait_after last_ms stayed_ms }
-{
-    if stayed_ms >= STEADY_MS {
-        return FIRST_WAIT_MS;
-    }
-    last_ms
-        .saturating_mul(2)
-        .clamp(FIRST_WAIT_MS, LONGEST_WAIT_MS)
 }

@@ -13,7 +13,7 @@ use itch_live::Desk;
 use mio::Token;
 use std::alloc::Global;
 use std::fs::File;
-use std::net::Net;
+use std::net::{Net, SocketAddr};
 use std::rt::Clock;
 
 /// The moment is looked at this often, where no socket is ready.
@@ -24,25 +24,25 @@ const EVENTS: usize = 1_024;
 
 /// What follows a feed until its session is known, under whose name clients are served.
 #[derive(Drop)]
-pub(crate) struct Start<'r, R: Clock> {
+pub(crate) struct Start<'r, 'a, R: Clock> {
     pub log: Log<'r, R>,
     pub turns: Turns<'r, R>,
-    pub feed: FeedSide,
+    pub feed: FeedSide<'a>,
     /// The number of the feed's socket.
     pub token: usize,
 }
 
-impl<'r, R> Start<'r, R>
+impl<'r, 'a, R> Start<'r, 'a, R>
 where
     R: Net + Clock + Eprint + AllocGlobal,
 {
     /// No connection yet. The feed's socket will have this number.
     pub(crate) fn new(
         rt: &'r R,
-        servers: Servers,
+        servers: Servers<'a>,
         glimpse_session: Option<Alpha<10>>,
         token: usize,
-    ) -> Result<Start<'r, R>, LiveFault> {
+    ) -> Result<Start<'r, 'a, R>, LiveFault> {
         let log = Log::new(rt)?;
         let turns = Turns::begin(rt, rt, EVENTS)?;
         let feed = FeedSide::new(rt.alloc(), servers, glimpse_session, token)?;
@@ -54,22 +54,39 @@ where
         })
     }
 
-    /// Follows the feed for a desk without places until its session is known, or for so many milliseconds.
+    /// Follows the feed for a desk without places until its session is known.
     pub(crate) fn find_session<B: OrderBook<Alloc = Global>>(
         &mut self,
         desk: &mut Desk<B>,
-        most_ms: u64,
     ) -> Result<Option<Alpha<10>>, LiveFault> {
         for _turn in 0..u64::MAX {
             if let Some(session) = desk.session() {
                 return Ok(Some(session));
             }
-            if self.turns.now()? >= most_ms {
-                break;
-            }
             self.turn(desk)?;
         }
         Ok(None)
+    }
+
+    /// The session that the server of this address names in its answer to one login for a desk without places, if it does so within so many
+    /// milliseconds. Nothing is said of it.
+    pub(crate) fn ask<B: OrderBook<Alloc = Global>>(
+        &mut self,
+        address: SocketAddr,
+        desk: &mut Desk<B>,
+        most_ms: u64,
+    ) -> Option<Alpha<10>> {
+        self.log.mute();
+        self.feed.keep_to(address);
+        for _turn in 0..u64::MAX {
+            if desk.session().is_some() || self.feed.is_down() || self.turns.is_past(most_ms) {
+                break;
+            }
+            if self.turn(desk).is_err() {
+                break;
+            }
+        }
+        desk.session()
     }
 
     fn turn<B: OrderBook<Alloc = Global>>(&mut self, desk: &mut Desk<B>) -> Result<(), LiveFault> {
@@ -77,7 +94,7 @@ where
         let now_ms = self.turns.wait(most_ms)?;
         self.note();
         self.feed
-            .begin_turn(&mut self.log, self.turns.registry(), desk, now_ms);
+            .begin_turn(&mut self.log, &self.turns, desk, now_ms);
         let done = self.steps(desk, now_ms);
         self.feed.end_turn(&mut self.log, desk, now_ms);
         done

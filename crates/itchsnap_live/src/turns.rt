@@ -53,6 +53,14 @@ impl<'a, C: Clock> Turns<'a, C> {
         Ok(u64::try_from(passed.as_millis()).unwrap_or(u64::MAX))
     }
 
+    /// Whether so many milliseconds have passed, or the clock does not say.
+    pub(crate) fn is_past(&self, most_ms: u64) -> bool {
+        match self.now() {
+            Ok(now_ms) => now_ms >= most_ms,
+            Err(_) => true,
+        }
+    }
+
     fn poll(&mut self, most_ms: u64) -> Result<(), ToolFault> {
         let most = Duration::from_millis(most_ms);
         called(self.poll.poll(&mut self.events, Some(most)))

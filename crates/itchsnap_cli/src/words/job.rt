@@ -109,7 +109,7 @@ fn live_file<'a>(live: &LiveWords<'a>, source: Source) -> Option<&'a str>
     ensures { option_map (λ path. path.now) result ≡ live_file live.now source }
 {
     match (source, live.record, live.glimpse) {
-        (Source::First, _, _) => Some(live.feed.words),
+        (Source::First, _, _) => Some(live.feeds.first.words),
         (Source::Second, _, _) => password_file(&live.feed_login),
         (Source::PasswordFile, _, _) => password_file(&live.login),
         (Source::Snapshot, _, _) => match live.snapshots {
@@ -127,7 +127,7 @@ fn follow_file<'a>(follow: &FollowWords<'a>, source: Source) -> Option<&'a str>
     ensures { option_map (λ path. path.now) result ≡ follow_file follow.now source }
 {
     match source {
-        Source::First => Some(follow.feed.words),
+        Source::First => Some(follow.feeds.first.words),
         Source::PasswordFile => password_file(&follow.login),
         _ => Some(follow.glimpse.words),
     }

@@ -1,9 +1,9 @@
 //! The words of a live server, of what follows a feed, and of a feed that is played.
 
 use crate::words::commands::usage_fault;
+use crate::words::places::{Feeds, Place, read_feeds, read_place, read_place_if_any};
 use crate::words::request::read_count;
 use crate::words::session::{LoginWords, Password, read_address, read_login, read_session};
-use crate::words::time::read_digits;
 use clap::{ArgMatches, Error};
 use itch_codec::Alpha;
 use std::alloc::Global;
@@ -11,15 +11,6 @@ use std::net::SocketAddr;
 
 /// How many clients a live server has at a time, where nothing is said.
 const CLIENTS: u64 = 64;
-
-/// A server: its name or its address, and its port.
-#[derive(Clone, Copy, Debug, PartialEq, Eq)]
-pub struct Place<'a> {
-    /// Both as they were written.
-    pub words: &'a str,
-    pub host: &'a str,
-    pub port: u16,
-}
 
 /// A folder for snapshots, and after how many messages each is written.
 #[derive(Clone, Copy, Debug, PartialEq, Eq)]
@@ -52,7 +43,7 @@ pub struct RecordWords<'a> {
 /// What a live server is told.
 #[derive(Clone, Copy, Debug, PartialEq, Eq)]
 pub struct LiveWords<'a> {
-    pub feed: Place<'a>,
+    pub feeds: Feeds<'a>,
     /// A server of snapshots to begin with, or none to begin with the feed's first message.
     pub glimpse: Option<Place<'a>>,
     pub address: SocketAddr,
@@ -88,7 +79,7 @@ pub enum FollowForm {
 /// What is followed, and how.
 #[derive(Clone, Copy, Debug, PartialEq, Eq)]
 pub struct FollowWords<'a> {
-    pub feed: Place<'a>,
+    pub feeds: Feeds<'a>,
     pub glimpse: Place<'a>,
     pub login: LoginWords<'a>,
     /// The feed's session, where it is named.
@@ -140,7 +131,7 @@ pub fn read_live<'a>(
         )?);
     }
     Ok(LiveWords {
-        feed: read_place(alloc, options, "feed")?,
+        feeds: read_feeds(alloc, options)?,
         glimpse,
         address: read_address(alloc, options)?,
         login,
@@ -162,7 +153,7 @@ pub fn read_follow<'a>(
     password: Option<&'a str>,
 ) -> Result<FollowWords<'a>, Error> {
     Ok(FollowWords {
-        feed: read_place(alloc, options, "feed")?,
+        feeds: read_feeds(alloc, options)?,
         glimpse: read_place(alloc, options, "glimpse")?,
         login: read_login(alloc, options, password)?,
         session: read_session(alloc, options, "session")?,
@@ -296,43 +287,4 @@ fn read_counted<'a>(
         name,
         "a number must have decimal digits only",
     )
-}
-
-fn read_place<'a>(alloc: Global, options: &ArgMatches<'a>, name: &str) -> Result<Place<'a>, Error> {
-    match read_place_if_any(alloc, options, name)? {
-        Some(place) => Ok(place),
-        None => Err(usage_fault(alloc, "a server is missing")?),
-    }
-}
-
-fn read_place_if_any<'a>(
-    alloc: Global,
-    options: &ArgMatches<'a>,
-    name: &str,
-) -> Result<Option<Place<'a>>, Error> {
-    let Some(words) = options.get_str(name) else {
-        return Ok(None);
-    };
-    match place_of(words) {
-        Some(place) => Ok(Some(place)),
-        None => Err(usage_fault(
-            alloc,
-            "a server is HOST:PORT, with an IPv6 address in brackets and a port from 1 to 65535",
-        )?),
-    }
-}
-
-// A host and a port. The colons of an IPv6 address stand in brackets.
-fn place_of(words: &str) -> Option<Place<'_>> {
-    let (host, port) = words.rsplit_once(':')?;
-    let port = u16::try_from(read_digits(port)?).ok()?;
-    let host = match host.strip_prefix('[') {
-        Some(rest) => rest.strip_suffix(']')?,
-        None if host.contains(':') => return None,
-        None => host,
-    };
-    if host.is_empty() || port == 0 {
-        return None;
-    }
-    Some(Place { words, host, port })
 }

@@ -46,9 +46,13 @@ impl LiveArgument {
     /// The argument, as the command line has it.
     pub fn arg<'a>(self, alloc: Global) -> Arg<'a> {
         match self {
-            LiveArgument::Feed => server(alloc, "feed", "The server of the live feed").required(
-                true,
-            ),
+            LiveArgument::Feed => server(
+                alloc,
+                "feed",
+                "The server of the live feed; if given again, one to try after it",
+            )
+            .required(true)
+            .action(ArgAction::Append),
             LiveArgument::Glimpse => {
                 server(alloc, "glimpse", "The server of the snapshot to begin with").required(true)
             }

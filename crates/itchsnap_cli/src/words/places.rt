@@ -1,0 +1,118 @@
+//! The servers that a live server or a follower connects to, as the command line has them.
+
+use crate::words::commands::usage_fault;
+use crate::words::time::read_digits;
+use clap::{ArgMatches, Error};
+use std::alloc::Global;
+
+/// The most servers that one feed may have.
+pub const MOST_FEEDS: usize = 8;
+
+/// A server: its name or its address, and its port.
+#[derive(Clone, Copy, Debug, PartialEq, Eq)]
+pub struct Place<'a> {
+    /// Both as they were written.
+    pub words: &'a str,
+    pub host: &'a str,
+    pub port: u16,
+}
+
+/// The servers of one feed, in the order in which they are tried.
+#[derive(Clone, Copy, Debug, PartialEq, Eq)]
+pub struct Feeds<'a> {
+    pub first: Place<'a>,
+    /// Those after it, with nothing between them.
+    pub others: [Option<Place<'a>>; MOST_FEEDS - 1],
+}
+
+impl<'a> Feeds<'a> {
+    /// One server alone.
+    pub fn one(first: Place<'a>) -> Feeds<'a> {
+        Feeds {
+            first,
+            others: [None; MOST_FEEDS - 1],
+        }
+    }
+
+    /// The server at a place, the first of which is 0.
+    pub fn get(&self, place: usize) -> Option<Place<'a>> {
+        if place == 0 {
+            return Some(self.first);
+        }
+        match self.others.get(place - 1) {
+            Some(other) => *other,
+            None => None,
+        }
+    }
+
+    /// Whether there is one alone.
+    pub fn is_one(&self) -> bool {
+        self.get(1).is_none()
+    }
+}
+
+/// The servers after `--feed`.
+pub fn read_feeds<'a>(alloc: Global, options: &ArgMatches<'a>) -> Result<Feeds<'a>, Error> {
+    let words = options.get_strs("feed").unwrap_or(&[]);
+    let [first, rest @ ..] = words else {
+        return Err(usage_fault(alloc, "a server is missing")?);
+    };
+    let mut feeds = Feeds::one(read_words(alloc, first)?);
+    for (at, words) in rest.iter().enumerate() {
+        let place = read_words(alloc, words)?;
+        match feeds.others.get_mut(at) {
+            Some(other) => *other = Some(place),
+            None => return Err(usage_fault(alloc, "--feed is given at most 8 times")?),
+        }
+    }
+    Ok(feeds)
+}
+
+/// The server after an option.
+pub fn read_place<'a>(
+    alloc: Global,
+    options: &ArgMatches<'a>,
+    name: &str,
+) -> Result<Place<'a>, Error> {
+    match read_place_if_any(alloc, options, name)? {
+        Some(place) => Ok(place),
+        None => Err(usage_fault(alloc, "a server is missing")?),
+    }
+}
+
+/// The server after an option, if it is given.
+pub fn read_place_if_any<'a>(
+    alloc: Global,
+    options: &ArgMatches<'a>,
+    name: &str,
+) -> Result<Option<Place<'a>>, Error> {
+    let Some(words) = options.get_str(name) else {
+        return Ok(None);
+    };
+    Ok(Some(read_words(alloc, words)?))
+}
+
+fn read_words<'a>(alloc: Global, words: &'a str) -> Result<Place<'a>, Error> {
+    match place_of(words) {
+        Some(place) => Ok(place),
+        None => Err(usage_fault(
+            alloc,
+            "a server is HOST:PORT, with an IPv6 address in brackets and a port from 1 to 65535",
+        )?),
+    }
+}
+
+// A host and a port. The colons of an IPv6 address stand in brackets.
+fn place_of(words: &str) -> Option<Place<'_>> {
+    let (host, port) = words.rsplit_once(':')?;
+    let port = u16::try_from(read_digits(port)?).ok()?;
+    let host = match host.strip_prefix('[') {
+        Some(rest) => rest.strip_suffix(']')?,
+        None if host.contains(':') => return None,
+        None => host,
+    };
+    if host.is_empty() || port == 0 {
+        return None;
+    }
+    Some(Place { words, host, port })
+}

@@ -1,0 +1,89 @@
+//! What a live server opens before it serves.
+
+use crate::callers::Callers;
+use crate::fault::LiveFault;
+use crate::live::Serving;
+use crate::naming::nobody;
+use crate::record::Record;
+use crate::resuming::at_the_first;
+use crate::saving::Saver;
+use crate::start::Start;
+use crate::turns::called;
+use itch_book::OrderBook;
+use itch_commands::ToolFault;
+use itch_join::Joiner;
+use itch_live::{Desk, Follower, Sessions};
+use std::alloc::{AllocError, Global};
+use std::fs::File;
+use std::net::{Net, SocketAddr};
+use std::rt::{Clock, Files};
+
+/// Opens the folder of snapshots, if there is to be one.
+pub(crate) fn open_folder<'a, R: Files<File = File>>(
+    rt: &R,
+    serving: &Serving<'a>,
+) -> Result<Option<Saver<'a>>, LiveFault> {
+    match serving.snapshots {
+        Some(words) => Ok(Some(Saver::open(rt, words)?)),
+        None => Ok(None),
+    }
+}
+
+/// Opens the record, if there is to be one, and brings the joiner to its end.
+pub(crate) fn open_record<'a, R: Files<File = File> + Eprint + AllocGlobal, B: OrderBook>(
+    rt: &R,
+    serving: &Serving<'a>,
+    joiner: &mut Joiner<B>,
+) -> Result<Record<'a>, LiveFault> {
+    if !serving.from_snapshot {
+        at_the_first(joiner)?;
+    }
+    match serving.record {
+        Some(words) => Record::open(rt, words, serving.session, joiner),
+        None => Ok(Record::none()),
+    }
+}
+
+/// What follows the feed, in the session that is named or recorded.
+pub(crate) fn follower_of<B: OrderBook<Alloc = Global>>(
+    alloc: Global,
+    serving: &Serving<'_>,
+    record: &Record<'_>,
+    joiner: Joiner<B>,
+) -> Result<Follower<B>, AllocError> {
+    let sessions = Sessions {
+        feed: serving.session.or(record.session()),
+        glimpse: serving.glimpse_session,
+    };
+    Follower::new(alloc, serving.credentials, sessions, joiner, 0)
+}
+
+/// Listens on the port of a server. Its socket will have this number.
+pub(crate) fn listen<R: Net + Clock + Eprint>(
+    rt: &R,
+    start: &Start<'_, '_, R>,
+    address: SocketAddr,
+    token: usize,
+) -> Result<Callers, ToolFault> {
+    called(Callers::listen(rt, start.turns.registry(), address, token))
+}
+
+/// The desk under the name of the feed's session, once that is known.
+pub(crate) fn named_desk<R, B: OrderBook<Alloc = Global>>(
+    alloc: Global,
+    serving: &Serving<'_>,
+    follower: Follower<B>,
+    start: &mut Start<'_, '_, R>,
+) -> Result<Desk<B>, LiveFault>
+where
+    R: Net + Clock + Eprint + AllocGlobal,
+{
+    let closed = nobody(serving.credentials);
+    let mut desk = Desk::new(alloc, closed, follower, 0)?;
+    let found = start.find_session(&mut desk)?;
+    let Some(session) = found else {
+        return Err(LiveFault::Tool(ToolFault::TooMany));
+    };
+    let config = serving.login.config(session);
+    Ok(Desk::new(alloc, config, desk.into_follower(), serving.clients)?)
+}

@@ -1,0 +1,97 @@
+//! Which session a feed is in that rejects the session of a record.
+ghost use Rattle.std.specs.Prelude.{◌≡◌};
+ghost use Rattle.itch_soup.specs.Names.{session_name};
+ghost use Rattle.itchsnap_live.specs.Questions.{asks_session, is_another};
+
+use crate::fault::{LiveFault, RecordFault};
+use crate::feed_side::FeedSide;
+use crate::log::Log;
+use crate::naming::nobody;
+use crate::resuming::at_the_first;
+use crate::start::Start;
+use itch_book::OrderBook;
+use itch_codec::Alpha;
+use itch_codec::spaces::after_spaces;
+use itch_join::Joiner;
+use itch_live::{Desk, Follower, Sessions};
+use itch_soup::Credentials;
+use std::alloc::Global;
+use std::net::{Net, SocketAddr};
+use std::rt::Clock;
+
+/// The answer is waited for so long.
+const MOST_MS: u64 = 2_000;
+
+/// The number of the socket.
+const FEED: usize = 0;
+
+/// Whether a feed that rejects the login for a record with this code is asked which session it is in: once, and only one that has accepted no
+/// login. Otherwise its server is one that lacks the session for now.
+pub fn asks_session(code: u8, was_accepted: bool, was_asked: bool) -> bool
+    ensures { result ≡ asks_session code was_accepted was_asked }
+{
+    code == b'S' && !was_accepted && !was_asked
+}
+
+/// Whether these are different sessions. A name may be padded at either end.
+pub fn is_another(session: &Alpha<10>, named: &Alpha<10>) -> bool
+    ensures { result ≡ is_another session.now named.now }
+{
+    name_of(session) != name_of(named)
+}
+
+// A session's name without the spaces at both ends.
+fn name_of(session: &Alpha<10>) -> &[u8]
+    ensures { result.now ≡ session_name session.entry.now }
+{
+    after_spaces(session.text().as_bytes())
+}
+
+/// The fault of a record of one session, where the feed says that it is in another.
+pub(crate) fn agreed(session: Alpha<10>, asked: Option<Alpha<10>>) -> Result<(), LiveFault> {
+    if let Some(named) = asked {
+        if is_another(&session, &named) {
+            return Err(LiveFault::Record(RecordFault::OtherSession { session, named }));
+        }
+    }
+    Ok(())
+}
+
+/// Asks a feed's server of this address which session it is in, by a login for whichever that is; none where it does not answer within two seconds, or cannot be
+/// asked.
+pub(crate) fn ask_session<R, B>(
+    log: &Log<'_, R>,
+    feed: &FeedSide<'_>,
+    address: SocketAddr,
+    credentials: &Credentials,
+    joiner: Joiner<B>,
+) -> Option<Alpha<10>>
+where
+    R: Net + Clock + Eprint + AllocGlobal,
+    B: OrderBook<Alloc = Global>,
+{
+    let rt = log.runtime();
+    let Ok(mut start) = Start::new(rt, feed.servers(), None, FEED) else {
+        return None;
+    };
+    let Ok(mut desk) = nameless_desk(rt.alloc(), credentials, joiner) else {
+        return None;
+    };
+    start.ask(address, &mut desk, MOST_MS)
+}
+
+// A desk without places whose follower has no session yet.
+fn nameless_desk<B: OrderBook<Alloc = Global>>(
+    alloc: Global,
+    credentials: &Credentials,
+    joiner: Joiner<B>,
+) -> Result<Desk<B>, LiveFault> {
+    let mut joiner = joiner;
+    at_the_first(&mut joiner)?;
+    let nameless = Sessions {
+        feed: None,
+        glimpse: None,
+    };
+    let follower = Follower::new(alloc, *credentials, nameless, joiner, 0)?;
+    Ok(Desk::new(alloc, nobody(*credentials), follower, 0)?)
+}
