@@ -49,7 +49,7 @@ impl LiveArgument {
             LiveArgument::Feed => server(
                 alloc,
                 "feed",
-                "The server of the live feed; if given again, one to try after it",
+                "The server of the live feed; repeat it for others to fall back on",
             )
             .required(true)
             .action(ArgAction::Append),
