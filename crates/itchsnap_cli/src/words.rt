@@ -19,6 +19,7 @@ mod live;
 mod points;
 mod request;
 mod session;
+mod size;
 mod time;
 
 pub use commands::{VERSION, usage_fault};

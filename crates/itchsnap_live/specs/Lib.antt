@@ -6,6 +6,7 @@ pub mod Openings
 pub mod Outboxes
 pub mod Paces
 pub mod Recordings
+pub mod Rooms
 pub mod Routes
 pub mod Savings
 pub mod Sockets
