@@ -274,6 +274,12 @@ class Reader:
                 time.sleep(max(0, begun + turns / 10 - time.monotonic()))
         self.is_open = self.leaves.is_set()
 
+    def has_begun(self):
+        """Waits until its snapshot has begun."""
+        while self.is_open and self.count < ACCEPTED + 1000:
+            time.sleep(0.01)
+        return self
+
     def __enter__(self):
         return self
 
@@ -288,9 +294,32 @@ def endings(server, what):
     return sum(line.endswith(what) for line in b"".join(server.output).decode().splitlines())
 
 
+def twelve_slow_readers_have_room(program):
+    """Each has a snapshot of its own: the next client has one at once, and none is cut off for it."""
+    with busy_server(program) as (server, _), contextlib.ExitStack() as held:
+        for _ in range(12):
+            held.enter_context(Reader(server.port, 100_000, 4096)).has_begun()
+        told = told_within(server.port, 10)
+        if told.pause > PAUSE or not market().is_told(told.data):
+            yield f"the next one had {len(told.data)} bytes after {told.seconds:.1f} seconds, and nothing for {told.pause:.1f}"
+        yield from differs("cut off", endings(server, "cut off as the slowest"), 0)
+
+
+def a_snapshot_waits_for_memory(program):
+    """Where no two fit, the second client hears that the server is there until the first has its own, and each has a whole one."""
+    with busy_server(program, "--snapshot-memory", "1M") as (server, _), Reader(server.port, 1_500_000, 1 << 18) as first:
+        first.has_begun()
+        told = told_within(server.port)
+        first.thread.join()
+        yield from differs("the second is told the market", market().is_told(told.data), True)
+        yield from differs("it waits", BEAT in split(told.data), True)
+        if abs(first.count - len(told.data)) > 1000:
+            yield f"the first has {first.count} bytes, and the second {len(told.data)}"
+
+
 def eight_slow_readers_hinder_no_other(program):
-    """Each has a snapshot of its own: the ninth is accepted at once, told each second that the server is there, and has its snapshot."""
-    with busy_server(program) as (server, _), contextlib.ExitStack() as readers:
+    """There is memory for the snapshot of each: the ninth is accepted at once, told each second that the server is there, and has its snapshot."""
+    with busy_server(program, "--snapshot-memory", "64M") as (server, _), contextlib.ExitStack() as readers:
         for _ in range(8):
             readers.enter_context(Reader(server.port, 100_000, 4096))
         told = told_within(server.port, 10)
@@ -487,6 +516,8 @@ def a_login_is_accepted_before_there_is_a_market(program):
 RUNS = [
     clients_that_come_again_and_again_hinder_no_other,
     a_thousand_that_never_log_in_hinder_nobody,
+    twelve_slow_readers_have_room,
+    a_snapshot_waits_for_memory,
     eight_slow_readers_hinder_no_other,
     a_slow_reader_is_not_cut_off,
     snapshots_that_cannot_be_written_do_not_end_it,

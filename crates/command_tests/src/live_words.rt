@@ -16,24 +16,24 @@ fn words_of_a_live_server_are_read(rt: HostRuntime) -> Result<(), Fail> {
         (
             "",
             "glimpse: None, address: 127.0.0.1:0",
-            "session: None, glimpse_session: None, clients: 64, clients_per_address: None, record: None, snapshots: None, stay: false",
+            "session: None, glimpse_session: None, clients: 64, clients_per_address: None, snapshot_memory: None, record: None, snapshots: None, stay: false",
         ),
         (
             "--record day.itch --stay --clients 007 --clients-per-address 2",
             "glimpse: None, address: 127.0.0.1:0",
-            "session: None, glimpse_session: None, clients: 7, clients_per_address: Some(2), \
+            "session: None, glimpse_session: None, clients: 7, clients_per_address: Some(2), snapshot_memory: None, \
              record: Some(RecordWords { path: \"day.itch\", sync: EverySecond, is_optional: false }), snapshots: None, stay: true",
         ),
         (
             "--record r --sync message --record-optional",
             "glimpse: None, address: 127.0.0.1:0",
-            "session: None, glimpse_session: None, clients: 64, clients_per_address: None, \
+            "session: None, glimpse_session: None, clients: 64, clients_per_address: None, snapshot_memory: None, \
              record: Some(RecordWords { path: \"r\", sync: EveryMessage, is_optional: true }), snapshots: None, stay: false",
         ),
         (
             "--bind ::1 --glimpse [::1]:65535 --snapshots s --every 1000",
             "glimpse: Some(Place { words: \"[::1]:65535\", host: \"::1\", port: 65535 }), address: [::1]:0",
-            "session: None, glimpse_session: None, clients: 64, clients_per_address: None, record: None, \
+            "session: None, glimpse_session: None, clients: 64, clients_per_address: None, snapshot_memory: None, record: None, \
              snapshots: Some(SnapshotWords { folder: \"s\", every: 1000 }), stay: false",
         ),
     ];
@@ -75,6 +75,43 @@ fn a_feed_may_have_several_servers(rt: HostRuntime) -> Result<(), Fail> {
             _ => None,
         };
         holds_in(&rt, line.as_str(), found == last);
+    }
+    Ok(())
+}
+
+#[test]
+fn bytes_are_counted_in_units(rt: HostRuntime) -> Result<(), Fail> {
+    let cases = [
+        ("1", Some(1)),
+        ("1000000", Some(1_000_000)),
+        ("512K", Some(524_288)),
+        ("256M", Some(268_435_456)),
+        ("2G", Some(2_147_483_648)),
+        ("17179869183G", Some(18_446_744_072_635_809_792)),
+        ("17179869184G", None),
+        ("18446744073709551616", None),
+        ("0", None),
+        ("0K", None),
+        ("", None),
+        ("M", None),
+        ("-1", None),
+        ("+1", None),
+        ("1.5M", None),
+        ("256MB", None),
+        ("256m", None),
+        ("M256", None),
+        ("0x10", None),
+    ];
+    for (size, wanted) in cases {
+        let line = format!(in rt.alloc();
+            "live --feed h:1 --port 0 --user user --pass secret --snapshot-memory={size}"
+        )?;
+        let words = words(rt.alloc(), line.as_str())?;
+        let found = match read_job(rt.alloc(), words.as_slice(), false, None) {
+            Ok(Job::Live(live)) => live.snapshot_memory,
+            _ => None,
+        };
+        holds_in(&rt, line.as_str(), found == wanted);
     }
     Ok(())
 }

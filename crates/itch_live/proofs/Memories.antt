@@ -9,14 +9,14 @@ use Rattle.itch_join.specs.Positions.{Position}
 use Rattle.itch_soup.specs.declared.login.ServerConfig.{ServerConfig}
 use Rattle.itch_live.specs.Guests.{new_guest}
 use Rattle.itch_live.specs.Seats.{Seats, guest_at}
-use Rattle.itch_live.specs.Kept.{kept, kept_bytes}
+use Rattle.itch_live.specs.Kept.{kept, kept_bytes, length_or, snapshot_bytes}
 use Rattle.itch_live.specs.Follows.{Following}
 use Rattle.itch_live.specs.Desks.{Desk, shot_for, with_shot, answered_with, Call, Feeds, Admits, Hears, Answers, Takes, Ticks, Leaves, Event, Step, History}
-use Rattle.itch_live.specs.Memory.{splitter_bytes, clients, length_or, snapshot_bytes, held_bytes, most_bytes, handed_at, handed_by, longest, messages_at, messages_by, most_messages, IsOfMarket, AreOfMarkets}
+use Rattle.itch_live.specs.Memory.{splitter_bytes, clients, held_bytes, most_bytes, handed_at, handed_by, longest, messages_at, messages_by, most_messages, IsOfMarket, AreOfMarkets}
 use Rattle.itch_live.proofs.Places.{none_seated, no_guest}
 use Rattle.itch_live.proofs.Seated.{Holds, AllHold, one_guest, set_holds, all_tick, all_answer, all_hear, all_take}
 use Rattle.itch_live.proofs.Present.{kept_for, AreFitting, right_shot, all_fit}
-use Rattle.itch_live.proofs.Eight.{at_most_eight}
+use Rattle.itch_live.proofs.Keeping.{at_most_kept}
 use Rattle.itch_live.proofs.Lengths.{session_within}
 
 -- a snapshot has at most so many bytes
@@ -91,10 +91,10 @@ module _ {W : Type 0} (contents : W → Option (List ℕ)) (failures : W → Fai
   within_sum config begun past d history within =
       let all = all_short config begun past d history within in
       let each = sum_within (λ number. length_or (kept_bytes d.seats number)) most (kept d.seats) (λ number. short_kept most d.seats number all (kept_bytes d.seats number) refl) in
-      let eight = at_most_eight contents failures config begun past d history in
-      sums (clients d.seats) (length d.seats) (snapshot_bytes d.seats) (length (kept d.seats)) (few_clients d.seats) each eight where
-        sums : (c places bytes n : ℕ) → c ≤ places → bytes ≤ n * most → n ≤ 8 → splitter_bytes + c * splitter_bytes + bytes ≤ splitter_bytes + places * splitter_bytes + 8 * most
-        sums c places bytes n few each eight = grind arith
+      let few = at_most_kept contents failures config begun past d history in
+      sums (clients d.seats) (length d.seats) (snapshot_bytes d.seats) (length (kept d.seats)) (few_clients d.seats) each few where
+        sums : (c places bytes n : ℕ) → c ≤ places → bytes ≤ n * most → n ≤ 64 → splitter_bytes + c * splitter_bytes + bytes ≤ splitter_bytes + places * splitter_bytes + 64 * most
+        sums c places bytes n taken each few = grind arith
 
 pub within_longest : {W : Type 0} (contents : W → Option (List ℕ)) (failures : W → Failures) (config : ServerConfig) (begun : Following) (past : List (Event W)) (d : Desk)
     → History contents failures config begun past d → held_bytes d ≤ most_bytes (length d.seats) (longest past)

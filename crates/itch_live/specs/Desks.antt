@@ -30,7 +30,7 @@ Accepts d now (Ok (Some place)) e =
 Accepts d now (Ok None) e = AreTaken d.seats × (e ≡ d)
 Accepts d now (Err error) e = e ≡ d
 
--- what those who wait are handed at this number: the snapshot of the number that is kept, or else the market's, unless eight others are kept
+-- what those who wait are handed at this number: the snapshot of the number that is kept, or else the market's, unless too many others are kept
 abbrev pub shot_for : Seats → Content → ℕ → Option (List ℕ)
 shot_for seats market next =
     option_or (kept_bytes seats next) (if nat_lt (length (kept seats)) most_snapshots then Some (session_bytes market next) else None)

@@ -8,7 +8,7 @@ use Rattle.itch_live.specs.Kept.{kept, kept_bytes, most_snapshots}
 use Rattle.itch_live.specs.Stories.{Happening, Hears, Answers, Takes, Ticks, Leaves, Story}
 use Rattle.itch_live.specs.Desks.{Desk}
 
--- the snapshot of a position can be handed in: one of its number is kept, or fewer than eight others are
+-- the snapshot of a position can be handed in: one of its number is kept, or there may be one more
 abbrev pub HasRoom : Desk → Position → Type 0
 HasRoom d j = (is_some (kept_bytes d.seats j.next) ≡ true) ⊎ (length (kept d.seats) < most_snapshots)
 

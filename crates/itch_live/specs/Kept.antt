@@ -1,6 +1,6 @@
 -- The snapshots that are kept for clients, by the numbers of the next messages at which they were encoded.
-use Rattle.std.specs.Prelude.{ℕ, Bool, false, not, List, [], ◌∷◌, Option, None, Some, if◌then◌else◌}
-use Rattle.std.specs.List.{list_any}
+use Rattle.std.specs.Prelude.{ℕ, Bool, false, not, List, [], ◌∷◌, length, Option, None, Some, if◌then◌else◌}
+use Rattle.std.specs.List.{list_any, sum_by}
 use Rattle.std.specs.Option.{option_or}
 use Rattle.itch_live.specs.Guests.{Guest, is_at, shot_in}
 use Rattle.itch_live.specs.Seats.{Seats}
@@ -31,6 +31,10 @@ abbrev pub keeps_alone : Option ℕ → Seats → Bool
 keeps_alone None others = false
 keeps_alone (Some number) others = not (is_kept others number)
 
+-- this number, if a snapshot of it is kept for none of these
+abbrev pub number_alone : Option ℕ → Seats → Option ℕ
+number_alone number others = if keeps_alone number others then number else None
+
 abbrev pub with_number : Option ℕ → List ℕ → List ℕ
 with_number None numbers = numbers
 with_number (Some number) numbers = number ∷ numbers
@@ -40,6 +44,19 @@ abbrev pub kept : Seats → List ℕ
 kept [] = []
 kept (seat ∷ seats) = if keeps_alone (number_of seat) seats then with_number (number_of seat) (kept seats) else kept seats
 
--- how many snapshots are kept at most
+abbrev pub length_or : Option (List ℕ) → ℕ
+length_or None = 0
+length_or (Some bytes) = length bytes
+
+-- how many bytes the snapshot of this number has, if it is kept
+abbrev pub bytes_under : Seats → Option ℕ → ℕ
+bytes_under seats None = 0
+bytes_under seats (Some number) = length_or (kept_bytes seats number)
+
+-- the bytes of the snapshots that are kept, each of them once
+abbrev pub snapshot_bytes : Seats → ℕ
+snapshot_bytes seats = sum_by (λ number. length_or (kept_bytes seats number)) (kept seats)
+
+-- how many different snapshots are kept at most
 abbrev pub most_snapshots : ℕ
-most_snapshots = 8
+most_snapshots = 64

@@ -1,12 +1,11 @@
 -- What a desk holds in bytes, beside the market of its feed and the words of its places.
 use Rattle.std.specs.Prelude.{◌≡◌, ℕ, ◌+◌, ◌*◌, max, List, [], ◌∷◌, length, Option, None, Some}
-use Rattle.std.specs.List.{sum_by}
 use Rattle.itch_codec.specs.Widths.{IsSequence}
 use Rattle.itch_market.specs.GoodMarkets.{IsGood}
 use Rattle.itch_snapshot.specs.Snapshot.{snap}
 use Rattle.itch_join.specs.Positions.{Position}
 use Rattle.itch_live.specs.Seats.{Seats}
-use Rattle.itch_live.specs.Kept.{kept, kept_bytes, most_snapshots}
+use Rattle.itch_live.specs.Kept.{length_or, snapshot_bytes, most_snapshots}
 use Rattle.itch_live.specs.Desks.{Desk, shot_for, Call, Answers, Event}
 
 -- what a splitter holds: the longest block
@@ -18,14 +17,6 @@ abbrev pub clients : Seats → ℕ
 clients [] = 0
 clients (None ∷ seats) = clients seats
 clients (Some g ∷ seats) = 1 + clients seats
-
-abbrev pub length_or : Option (List ℕ) → ℕ
-length_or None = 0
-length_or (Some bytes) = length bytes
-
--- the bytes of the snapshots that are kept, each of them once
-abbrev pub snapshot_bytes : Seats → ℕ
-snapshot_bytes seats = sum_by (λ number. length_or (kept_bytes seats number)) (kept seats)
 
 -- a splitter for the feed and for each client, and the snapshots
 abbrev pub held_bytes : Desk → ℕ

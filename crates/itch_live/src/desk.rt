@@ -1,5 +1,5 @@
 //! A follower and its clients.
-ghost use Rattle.std.specs.Prelude.{◌≡◌, ℕ, ◌≤◌, Some, None, IfOk, OnOk, OnErr, true, length, option_map, replicate, slice_set};
+ghost use Rattle.std.specs.Prelude.{◌≡◌, ℕ, ◌≤◌, ◌-◌, ◌^◌, Some, None, IfOk, OnOk, OnErr, true, length, min, option_map, replicate, slice_set};
 ghost use Rattle.std.specs.Option.{option_copied};
 ghost use Rattle.std.specs.List.{list_any};
 ghost use Rattle.itch_soup.specs.Connections.{tick_answer};
@@ -8,11 +8,12 @@ ghost use Rattle.itch_soup.specs.Packets.{packet_spelling};
 ghost use Rattle.itch_live.specs.Guests as guests;
 ghost use Rattle.itch_live.specs.Seats as places;
 ghost use Rattle.itch_live.specs.Follows as follows;
+ghost use Rattle.itch_live.specs.Kept as kept;
 ghost use Rattle.itch_live.specs.Desks as desks;
 
 use crate::follower::Follower;
 use crate::guest::Guest;
-use crate::kept::{count_kept, kept_shot};
+use crate::kept::{count_kept, kept_shot, snapshot_bytes};
 use crate::news::News;
 use crate::seats::{Seat, any_waits, free_place, guest_at, hand_in, hear_at, tick_all, took_at};
 use crate::shot::{Shot, shoot};
@@ -26,7 +27,7 @@ use std::marker::Model;
 use std::rc::Rc;
 
 /// How many different snapshots a [`Desk`] keeps for its clients at most.
-pub const MOST_SNAPSHOTS: usize = 8;
+pub const MOST_SNAPSHOTS: usize = 64;
 
 /// A live server without its sockets: a feed that is followed, and a number of places for clients.
 ///
@@ -169,6 +170,14 @@ impl<B: OrderBook> Desk<B> {
         };
         let shot = shot_for(self.alloc, &self.seats, market, next)?;
         hand_in(&mut self.seats, shot, next.value(), now_ms)
+    }
+
+    /// The bytes of the snapshots that are kept for clients, each of them once; no more than a `u64` holds. Whoever calls
+    /// [`Desk::answer`] can have that wait until there is memory for one more.
+    pub fn snapshot_bytes(&self) -> u64
+        ensures { result ≡ min (kept.snapshot_bytes self.now.seats) (2 ^ 64 - 1) }
+    {
+        snapshot_bytes(&self.seats)
     }
 
     /// What is still to be written to the client at a place.

@@ -1,5 +1,5 @@
 //! The snapshots that are kept for clients.
-ghost use Rattle.std.specs.Prelude.{◌≡◌, length, option_map};
+ghost use Rattle.std.specs.Prelude.{◌≡◌, ◌-◌, ◌^◌, length, min, option_map};
 ghost use Rattle.std.specs.Option.{option_copied};
 ghost use Rattle.itch_live.specs.Kept as kept;
 
@@ -51,6 +51,43 @@ pub(crate) fn count_kept<A: Allocator>(seats: &[Seat<A>]) -> usize
         }
     }
     count
+}
+
+/// The bytes of the snapshots that are kept, each of them once; no more than a `u64` holds.
+pub(crate) fn snapshot_bytes<A: Allocator>(seats: &[Seat<A>]) -> u64
+    ensures { result ≡ min (kept.snapshot_bytes seats.now) (2 ^ 64 - 1) }
+{
+    let mut total: u64 = 0;
+    let len = seats.len();
+    for place in 0..len {
+        let number = number_alone(&seats[place], &seats[place + 1..]);
+        total = total.saturating_add(bytes_under(seats, number));
+    }
+    total
+}
+
+// The number of the snapshot of the client at a place, if it is kept for none of the others.
+fn number_alone<A: Allocator>(seat: &Seat<A>, others: &[Seat<A>]) -> Option<u64>
+    ensures { result ≡ kept.number_alone (kept.number_of seat.now) others.now }
+{
+    if keeps_alone(seat, others) {
+        number_of(seat)
+    } else {
+        None
+    }
+}
+
+// How many bytes the snapshot of this number has, if it is kept.
+fn bytes_under<A: Allocator>(seats: &[Seat<A>], number: Option<u64>) -> u64
+    ensures { result ≡ kept.bytes_under seats.now number }
+{
+    let Some(number) = number else {
+        return 0;
+    };
+    match kept_shot(seats, number) {
+        Some(shot) => shot.len() as u64,
+        None => 0,
+    }
 }
 
 // Whether a snapshot is kept for a client, and for none of the others.

@@ -39,4 +39,4 @@ pub use guest::Guest;
 pub use news::{News, Source};
 pub use player::Player;
 pub use sessions::Sessions;
-pub use shot::{Shot, shoot};
+pub use shot::{Shot, longest_snapshot, shoot};

@@ -1,5 +1,5 @@
 //! The packets of a snapshot, encoded once for all clients that are sent it.
-ghost use Rattle.std.specs.Prelude.{◌≡◌, ◌<◌, ◌≤◌, ◌+◌, ◌-◌, ◌*◌, ◌^◌, [], length, IfOk};
+ghost use Rattle.std.specs.Prelude.{◌≡◌, ◌<◌, ◌≤◌, ◌+◌, ◌-◌, ◌*◌, ◌^◌, [], length, min, IfOk};
 ghost use Rattle.itch_snapshot.specs.Snapshot.{snap};
 ghost use Rattle.itch_live.specs.Guests.{session_bytes};
 
@@ -20,6 +20,14 @@ const LONGEST: u128 = 43;
 
 /// Enough for the packets after those messages: the End of Snapshot and the session's end.
 const AROUND: u128 = 128;
+
+/// How many bytes [`shoot`] takes for the snapshot of this market, and so how many it has at most; no more than a `u64` holds.
+pub fn longest_snapshot<B: OrderBook>(market: &Market<B>) -> u64
+    ensures { result ≡ min (43 * length (snap market.now) + 128) (2 ^ 64 - 1) }
+{
+    let messages = snapshot_len(market).min(1 << 64);
+    u64::try_from(LONGEST * messages + AROUND).unwrap_or(u64::MAX)
+}
 
 /// The bytes that a client is sent after the acceptance of its login: the market's snapshot with its End of Snapshot, and the end
 /// of the session.

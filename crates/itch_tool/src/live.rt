@@ -38,6 +38,7 @@ where
             Some(count) => places(count),
             None => usize::MAX,
         },
+        snapshot_memory: words.snapshot_memory,
         from_snapshot: words.glimpse.is_some(),
         record: words.record,
         snapshots: words.snapshots,

@@ -20,6 +20,7 @@ mod places;
 mod points;
 mod request;
 mod session;
+mod size;
 mod time;
 
 pub use commands::{VERSION, usage_fault};

@@ -7,6 +7,7 @@ pub mod Outboxes
 pub mod Paces
 pub mod Questions
 pub mod Recordings
+pub mod Rooms
 pub mod Routes
 pub mod Savings
 pub mod Sockets

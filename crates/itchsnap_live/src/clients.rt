@@ -3,9 +3,10 @@
 use crate::client::{ClientSide, hand_on};
 use crate::departure::Departure;
 use crate::reception::{Arrival, Reception};
+use crate::room::SnapshotRoom;
 use crate::seated::Seated;
 use itch_book::OrderBook;
-use itch_live::Desk;
+use itch_live::{Desk, longest_snapshot};
 use itch_snapshot::snapshot_len;
 use itchsnap_cli::sessions::PIECE;
 use mio::Registry;
@@ -25,6 +26,8 @@ pub(crate) struct Clients {
     seated: Seated,
     // How many may be from one address.
     per_address: usize,
+    // How many bytes the snapshots may have that they are sent.
+    room: SnapshotRoom,
     // The number of the socket at the first place.
     first_token: usize,
     // Since when somebody has waited for room for a snapshot.
@@ -40,12 +43,14 @@ impl Clients {
         alloc: Global,
         places: usize,
         per_address: usize,
+        room: SnapshotRoom,
         first_token: usize,
     ) -> Result<Clients, AllocError> {
         Ok(Clients {
             seats: free_seats(alloc, places)?,
             seated: Seated::new(alloc, places)?,
             per_address,
+            room,
             first_token,
             crowded_ms: None,
             tried_ms: 0,
@@ -157,13 +162,17 @@ impl Clients {
         }
     }
 
-    /// Answers those who wait with the snapshot of the present market. Where its memory is refused, or too many other snapshots
-    /// are kept, they go on waiting.
+    /// Answers those who wait with the snapshot of the present market. Where it has no room beside the others, or its memory is refused, they
+    /// go on waiting.
     pub(crate) fn answer<B: OrderBook>(&mut self, desk: &mut Desk<B>, now_ms: u64) {
         let (Some(next), Some(market)) = (desk.next(), desk.market()) else {
             return;
         };
         let messages = u64::try_from(snapshot_len(market)).unwrap_or(u64::MAX);
+        let most = longest_snapshot(market);
+        if !self.is_sent(desk, next) && !self.room.takes(desk.snapshot_bytes(), most) {
+            return;
+        }
         // Also where it ends in an error, some were answered.
         let _ = desk.answer(now_ms);
         self.note_answers(desk, next, messages.saturating_add(1), now_ms);
@@ -174,6 +183,18 @@ impl Clients {
         for place in 0..self.seats.len() {
             if let Some(guest) = desk.guest(place)
                 && guest.is_waiting()
+            {
+                return true;
+            }
+        }
+        false
+    }
+
+    // Whether some client is sent the snapshot of this number, which is then not encoded again.
+    fn is_sent<B: OrderBook>(&self, desk: &Desk<B>, next: u64) -> bool {
+        for place in 0..self.seats.len() {
+            if let Some(guest) = desk.guest(place)
+                && guest.snapshot() == Some(next)
             {
                 return true;
             }

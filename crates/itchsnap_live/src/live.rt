@@ -10,6 +10,7 @@ use crate::opened::{follower_of, listen, named_desk, open_folder, open_record};
 use crate::question::{agreed, ask_session, asks_session};
 use crate::reception::Reception;
 use crate::record::{Record, RecordLoss};
+use crate::room::SnapshotRoom;
 use crate::route::Servers;
 use crate::saving::Saver;
 use crate::spare::{SPARED, Spare};
@@ -60,6 +61,8 @@ pub struct Serving<'a> {
     /// How many clients it has at a time, and how many of them from one address.
     pub clients: usize,
     pub clients_per_address: usize,
+    /// How many bytes the snapshots may have that they are sent, if that is said.
+    pub snapshot_memory: Option<u64>,
     /// Whether it begins with a snapshot, and not with the feed's first message.
     pub from_snapshot: bool,
     pub record: Option<RecordWords<'a>>,
@@ -178,7 +181,8 @@ where
             .config(desk.session().unwrap_or(current_session()));
         let first_room = PLACES.saturating_add(places);
         let reception = Reception::new(alloc, config, Seq::new(1).unwrap(), first_room)?;
-        let clients = Clients::new(alloc, places, serving.clients_per_address, PLACES)?;
+        let room = SnapshotRoom::new(serving.snapshot_memory);
+        let clients = Clients::new(alloc, places, serving.clients_per_address, room, PLACES)?;
         let spare = Spare::new(alloc, SPARED)?;
         let Start {
             log,

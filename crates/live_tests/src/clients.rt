@@ -1,4 +1,5 @@
 //! Clients: what each is sent, beside the others, and when it is cut off.
+use crate::equal::same_in;
 use crate::messages::{
     AAPL, ACCEPTED_1, ADD_1, ADD_2, CLIENT_HEARTBEAT, END_3, EVENT, FEED_FROM_1, HEARTBEAT, LOGIN,
     LOGIN_2, LOGIN_BLANK, LOGIN_OTHER, LOGIN_WRONG, LOGOUT, REFUSED_SESSION, REFUSED_USER,
@@ -7,7 +8,7 @@ use crate::messages::{
 use crate::steps::{Brought, Standing, Step, UNKNOWN, check, desk_of, take_steps};
 use itch_book::{IndexedBook, OrderBook};
 use itch_frame::testing::FuseWriter;
-use itch_live::{Desk, Gone, laws};
+use itch_live::{Desk, Gone, MOST_SNAPSHOTS, laws};
 use std::alloc::Global;
 use std::process::Abort;
 use std::test::Fail;
@@ -255,53 +256,56 @@ fn cut_off(rt: HostRuntime) -> Result<(), Fail> {
     check::<Index>(&rt, rt.alloc(), rt.alloc(), false, CUT_OFF)
 }
 
-// The snapshot after eight system events.
-const SNAPSHOT_8: &[u8] = b"\0\x0dSS\0\0\0\0\0\0\0\0\0\0O\0\x16SG                   9\0\x01Z";
+// The snapshot after 64 system events.
+const SNAPSHOT_64: &[u8] = b"\0\x0dSS\0\0\0\0\0\0\0\0\0\0O\0\x16SG                  65\0\x01Z";
 
-// Eight clients are sent eight different snapshots. The ninth waits until one of them leaves, and who comes at the same number is
-// sent the same as it.
-const NINTH: &[Step<'static>] = &[
-    Step::Admit(Some(8)),
-    Step::Hear(8, LOGIN),
-    Step::Take(8, 33),
+// The bytes of 64 snapshots, the first of which has no message.
+const KEPT: u64 = 27 + 63 * 42;
+
+// 64 clients are sent 64 different snapshots. The next one waits until one of them leaves, and who comes at the same number is sent
+// the same as it.
+const NEXT: &[Step<'static>] = &[
+    Step::Admit(Some(64)),
+    Step::Hear(64, LOGIN),
+    Step::Take(64, 33),
     Step::Answer,
-    Step::Pending(8, b""),
-    Step::Stands(8, Standing::There),
+    Step::Pending(64, b""),
+    Step::Stands(64, Standing::There),
     Step::Leave(3),
     Step::Answer,
-    Step::Pending(8, SNAPSHOT_8),
+    Step::Pending(64, SNAPSHOT_64),
     Step::Admit(Some(3)),
     Step::Hear(3, LOGIN),
     Step::Take(3, 33),
     Step::Answer,
-    Step::Pending(3, SNAPSHOT_8),
+    Step::Pending(3, SNAPSHOT_64),
     Step::Take(3, 42),
     Step::Stands(3, Standing::Closing),
-    Step::Feed(EVENT, Brought::Taken(10)),
-    Step::Admit(Some(9)),
-    Step::Hear(9, LOGIN),
-    Step::Take(9, 33),
+    Step::Feed(EVENT, Brought::Taken(66)),
+    Step::Admit(Some(65)),
+    Step::Hear(65, LOGIN),
+    Step::Take(65, 33),
     Step::Answer,
-    Step::Pending(9, b""),
-    Step::Leave(8),
+    Step::Pending(65, b""),
+    Step::Leave(64),
     Step::Answer,
-    Step::Pending(9, b""),
+    Step::Pending(65, b""),
     Step::Leave(3),
     Step::Answer,
-    Step::Stands(9, Standing::There),
-    Step::Take(9, 42),
-    Step::Stands(9, Standing::Closing),
+    Step::Stands(65, Standing::There),
+    Step::Take(65, 42),
+    Step::Stands(65, Standing::Closing),
 ];
 
-fn check_nine<B: OrderBook>(rt: &impl Abort, alloc: Global, memory: B::Alloc) -> Result<(), Fail> {
-    let mut desk: Desk<B> = desk_of(rt, memory, UNKNOWN, false, 10)?;
+fn check_most<B: OrderBook>(rt: &impl Abort, alloc: Global, memory: B::Alloc) -> Result<(), Fail> {
+    let mut desk: Desk<B> = desk_of(rt, memory, UNKNOWN, false, 66)?;
     let mut record = FuseWriter::new(alloc, 5, None);
     let begins = [
         Step::Connect(FEED_FROM_1),
         Step::Feed(ACCEPTED_1, Brought::Accepted(1)),
     ];
     take_steps(rt, &mut desk, &mut record, &begins)?;
-    for place in 0..8usize {
+    for place in 0..MOST_SNAPSHOTS {
         let comes = [
             Step::Admit(Some(place)),
             Step::Hear(place, LOGIN),
@@ -311,12 +315,15 @@ fn check_nine<B: OrderBook>(rt: &impl Abort, alloc: Global, memory: B::Alloc) ->
         ];
         take_steps(rt, &mut desk, &mut record, &comes)?;
     }
-    take_steps(rt, &mut desk, &mut record, NINTH)
+    same_in(rt, 64, desk.snapshot_bytes(), KEPT);
+    take_steps(rt, &mut desk, &mut record, NEXT)?;
+    same_in(rt, 65, desk.snapshot_bytes(), KEPT);
+    Ok(())
 }
 
 #[test]
-fn the_ninth_snapshot(rt: HostRuntime) -> Result<(), Fail> {
-    check_nine::<Index>(&rt, rt.alloc(), rt.alloc())
+fn more_snapshots_than_are_kept(rt: HostRuntime) -> Result<(), Fail> {
+    check_most::<Index>(&rt, rt.alloc(), rt.alloc())
 }
 
 #[test]

@@ -194,6 +194,7 @@ const COMMANDS: [Entry; 14] = [
             Argument::PasswordFile,
             Argument::Live(LiveArgument::Clients),
             Argument::Live(LiveArgument::ClientsPerAddress),
+            Argument::Live(LiveArgument::SnapshotMemory),
             Argument::Live(LiveArgument::Record),
             Argument::Live(LiveArgument::Sync),
             Argument::Live(LiveArgument::RecordOptional),

@@ -4,6 +4,7 @@ use crate::words::commands::usage_fault;
 use crate::words::places::{Feeds, Place, read_feeds, read_place, read_place_if_any};
 use crate::words::request::read_count;
 use crate::words::session::{LoginWords, Password, read_address, read_login, read_session};
+use crate::words::size::read_size;
 use clap::{ArgMatches, Error};
 use itch_codec::Alpha;
 use std::alloc::Global;
@@ -59,6 +60,8 @@ pub struct LiveWords<'a> {
     pub clients: u64,
     /// How many of them may be from one address, if there is a limit.
     pub clients_per_address: Option<u64>,
+    /// How many bytes the snapshots may have that clients are sent, if that is said.
+    pub snapshot_memory: Option<u64>,
     pub record: Option<RecordWords<'a>>,
     pub snapshots: Option<SnapshotWords<'a>>,
     /// Whether it serves on once the feed has ended.
@@ -140,6 +143,7 @@ pub fn read_live<'a>(
         glimpse_session: read_glimpse_session(alloc, options, glimpse.is_some())?,
         clients: read_counted(alloc, options, "clients")?.unwrap_or(CLIENTS),
         clients_per_address: read_counted(alloc, options, "clients-per-address")?,
+        snapshot_memory: read_snapshot_memory(alloc, options)?,
         record,
         snapshots: read_snapshots(alloc, options)?,
         stay: options.get_flag("stay"),
@@ -243,6 +247,19 @@ fn read_snapshots<'a>(
         (None, None) => Ok(None),
         (Some(folder), Some(every)) => Ok(Some(SnapshotWords { folder, every })),
         _ => Err(usage_fault(alloc, "--snapshots and --every go together")?),
+    }
+}
+
+fn read_snapshot_memory<'a>(alloc: Global, options: &ArgMatches<'a>) -> Result<Option<u64>, Error> {
+    let Some(words) = options.get_str("snapshot-memory") else {
+        return Ok(None);
+    };
+    match read_size(words) {
+        Some(bytes) => Ok(Some(bytes)),
+        None => Err(usage_fault(
+            alloc,
+            "--snapshot-memory takes bytes, with K, M or G for KiB, MiB or GiB, such as 256M",
+        )?),
     }
 }
 

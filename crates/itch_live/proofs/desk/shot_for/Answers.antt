@@ -8,14 +8,14 @@ use Rattle.itch_live.specs.Kept.{kept, kept_bytes, most_snapshots}
 use Rattle.itch_live.specs.Desks.{shot_for}
 use Rattle.itch_live.proofs.desk.shot_for.Goals as goal
 
-fresh_shot : (seats : Seats) (market : Content) (next count : ℕ) (bytes : List ℕ) → kept_bytes seats next ≡ None → count < 8 → count ≡ length (kept seats)
+fresh_shot : (seats : Seats) (market : Content) (next count : ℕ) (bytes : List ℕ) → kept_bytes seats next ≡ None → count < 64 → count ≡ length (kept seats)
     → bytes ≡ session_bytes market next → Some bytes ≡ shot_for seats market next
 fresh_shot seats market next count bytes none room counts is = by_room (nat_lt (length (kept seats)) most_snapshots) refl where
   by_room : (b : Bool) → nat_lt (length (kept seats)) most_snapshots ≡ b → Some bytes ≡ shot_for seats market next
   by_room true few =
       ap Some is ∙ sym (ap (λ k. option_or k (if nat_lt (length (kept seats)) most_snapshots then Some (session_bytes market next) else None)) none
       ∙ ap (λ b. if b then Some (session_bytes market next) else None) few)
-  by_room false many = let full = ltb-false (length (kept seats)) 8 many in let never : ⊥ = omega (arith, full, room, counts) in absurd never
+  by_room false many = let full = ltb-false (length (kept seats)) 64 many in let never : ⊥ = omega (arith, full, room, counts) in absurd never
 
 pub returns : goal.returns
 returns g c =

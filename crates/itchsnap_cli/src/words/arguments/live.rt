@@ -26,6 +26,7 @@ pub enum LiveArgument {
     // What `live` keeps, and for whom.
     Clients,
     ClientsPerAddress,
+    SnapshotMemory,
     Record,
     Sync,
     RecordOptional,
@@ -105,6 +106,12 @@ impl LiveArgument {
                 "Serve at most N of them from one address [default: no limit]",
             )
             .value_parser(clap::value_parser!(u64).range(1..=MOST_CLIENTS)),
+            LiveArgument::SnapshotMemory => text(
+                alloc,
+                "snapshot-memory",
+                "BYTES",
+                "The most memory for snapshots in use, such as 512M or 2G [default: 256M or more]",
+            ),
             LiveArgument::Record => text(
                 alloc,
                 "record",

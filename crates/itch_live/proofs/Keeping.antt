@@ -1,4 +1,4 @@
--- At most eight different snapshots are kept.
+-- No more different snapshots are kept than there may be.
 use Rattle.std.proofs.Common.{◌≡◌, ℕ, ◌+◌, ◌-◌, ◌≤◌, ◌||◌, ◌&&◌, ◌==◌, nat_lt, nat_le, Bool, true, false, not, cond, if◌then◌else◌, List, [], ◌∷◌, ◌++◌, length, map, take, drop, Option, None, Some, Ok, Err, option_map, refl, sym, ap, ◌∙◌, subst, arith, ◌⊎◌, inl, inr, set, replicate, zero, suc}
 use Rattle.std.specs.Option.{option_or}
 use Rattle.std.proofs.lemmas.Bool.{eqb-true, ltb-true}
@@ -297,20 +297,20 @@ module _ {W : Type 0} (contents : W → Option (List ℕ)) (failures : W → Fai
         took_any [] n there = took_same (nat_lt 0 count && (nat_le 65536 (g.taken + count - g.marked) || g.taken + count == length (guests.bytes_of g.told))) n there
         took_any (b ∷ notes) n there = there
 
-  -- a snapshot is handed in that is kept already, or where fewer than eight are
-  answered : (d : Desk) (count now : ℕ) (o : Option Position) → length (kept d.seats) ≤ 8 → length (kept (answered_with o d count now).seats) ≤ 8
+  -- a snapshot is handed in that is kept already, or where there may be one more
+  answered : (d : Desk) (count now : ℕ) (o : Option Position) → length (kept d.seats) ≤ 64 → length (kept (answered_with o d count now).seats) ≤ 64
   answered d count now None few = few
   answered d count now (Some j) few = by_kept (kept_bytes d.seats j.next) refl where
     by_room : (b : Bool) → nat_lt (length (kept d.seats)) most_snapshots ≡ b
-        → length (kept (with_shot (if b then Some (session_bytes j.market j.next) else None) d j.next count now).seats) ≤ 8
+        → length (kept (with_shot (if b then Some (session_bytes j.market j.next) else None) d j.next count now).seats) ≤ 64
     by_room true room =
         let more = one_other d.seats _ j.next (answered_sent d.seats (session_bytes j.market j.next) j.next now count) in
-        let below = ltb-true (length (kept d.seats)) 8 room in
+        let below = ltb-true (length (kept d.seats)) 64 room in
         omega (arith, more, below)
     by_room false room = few
 
     by_kept : (k : Option (List ℕ)) → kept_bytes d.seats j.next ≡ k
-        → length (kept (with_shot (option_or k (if nat_lt (length (kept d.seats)) most_snapshots then Some (session_bytes j.market j.next) else None)) d j.next count now).seats) ≤ 8
+        → length (kept (with_shot (option_or k (if nat_lt (length (kept d.seats)) most_snapshots then Some (session_bytes j.market j.next) else None)) d j.next count now).seats) ≤ 64
     by_kept None none = by_room (nat_lt (length (kept d.seats)) most_snapshots) refl
     by_kept (Some bytes) found =
         let r = kept_for d.seats j.next bytes found in
@@ -322,7 +322,7 @@ module _ {W : Type 0} (contents : W → Option (List ℕ)) (failures : W → Fai
               record { place = r.place; guest = r.guest; there = r.there; is = r.number_is ∙ ap Some (sym same) }
           by_case n (inr sent) = sent
 
-  step : (d e : Desk) (call : Call W) → Step contents failures d call e → length (kept d.seats) ≤ 8 → length (kept e.seats) ≤ 8
+  step : (d e : Desk) (call : Call W) → Step contents failures d call e → length (kept d.seats) ≤ 64 → length (kept e.seats) ≤ 64
   step d e (Feeds did) (f, does, same) few = let is = ap (λ (x : Desk). length (kept x.seats)) same in omega (arith, is, few)
   step d e (Admits now (Ok (Some place))) (free, same) few =
       let is = ap (λ (x : Desk). length (kept x.seats)) same in
@@ -361,9 +361,9 @@ module _ {W : Type 0} (contents : W → Option (List ℕ)) (failures : W → Fai
     by_list [] none = omega arith
     by_list (x ∷ xs) none = absurd (none x (inl refl))
 
-  pub at_most_eight : (config : ServerConfig) (begun : Following) (past : List (Event W)) (d : Desk) → History contents failures config begun past d → length (kept d.seats) ≤ 8
-  at_most_eight config begun [] d (places, is) =
+  pub at_most_kept : (config : ServerConfig) (begun : Following) (past : List (Event W)) (d : Desk) → History contents failures config begun past d → length (kept d.seats) ≤ 64
+  at_most_kept config begun [] d (places, is) =
       let e = ap (λ (x : Desk). length (kept x.seats)) is in
       let none = none_kept places in
       omega (arith, e, none)
-  at_most_eight config begun (x ∷ past) d (took, before) = step x.before d x.call took (at_most_eight config begun past x.before before)
+  at_most_kept config begun (x ∷ past) d (took, before) = step x.before d x.call took (at_most_kept config begun past x.before before)
