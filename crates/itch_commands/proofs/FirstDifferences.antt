@@ -21,7 +21,7 @@ use Rattle.itch_market.specs.declared.stop.Stop.{Stop}
 use Rattle.itch_market.specs.declared.stop.Stop.TheVariants.{End, Frame, Codec, Rule, TooManyMessages}
 use Rattle.itch_market.proofs.Causes.{no_reason}
 use Rattle.itch_market.proofs.GoodMarkets.{empty_good, effect_good, laid_good}
-use Rattle.itch_market.proofs.PlainMessages.{plain_same}
+use Rattle.itch_market.proofs.PlainMessages.{plain_effect, plain_same}
 use Rattle.itch_market.proofs.ReplayReaders.{Standing, standing_first, standing_on, standing_stops, standing_short}
 use Rattle.itch_market.proofs.SameMarkets.{laid_is_same, same_back, same_chain}
 use Rattle.itch_snapshot.specs.Snapshot.{snap}
@@ -289,11 +289,16 @@ still : (m n : Content) → IsGood m → Changed m None n → Same m n
 still m n good (inl same) = subst (Same m) (sym same) (same_self m)
 still m n good (inr same) = subst (Same m) (sym same) (same_back (laid m) m (laid_is_same m good))
 
+-- a message with a plainest one that changes nothing leaves the market as it was
+none_changed : (m n : Content) (change : Message) → IsGood m → Changed m (Some change) n → ((k : Content) → effect k change ≡ k) → n ≡ laid m
+none_changed m n change good (message, fits, clean, plainest, next) none =
+    next ∙ ap laid (sym (plain_effect m message good) ∙ ap (effect m) (sym plainest) ∙ none m)
+
 -- so changes that are alike leave markets the same that were so
 alike_same : (m n x y : Content) (change also : Option Message) → IsGood m → IsGood n → Same m n → Changed m change x → Changed n also y → AreAlike change also → Same x y
 alike_same m n x y None None good fine same one other alike = same_chain x m y (same_back m x (still m x good one)) (same_chain m n y same (still n y fine other))
-alike_same m n x y (Some change) None good fine same one other none = absurd none
-alike_same m n x y None (Some also) good fine same one other none = absurd none
+alike_same m n x y (Some change) None good fine same one other none = alike_same m n x y None None good fine same (inr (none_changed m x change good one none)) other tt
+alike_same m n x y None (Some also) good fine same one other none = alike_same m n x y None None good fine same one (inr (none_changed n y also fine other none)) tt
 alike_same m n x y (Some change) (Some also) good fine same (message, fits, clean, plainest, next) (another, fit, free, plainer, following) alike =
     (laid_alike (effect m message) (effect n another) x y (effect_good m message good fits clean) (effect_good n another fine fit free) next following).1
     (plain_same m n message another good fine same fits clean (sym plainest ∙ alike ∙ plainer))

@@ -96,12 +96,12 @@ abbrev pub LeavesChange : {R : Type 0} → Result Bool Stop → Reading R → Re
 LeavesChange (Ok goes) old new = LeavesReaderFirst old 1 None new
 LeavesChange (Err stop) old new = LeavesReaderFirst old 0 (Some stop) new
 
--- changes of two markets that are the same leave the same: the same plainest messages do, and no change of either
+-- Changes of two markets that are the same leave the same: the same plainest messages do, and one that changes nothing beside no change.
 abbrev pub AreAlike : Option Message → Option Message → Type 0
 AreAlike None None = ⊤
 AreAlike (Some one) (Some other) = one ≡ other
-AreAlike (Some one) None = ⊥
-AreAlike None (Some other) = ⊥
+AreAlike (Some one) None = (m : Content) → effect m one ≡ m
+AreAlike None (Some other) = (m : Content) → effect m other ≡ m
 
 module _ {R : Type 0} (remaining : R → Option (List ℕ)) (failures : R → Failures) where
   -- What was read of a file after this many messages of each: as many, and nothing after them; or all that is wanted, if that is fewer.

@@ -327,9 +327,12 @@ fn are_alike(one: &Option<Message<'_>>, other: &Option<Message<'_>>) -> bool
     match one {
         Some(change) => match other {
             Some(other) => same_message(change, other),
-            None => false,
+            None => changes_nothing(change),
         },
-        None => other.is_none(),
+        None => match other {
+            Some(change) => changes_nothing(change),
+            None => true,
+        },
     }
 }
 
