@@ -26,7 +26,7 @@ pub(crate) struct Clients {
     seated: Seated,
     // How many may be from one address.
     per_address: usize,
-    // How many bytes the snapshots may have that they are sent.
+    // Whether one more snapshot has room in memory.
     room: SnapshotRoom,
     // The number of the socket at the first place.
     first_token: usize,

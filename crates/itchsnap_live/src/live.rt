@@ -61,7 +61,7 @@ pub struct Serving<'a> {
     /// How many clients it has at a time, and how many of them from one address.
     pub clients: usize,
     pub clients_per_address: usize,
-    /// How many bytes the snapshots may have that they are sent, if that is said.
+    /// How many bytes the snapshots in use may have, if a limit is given.
     pub snapshot_memory: Option<u64>,
     /// Whether it begins with a snapshot, and not with the feed's first message.
     pub from_snapshot: bool,

@@ -1,14 +1,14 @@
-//! How many bytes the snapshots may have that clients are sent.
+//! How many bytes the snapshots in use may have: those that some client is still sent.
 ghost use Rattle.std.specs.Prelude.{◌≡◌, max};
 ghost use Rattle.itchsnap_live.specs.Rooms.{has_room, limit_of};
 
-/// So many bytes together, where nothing is said: 256 MiB.
+/// The limit, if none is given and no snapshot is long: 256 MiB.
 const USUAL: u64 = 1 << 28;
 
-/// The longest one fits in so many times, where nothing is said.
+/// If no limit is given, so many of the longest snapshot fit into it.
 const TIMES: u64 = 4;
 
-/// The limit that was named, if one was, and the length of the longest snapshot so far.
+/// The limit that was given, if one was, and the length of the longest snapshot so far.
 #[derive(Clone, Copy, Debug)]
 pub(crate) struct SnapshotRoom {
     named: Option<u64>,
@@ -35,7 +35,7 @@ impl SnapshotRoom {
     }
 }
 
-/// How many bytes the snapshots may have together: so many as were named, or else 256 MiB, or four times the longest one if that is more.
+/// How many bytes the snapshots in use may have together: the limit that was given, or else 256 MiB, or four times the longest one if that is more.
 pub fn limit_of(named: Option<u64>, longest: u64) -> u64
     ensures { result ≡ limit_of named longest }
 {
@@ -46,7 +46,7 @@ pub fn limit_of(named: Option<u64>, longest: u64) -> u64
 }
 
 /// Whether a snapshot of at most `most` bytes may be encoded beside those in use, which have `used` bytes together: all fit into the limit, or none
-/// is in use, so that a market is served that is longer than the limit.
+/// is in use. So a market that is larger than the limit is served too.
 pub fn has_room(limit: u64, used: u64, most: u64) -> bool
     ensures { result ≡ has_room limit used most }
 {

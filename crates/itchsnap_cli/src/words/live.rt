@@ -60,7 +60,7 @@ pub struct LiveWords<'a> {
     pub clients: u64,
     /// How many of them may be from one address, if there is a limit.
     pub clients_per_address: Option<u64>,
-    /// How many bytes the snapshots may have that clients are sent, if that is said.
+    /// How many bytes the snapshots in use may have, if a limit is given.
     pub snapshot_memory: Option<u64>,
     pub record: Option<RecordWords<'a>>,
     pub snapshots: Option<SnapshotWords<'a>>,

@@ -1,4 +1,4 @@
-use Rattle.std.proofs.Common.{◌≡◌, ◌≤◌, ◌<◌, ℕ, Fits, w64, rules, ◌+◌, ◌-◌, ◌^◌, min, Bool, true, false, List, [], ◌∷◌, drop, length, get_or, Option, None, Some, if◌then◌else◌, sym, ap, ◌∙◌, arith, add-one, suc, take, take_all, length-drop}
+use Rattle.std.proofs.Common.{◌≡◌, ◌≤◌, ◌<◌, ℕ, ◌+◌, ◌-◌, ◌^◌, min, Bool, true, false, List, [], ◌∷◌, drop, length, get_or, Option, None, Some, if◌then◌else◌, sym, ap, ◌∙◌, arith, add-one, suc, take, take_all, length-drop}
 use Rattle.std.specs.List.{sum_by}
 use Rattle.std.proofs.lemmas.List.{drop_all}
 use Rattle.std.proofs.lemmas.List.Sums.{sum_by-cons}
@@ -45,16 +45,22 @@ whole seats place total all fits sum =
     let alone : min (total + bytes_in seats (kept (drop place seats))) (2 ^ 64 - 1) ≡ total = omega (arith, none, fits) in
     sym alone ∙ sum
 
+capped_low : (now n : ℕ) → now ≡ min n (2 ^ 64 - 1) → now ≤ 2 ^ 64 - 1
+capped_low now n is = omega (arith, is)
+
 pub loop-place-preserved : goal.loop-place-preserved
 loop-place-preserved g c =
-    summed c.args.seats.now c.loop-place.place c.loop-place.total c.saturating_add-total.result c.index-seats-place.result c.loop-place-test.true c.index-seats-place.is
-    (c.saturating_add-total.ensures
+    let more : c.saturating_add-total.result ≡ min (c.loop-place.total + bytes_under c.args.seats.now (number_alone (number_of c.index-seats-place.result) (drop (c.loop-place.place + 1) c.args.seats.now))) (2 ^ 64 - 1) =
+    c.saturating_add-total.ensures
     ∙ ap (λ n. min (c.loop-place.total + n) (2 ^ 64 - 1))
     (c.bytes_under.ensures
-    ∙ ap (bytes_under c.args.seats.now) (c.number_alone-number.ensures ∙ ap (number_alone (number_of c.index-seats-place.result)) (all_rest c.args.seats.now (c.loop-place.place + 1)))))
-    c.loop-place.invariant
+    ∙ ap (bytes_under c.args.seats.now) (c.number_alone-number.ensures ∙ ap (number_alone (number_of c.index-seats-place.result)) (all_rest c.args.seats.now (c.loop-place.place + 1)))) in (
+      summed c.args.seats.now c.loop-place.place c.loop-place.total c.saturating_add-total.result c.index-seats-place.result c.loop-place-test.true c.index-seats-place.is more
+          c.loop-place.invariant.0,
+      capped_low c.saturating_add-total.result
+          (c.loop-place.total + bytes_under c.args.seats.now (number_alone (number_of c.index-seats-place.result) (drop (c.loop-place.place + 1) c.args.seats.now))) more,
+    )
 
 pub returns : goal.returns
 returns g c =
-    let fits : Fits w64 c.loop-place.total = search rules in
-    whole c.args.seats.now c.loop-place.place c.loop-place.total (omega (arith, c.loop-place-test.false)) (omega (arith, fits)) c.loop-place.invariant
+    whole c.args.seats.now c.loop-place.place c.loop-place.total (omega (arith, c.loop-place-test.false)) c.loop-place.invariant.1 c.loop-place.invariant.0
