@@ -294,11 +294,15 @@ none_changed : (m n : Content) (change : Message) → IsGood m → Changed m (So
 none_changed m n change good (message, fits, clean, plainest, next) none =
     next ∙ ap laid (sym (plain_effect m message good) ∙ ap (effect m) (sym plainest) ∙ none m)
 
+-- where nothing was changed in either, markets stay the same
+both_still : (m n x y : Content) → IsGood m → IsGood n → Same m n → Changed m None x → Changed n None y → Same x y
+both_still m n x y good fine same one other = same_chain x m y (same_back m x (still m x good one)) (same_chain m n y same (still n y fine other))
+
 -- so changes that are alike leave markets the same that were so
 alike_same : (m n x y : Content) (change also : Option Message) → IsGood m → IsGood n → Same m n → Changed m change x → Changed n also y → AreAlike change also → Same x y
-alike_same m n x y None None good fine same one other alike = same_chain x m y (same_back m x (still m x good one)) (same_chain m n y same (still n y fine other))
-alike_same m n x y (Some change) None good fine same one other none = alike_same m n x y None None good fine same (inr (none_changed m x change good one none)) other tt
-alike_same m n x y None (Some also) good fine same one other none = alike_same m n x y None None good fine same one (inr (none_changed n y also fine other none)) tt
+alike_same m n x y None None good fine same one other alike = both_still m n x y good fine same one other
+alike_same m n x y (Some change) None good fine same one other none = both_still m n x y good fine same (inr (none_changed m x change good one none)) other
+alike_same m n x y None (Some also) good fine same one other none = both_still m n x y good fine same one (inr (none_changed n y also fine other none))
 alike_same m n x y (Some change) (Some also) good fine same (message, fits, clean, plainest, next) (another, fit, free, plainer, following) alike =
     (laid_alike (effect m message) (effect n another) x y (effect_good m message good fits clean) (effect_good n another fine fit free) next following).1
     (plain_same m n message another good fine same fits clean (sym plainest ∙ alike ∙ plainer))
