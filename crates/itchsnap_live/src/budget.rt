@@ -1,5 +1,5 @@
 //! How much of the time goes into snapshots.
-ghost use Rattle.std.specs.Prelude.{◌≡◌};
+ghost use Rattle.std.specs.Prelude.{◌≡◌, ◌-◌};
 ghost use Rattle.itchsnap_live.specs.Budgets.{may_encode, is_slow};
 
 /// When the last snapshot was encoded, and how long that took.
@@ -11,7 +11,10 @@ pub(crate) struct Budget {
 
 impl Budget {
     /// Nothing was encoded yet.
-    pub(crate) fn new() -> Budget {
+    pub(crate) fn new() -> Budget
+        ensures ended { result.ended_ms ≡ 0 }
+        ensures took { result.took_ms ≡ 0 }
+    {
         Budget {
             ended_ms: 0,
             took_ms: 0,
@@ -28,6 +31,7 @@ impl Budget {
     /// Takes note that a snapshot was encoded between two moments.
     pub(crate) fn spend(&mut self, begun_ms: u64, ended_ms: u64)
         ensures ended { self.new.ended_ms ≡ ended_ms }
+        ensures took { self.new.took_ms ≡ ended_ms - begun_ms }
     {
         self.ended_ms = ended_ms;
         self.took_ms = ended_ms.saturating_sub(begun_ms);
