@@ -267,7 +267,11 @@ fn the_nearest_checkpoint_is_not_beyond(rt: HostRuntime) {
         same_in(&rt, mark, mark.is_nearer(&at(1, None), limit), wanted);
     }
     let read = |latest, limit| Mark::read(2, 200, latest, limit);
-    same(&rt, read(Latest::Known(Some(5)), before(6)), Some(at(2, Some(5))));
+    same(
+        &rt,
+        read(Latest::Known(Some(5)), before(6)),
+        Some(at(2, Some(5))),
+    );
     same(&rt, read(Latest::Known(None), before(6)), Some(at(2, None)));
     same(&rt, read(Latest::Unknown, before(6)), None);
     same(&rt, read(Latest::Unknown, after(3)), Some(at(2, None)));
