@@ -360,10 +360,17 @@ impl<'a> FeedSide<'a> {
         self.is_accepted = true;
         self.was_accepted = true;
         self.is_down = false;
-        self.troubles = [None; MOST_FEEDS];
+        self.forget_troubles();
         self.route.accept(now_ms);
         let name = self.name(desk.next().is_some(), false);
         log.say(&Named { line, name });
+    }
+
+    // What was said of each server is said again if it happens again.
+    fn forget_troubles(&mut self) {
+        for trouble in self.troubles.iter_mut() {
+            *trouble = None;
+        }
     }
 
     // The server has ended its session. One that has sent no message yet is asked again, and so is a server of snapshots that has not sent
