@@ -173,7 +173,8 @@ def words_that_do_not_go_together_are_refused(program):
     feed_words = ["feed", "day", "--port", "0", *WORDS]
     rows = [[*live_words, "--record", "r", "--glimpse", "h:2"], [*live_words, "--snapshots", "d"], [*live_words, "--every", "5"],
             [*live_words, "--clients", "0"], [*live_words, "--clients", "1001"], ["live", *WORDS, "--port", "0"],
-            *([*live_words, "--snapshot-memory", size] for size in ("0", "", "1.5M", "256MB", "17179869184G")),
+            *([*live_words, "--snapshot-memory", size] for size in ("0", "0K", "", "M", "+1", "1.5M", "256MB", "256m", "0x10", "17179869184G")),
+            [*live_words, *["--feed", "h:2"] * 8],
             [*follow_words, "--whole", "--json"], follow_words[:3] + list(WORDS), [*feed_words, "--rate", "5", "--clock", "2"], [*feed_words, "--rate", "0"],
             ["feed", "-", "--port", "0", *WORDS], ["feed", "--port", "0", *WORDS], ["live", "--feed", "h:1", "--user", "user", "--port", "0"]]
     rows += [["live", "--feed", place, "--port", "0", *WORDS] for place in ("", ":1", "h:0", "h:65536", "h:x", "::1:5", "[::1]", "[::1:5", "h:+5", "h:")]
