@@ -44,6 +44,10 @@ def ended(words, ignored):
     """The status and the error of a command whose output nobody reads, where SIGPIPE has its default or is ignored."""
     read, write = os.pipe()
     os.close(read)
+    # A process that another thread is just starting may still have the end that is closed here.
+    closed = select.poll()
+    closed.register(write, 0)
+    closed.poll(60_000)
     with os.fdopen(write, "wb") as output:
         done = subprocess.run(words, stdout=output, stderr=subprocess.PIPE, stdin=subprocess.DEVNULL, timeout=60,
                               preexec_fn=(lambda: signal.signal(signal.SIGPIPE, signal.SIG_IGN)) if ignored else None)
