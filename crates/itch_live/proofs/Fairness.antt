@@ -14,7 +14,7 @@ use Rattle.itch_live.specs.declared.gone.Gone.TheVariants as reason
 use Rattle.itch_live.specs.Guests as guests
 use Rattle.itch_live.specs.Guests.{Guest, session_bytes, is_waiting, is_silent, gone_for, after_act, login_in}
 use Rattle.itch_live.specs.Seats.{guest_at, answered_seat}
-use Rattle.itch_live.specs.Kept.{kept, kept_bytes, most_snapshots}
+use Rattle.itch_live.specs.Kept.{has_room, kept_bytes}
 use Rattle.itch_live.specs.Follows.{Following}
 use Rattle.itch_live.specs.Stories as stories
 use Rattle.itch_live.specs.Stories.{Happening, Story, Becomes}
@@ -36,24 +36,20 @@ shot_of None true w room = (w, refl)
 shot_of None false w (inl some) = absurd (cc)
 shot_of None false w (inr few) = absurd (cc)
 
-room_is : (d : Desk) (j : Position) → HasRoom d j → (is_some (kept_bytes d.seats j.next) ≡ true) ⊎ (nat_lt (length (kept d.seats)) most_snapshots ≡ true)
-room_is d j (inl some) = inl some
-room_is d j (inr few) = inr (is_first (length (kept d.seats)) most_snapshots few)
-
 module _ {W : Type 0} (contents : W → Option (List ℕ)) (failures : W → Failures) where
-  pub answered_now : (config : ServerConfig) (begun : Following) (past : List (Event W)) (at : Event W) (d : Desk) (now count k : ℕ) (j : Position) (g : Guest)
-      → History contents failures config begun (at ∷ past) d → at.call ≡ Answers now count → length at.before.seats ≤ count → at.before.following.joining.state.joined ≡ Some j
-      → HasRoom at.before j → guest_at at.before.seats k ≡ Some g → is_waiting g ≡ true → guest_at d.seats k ≡ Some (guests.answered g (session_bytes j.market j.next) j.next now)
-  answered_now config begun past at d now count k j g (took, before) call all there room here waits =
+  pub answered_now : (config : ServerConfig) (begun : Following) (past : List (Event W)) (at : Event W) (d : Desk) (limit now count k : ℕ) (j : Position) (g : Guest)
+      → History contents failures config begun (at ∷ past) d → at.call ≡ Answers limit now count → length at.before.seats ≤ count → at.before.following.joining.state.joined ≡ Some j
+      → HasRoom limit at.before j → guest_at at.before.seats k ≡ Some g → is_waiting g ≡ true → guest_at d.seats k ≡ Some (guests.answered g (session_bytes j.market j.next) j.next now)
+  answered_now config begun past at d limit now count k j g (took, before) call all there room here waits =
       let e : Desk = at.before in
-      let step : d ≡ answered e count now = subst (λ c. Step contents failures e c d) call took in
+      let step : d ≡ answered e limit count now = subst (λ c. Step contents failures e c d) call took in
       let inside : k < length e.seats = within e.seats k g here in
       let first : nat_lt k count ≡ true = is_first k count (omega (arith, inside, all)) in
-      let shot = shot_of (kept_bytes e.seats j.next) (nat_lt (length (kept e.seats)) most_snapshots) (session_bytes j.market j.next) (room_is e j room) in
+      let shot = shot_of (kept_bytes e.seats j.next) (has_room limit e.seats j.market) (session_bytes j.market j.next) room in
       let right : shot.0 ≡ session_bytes j.market j.next =
-      right_shot e.seats j shot.0 (subst (λ o. AreFitting o e.seats) there (all_fit contents failures config begun past e before)) shot.1 in
+      right_shot limit e.seats j shot.0 (subst (λ o. AreFitting o e.seats) there (all_fit contents failures config begun past e before)) shot.1 in
       ap (λ (x : Desk). guest_at x.seats k) step
-      ∙ ap (λ o. guest_at (answered_with o e count now).seats k) there
+      ∙ ap (λ o. guest_at (answered_with o e limit count now).seats k) there
       ∙ ap (λ s. guest_at (with_shot s e j.next count now).seats k) shot.1
       ∙ at_first (answered_seat shot.0 j.next now) e.seats count k refl
       ∙ ap (λ b. cond b (answered_seat shot.0 j.next now (guest_at e.seats k)) (guest_at e.seats k)) first

@@ -67,9 +67,10 @@ pub record Origin {W : Type 0} (k : ℕ) (past : List (Event W)) (begun : ℕ) (
   pub at : Event W
   pub before : List (Event W)
   pub place : past ≡ later ++ at ∷ before
+  pub limit : ℕ
   pub now : ℕ
   pub count : ℕ
-  pub handed : at.call ≡ Answers now count
+  pub handed : at.call ≡ Answers limit now count
   pub joined : Position
   pub position : at.before.following.joining.state.joined ≡ Some joined
   pub market : m ≡ joined.market
@@ -85,6 +86,7 @@ module _ {W : Type 0} (k : ℕ) where
     at = o.at;
     before = o.before;
     place = ap (λ xs. x ∷ xs) o.place;
+    limit = o.limit;
     now = o.now;
     count = o.count;
     handed = o.handed;
@@ -113,12 +115,12 @@ module _ {W : Type 0} (k : ℕ) where
     Came past begun = Origin k past begun m next seen
 
     -- the answer itself
-    handed_in : (x : Event W) (past : List (Event W)) (at count : ℕ) (j : Position) (later : List Happening) (v : Visit) (o : Option Visit) → x.call ≡ Answers at count
+    handed_in : (x : Event W) (past : List (Event W)) (limit at count : ℕ) (j : Position) (later : List Happening) (v : Visit) (o : Option Visit) → x.call ≡ Answers limit at count
         → x.before.following.joining.state.joined ≡ Some j → visit_at k past ≡ o
         → ((u : Visit) → o ≡ Some u → (later : List Happening) → u.past ≡ later ++ (stories.Answers m next now) ∷ seen → Came past u.begun)
         → with (stories.Answers j.market j.next at) o ≡ Some v → v.past ≡ later ++ (stories.Answers m next now) ∷ seen → Came (x ∷ past) v.begun
-    handed_in x past at count j later v None call there is so_far sees place = absurd (subst IsSeen (sym sees) tt)
-    handed_in x past at count j [] v (Some u) call there is so_far sees place =
+    handed_in x past limit at count j later v None call there is so_far sees place = absurd (subst IsSeen (sym sees) tt)
+    handed_in x past limit at count j [] v (Some u) call there is so_far sees place =
         let both : stories.Answers j.market j.next at ∷ u.past ≡ (stories.Answers m next now) ∷ seen = ap (past_of v) sees ∙ place in
         let same : stories.Answers j.market j.next at ≡ (stories.Answers m next now) = ap (first_or (stories.Answers m next now)) both in
         record {
@@ -126,6 +128,7 @@ module _ {W : Type 0} (k : ℕ) where
           at = x;
           before = past;
           place = refl;
+          limit = limit;
           now = at;
           count = count;
           handed = call;
@@ -136,7 +139,7 @@ module _ {W : Type 0} (k : ℕ) where
           visit = is ∙ ap (λ n. Some (record { begun = n; past = u.past })) (ap (begun_of v) sees) ∙ ap (λ xs. Some (record { begun = v.begun; past = xs })) (ap rest_of both);
           stayed = tt;
         }
-    handed_in x past at count j (l ∷ later) v (Some u) call there is so_far sees place =
+    handed_in x past limit at count j (l ∷ later) v (Some u) call there is so_far sees place =
         let both : stories.Answers j.market j.next at ∷ u.past ≡ l ∷ later ++ (stories.Answers m next now) ∷ seen = ap (past_of v) sees ∙ place in
         subst (Came (x ∷ past)) (ap (begun_of v) sees) (push x past u.begun m next seen (ap (λ c. changes k c) call) (so_far u refl later (ap rest_of both)))
 
@@ -168,15 +171,15 @@ module _ {W : Type 0} (k : ℕ) where
       quiet : {call : Call W} {b : Bool} → x.call ≡ call → changes k call ≡ b → changes k x.call ≡ b
       quiet {call} {b} is at = ap (λ c. changes k c) is ∙ at
 
-      handed_if : (at count : ℕ) (j : Position) (b : Bool) → x.call ≡ Answers at count → x.before.following.joining.state.joined ≡ Some j
+      handed_if : (limit at count : ℕ) (j : Position) (b : Bool) → x.call ≡ Answers limit at count → x.before.following.joining.state.joined ≡ Some j
           → (if b then with (stories.Answers j.market j.next at) (visit_at k past) else visit_at k past) ≡ Some v → Came (x ∷ past) v.begun
-      handed_if at count j false call there sees = on (visit_at k past) (quiet call refl) refl sees
-      handed_if at count j true call there sees = handed_in x past at count j later v (visit_at k past) call there refl so_far sees place
+      handed_if limit at count j false call there sees = on (visit_at k past) (quiet call refl) refl sees
+      handed_if limit at count j true call there sees = handed_in x past limit at count j later v (visit_at k past) call there refl so_far sees place
 
-      handing : (at count : ℕ) (o : Option Position) (b : Bool) → x.call ≡ Answers at count → x.before.following.joining.state.joined ≡ o → answers o x.before b at (visit_at k past) ≡ Some v
+      handing : (limit at count : ℕ) (o : Option Position) (b : Bool) → x.call ≡ Answers limit at count → x.before.following.joining.state.joined ≡ o → answers o x.before limit b at (visit_at k past) ≡ Some v
           → Came (x ∷ past) v.begun
-      handing at count None b call there sees = on (visit_at k past) (quiet call refl) refl sees
-      handing at count (Some j) b call there sees = handed_if at count j (is_some (shot_for x.before.seats j.market j.next) && b) call there sees
+      handing limit at count None b call there sees = on (visit_at k past) (quiet call refl) refl sees
+      handing limit at count (Some j) b call there sees = handed_if limit at count j (is_some (shot_for limit x.before.seats j.market j.next) && b) call there sees
 
       cases : (call : Call W) → x.call ≡ call → visit_by call x.before k (visit_at k past) ≡ Some v → Came (x ∷ past) v.begun
       cases (Feeds did) is sees = on (visit_at k past) (quiet is refl) refl sees
@@ -184,7 +187,7 @@ module _ {W : Type 0} (k : ℕ) where
       cases (Admits at (Ok None)) is sees = on (visit_at k past) (quiet is refl) refl sees
       cases (Admits at (Err error)) is sees = on (visit_at k past) (quiet is refl) refl sees
       cases (Hears place piece at count) is sees = at_place (place == k) (stories.Hears piece at count) (quiet is refl) (λ h. h) sees
-      cases (Answers at count) is sees = handing at count x.before.following.joining.state.joined (nat_lt k count) is refl sees
+      cases (Answers limit at count) is sees = handing limit at count x.before.following.joining.state.joined (nat_lt k count) is refl sees
       cases (Takes place count at) is sees = at_place (place == k) (stories.Takes count at) (quiet is refl) (λ h. h) sees
       cases (Ticks at) is sees = other (stories.Ticks at) (quiet is refl) (λ h. h) sees
       cases (Leaves place) is sees = leaves (place == k) (quiet is refl) sees
@@ -216,9 +219,9 @@ module _ {W : Type 0} (contents : W → Option (List ℕ)) (failures : W → Fai
     same : (f : Following) → f ≡ x.before.following → Led R feed past x.before.following → Led R feed past f
     same f is led = subst (Led R feed past) (sym is) led
 
-    answered_same : (o : Option Position) (count now : ℕ) → (answered_with o x.before count now).following ≡ x.before.following
-    answered_same None count now = refl
-    answered_same (Some j) count now = by_shot (shot_for x.before.seats j.market j.next) where
+    answered_same : (o : Option Position) (limit count now : ℕ) → (answered_with o x.before limit count now).following ≡ x.before.following
+    answered_same None limit count now = refl
+    answered_same (Some j) limit count now = by_shot (shot_for limit x.before.seats j.market j.next) where
       by_shot : (shot : Option (List ℕ)) → (with_shot shot x.before j.next count now).following ≡ x.before.following
       by_shot None = refl
       by_shot (Some bytes) = refl
@@ -230,7 +233,7 @@ module _ {W : Type 0} (contents : W → Option (List ℕ)) (failures : W → Fai
     by_call (Admits now (Ok None)) (taken, is) honest led = same d.following (ap (λ e. e.following) is) led
     by_call (Admits now (Err error)) is honest led = same d.following (ap (λ e. e.following) is) led
     by_call (Hears place piece now count) (s, hears, is) honest led = same d.following (ap (λ e. e.following) is) led
-    by_call (Answers now count) is honest led = same d.following (ap (λ e. e.following) is ∙ answered_same x.before.following.joining.state.joined count now) led
+    by_call (Answers limit now count) is honest led = same d.following (ap (λ e. e.following) is ∙ answered_same x.before.following.joining.state.joined limit count now) led
     by_call (Takes place count now) (fits, is) honest led = same d.following (ap (λ e. e.following) is) led
     by_call (Ticks now) is honest led = same d.following (ap (λ e. e.following) is) led
     by_call (Leaves place) is honest led = same d.following (ap (λ e. e.following) is) led
@@ -256,6 +259,7 @@ module _ {W : Type 0} (contents : W → Option (List ℕ)) (failures : W → Fai
           at = o.at;
           before = o.before;
           place = o.place;
+          limit = o.limit;
           now = o.now;
           count = o.count;
           handed = o.handed;

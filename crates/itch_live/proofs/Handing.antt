@@ -16,18 +16,18 @@ all_seats bytes next now seats none =
     ∙ ap (λ xs. map f xs ++ []) (sym (take-length seats)) ∙ ap (λ xs. map f (take (length seats) seats) ++ xs) (sym (drop-length seats))
 
 -- where none waits, nothing changes
-pub none_waits : (d : Desk) (now : ℕ) → list_any waits d.seats ≡ false → d ≡ answered d (length d.seats) now
-none_waits d now none = by_joined d.following.joining.state.joined where
-  by_joined : (o : Option Position) → d ≡ answered_with o d (length d.seats) now
+pub none_waits : (d : Desk) (limit now : ℕ) → list_any waits d.seats ≡ false → d ≡ answered d limit (length d.seats) now
+none_waits d limit now none = by_joined d.following.joining.state.joined where
+  by_joined : (o : Option Position) → d ≡ answered_with o d limit (length d.seats) now
   by_joined None = refl
-  by_joined (Some j) = by_shot (shot_for d.seats j.market j.next) where
+  by_joined (Some j) = by_shot (shot_for limit d.seats j.market j.next) where
     by_shot : (shot : Option (List ℕ)) → d ≡ with_shot shot d j.next (length d.seats) now
     by_shot None = refl
     by_shot (Some bytes) = ap (λ s. record d { seats = s }) (all_seats bytes j.next now d.seats none)
 
 -- nor where there is no market
-pub no_market : (d : Desk) (count now : ℕ) → d.following.joining.state.joined ≡ None → d ≡ answered d count now
-no_market d count now none = sym (ap (λ o. answered_with o d count now) none)
+pub no_market : (d : Desk) (limit count now : ℕ) → d.following.joining.state.joined ≡ None → d ≡ answered d limit count now
+no_market d limit count now none = sym (ap (λ o. answered_with o d limit count now) none)
 
 pub unnumbered : (o : Option Position) → option_map (λ j. j.next) o ≡ None → o ≡ None
 unnumbered None h = refl
@@ -44,10 +44,10 @@ position_is (Some j) next market numbered there =
     ap (λ n. Some (record { next = n; market = j.market })) same ∙ ap (λ m. Some (record { next = next; market = m })) is
 
 -- a snapshot is handed in, or none
-pub handed_shot : (d : Desk) (j : Position) (shot : Option (List ℕ)) (count now : ℕ) (seats : Seats) → d.following.joining.state.joined ≡ Some j
-    → shot ≡ shot_for d.seats j.market j.next → seats ≡ places.handed shot j.next now count d.seats → record d { seats = seats } ≡ answered d count now
-handed_shot d j shot count now seats there is same =
-    ap (λ s. record d { seats = s }) (same ∙ ap (λ x. places.handed x j.next now count d.seats) is) ∙ sym (ap (λ o. answered_with o d count now) there)
+pub handed_shot : (d : Desk) (j : Position) (shot : Option (List ℕ)) (limit count now : ℕ) (seats : Seats) → d.following.joining.state.joined ≡ Some j
+    → shot ≡ shot_for limit d.seats j.market j.next → seats ≡ places.handed shot j.next now count d.seats → record d { seats = seats } ≡ answered d limit count now
+handed_shot d j shot limit count now seats there is same =
+    ap (λ s. record d { seats = s }) (same ∙ ap (λ x. places.handed x j.next now count d.seats) is) ∙ sym (ap (λ o. answered_with o d limit count now) there)
 
 -- of a result that is an error nothing is said at `Ok`
 pub only_err : {T E : Type 0} (r : Result T E) (P : Type 0) → IsErr r → OnOk r P

@@ -1,8 +1,13 @@
--- No more different snapshots are kept than there may be.
-use Rattle.std.proofs.Common.{◌≡◌, ℕ, ◌+◌, ◌-◌, ◌≤◌, ◌||◌, ◌&&◌, ◌==◌, nat_lt, nat_le, Bool, true, false, not, cond, if◌then◌else◌, List, [], ◌∷◌, ◌++◌, length, map, take, drop, Option, None, Some, Ok, Err, option_map, refl, sym, ap, ◌∙◌, subst, arith, ◌⊎◌, inl, inr, set, replicate, zero, suc}
+-- How many bytes the snapshots have that are kept.
+use Rattle.std.proofs.Common.{◌≡◌, ◌⊎◌, inl, inr, ℕ, ◌+◌, ◌-◌, ◌*◌, ◌≤◌, ◌||◌, ◌&&◌, ◌==◌, nat_lt, nat_le, max, Bool, true, false, not, if◌then◌else◌, List, [], ◌∷◌, ◌++◌, length, map, take, drop, Option, None, Some, Ok, Err, refl, sym, ap, ◌∙◌, subst, arith, set, replicate, zero, suc}
+use Rattle.std.specs.List.{sum_by}
 use Rattle.std.specs.Option.{option_or}
-use Rattle.std.proofs.lemmas.Bool.{eqb-true, ltb-true}
+use Rattle.std.proofs.lemmas.Bool.{eqb-true, leb-true}
+use Rattle.std.proofs.lemmas.List.Sums.{sum_by-cons}
 use Rattle.itch_frame.specs.declared.tally.Failures.{Failures}
+use Rattle.itch_codec.specs.Widths.{IsSequence}
+use Rattle.itch_market.specs.Content.{Content}
+use Rattle.itch_market.specs.GoodMarkets.{IsGood}
 use Rattle.itch_join.specs.Positions.{Position}
 use Rattle.itch_soup.specs.declared.login.ServerConfig.{ServerConfig}
 use Rattle.itch_soup.specs.declared.packet.LoginRequest.{LoginRequest}
@@ -11,359 +16,323 @@ use Rattle.itch_soup.specs.declared.server.ServerAct.TheVariants as act
 use Rattle.itch_soup.specs.Servers.{server_answer}
 use Rattle.itch_live.specs.declared.gone.Gone.TheVariants as reason
 use Rattle.itch_live.specs.Guests as guests
-use Rattle.itch_live.specs.Guests.{Guest, session_bytes, new_guest, is_waiting, login_in, after_act, answered_if, is_at}
+use Rattle.itch_live.specs.Guests.{Guest, session_bytes, new_guest, is_waiting, login_in, after_act, is_at}
 use Rattle.itch_live.specs.Seats.{Seats, guest_at, HearsBy, took_by, answered_seat, ticked_seat}
-use Rattle.itch_live.specs.Kept.{number_of, is_sent, is_kept, keeps_alone, with_number, kept, kept_bytes, most_snapshots}
+use Rattle.itch_live.specs.Kept.{number_of, is_kept, keeps_alone, with_number, kept, kept_bytes, length_or, snapshot_bytes, most_bytes_of, has_room}
 use Rattle.itch_live.specs.Follows.{Following}
-use Rattle.itch_live.specs.Desks.{Desk, with_shot, answered_with, Call, Feeds, Admits, Hears, Answers, Takes, Ticks, Leaves, Event, Step, History}
-use Rattle.itch_live.proofs.Places.{at_mapped, at_first, none_seated, no_guest, set_cases}
+use Rattle.itch_live.specs.Desks.{Desk, shot_for, with_shot, answered_with, Call, Feeds, Admits, Hears, Answers, Takes, Ticks, Leaves, Event, Step, History}
+use Rattle.itch_live.specs.Memory.{handed_at, handed_by, limit_by, largest_limit, longest, IsOfMarket, AreOfMarkets}
+use Rattle.itch_live.proofs.Places.{none_seated, no_guest}
+use Rattle.itch_live.proofs.Seated.{Holds, AllHold, one_guest, set_holds, all_tick, all_answer, all_hear, all_take}
 use Rattle.itch_live.proofs.Present.{kept_for}
+use Rattle.itch_live.proofs.Lengths.{session_within}
+use Rattle.itch_live.proofs.Totals.{is_at_true, at_number, is_in, in_rest, in_first, own, total, total_same, without, without_itself, one_more, none_more}
 
--- lists of different numbers ----------------------------------------------
+-- the numbers of the snapshots that the clients are sent
+abbrev pub numbers : Seats → List (Option ℕ)
+numbers seats = map number_of seats
 
-abbrev pub In : ℕ → List ℕ → Type 0
-In n [] = ⊥
-In n (x ∷ xs) = (n ≡ x) ⊎ In n xs
+-- who is sent the snapshot of a number is told the bytes that belong to it
+abbrev pub Agrees : (ℕ → List ℕ) → Option ℕ → Option (List ℕ) → Type 0
+Agrees bytes snapshot told = (n : ℕ) → snapshot ≡ Some n → told ≡ Some (bytes n)
 
-abbrev pub AreDifferent : List ℕ → Type 0
-AreDifferent [] = Unit {0}
-AreDifferent (x ∷ xs) = (In x xs → ⊥) × AreDifferent xs
+unsent : (bytes : ℕ → List ℕ) (told : Option (List ℕ)) → Agrees bytes None told
+unsent bytes told n there = absurd (cc)
 
--- a list without one of its numbers
-record Without (n : ℕ) (xs : List ℕ) : Type 0 where
-  pub rest : List ℕ
-  pub shorter : length xs ≡ length rest + 1
-  pub others : (m : ℕ) → In m xs → (m ≡ n → ⊥) → In m rest
+-- the bytes that are kept -----------------------------------------------------
 
-without : (n : ℕ) (xs : List ℕ) → In n xs → Without n xs
-without n [] there = absurd there
-without n (x ∷ xs) (inl here) = record { rest = xs; shorter = omega arith; others = others } where
-  others : (m : ℕ) → (m ≡ x) ⊎ In m xs → (m ≡ n → ⊥) → In m xs
-  others m (inl at) apart = absurd (apart (at ∙ sym here))
-  others m (inr at) apart = at
-without n (x ∷ xs) (inr there) = with_first (without n xs there) where
-  with_first : Without n xs → Without n (x ∷ xs)
-  with_first w = record { rest = x ∷ w.rest; shorter = omega (arith, w.shorter); others = λ m at apart. others w.rest m (w.others m) at apart } where
-    others : (rest : List ℕ) (m : ℕ) → (In m xs → (m ≡ n → ⊥) → In m rest) → (m ≡ x) ⊎ In m xs → (m ≡ n → ⊥) → (m ≡ x) ⊎ In m rest
-    others rest m more (inl at) apart = inl at
-    others rest m more (inr at) apart = inr (more at apart)
+kept_is_in : (seats : Seats) (n : ℕ) → is_kept seats n ≡ is_in (numbers seats) n
+kept_is_in [] n = refl
+kept_is_in (seat ∷ seats) n = ap (λ b. is_at (number_of seat) n || b) (kept_is_in seats n)
 
--- different numbers, each of which is in another list, are no more than those
-no_more : (xs ys : List ℕ) → AreDifferent xs → ((n : ℕ) → In n xs → In n ys) → length xs ≤ length ys
-no_more [] ys different all = omega arith
-no_more (x ∷ xs) ys (alone, different) all =
-    let w = without x ys (all x (inl refl)) in
-    let fewer = no_more xs w.rest different (λ n there. w.others n (all n (inr there)) (λ same. alone (subst (λ m. In m xs) same there))) in
-    omega (arith, w.shorter, fewer)
+first_sum : (f : ℕ → ℕ) (o : Option ℕ) (seats : Seats) → sum_by f (kept seats) ≡ total f (numbers seats)
+    → sum_by f (if keeps_alone o seats then with_number o (kept seats) else kept seats) ≡ own f o (numbers seats) + total f (numbers seats)
+first_sum f None seats rest = omega (arith, rest)
+first_sum f (Some n) seats rest = by_test (is_kept seats n) refl where
+  by_test : (b : Bool) → is_kept seats n ≡ b → sum_by f (if not b then n ∷ kept seats else kept seats) ≡ own f (Some n) (numbers seats) + total f (numbers seats)
+  by_test true at =
+      let none : own f (Some n) (numbers seats) ≡ 0 = ap (λ b. if b then 0 else f n) (sym (kept_is_in seats n) ∙ at) in
+      omega (arith, none, rest)
+  by_test false at =
+      let one : own f (Some n) (numbers seats) ≡ f n = ap (λ b. if b then 0 else f n) (sym (kept_is_in seats n) ∙ at) in
+      let first = sum_by-cons f n (kept seats) in
+      omega (arith, one, first, rest)
 
--- the numbers that are kept -------------------------------------------------
+sum_is : (f : ℕ → ℕ) (seats : Seats) → sum_by f (kept seats) ≡ total f (numbers seats)
+sum_is f [] = refl
+sum_is f (seat ∷ seats) = first_sum f (number_of seat) seats (sum_is f seats)
 
--- a client is sent the snapshot of this number
-pub record Sent (seats : Seats) (number : ℕ) : Type 0 where
-  pub place : ℕ
-  pub guest : Guest
-  pub there : guest_at seats place ≡ Some guest
-  pub is : guest.snapshot ≡ Some number
+kept_under : (bytes : ℕ → List ℕ) (seats : Seats) → AllHold (Agrees bytes) seats → (n : ℕ) → is_in (numbers seats) n ≡ true → kept_bytes seats n ≡ Some (bytes n)
+kept_under bytes [] all n there = absurd (cc)
+kept_under bytes (None ∷ seats) all n there = kept_under bytes seats (λ k g at. all (suc k) g at) n there
+kept_under bytes (Some g ∷ seats) all n there = by_test (is_at g.snapshot n) refl there (λ later. kept_under bytes seats (λ k h at. all (suc k) h at) n later) where
+  by_test : (b : Bool) → is_at g.snapshot n ≡ b → (b || is_in (numbers seats) n) ≡ true → (is_in (numbers seats) n ≡ true → kept_bytes seats n ≡ Some (bytes n))
+      → option_or (if b then g.told else None) (kept_bytes seats n) ≡ Some (bytes n)
+  by_test true at here rest = ap (λ o. option_or o (kept_bytes seats n)) (all 0 g refl n (at_number g.snapshot n at))
+  by_test false at later rest = rest later
 
-one_number : {m n : ℕ} → Some m ≡ Some n → m ≡ n
-one_number {m} {n} h = cc
+-- each number that is kept counts its bytes once
+pub bytes_are : (bytes : ℕ → List ℕ) (seats : Seats) → AllHold (Agrees bytes) seats → snapshot_bytes seats ≡ total (λ n. length (bytes n)) (numbers seats)
+bytes_are bytes seats all =
+    sum_is (λ n. length_or (kept_bytes seats n)) seats
+    ∙ total_same (λ n. length_or (kept_bytes seats n)) (λ n. length (bytes n)) (numbers seats) (λ n there. ap length_or (kept_under bytes seats all n there))
 
-no_number : {n : ℕ} → None ≡ Some n → ⊥
-no_number {n} h = cc
+-- numbers that stay -------------------------------------------------------------
 
-is_at_true : (number : ℕ) → is_at (Some number) number ≡ true
-is_at_true number = grind arith
+in_at : (seats : Seats) (place n : ℕ) → number_of (guest_at seats place) ≡ Some n → is_in (numbers seats) n ≡ true
+in_at [] place n at = absurd (cc)
+in_at (seat ∷ seats) zero n at = ap (λ o. is_at o n || is_in (numbers seats) n) at ∙ in_first n (numbers seats)
+in_at (seat ∷ seats) (suc place) n at = in_rest (number_of seat) (numbers seats) n (in_at seats place n at)
 
-either_true : (a b : Bool) → (a || b) ≡ true → (a ≡ true) ⊎ (b ≡ true)
-either_true true b h = inl refl
-either_true false b h = inr h
+set_same : (h : Option Guest → Option ℕ) (seats : Seats) (place : ℕ) (seat : Option Guest) → h seat ≡ h (guest_at seats place) → map h (set seats place seat) ≡ map h seats
+set_same h [] place seat same = refl
+set_same h (other ∷ seats) zero seat same = ap (λ o. o ∷ map h seats) same
+set_same h (other ∷ seats) (suc place) seat same = ap (λ os. h other ∷ os) (set_same h seats place seat same)
 
-at_number : (o : Option ℕ) (number : ℕ) → is_at o number ≡ true → o ≡ Some number
-at_number None number h = absurd (cc)
-at_number (Some next) number h = ap Some (eqb-true next number h)
+map_same : (h : Option Guest → Option ℕ) (f : Option Guest → Option Guest) (seats : Seats) → ((seat : Option Guest) → h (f seat) ≡ h seat) → map h (map f seats) ≡ map h seats
+map_same h f [] same = refl
+map_same h f (seat ∷ seats) same = ap (λ o. o ∷ map h (map f seats)) (same seat) ∙ ap (λ os. h seat ∷ os) (map_same h f seats same)
 
-next_place : (seat : Option Guest) (seats : Seats) (number : ℕ) → Sent seats number → Sent (seat ∷ seats) number
-next_place seat seats number s = record { place = suc s.place; guest = s.guest; there = s.there; is = s.is }
+first_same : (h : Option Guest → Option ℕ) (f : Option Guest → Option Guest) (count : ℕ) (seats : Seats) → ((k : ℕ) → h (f (guest_at seats k)) ≡ h (guest_at seats k))
+    → map h (map f (take count seats) ++ drop count seats) ≡ map h seats
+first_same h f zero seats same = refl
+first_same h f (suc count) [] same = refl
+first_same h f (suc count) (seat ∷ seats) same =
+    ap (λ o. o ∷ map h (map f (take count seats) ++ drop count seats)) (same 0) ∙ ap (λ os. h seat ∷ os) (first_same h f count seats (λ k. same (suc k)))
 
-sent_of : (seats : Seats) (number : ℕ) → is_kept seats number ≡ true → Sent seats number
-sent_of [] number h = absurd (cc)
-sent_of (None ∷ seats) number h = next_place None seats number (sent_of seats number h)
-sent_of (Some g ∷ seats) number h = by_either (λ later. sent_of seats number later) (either_true (is_at g.snapshot number) (is_kept seats number) h) where
-  by_either : (is_kept seats number ≡ true → Sent seats number) → (is_at g.snapshot number ≡ true) ⊎ (is_kept seats number ≡ true) → Sent (Some g ∷ seats) number
-  by_either rest (inl here) = record { place = 0; guest = g; there = refl; is = at_number g.snapshot number here }
-  by_either rest (inr later) = next_place (Some g) seats number (rest later)
+others_of : (n : ℕ) (seats : Seats) → map (without n) (numbers seats) ≡ map (λ seat. without n (number_of seat)) seats
+others_of n [] = refl
+others_of n (seat ∷ seats) = ap (λ os. without n (number_of seat) ∷ os) (others_of n seats)
 
-keeps_of : (o : Option ℕ) (seats : Seats) (number : ℕ) → o ≡ Some number → keeps_alone o seats ≡ false → is_kept seats number ≡ true
-keeps_of None seats number h none = absurd (no_number h)
-keeps_of (Some n) seats number h none = by_bool (is_kept seats n) refl where
-  by_bool : (b : Bool) → is_kept seats n ≡ b → is_kept seats number ≡ true
-  by_bool true is = ap (is_kept seats) (sym (one_number h)) ∙ is
-  by_bool false is = absurd (never (sym (ap not is) ∙ none)) where
-    never : true ≡ false → ⊥
-    never e = cc
+by_act : (a : ServerAct) (login : Option LoginRequest) (now : ℕ) (g : Guest) → (after_act a login now g).snapshot ≡ g.snapshot
+by_act (act.Accept n) login now g = refl
+by_act (act.Reject code) login now g = refl
+by_act act.Nothing login now g = refl
+by_act act.Close login now g = refl
+by_act (act.Fault fault) login now g = refl
 
--- each number that is sent is among those kept
-in_rest : (number : ℕ) (b : Bool) (o : Option ℕ) (numbers : List ℕ) → In number numbers → In number (if b then with_number o numbers else numbers)
-in_rest number true None numbers there = there
-in_rest number true (Some n) numbers there = inr there
-in_rest number false o numbers there = there
+hears : (g h : Guest) (piece : List ℕ) (now n : ℕ) → guests.Hears g piece now n h → h.snapshot ≡ g.snapshot
+hears g h piece now n (inl (deaf, all, same)) = ap (λ (x : Guest). x.snapshot) same
+hears g h piece now n (inr (listens, (held, took, inl (payload, block, inl (packet, spelled, is))))) =
+    ap (λ (x : Guest). x.snapshot) is ∙ by_act (server_answer g.session packet) (login_in packet) now _
+hears g h piece now n (inr (listens, (held, took, inl (payload, block, inr (fault, at, is))))) = ap (λ (x : Guest). x.snapshot) is
+hears g h piece now n (inr (listens, (held, took, inr (none, is)))) = ap (λ (x : Guest). x.snapshot) is
 
-first_in : (number : ℕ) (o : Option ℕ) (numbers : List ℕ) → o ≡ Some number → In number (with_number o numbers)
-first_in number None numbers h = absurd (no_number h)
-first_in number (Some n) numbers h = inl (sym (one_number h))
+takes : (notes : List ℕ) (g : Guest) (count now : ℕ) → (guests.took_of notes g count now).snapshot ≡ g.snapshot
+takes [] g count now = by_test (nat_lt 0 count && (nat_le 65536 (g.taken + count - g.marked) || g.taken + count == length (guests.bytes_of g.told))) where
+  by_test : (b : Bool) → (if b then record g { taken = g.taken + count; moved = now; marked = g.taken + count } else record g { taken = g.taken + count }).snapshot ≡ g.snapshot
+  by_test true = refl
+  by_test false = refl
+takes (b ∷ notes) g count now = refl
 
-in_first : (seat : Option Guest) (seats : Seats) (number : ℕ) → number_of seat ≡ Some number → (Sent seats number → In number (kept seats)) → (b : Bool)
-    → keeps_alone (number_of seat) seats ≡ b → In number (if b then with_number (number_of seat) (kept seats) else kept seats)
-in_first seat seats number is rest true alone = first_in number (number_of seat) (kept seats) is
-in_first seat seats number is rest false more = rest (sent_of seats number (keeps_of (number_of seat) seats number is more))
+ticks : (now : ℕ) (seat : Option Guest) → number_of (ticked_seat now seat) ≡ number_of seat
+ticks now None = refl
+ticks now (Some g) = by_tests (guests.is_silent g now) (guests.is_idle g now) where
+  by_tests : (a b : Bool) → (if a then guests.gone_for reason.Silent g else (if b then guests.with_heartbeat g now else g)).snapshot ≡ g.snapshot
+  by_tests true b = refl
+  by_tests false true = refl
+  by_tests false false = refl
 
-kept_at : (number : ℕ) (seats : Seats) (place : ℕ) (g : Guest) → guest_at seats place ≡ Some g → g.snapshot ≡ Some number → In number (kept seats)
-kept_at number [] place g there is = absurd (no_guest there)
-kept_at number (seat ∷ seats) zero g there is =
-    in_first seat seats number (ap number_of there ∙ is) (λ s. kept_at number seats s.place s.guest s.there s.is) (keeps_alone (number_of seat) seats) refl
-kept_at number (seat ∷ seats) (suc place) g there is =
-    in_rest number (keeps_alone (number_of seat) seats) (number_of seat) (kept seats) (kept_at number seats place g there is)
+heard_same : (seats new : Seats) (place : ℕ) (piece : List ℕ) (now count : ℕ) (seat : Option Guest) → guest_at seats place ≡ seat → HearsBy seat seats place piece now count new
+    → numbers new ≡ numbers seats
+heard_same seats new place piece now count None there (all, same) = ap numbers same
+heard_same seats new place piece now count (Some g) there (h, hearing, same) =
+    ap numbers same ∙ set_same number_of seats place (Some h) (hears g h piece now count hearing ∙ ap number_of (sym there))
 
-kept_has : (seats : Seats) (number : ℕ) → Sent seats number → In number (kept seats)
-kept_has seats number s = kept_at number seats s.place s.guest s.there s.is
+took_same : (seats : Seats) (place count now : ℕ) (seat : Option Guest) → guest_at seats place ≡ seat → numbers (took_by seat seats place count now) ≡ numbers seats
+took_same seats place count now None there = refl
+took_same seats place count now (Some g) there = set_same number_of seats place (Some (guests.took g count now)) (takes g.notes g count now ∙ ap number_of (sym there))
 
--- and each of those kept is sent
-of_seat : (seat : Option Guest) (seats : Seats) (number : ℕ) → number_of seat ≡ Some number → Sent (seat ∷ seats) number
-of_seat None seats number h = absurd (no_number h)
-of_seat (Some g) seats number h = record { place = 0; guest = g; there = refl; is = h }
+-- a place that is freed keeps no more
+freed : (f : ℕ → ℕ) (seats : Seats) (place : ℕ) (o : Option ℕ) → number_of (guest_at seats place) ≡ o → total f (numbers (set seats place None)) ≤ total f (numbers seats)
+freed f seats place None there = let same = ap (total f) (set_same number_of seats place None (sym there)) in omega (arith, same)
+freed f seats place (Some n) there =
+    none_more f n (numbers seats) (numbers (set seats place None))
+    (others_of n (set seats place None) ∙ set_same (λ seat. without n (number_of seat)) seats place None (sym (ap (without n) there ∙ without_itself n)) ∙ sym (others_of n seats))
+    (in_at seats place n there)
 
-of_first : (seat : Option Guest) (seats : Seats) (number : ℕ) → (In number (kept seats) → Sent seats number) → (o : Option ℕ) → number_of seat ≡ o → In number (with_number o (kept seats))
-    → Sent (seat ∷ seats) number
-of_first seat seats number rest None is at = next_place seat seats number (rest at)
-of_first seat seats number rest (Some n) is (inl here) = of_seat seat seats number (is ∙ ap Some (sym here))
-of_first seat seats number rest (Some n) is (inr later) = next_place seat seats number (rest later)
+-- one who waits has no number yet, and gets this one
+handed_same : (bytes : ℕ → List ℕ) (shot : List ℕ) (next now : ℕ) (seat : Option Guest) → ((g : Guest) → seat ≡ Some g → Agrees bytes g.snapshot g.told)
+    → without next (number_of (answered_seat shot next now seat)) ≡ without next (number_of seat)
+handed_same bytes shot next now None agrees = refl
+handed_same bytes shot next now (Some g) agrees = by_wait (is_waiting g) refl where
+  told_none : is_waiting g ≡ true → g.told ≡ None
+  told_none waits = grind arith
 
-of_list : (seat : Option Guest) (seats : Seats) (number : ℕ) → (In number (kept seats) → Sent seats number) → (b : Bool)
-    → In number (if b then with_number (number_of seat) (kept seats) else kept seats) → Sent (seat ∷ seats) number
-of_list seat seats number rest true at = of_first seat seats number rest (number_of seat) refl at
-of_list seat seats number rest false at = next_place seat seats number (rest at)
+  by_number : (o : Option ℕ) → g.snapshot ≡ o → g.told ≡ None → without next (Some next) ≡ without next o
+  by_number None is none = without_itself next
+  by_number (Some n) is none = absurd (never (sym none ∙ agrees g refl n is)) where
+    never : {w : List ℕ} → None ≡ Some w → ⊥
+    never {w} h = cc
 
-kept_from : (seats : Seats) (number : ℕ) → In number (kept seats) → Sent seats number
-kept_from [] number there = absurd there
-kept_from (seat ∷ seats) number there = of_list seat seats number (λ at. kept_from seats number at) (keeps_alone (number_of seat) seats) there
+  by_wait : (b : Bool) → is_waiting g ≡ b → without next (if b then guests.answered g shot next now else g).snapshot ≡ without next g.snapshot
+  by_wait true waits = by_number g.snapshot refl (told_none waits)
+  by_wait false waits = refl
 
--- and none of them twice
-or_true : (b : Bool) → (b || true) ≡ true
-or_true true = refl
-or_true false = refl
-
-is_kept_at : (number : ℕ) (seats : Seats) (place : ℕ) (g : Guest) → guest_at seats place ≡ Some g → g.snapshot ≡ Some number → is_kept seats number ≡ true
-is_kept_at number [] place g there is = absurd (no_guest there)
-is_kept_at number (other ∷ seats) zero g there is =
-    ap (λ o. is_at (number_of o) number || is_kept seats number) there ∙ ap (λ o. is_at o number || is_kept seats number) is ∙ ap (λ b. b || is_kept seats number) (is_at_true number)
-is_kept_at number (other ∷ seats) (suc place) g there is = ap (λ b. is_sent other number || b) (is_kept_at number seats place g there is) ∙ or_true (is_sent other number)
-
-alone_only : (seats : Seats) (n : ℕ) → not (is_kept seats n) ≡ true → In n (kept seats) → ⊥
-alone_only seats n alone there =
-    let s = kept_from seats n there in
-    never (sym (ap not (is_kept_at n seats s.place s.guest s.there s.is)) ∙ alone) where
-      never : false ≡ true → ⊥
-      never e = cc
-
-with_different : (o : Option ℕ) (seats : Seats) → AreDifferent (kept seats) → keeps_alone o seats ≡ true → AreDifferent (with_number o (kept seats))
-with_different None seats rest alone = rest
-with_different (Some n) seats rest alone = (alone_only seats n alone, rest)
-
-all_different : (o : Option ℕ) (seats : Seats) → AreDifferent (kept seats) → (b : Bool) → keeps_alone o seats ≡ b → AreDifferent (if b then with_number o (kept seats) else kept seats)
-all_different o seats rest true alone = with_different o seats rest alone
-all_different o seats rest false more = rest
-
-different : (seats : Seats) → AreDifferent (kept seats)
-different [] = tt
-different (seat ∷ seats) = all_different (number_of seat) seats (different seats) (keeps_alone (number_of seat) seats) refl
-
--- where no other number is sent, no more are kept
-no_other : (old new : Seats) → ((number : ℕ) → Sent new number → Sent old number) → length (kept new) ≤ length (kept old)
-no_other old new all = no_more (kept new) (kept old) (different new) (λ n there. kept_has old n (all n (kept_from new n there)))
-
-one_other : (old new : Seats) (next : ℕ) → ((number : ℕ) → Sent new number → (number ≡ next) ⊎ Sent old number) → length (kept new) ≤ length (kept old) + 1
-one_other old new next all =
-    let more : length (kept new) ≤ length (next ∷ kept old) = no_more (kept new) (next ∷ kept old) (different new) (λ n there. among n (all n (kept_from new n there))) in
-    omega (arith, more) where
-      among : (n : ℕ) → (n ≡ next) ⊎ Sent old n → (n ≡ next) ⊎ In n (kept old)
-      among n (inl same) = inl same
-      among n (inr sent) = inr (kept_has old n sent)
+all_handed : (bytes : ℕ → List ℕ) (shot : List ℕ) (next now count : ℕ) (seats : Seats) → AllHold (Agrees bytes) seats
+    → map (without next) (numbers (map (answered_seat shot next now) (take count seats) ++ drop count seats)) ≡ map (without next) (numbers seats)
+all_handed bytes shot next now count seats all =
+    others_of next (map (answered_seat shot next now) (take count seats) ++ drop count seats)
+    ∙ first_same (λ seat. without next (number_of seat)) (answered_seat shot next now) count seats (λ k. handed_same bytes shot next now (guest_at seats k) (λ g at. all k g at))
+    ∙ sym (others_of next seats)
 
 -- calls -----------------------------------------------------------------------
 
--- what becomes of a client is sent no other snapshot
-abbrev pub SendsNoOther : Guest → Guest → Type 0
-SendsNoOther g h = (number : ℕ) → h.snapshot ≡ Some number → g.snapshot ≡ Some number
+-- the bytes of each number, which all who are sent it are told: together they are no more than these
+record Bounded (most : ℕ) (seats : Seats) : Type 0 where
+  pub bytes : ℕ → List ℕ
+  pub agree : AllHold (Agrees bytes) seats
+  pub within : total (λ n. length (bytes n)) (numbers seats) ≤ most
 
-by_act : (a : ServerAct) (login : Option LoginRequest) (now : ℕ) (g : Guest) → SendsNoOther g (after_act a login now g)
-by_act (act.Accept n) login now g number there = there
-by_act (act.Reject code) login now g number there = there
-by_act act.Nothing login now g number there = there
-by_act act.Close login now g number there = there
-by_act (act.Fault fault) login now g number there = there
+none_bounded : (most places : ℕ) → Bounded most (replicate places None)
+none_bounded most places = record { bytes = λ n. []; agree = λ k g there. absurd (no_guest (sym (none_seated places k) ∙ there)); within = none places } where
+  none : (places : ℕ) → total (λ n. length {A = ℕ} []) (numbers (replicate places None)) ≤ most
+  none zero = omega arith
+  none (suc places) = none places
 
-same_snapshot : (g h : Guest) → h ≡ g → SendsNoOther g h
-same_snapshot g h same number there = sym (ap (λ (x : Guest). x.snapshot) same) ∙ there
+moved : (most : ℕ) (old new : Seats) → (b : Bounded most old) → AllHold (Agrees b.bytes) new → numbers new ≡ numbers old → Bounded most new
+moved most old new b agree same = let is = ap (total (λ n. length (b.bytes n))) same in record { bytes = b.bytes; agree = agree; within = omega (arith, is, b.within) }
 
-same_number : (g h i : Guest) → h ≡ i → SendsNoOther g i → SendsNoOther g h
-same_number g h i same none = λ number there. none number (sym (ap (λ (x : Guest). x.snapshot) same) ∙ there)
+fewer : (most : ℕ) (seats : Seats) (place : ℕ) → Bounded most seats → Bounded most (set seats place None)
+fewer most seats place b =
+    let less = freed (λ n. length (b.bytes n)) seats place (number_of (guest_at seats place)) refl in
+    record {
+      bytes = b.bytes;
+      agree = set_holds (Agrees b.bytes) (unsent b.bytes) seats place None (λ g is. absurd (no_guest is)) b.agree;
+      within = omega (arith, less, b.within);
+    }
 
-hears : (g h : Guest) (piece : List ℕ) (now n : ℕ) → guests.Hears g piece now n h → SendsNoOther g h
-hears g h piece now n (inl (deaf, all, same)) = same_snapshot g h same
-hears g h piece now n (inr (listens, (held, took, inl (payload, block, inl (packet, spelled, is))))) = same_number g h _ is (by_act (server_answer g.session packet) (login_in packet) now _)
-hears g h piece now n (inr (listens, (held, took, inl (payload, block, inr (fault, at, is))))) = same_number g h _ is (λ number there. there)
-hears g h piece now n (inr (listens, (held, took, inr (none, is)))) = same_number g h _ is (λ number there. there)
+-- a snapshot is handed in that is kept already
+again : (most : ℕ) (seats : Seats) (shot : List ℕ) (next now count : ℕ) → kept_bytes seats next ≡ Some shot → Bounded most seats
+    → Bounded most (map (answered_seat shot next now) (take count seats) ++ drop count seats)
+again most seats shot next now count found b =
+    let r = kept_for seats next shot found in
+    let is : Some shot ≡ Some (b.bytes next) = sym r.told_is ∙ b.agree r.place r.guest r.there next r.number_is in
+    let there : is_in (numbers seats) next ≡ true = in_at seats r.place next (ap number_of r.there ∙ r.number_is) in
+    let less = none_more (λ n. length (b.bytes n)) next (numbers seats) (numbers (map (answered_seat shot next now) (take count seats) ++ drop count seats))
+    (all_handed b.bytes shot next now count seats b.agree) there in
+    record {
+      bytes = b.bytes;
+      agree = all_answer (Agrees b.bytes) (unsent b.bytes) shot next now count seats (λ n at. is ∙ ap (λ m. Some (b.bytes m)) (one_number at)) b.agree;
+      within = omega (arith, less, b.within);
+    } where
+      one_number : {m n : ℕ} → Some m ≡ Some n → m ≡ n
+      one_number {m} {n} h = cc
 
-set_sent : (seats : Seats) (place : ℕ) (seat : Option Guest) → ((g : Guest) (number : ℕ) → seat ≡ Some g → g.snapshot ≡ Some number → Sent seats number) → (number : ℕ)
-    → Sent (set seats place seat) number → Sent seats number
-set_sent seats place seat one number s = by_case (set_cases seats place s.place seat s.guest s.there) where
-  by_case : (seat ≡ Some s.guest) ⊎ (guest_at seats s.place ≡ Some s.guest) → Sent seats number
-  by_case (inl here) = one s.guest number here s.is
-  by_case (inr elsewhere) = record { place = s.place; guest = s.guest; there = elsewhere; is = s.is }
+-- the bytes of one number are these, and those of the others what they were
+abbrev pub with_bytes : ℕ → List ℕ → (ℕ → List ℕ) → ℕ → List ℕ
+with_bytes next shot bytes n = if n == next then shot else bytes n
 
-one_guest : {g h : Guest} → Some g ≡ Some h → g ≡ h
-one_guest {g} {h} same = cc
+-- a new snapshot is handed in
+fresh : (most : ℕ) (seats : Seats) (shot : List ℕ) (next now count : ℕ) → kept_bytes seats next ≡ None → (b : Bounded most seats) → snapshot_bytes seats + length shot ≤ most
+    → Bounded most (map (answered_seat shot next now) (take count seats) ++ drop count seats)
+fresh most seats shot next now count none b room = record {
+  bytes = bytes;
+  agree = all_answer (Agrees bytes) (unsent bytes) shot next now count seats handed agree;
+  within = within;
+} where
+  bytes : ℕ → List ℕ
+  bytes = with_bytes next shot b.bytes
 
--- what becomes of the clients at some places
-mapped_sent : (P : ℕ → Type 0) (f : Guest → Guest) → ((g : Guest) (n : ℕ) → (f g).snapshot ≡ Some n → P n ⊎ (g.snapshot ≡ Some n)) → (seats : Seats) (place number : ℕ) (seat : Option Guest) (h : Guest)
-    → guest_at seats place ≡ seat → option_map f seat ≡ Some h → h.snapshot ≡ Some number → P number ⊎ Sent seats number
-mapped_sent P f keeps seats place number None h at there is = absurd (no_guest there)
-mapped_sent P f keeps seats place number (Some g) h at there is = by_case (keeps g number (ap (λ (x : Guest). x.snapshot) (one_guest there) ∙ is)) where
-  by_case : P number ⊎ (g.snapshot ≡ Some number) → P number ⊎ Sent seats number
-  by_case (inl new) = inl new
-  by_case (inr was) = inr (record { place = place; guest = g; there = at; is = was })
+  absent : is_in (numbers seats) next ≡ true → ⊥
+  absent there = never (sym none ∙ kept_under b.bytes seats b.agree next there) where
+    never : {w : List ℕ} → None ≡ Some w → ⊥
+    never {w} h = cc
 
-abbrev pub Nothing : ℕ → Type 0
-Nothing n = ⊥
+  others : (n : ℕ) → is_in (numbers seats) n ≡ true → b.bytes n ≡ bytes n
+  others n there = by_test (n == next) refl where
+    by_test : (c : Bool) → (n == next) ≡ c → b.bytes n ≡ (if c then shot else b.bytes n)
+    by_test true same = absurd (absent (subst (λ m. is_in (numbers seats) m ≡ true) (eqb-true n next same) there))
+    by_test false other = refl
 
-either_kept : (b : Bool) (g h : Guest) (n : ℕ) → h.snapshot ≡ g.snapshot → (if b then h else g).snapshot ≡ Some n → Nothing n ⊎ (g.snapshot ≡ Some n)
-either_kept true g h n same there = inr (sym same ∙ there)
-either_kept false g h n same there = inr there
+  agree : AllHold (Agrees bytes) seats
+  agree k g there n at = b.agree k g there n at ∙ ap Some (others n (in_at seats k n (ap number_of there ∙ at)))
 
-ticked_kept : (g : Guest) (now n : ℕ) → (guests.ticked g now).snapshot ≡ Some n → Nothing n ⊎ (g.snapshot ≡ Some n)
-ticked_kept g now n there = by_tests (guests.is_silent g now) (guests.is_idle g now) there where
-  by_tests : (a b : Bool) → (if a then guests.gone_for reason.Silent g else (if b then guests.with_heartbeat g now else g)).snapshot ≡ Some n → Nothing n ⊎ (g.snapshot ≡ Some n)
-  by_tests true b h = inr h
-  by_tests false true h = inr h
-  by_tests false false h = inr h
+  handed : Agrees bytes (Some next) (Some shot)
+  handed n at = ap Some (sym (ap (λ c. if c then shot else b.bytes n) (ap (λ o. is_at (Some n) o) (one_number at) ∙ is_at_true n))) where
+    one_number : {m n : ℕ} → Some m ≡ Some n → m ≡ n
+    one_number {m} {n} h = cc
 
-ticked_sent : (seats : Seats) (now number : ℕ) → Sent (map (ticked_seat now) seats) number → Sent seats number
-ticked_sent seats now number s =
-    by_case (mapped_sent Nothing (λ g. guests.ticked g now) (λ g n there. ticked_kept g now n there) seats s.place number
-    (guest_at seats s.place) s.guest refl (sym (at_mapped (ticked_seat now) seats s.place refl) ∙ s.there) s.is) where
-      by_case : ⊥ ⊎ Sent seats number → Sent seats number
-      by_case (inl never) = absurd never
-      by_case (inr sent) = sent
+  within : total (λ n. length (bytes n)) (numbers (map (answered_seat shot next now) (take count seats) ++ drop count seats)) ≤ most
+  within =
+      let same = total_same (λ n. length (b.bytes n)) (λ n. length (bytes n)) (numbers seats) (λ n there. ap length (others n there)) in
+      let more = one_more (λ n. length (bytes n)) next (numbers seats) (numbers (map (answered_seat shot next now) (take count seats) ++ drop count seats))
+      (all_handed bytes shot next now count seats agree) in
+      let own = ap length (ap (λ c. if c then shot else b.bytes next) (is_at_true next)) in
+      let is = bytes_are b.bytes seats b.agree in
+      omega (arith, same, more, own, is, room)
 
-answered_or : (b : Bool) (g : Guest) (bytes : List ℕ) (next now n : ℕ) → (if b then guests.answered g bytes next now else g).snapshot ≡ Some n → (n ≡ next) ⊎ (g.snapshot ≡ Some n)
-answered_or true g bytes next now n there = inl (sym (one_number there))
-answered_or false g bytes next now n there = inr there
+module _ {W : Type 0} (contents : W → Option (List ℕ)) (failures : W → Failures) (most : ℕ) where
+  abbrev pub IsBounded : Desk → Type 0
+  IsBounded d = Bounded most d.seats
 
-answered_sent : (seats : Seats) (bytes : List ℕ) (next now count number : ℕ) → Sent (map (answered_seat bytes next now) (take count seats) ++ drop count seats) number
-    → (number ≡ next) ⊎ Sent seats number
-answered_sent seats bytes next now count number s = by_test (nat_lt s.place count) (sym (at_first (answered_seat bytes next now) seats count s.place refl) ∙ s.there) where
-  by_test : (b : Bool) → cond b (answered_seat bytes next now (guest_at seats s.place)) (guest_at seats s.place) ≡ Some s.guest → (number ≡ next) ⊎ Sent seats number
-  by_test true at =
-      mapped_sent (λ n. n ≡ next) (answered_if bytes next now) (λ g n there. answered_or (is_waiting g) g bytes next now n there) seats s.place number (guest_at seats s.place) s.guest refl at s.is
-  by_test false at = inr (record { place = s.place; guest = s.guest; there = at; is = s.is })
+  either_true : (a b : Bool) → (a || b) ≡ true → (a ≡ true) ⊎ (b ≡ true)
+  either_true true b h = inl refl
+  either_true false b h = inr h
 
-module _ {W : Type 0} (contents : W → Option (List ℕ)) (failures : W → Failures) where
-  heard : (d s : Seats) (place : ℕ) (piece : List ℕ) (now count : ℕ) (seat : Option Guest) → guest_at d place ≡ seat → HearsBy seat d place piece now count s → length (kept s) ≤ length (kept d)
-  heard d s place piece now count None there (all, same) = let e = ap (λ x. length (kept x)) same in omega (arith, e)
-  heard d s place piece now count (Some g) there (h, hearing, same) =
-      let fewer = no_other d (set d place (Some h)) (set_sent d place (Some h) (λ x n is sent. record {
-        place = place;
-        guest = g;
-        there = there;
-        is = hears g h piece now count hearing n (ap (λ (y : Guest). y.snapshot) (one_guest is) ∙ sent);
-      })) in
-      let e = ap (λ x. length (kept x)) same in omega (arith, e, fewer)
+  -- there is room for a new snapshot
+  room_for : (limit : ℕ) (seats : Seats) (m : Content) (shot : List ℕ) → has_room limit seats m ≡ true → limit ≤ most → length shot ≤ most → length shot ≤ most_bytes_of m
+      → snapshot_bytes seats + length shot ≤ most
+  room_for limit seats m shot room within whole short = by_case (either_true (snapshot_bytes seats == 0) (nat_le (snapshot_bytes seats + most_bytes_of m) limit) room) where
+    by_case : ((snapshot_bytes seats == 0) ≡ true) ⊎ (nat_le (snapshot_bytes seats + most_bytes_of m) limit ≡ true) → snapshot_bytes seats + length shot ≤ most
+    by_case (inl empty) = let none = eqb-true (snapshot_bytes seats) 0 empty in omega (arith, none, whole)
+    by_case (inr fits) = let sum = leb-true (snapshot_bytes seats + most_bytes_of m) limit fits in omega (arith, sum, within, short)
 
-  taken : (d : Seats) (place count now : ℕ) (seat : Option Guest) → guest_at d place ≡ seat → length (kept (took_by seat d place count now)) ≤ length (kept d)
-  taken d place count now None there = omega arith
-  taken d place count now (Some g) there =
-      no_other d (set d place (Some (guests.took g count now))) (set_sent d place (Some (guests.took g count now)) (λ x n is sent. record {
-        place = place;
-        guest = g;
-        there = there;
-        is = took_any g.notes n (ap (λ (y : Guest). y.snapshot) (one_guest is) ∙ sent);
-      })) where
-        took_same : (b : Bool) (n : ℕ) → (if b then record g { taken = g.taken + count; moved = now; marked = g.taken + count } else record g { taken = g.taken + count }).snapshot ≡ Some n
-            → g.snapshot ≡ Some n
-        took_same true n there = there
-        took_same false n there = there
-
-        took_any : (notes : List ℕ) (n : ℕ) → (guests.took_of notes g count now).snapshot ≡ Some n → g.snapshot ≡ Some n
-        took_any [] n there = took_same (nat_lt 0 count && (nat_le 65536 (g.taken + count - g.marked) || g.taken + count == length (guests.bytes_of g.told))) n there
-        took_any (b ∷ notes) n there = there
-
-  -- a snapshot is handed in that is kept already, or where there may be one more
-  answered : (d : Desk) (count now : ℕ) (o : Option Position) → length (kept d.seats) ≤ 64 → length (kept (answered_with o d count now).seats) ≤ 64
-  answered d count now None few = few
-  answered d count now (Some j) few = by_kept (kept_bytes d.seats j.next) refl where
-    by_room : (b : Bool) → nat_lt (length (kept d.seats)) most_snapshots ≡ b
-        → length (kept (with_shot (if b then Some (session_bytes j.market j.next) else None) d j.next count now).seats) ≤ 64
-    by_room true room =
-        let more = one_other d.seats _ j.next (answered_sent d.seats (session_bytes j.market j.next) j.next now count) in
-        let below = ltb-true (length (kept d.seats)) 64 room in
-        omega (arith, more, below)
-    by_room false room = few
+  answered : (d : Desk) (limit count now : ℕ) (o : Option Position) → ((j : Position) → o ≡ Some j → IsGood j.market × IsSequence j.next) → limit ≤ most → handed_at o limit d ≤ most
+      → IsBounded d → IsBounded (answered_with o d limit count now)
+  answered d limit count now None markets within whole b = b
+  answered d limit count now (Some j) markets within whole b = by_kept (kept_bytes d.seats j.next) refl whole where
+    by_room : (c : Bool) → kept_bytes d.seats j.next ≡ None → has_room limit d.seats j.market ≡ c → length_or (if c then Some (session_bytes j.market j.next) else None) ≤ most
+        → IsBounded (with_shot (if c then Some (session_bytes j.market j.next) else None) d j.next count now)
+    by_room true none room short =
+        let of_market = markets j refl in
+        fresh most d.seats (session_bytes j.market j.next) j.next now count none b
+        (room_for limit d.seats j.market (session_bytes j.market j.next) room within short (session_within j.market j.next of_market.0 of_market.1))
+    by_room false none room short = b
 
     by_kept : (k : Option (List ℕ)) → kept_bytes d.seats j.next ≡ k
-        → length (kept (with_shot (option_or k (if nat_lt (length (kept d.seats)) most_snapshots then Some (session_bytes j.market j.next) else None)) d j.next count now).seats) ≤ 64
-    by_kept None none = by_room (nat_lt (length (kept d.seats)) most_snapshots) refl
-    by_kept (Some bytes) found =
-        let r = kept_for d.seats j.next bytes found in
-        let fewer = no_other d.seats _ (λ n sent. by_case n (answered_sent d.seats bytes j.next now count n sent)) in
-        omega (arith, fewer, few) where
-          by_case : (n : ℕ) → (n ≡ j.next) ⊎ Sent d.seats n → Sent d.seats n
-          by_case n (inl same) =
-              let r = kept_for d.seats j.next bytes found in
-              record { place = r.place; guest = r.guest; there = r.there; is = r.number_is ∙ ap Some (sym same) }
-          by_case n (inr sent) = sent
+        → length_or (option_or k (if has_room limit d.seats j.market then Some (session_bytes j.market j.next) else None)) ≤ most
+        → IsBounded (with_shot (option_or k (if has_room limit d.seats j.market then Some (session_bytes j.market j.next) else None)) d j.next count now)
+    by_kept None none short = by_room (has_room limit d.seats j.market) none refl short
+    by_kept (Some shot) found short = again most d.seats shot j.next now count found b
 
-  step : (d e : Desk) (call : Call W) → Step contents failures d call e → length (kept d.seats) ≤ 64 → length (kept e.seats) ≤ 64
-  step d e (Feeds did) (f, does, same) few = let is = ap (λ (x : Desk). length (kept x.seats)) same in omega (arith, is, few)
-  step d e (Admits now (Ok (Some place))) (free, same) few =
-      let is = ap (λ (x : Desk). length (kept x.seats)) same in
-      let fewer = no_other d.seats (set d.seats place (Some (new_guest d.config now))) (set_sent d.seats place (Some (new_guest d.config now))
-      (λ g n here sent. absurd (no_number (ap (λ (x : Guest). x.snapshot) (one_guest here) ∙ sent)))) in
-      omega (arith, is, few, fewer)
-  step d e (Admits now (Ok None)) (taken, same) few = let is = ap (λ (x : Desk). length (kept x.seats)) same in omega (arith, is, few)
-  step d e (Admits now (Err error)) same few = let is = ap (λ (x : Desk). length (kept x.seats)) same in omega (arith, is, few)
-  step d e (Hears place piece now count) (s, hearing, same) few =
-      let is = ap (λ (x : Desk). length (kept x.seats)) same in
-      let fewer = heard d.seats s place piece now count (guest_at d.seats place) refl hearing in
-      omega (arith, is, few, fewer)
-  step d e (Answers now count) same few =
-      let is = ap (λ (x : Desk). length (kept x.seats)) same in
-      let most = answered d count now d.following.joining.state.joined few in
-      omega (arith, is, most)
-  step d e (Takes place count now) (within, same) few =
-      let is = ap (λ (x : Desk). length (kept x.seats)) same in
-      let fewer = taken d.seats place count now (guest_at d.seats place) refl in
-      omega (arith, is, few, fewer)
-  step d e (Ticks now) same few =
-      let is = ap (λ (x : Desk). length (kept x.seats)) same in
-      let fewer = no_other d.seats (map (ticked_seat now) d.seats) (ticked_sent d.seats now) in
-      omega (arith, is, few, fewer)
-  step d e (Leaves place) same few =
-      let is = ap (λ (x : Desk). length (kept x.seats)) same in
-      let fewer = no_other d.seats (set d.seats place None) (set_sent d.seats place None (λ g n here sent. absurd (no_guest here))) in
-      omega (arith, is, few, fewer)
+  step : (d e : Desk) (call : Call W) → Step contents failures d call e → IsOfMarket d call → limit_by call ≤ most → handed_by d call ≤ most → IsBounded d → IsBounded e
+  step d e (Feeds did) (f, doing, same) market within whole b = subst IsBounded (sym same) b
+  step d e (Admits now (Ok (Some place))) ((inside, free), same) market within whole b =
+      subst IsBounded (sym same)
+      (moved most d.seats (set d.seats place (Some (new_guest d.config now))) b
+      (set_holds (Agrees b.bytes) (unsent b.bytes) d.seats place (Some (new_guest d.config now)) (λ g is. subst (λ x. Holds (Agrees b.bytes) x) (one_guest is) (unsent b.bytes None)) b.agree)
+      (set_same number_of d.seats place (Some (new_guest d.config now)) (sym (ap number_of free))))
+  step d e (Admits now (Ok None)) (taken, same) market within whole b = subst IsBounded (sym same) b
+  step d e (Admits now (Err error)) same market within whole b = subst IsBounded (sym same) b
+  step d e (Hears place piece now count) (s, hearing, same) market within whole b =
+      subst IsBounded (sym same)
+      (moved most d.seats s b (all_hear (Agrees b.bytes) (unsent b.bytes) d.seats s place piece now count (guest_at d.seats place) refl hearing b.agree)
+      (heard_same d.seats s place piece now count (guest_at d.seats place) refl hearing))
+  step d e (Answers limit now count) same market within whole b =
+      subst IsBounded (sym same) (answered d limit count now d.following.joining.state.joined market within whole b)
+  step d e (Takes place count now) (fits, same) market within whole b =
+      subst IsBounded (sym same)
+      (moved most d.seats (took_by (guest_at d.seats place) d.seats place count now) b
+      (all_take (Agrees b.bytes) (unsent b.bytes) d.seats place count now (guest_at d.seats place) refl b.agree) (took_same d.seats place count now (guest_at d.seats place) refl))
+  step d e (Ticks now) same market within whole b =
+      subst IsBounded (sym same)
+      (moved most d.seats (map (ticked_seat now) d.seats) b (all_tick (Agrees b.bytes) (unsent b.bytes) now d.seats b.agree) (map_same number_of (ticked_seat now) d.seats (ticks now)))
+  step d e (Leaves place) same market within whole b = subst IsBounded (sym same) (fewer most d.seats place b)
 
-  none_kept : (places : ℕ) → length (kept (replicate places None)) ≤ 0
-  none_kept places = by_list (kept (replicate places None)) (λ n there. no_one (kept_from (replicate places None) n there)) where
-    no_one : {n : ℕ} → Sent (replicate places None) n → ⊥
-    no_one {n} s = no_guest (sym (none_seated places s.place) ∙ s.there)
+  bounded : (config : ServerConfig) (begun : Following) (past : List (Event W)) (d : Desk) → AreOfMarkets past → History contents failures config begun past d
+      → largest_limit past ≤ most → longest past ≤ most → IsBounded d
+  bounded config begun [] d markets (places, is) within whole = subst IsBounded (sym is) (none_bounded most places)
+  bounded config begun (x ∷ past) d (market, markets) (took, before) within whole =
+      let limits = both (limit_by x.call) (largest_limit past) within in
+      let lengths = both (handed_by x.before x.call) (longest past) whole in
+      step x.before d x.call took market limits.0 lengths.0 (bounded config begun past x.before markets before limits.1 lengths.1) where
+        both : (a b : ℕ) → max a b ≤ most → (a ≤ most) × (b ≤ most)
+        both a b h = (omega arith, omega arith)
 
-    by_list : (xs : List ℕ) → ((n : ℕ) → In n xs → ⊥) → length xs ≤ 0
-    by_list [] none = omega arith
-    by_list (x ∷ xs) none = absurd (none x (inl refl))
-
-  pub at_most_kept : (config : ServerConfig) (begun : Following) (past : List (Event W)) (d : Desk) → History contents failures config begun past d → length (kept d.seats) ≤ 64
-  at_most_kept config begun [] d (places, is) =
-      let e = ap (λ (x : Desk). length (kept x.seats)) is in
-      let none = none_kept places in
-      omega (arith, e, none)
-  at_most_kept config begun (x ∷ past) d (took, before) = step x.before d x.call took (at_most_kept config begun past x.before before)
+  pub bytes_within : (config : ServerConfig) (begun : Following) (past : List (Event W)) (d : Desk) → AreOfMarkets past → History contents failures config begun past d
+      → largest_limit past ≤ most → longest past ≤ most → snapshot_bytes d.seats ≤ most
+  bytes_within config begun past d markets history within whole =
+      let b = bounded config begun past d markets history within whole in
+      let is = bytes_are b.bytes d.seats b.agree in
+      omega (arith, is, b.within)

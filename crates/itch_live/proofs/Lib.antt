@@ -13,6 +13,7 @@ pub mod Handing
 pub mod Shutting
 pub mod Seated
 pub mod Present
+pub mod Totals
 pub mod Keeping
 pub mod Lengths
 pub mod Filling

@@ -40,10 +40,10 @@ module _ {W : Type 0} (contents : W → Option (List ℕ)) (failures : W → Fai
   call_stays d e (desks.Admits now (Ok None)) session (taken, is) there = ap (λ x. Of x) is ∙ there
   call_stays d e (desks.Admits now (Err error)) session is there = ap (λ x. Of x) is ∙ there
   call_stays d e (desks.Hears place piece now count) session (s, hears, is) there = ap (λ x. Of x) is ∙ there
-  call_stays d e (desks.Answers now count) session is there = ap (λ x. Of x) is ∙ by_joined d.following.joining.state.joined ∙ there where
-    by_joined : (o : Option Position) → Of (answered_with o d count now) ≡ Of d
+  call_stays d e (desks.Answers limit now count) session is there = ap (λ x. Of x) is ∙ by_joined d.following.joining.state.joined ∙ there where
+    by_joined : (o : Option Position) → Of (answered_with o d limit count now) ≡ Of d
     by_joined None = refl
-    by_joined (Some j) = by_shot (shot_for d.seats j.market j.next) where
+    by_joined (Some j) = by_shot (shot_for limit d.seats j.market j.next) where
       by_shot : (shot : Option (List ℕ)) → Of (with_shot shot d j.next count now) ≡ Of d
       by_shot None = refl
       by_shot (Some bytes) = refl

@@ -7,7 +7,7 @@ use Rattle.itch_join.specs.Positions.{Position}
 use Rattle.itch_soup.specs.declared.login.ServerConfig.{ServerConfig}
 use Rattle.itch_live.specs.Guests.{Guest, session_bytes, new_guest, is_at, shot_in}
 use Rattle.itch_live.specs.Seats.{Seats, guest_at, answered_seat}
-use Rattle.itch_live.specs.Kept.{kept, kept_bytes, most_snapshots}
+use Rattle.itch_live.specs.Kept.{has_room, kept_bytes}
 use Rattle.itch_live.specs.Follows.{Following}
 use Rattle.itch_live.specs.Desks.{Desk, shot_for, with_shot, answered_with, Call, Feeds, Admits, Hears, Answers, Takes, Ticks, Leaves, Event, Step, History}
 use Rattle.itch_live.proofs.Places.{none_seated, no_guest}
@@ -84,9 +84,9 @@ kept_for (Some g ∷ seats) number bytes there = by_shot (λ found. kept_for sea
       record { place = 0; guest = g; there = refl; number_is = both.0; told_is = both.1 ∙ found }
 
 -- what is handed in is the present market's snapshot
-pub right_shot : (seats : Seats) (j : Position) (bytes : List ℕ) → AreFitting (Some j) seats → shot_for seats j.market j.next ≡ Some bytes
+pub right_shot : (limit : ℕ) (seats : Seats) (j : Position) (bytes : List ℕ) → AreFitting (Some j) seats → shot_for limit seats j.market j.next ≡ Some bytes
     → bytes ≡ session_bytes j.market j.next
-right_shot seats j bytes all is = by_kept (kept_bytes seats j.next) refl is where
+right_shot limit seats j bytes all is = by_kept (kept_bytes seats j.next) refl is where
   one_bytes : {xs ys : List ℕ} → Some xs ≡ Some ys → xs ≡ ys
   one_bytes {xs} {ys} same = cc
 
@@ -95,8 +95,8 @@ right_shot seats j bytes all is = by_kept (kept_bytes seats j.next) refl is wher
   fresh false h = absurd (no_bytes h)
 
   by_kept : (o : Option (List ℕ)) → kept_bytes seats j.next ≡ o
-      → option_or o (if nat_lt (length (kept seats)) most_snapshots then Some (session_bytes j.market j.next) else None) ≡ Some bytes → bytes ≡ session_bytes j.market j.next
-  by_kept None none h = fresh (nat_lt (length (kept seats)) most_snapshots) h
+      → option_or o (if has_room limit seats j.market then Some (session_bytes j.market j.next) else None) ≡ Some bytes → bytes ≡ session_bytes j.market j.next
+  by_kept None none h = fresh (has_room limit seats j.market) h
   by_kept (Some old) found h =
       let r = kept_for seats j.next old found in
       let f = all r.place r.guest r.there j.next r.number_is in
@@ -114,10 +114,10 @@ module _ {W : Type 0} (contents : W → Option (List ℕ)) (failures : W → Fai
   same_config d e (Admits now (Ok None)) (taken, same) = ap (λ x. x.config) same
   same_config d e (Admits now (Err error)) same = ap (λ x. x.config) same
   same_config d e (Hears place piece now count) (s, hears, same) = ap (λ x. x.config) same
-  same_config d e (Answers now count) same = ap (λ x. x.config) same ∙ by_joined d.following.joining.state.joined where
-    by_joined : (o : Option Position) → (answered_with o d count now).config ≡ d.config
+  same_config d e (Answers limit now count) same = ap (λ x. x.config) same ∙ by_joined d.following.joining.state.joined where
+    by_joined : (o : Option Position) → (answered_with o d limit count now).config ≡ d.config
     by_joined None = refl
-    by_joined (Some j) = by_shot (shot_for d.seats j.market j.next) where
+    by_joined (Some j) = by_shot (shot_for limit d.seats j.market j.next) where
       by_shot : (shot : Option (List ℕ)) → (with_shot shot d j.next count now).config ≡ d.config
       by_shot None = refl
       by_shot (Some bytes) = refl
@@ -133,20 +133,20 @@ module _ {W : Type 0} (contents : W → Option (List ℕ)) (failures : W → Fai
   abbrev pub DeskFits : Desk → Type 0
   DeskFits d = AreFitting d.following.joining.state.joined d.seats
 
-  answered : (d : Desk) (count now : ℕ) (o : Option Position) → d.following.joining.state.joined ≡ o → DeskFits d → DeskFits (answered_with o d count now)
-  answered d count now None there fits = fits
-  answered d count now (Some j) there fits = by_shot (shot_for d.seats j.market j.next) refl where
+  answered : (d : Desk) (limit count now : ℕ) (o : Option Position) → d.following.joining.state.joined ≡ o → DeskFits d → DeskFits (answered_with o d limit count now)
+  answered d limit count now None there fits = fits
+  answered d limit count now (Some j) there fits = by_shot (shot_for limit d.seats j.market j.next) refl where
     all : AreFitting (Some j) d.seats
     all = subst (λ o. AreFitting o d.seats) there fits
 
     handed : (bytes : List ℕ) → bytes ≡ session_bytes j.market j.next → Fits (Some j) (Some j.next) (Some bytes)
     handed bytes is number there = let at : j.next ≡ number = cc in record { position = j; is = refl; below = omega (arith, at); same = λ h. ap Some is }
 
-    by_shot : (shot : Option (List ℕ)) → shot_for d.seats j.market j.next ≡ shot → DeskFits (with_shot shot d j.next count now)
+    by_shot : (shot : Option (List ℕ)) → shot_for limit d.seats j.market j.next ≡ shot → DeskFits (with_shot shot d j.next count now)
     by_shot None none = fits
     by_shot (Some bytes) is =
         subst (λ o. AreFitting o (map (answered_seat bytes j.next now) (take count d.seats) ++ drop count d.seats)) (sym there)
-        (all_answer (Fits (Some j)) (none_fits (Some j)) bytes j.next now count d.seats (handed bytes (right_shot d.seats j bytes all is)) all)
+        (all_answer (Fits (Some j)) (none_fits (Some j)) bytes j.next now count d.seats (handed bytes (right_shot limit d.seats j bytes all is)) all)
 
   step : (d e : Desk) (call : Call W) → Step contents failures d call e → DeskFits d → DeskFits e
   step d e call took fits = by_call call took where
@@ -165,7 +165,7 @@ module _ {W : Type 0} (contents : W → Option (List ℕ)) (failures : W → Fai
     by_call (Admits now (Err error)) same = subst DeskFits (sym same) fits
     by_call (Hears place piece now count) (s, hearing, same) =
         subst DeskFits (sym same) (all_hear P none d.seats s place piece now count (guest_at d.seats place) refl hearing fits)
-    by_call (Answers now count) same = subst DeskFits (sym same) (answered d count now d.following.joining.state.joined refl fits)
+    by_call (Answers limit now count) same = subst DeskFits (sym same) (answered d limit count now d.following.joining.state.joined refl fits)
     by_call (Takes place count now) (within, same) = subst DeskFits (sym same) (all_take P none d.seats place count now (guest_at d.seats place) refl fits)
     by_call (Ticks now) same = subst DeskFits (sym same) (all_tick P none now d.seats fits)
     by_call (Leaves place) same = subst DeskFits (sym same) (set_holds P none d.seats place None (λ g is. absurd (no_guest is)) fits)
@@ -177,5 +177,5 @@ module _ {W : Type 0} (contents : W → Option (List ℕ)) (failures : W → Fai
   pub kept_right : (config : ServerConfig) (begun : Following) (past : List (Event W)) (d : Desk) (j : Position) (bytes : List ℕ) → History contents failures config begun past d
       → d.following.joining.state.joined ≡ Some j → kept_bytes d.seats j.next ≡ Some bytes → bytes ≡ session_bytes j.market j.next
   kept_right config begun past d j bytes history there is =
-      right_shot d.seats j bytes (subst (λ o. AreFitting o d.seats) there (all_fit config begun past d history))
-      (ap (λ k. option_or k (if nat_lt (length (kept d.seats)) most_snapshots then Some (session_bytes j.market j.next) else None)) is)
+      right_shot 0 d.seats j bytes (subst (λ o. AreFitting o d.seats) there (all_fit config begun past d history))
+      (ap (λ k. option_or k (if has_room 0 d.seats j.market then Some (session_bytes j.market j.next) else None)) is)

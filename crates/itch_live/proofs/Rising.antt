@@ -141,10 +141,10 @@ module _ {W : Type 0} (contents : W → Option (List ℕ)) (failures : W → Fai
   called d e (desks.Admits now (Ok None)) (taken, is) = same_position _ _ (ap (λ x. Of x) is)
   called d e (desks.Admits now (Err error)) is = same_position _ _ (ap (λ x. Of x) is)
   called d e (desks.Hears place piece now count) (s, hears, is) = same_position _ _ (ap (λ x. Of x) is)
-  called d e (desks.Answers now count) is = same_position _ _ (ap (λ x. Of x) is ∙ by_joined (Of d)) where
-    by_joined : (o : Option Position) → Of (answered_with o d count now) ≡ Of d
+  called d e (desks.Answers limit now count) is = same_position _ _ (ap (λ x. Of x) is ∙ by_joined (Of d)) where
+    by_joined : (o : Option Position) → Of (answered_with o d limit count now) ≡ Of d
     by_joined None = refl
-    by_joined (Some j) = by_shot (shot_for d.seats j.market j.next) where
+    by_joined (Some j) = by_shot (shot_for limit d.seats j.market j.next) where
       by_shot : (shot : Option (List ℕ)) → Of (with_shot shot d j.next count now) ≡ Of d
       by_shot None = refl
       by_shot (Some bytes) = refl

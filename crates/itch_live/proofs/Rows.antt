@@ -18,9 +18,9 @@ took_row : (d : Seats) (place count now : ℕ) (seat : Option Guest) → length 
 took_row d place count now None = refl
 took_row d place count now (Some g) = length-set d place (Some (guests.took g count now))
 
-answered_row : (d : Desk) (count now : ℕ) (o : Option Position) → length (answered_with o d count now).seats ≡ length d.seats
-answered_row d count now None = refl
-answered_row d count now (Some j) = by_shot (shot_for d.seats j.market j.next) where
+answered_row : (d : Desk) (limit count now : ℕ) (o : Option Position) → length (answered_with o d limit count now).seats ≡ length d.seats
+answered_row d limit count now None = refl
+answered_row d limit count now (Some j) = by_shot (shot_for limit d.seats j.market j.next) where
   by_shot : (shot : Option (List ℕ)) → length (with_shot shot d j.next count now).seats ≡ length d.seats
   by_shot None = refl
   by_shot (Some bytes) =
@@ -39,7 +39,7 @@ module _ {W : Type 0} (contents : W → Option (List ℕ)) (failures : W → Fai
   same_row d e (Admits now (Ok None)) (taken, is) = ap (λ x. length x.seats) is
   same_row d e (Admits now (Err error)) is = ap (λ x. length x.seats) is
   same_row d e (Hears place piece now count) (s, hears, is) = ap (λ x. length x.seats) is ∙ heard_row d.seats s place piece now count (guest_at d.seats place) hears
-  same_row d e (Answers now count) is = ap (λ x. length x.seats) is ∙ answered_row d count now d.following.joining.state.joined
+  same_row d e (Answers limit now count) is = ap (λ x. length x.seats) is ∙ answered_row d limit count now d.following.joining.state.joined
   same_row d e (Takes place count now) (fits, is) = ap (λ x. length x.seats) is ∙ took_row d.seats place count now (guest_at d.seats place)
   same_row d e (Ticks now) is = ap (λ x. length x.seats) is ∙ length-map d.seats (ticked_seat now)
   same_row d e (Leaves place) is = ap (λ x. length x.seats) is ∙ length-set d.seats place None

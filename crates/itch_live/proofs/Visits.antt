@@ -106,13 +106,13 @@ module _ {W : Type 0} (contents : W → Option (List ℕ)) (failures : W → Fai
 
   -- what is handed in is the present market's snapshot
   abbrev IsRight : Desk → Type 0
-  IsRight d = (j : Position) → d.following.joining.state.joined ≡ Some j → (bytes : List ℕ) → shot_for d.seats j.market j.next ≡ Some bytes → bytes ≡ session_bytes j.market j.next
+  IsRight d = (limit : ℕ) (j : Position) → d.following.joining.state.joined ≡ Some j → (bytes : List ℕ) → shot_for limit d.seats j.market j.next ≡ Some bytes → bytes ≡ session_bytes j.market j.next
 
   -- an answer, where there is a market
-  handed : (visit : Option Visit) (d : Desk) (so_far : List ℕ) (now count : ℕ) (joined : Option Position) → d.following.joining.state.joined ≡ joined → d.config ≡ config → IsRight d
-      → Stands visit d so_far → IsVisit config (answers joined d (nat_lt k count) now visit) (guest_at (answered_with joined d count now).seats k) so_far
-  handed visit d so_far now count None there cfg right is = is
-  handed visit d so_far now count (Some j) there cfg right is = by_shot (shot_for d.seats j.market j.next) refl where
+  handed : (visit : Option Visit) (d : Desk) (so_far : List ℕ) (limit now count : ℕ) (joined : Option Position) → d.following.joining.state.joined ≡ joined → d.config ≡ config → IsRight d
+      → Stands visit d so_far → IsVisit config (answers joined d limit (nat_lt k count) now visit) (guest_at (answered_with joined d limit count now).seats k) so_far
+  handed visit d so_far limit now count None there cfg right is = is
+  handed visit d so_far limit now count (Some j) there cfg right is = by_shot (shot_for limit d.seats j.market j.next) refl where
     by_test : (bytes : List ℕ) (b : Bool) → bytes ≡ session_bytes j.market j.next
         → guest_at (with_shot (Some bytes) d j.next count now).seats k ≡ cond b (answered_seat bytes j.next now (guest_at d.seats k)) (guest_at d.seats k)
         → IsVisit config (if b then with (stories.Answers j.market j.next now) visit else visit) (guest_at (with_shot (Some bytes) d j.next count now).seats k) so_far
@@ -122,10 +122,10 @@ module _ {W : Type 0} (contents : W → Option (List ℕ)) (failures : W → Fai
         (happens config visit (guest_at d.seats k) (guests.answered_if bytes j.next now) so_far (stories.Answers j.market j.next now) is
         (λ g. ap (λ b. guests.answered_if b j.next now g) whole_is) (λ g. refl))
 
-    by_shot : (shot : Option (List ℕ)) → shot_for d.seats j.market j.next ≡ shot
+    by_shot : (shot : Option (List ℕ)) → shot_for limit d.seats j.market j.next ≡ shot
         → IsVisit config (if is_some shot && nat_lt k count then with (stories.Answers j.market j.next now) visit else visit) (guest_at (with_shot shot d j.next count now).seats k) so_far
     by_shot None none = is
-    by_shot (Some bytes) some = by_test bytes (nat_lt k count) (right j there bytes some) (at_first (answered_seat bytes j.next now) d.seats count k refl)
+    by_shot (Some bytes) some = by_test bytes (nat_lt k count) (right limit j there bytes some) (at_first (answered_seat bytes j.next now) d.seats count k refl)
 
   left : (visit : Option Visit) (d : Desk) (so_far : List ℕ) (place : ℕ) (b : Bool) → (place == k) ≡ b → Stands visit d so_far
       → IsVisit config (if b then None else visit) (guest_at (set d.seats place None) k) (if b then [] else so_far)
@@ -145,8 +145,8 @@ module _ {W : Type 0} (contents : W → Option (List ℕ)) (failures : W → Fai
   step visit d e so_far (Hears place piece now count) cfg right (s, hears, same) is =
       along config _ (guest_at s k) (guest_at e.seats k) so_far (ap (λ x. guest_at x.seats k) same)
       (heard visit d s so_far place piece now count (guest_at d.seats place) (place == k) refl refl hears is)
-  step visit d e so_far (Answers now count) cfg right same is =
-      along config _ _ (guest_at e.seats k) so_far (ap (λ x. guest_at x.seats k) same) (handed visit d so_far now count d.following.joining.state.joined refl cfg right is)
+  step visit d e so_far (Answers limit now count) cfg right same is =
+      along config _ _ (guest_at e.seats k) so_far (ap (λ x. guest_at x.seats k) same) (handed visit d so_far limit now count d.following.joining.state.joined refl cfg right is)
   step visit d e so_far (Takes place count now) cfg right (fits, same) is =
       along config _ _ (guest_at e.seats k) _ (ap (λ x. guest_at x.seats k) same)
       (here (place == k) refl) where
@@ -165,5 +165,5 @@ module _ {W : Type 0} (contents : W → Option (List ℕ)) (failures : W → Fai
   visits begun [] d (places, is) = along config None None (guest_at d.seats k) [] (ap (λ x. guest_at x.seats k) is ∙ none_seated places k) refl
   visits begun (x ∷ past) d (took, before) =
       step (visit_at k past) x.before d (sent_at k past) x.call (configured contents failures config begun past x.before before)
-      (λ j there bytes is. right_shot x.before.seats j bytes
+      (λ limit j there bytes is. right_shot limit x.before.seats j bytes
       (subst (λ o. AreFitting o x.before.seats) there (all_fit contents failures config begun past x.before before)) is) took (visits begun past x.before before)

@@ -10,7 +10,7 @@ use Rattle.itch_soup.specs.declared.login.ServerConfig.{ServerConfig}
 use Rattle.itch_live.specs.Guests.{session_bytes, new_guest}
 use Rattle.itch_live.specs.Seats as seating
 use Rattle.itch_live.specs.Seats.{Seats, guest_at, pending_of, IsFree, AreTaken}
-use Rattle.itch_live.specs.Kept.{kept, kept_bytes, most_snapshots}
+use Rattle.itch_live.specs.Kept.{has_room, kept_bytes}
 use Rattle.itch_live.specs.Follows.{Following}
 use Rattle.itch_live.specs.Feeds.{Did, Does}
 
@@ -30,29 +30,29 @@ Accepts d now (Ok (Some place)) e =
 Accepts d now (Ok None) e = AreTaken d.seats × (e ≡ d)
 Accepts d now (Err error) e = e ≡ d
 
--- what those who wait are handed at this number: the snapshot of the number that is kept, or else the market's, unless too many others are kept
-abbrev pub shot_for : Seats → Content → ℕ → Option (List ℕ)
-shot_for seats market next =
-    option_or (kept_bytes seats next) (if nat_lt (length (kept seats)) most_snapshots then Some (session_bytes market next) else None)
+-- what those who wait are handed at this number: the snapshot of the number that is kept, or else the market's, where there is room for it
+abbrev pub shot_for : ℕ → Seats → Content → ℕ → Option (List ℕ)
+shot_for limit seats market next =
+    option_or (kept_bytes seats next) (if has_room limit seats market then Some (session_bytes market next) else None)
 
 -- those at the first `count` places are handed it
 abbrev pub with_shot : Option (List ℕ) → Desk → ℕ → ℕ → ℕ → Desk
 with_shot shot d next count now = record d { seats = seating.handed shot next now count d.seats }
 
-abbrev pub answered_with : Option Position → Desk → ℕ → ℕ → Desk
-answered_with None d count now = d
-answered_with (Some j) d count now = with_shot (shot_for d.seats j.market j.next) d j.next count now
+abbrev pub answered_with : Option Position → Desk → ℕ → ℕ → ℕ → Desk
+answered_with None d limit count now = d
+answered_with (Some j) d limit count now = with_shot (shot_for limit d.seats j.market j.next) d j.next count now
 
--- those who wait at the first `count` places are answered, once there is a market
-abbrev pub answered : Desk → ℕ → ℕ → Desk
-answered d count now = answered_with d.following.joining.state.joined d count now
+-- those who wait at the first `count` places are answered, once there is a market, if the snapshots may have `limit` bytes
+abbrev pub answered : Desk → ℕ → ℕ → ℕ → Desk
+answered d limit count now = answered_with d.following.joining.state.joined d limit count now
 
--- a call, with its result; of an answer, at how many places it was handed in
+-- a call, with its result; of an answer, how many bytes the snapshots may have, and at how many places it was handed in
 pub data Call (W : Type 0) : Type 0 where
   Feeds : (did : Did W) → Call W
   Admits : (now : ℕ) (result : Result (Option ℕ) AllocError) → Call W
   Hears : (place : ℕ) (piece : List ℕ) (now count : ℕ) → Call W
-  Answers : (now count : ℕ) → Call W
+  Answers : (limit now count : ℕ) → Call W
   Takes : (place count now : ℕ) → Call W
   Ticks : (now : ℕ) → Call W
   Leaves : (place : ℕ) → Call W
@@ -68,7 +68,7 @@ module _ {W : Type 0} (contents : W → Option (List ℕ)) (failures : W → Fai
   Step d (Feeds did) e = (f : Following) × Does contents failures d.following did f × (e ≡ record d { following = f })
   Step d (Admits now result) e = Accepts d now result e
   Step d (Hears place piece now count) e = (s : Seats) × seating.HearsAt d.seats place piece now count s × (e ≡ record d { seats = s })
-  Step d (Answers now count) e = e ≡ answered d count now
+  Step d (Answers limit now count) e = e ≡ answered d limit count now
   Step d (Takes place count now) e = (count ≤ length (pending_of (guest_at d.seats place))) × (e ≡ record d { seats = seating.took_at d.seats place count now })
   Step d (Ticks now) e = e ≡ record d { seats = seating.ticked now d.seats }
   Step d (Leaves place) e = e ≡ record d { seats = slice_set d.seats place None }

@@ -4,13 +4,13 @@ use Rattle.itch_join.specs.Positions.{Position}
 use Rattle.itch_soup.specs.declared.login.ServerConfig.{ServerConfig}
 use Rattle.itch_live.specs.declared.gone.Gone.TheVariants as reason
 use Rattle.itch_live.specs.Guests.{Guest, is_patient, is_waiting, is_silent, answered, session_bytes}
-use Rattle.itch_live.specs.Kept.{kept, kept_bytes, most_snapshots}
+use Rattle.itch_live.specs.Kept.{has_room, kept_bytes}
 use Rattle.itch_live.specs.Stories.{Happening, Hears, Answers, Takes, Ticks, Leaves, Story}
 use Rattle.itch_live.specs.Desks.{Desk}
 
--- the snapshot of a position can be handed in: one of its number is kept, or there may be one more
-abbrev pub HasRoom : Desk → Position → Type 0
-HasRoom d j = (is_some (kept_bytes d.seats j.next) ≡ true) ⊎ (length (kept d.seats) < most_snapshots)
+-- the snapshot of a position can be handed in: one of its number is kept, or there is room for it
+abbrev pub HasRoom : ℕ → Desk → Position → Type 0
+HasRoom limit d j = (is_some (kept_bytes d.seats j.next) ≡ true) ⊎ (has_room limit d.seats j.market ≡ true)
 
 -- What becomes of a client that waits: it goes on waiting until it is answered, unless it logs out or breaks the protocol, is silent, or its connection is
 -- given up

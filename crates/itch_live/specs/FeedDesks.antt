@@ -39,9 +39,10 @@ pub record IsFeedAnswer {W : Type 0} (R : Rules) (feed : List (List ℕ)) (confi
   pub at : Event W
   pub before : List (Event W)
   pub place : past ≡ later ++ at ∷ before
+  pub limit : ℕ
   pub now : ℕ
   pub count : ℕ
-  pub handed : at.call ≡ Answers now count
+  pub handed : at.call ≡ Answers limit now count
   pub stayed : Stays k later
   pub visit : Visit
   pub present : visit_at k past ≡ Some visit

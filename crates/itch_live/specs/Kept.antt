@@ -1,7 +1,9 @@
 -- The snapshots that are kept for clients, by the numbers of the next messages at which they were encoded.
-use Rattle.std.specs.Prelude.{ℕ, Bool, false, not, List, [], ◌∷◌, length, Option, None, Some, if◌then◌else◌}
+use Rattle.std.specs.Prelude.{ℕ, ◌+◌, ◌*◌, ◌==◌, ◌||◌, nat_le, Bool, false, not, List, [], ◌∷◌, length, Option, None, Some, if◌then◌else◌}
 use Rattle.std.specs.List.{list_any, sum_by}
 use Rattle.std.specs.Option.{option_or}
+use Rattle.itch_market.specs.Content.{Content}
+use Rattle.itch_snapshot.specs.Snapshot.{snap}
 use Rattle.itch_live.specs.Guests.{Guest, is_at, shot_in}
 use Rattle.itch_live.specs.Seats.{Seats}
 
@@ -57,6 +59,14 @@ bytes_under seats (Some number) = length_or (kept_bytes seats number)
 abbrev pub snapshot_bytes : Seats → ℕ
 snapshot_bytes seats = sum_by (λ number. length_or (kept_bytes seats number)) (kept seats)
 
--- how many different snapshots are kept at most
-abbrev pub most_snapshots : ℕ
-most_snapshots = 64
+-- the most bytes that the snapshot of a market may have
+abbrev pub most_bytes_of : Content → ℕ
+most_bytes_of market = 43 * length (snap market) + 128
+
+-- so many bytes may be added to those in use: together they are within the limit, or none are in use
+abbrev pub fits : ℕ → ℕ → ℕ → Bool
+fits limit used more = (used == 0) || nat_le (used + more) limit
+
+-- there is room for the snapshot of a market beside those that are kept
+abbrev pub has_room : ℕ → Seats → Content → Bool
+has_room limit seats market = fits limit (snapshot_bytes seats) (most_bytes_of market)

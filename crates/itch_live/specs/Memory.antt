@@ -5,7 +5,7 @@ use Rattle.itch_market.specs.GoodMarkets.{IsGood}
 use Rattle.itch_snapshot.specs.Snapshot.{snap}
 use Rattle.itch_join.specs.Positions.{Position}
 use Rattle.itch_live.specs.Seats.{Seats}
-use Rattle.itch_live.specs.Kept.{length_or, snapshot_bytes, most_snapshots}
+use Rattle.itch_live.specs.Kept.{length_or, snapshot_bytes}
 use Rattle.itch_live.specs.Desks.{Desk, shot_for, Call, Answers, Event}
 
 -- what a splitter holds: the longest block
@@ -22,17 +22,17 @@ clients (Some g ∷ seats) = 1 + clients seats
 abbrev pub held_bytes : Desk → ℕ
 held_bytes d = splitter_bytes + clients d.seats * splitter_bytes + snapshot_bytes d.seats
 
--- the most that a desk of so many places holds, where a snapshot has at most so many bytes
+-- the most that a desk of so many places holds, where its snapshots have at most so many bytes together
 abbrev pub most_bytes : ℕ → ℕ → ℕ
-most_bytes places most = splitter_bytes + places * splitter_bytes + most_snapshots * most
+most_bytes places most = splitter_bytes + places * splitter_bytes + most
 
 -- how many bytes those who wait are handed, once there is a market
-abbrev pub handed_at : Option Position → Desk → ℕ
-handed_at None d = 0
-handed_at (Some j) d = length_or (shot_for d.seats j.market j.next)
+abbrev pub handed_at : Option Position → ℕ → Desk → ℕ
+handed_at None limit d = 0
+handed_at (Some j) limit d = length_or (shot_for limit d.seats j.market j.next)
 
 abbrev pub handed_by : {W : Type 0} → Desk → Call W → ℕ
-handed_by d (Answers now count) = handed_at d.following.joining.state.joined d
+handed_by d (Answers limit now count) = handed_at d.following.joining.state.joined limit d
 handed_by d other = 0
 
 -- the bytes of the longest snapshot that was handed in
@@ -40,13 +40,23 @@ abbrev pub longest : {W : Type 0} → List (Event W) → ℕ
 longest [] = 0
 longest (x ∷ past) = max (handed_by x.before x.call) (longest past)
 
+-- how many bytes the snapshots might have
+abbrev pub limit_by : {W : Type 0} → Call W → ℕ
+limit_by (Answers limit now count) = limit
+limit_by other = 0
+
+-- the largest of these limits
+abbrev pub largest_limit : {W : Type 0} → List (Event W) → ℕ
+largest_limit [] = 0
+largest_limit (x ∷ past) = max (limit_by x.call) (largest_limit past)
+
 -- how many messages the snapshot of the present market has
 abbrev pub messages_at : Option Position → ℕ
 messages_at None = 0
 messages_at (Some j) = length (snap j.market)
 
 abbrev pub messages_by : {W : Type 0} → Desk → Call W → ℕ
-messages_by d (Answers now count) = messages_at d.following.joining.state.joined
+messages_by d (Answers limit now count) = messages_at d.following.joining.state.joined
 messages_by d other = 0
 
 -- the most messages of a snapshot that was handed in
@@ -56,7 +66,7 @@ most_messages (x ∷ past) = max (messages_by x.before x.call) (most_messages pa
 
 -- what is handed in is of a market, and has a number, as each `Market` and each `Seq` does
 abbrev pub IsOfMarket : {W : Type 0} → Desk → Call W → Type 0
-IsOfMarket d (Answers now count) = (j : Position) → d.following.joining.state.joined ≡ Some j → IsGood j.market × IsSequence j.next
+IsOfMarket d (Answers limit now count) = (j : Position) → d.following.joining.state.joined ≡ Some j → IsGood j.market × IsSequence j.next
 IsOfMarket d other = Unit {0}
 
 abbrev pub AreOfMarkets : {W : Type 0} → List (Event W) → Type 0

@@ -17,9 +17,9 @@ with happening None = None
 with happening (Some v) = Some (record v { past = happening ∷ v.past })
 
 -- the present market is handed in, once there is one, where a snapshot is, if this is one of the first places
-abbrev pub answers : Option Position → Desk → Bool → ℕ → Option Visit → Option Visit
-answers None d here now visit = visit
-answers (Some j) d here now visit = if is_some (shot_for d.seats j.market j.next) && here then with (stories.Answers j.market j.next now) visit else visit
+abbrev pub answers : Option Position → Desk → ℕ → Bool → ℕ → Option Visit → Option Visit
+answers None d limit here now visit = visit
+answers (Some j) d limit here now visit = if is_some (shot_for limit d.seats j.market j.next) && here then with (stories.Answers j.market j.next now) visit else visit
 
 -- Of a call at another place nothing is seen.
 abbrev pub visit_by : {W : Type 0} → Call W → Desk → ℕ → Option Visit → Option Visit
@@ -28,7 +28,7 @@ visit_by (Admits now (Ok (Some place))) d k visit = if place == k then Some (rec
 visit_by (Admits now (Ok None)) d k visit = visit
 visit_by (Admits now (Err error)) d k visit = visit
 visit_by (Hears place piece now count) d k visit = if place == k then with (stories.Hears piece now count) visit else visit
-visit_by (Answers now count) d k visit = answers d.following.joining.state.joined d (nat_lt k count) now visit
+visit_by (Answers limit now count) d k visit = answers d.following.joining.state.joined d limit (nat_lt k count) now visit
 visit_by (Takes place count now) d k visit = if place == k then with (stories.Takes count now) visit else visit
 visit_by (Ticks now) d k visit = with (stories.Ticks now) visit
 visit_by (Leaves place) d k visit = if place == k then None else visit

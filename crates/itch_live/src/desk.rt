@@ -13,7 +13,7 @@ ghost use Rattle.itch_live.specs.Desks as desks;
 
 use crate::follower::Follower;
 use crate::guest::Guest;
-use crate::kept::{count_kept, kept_shot, snapshot_bytes};
+use crate::kept::{has_room, kept_shot, snapshot_bytes};
 use crate::news::News;
 use crate::seats::{Seat, any_waits, free_place, guest_at, hand_in, hear_at, tick_all, took_at};
 use crate::shot::{Shot, shoot};
@@ -25,9 +25,6 @@ use itch_soup::{Packet, ServerConfig, Tick};
 use std::alloc::{AllocError, Allocator};
 use std::marker::Model;
 use std::rc::Rc;
-
-/// How many different snapshots a [`Desk`] keeps for its clients at most.
-pub const MOST_SNAPSHOTS: usize = 64;
 
 /// A live server without its sockets: a feed that is followed, and a number of places for clients.
 ///
@@ -152,10 +149,11 @@ impl<B: OrderBook> Desk<B> {
     }
 
     /// Answers all who wait with the snapshot of the present market, once there is one. It is encoded once for all clients that
-    /// are sent it, and kept while one of them has its place; where [`MOST_SNAPSHOTS`] others are kept, it is not encoded, and
-    /// they go on waiting. It may be called again after an error: then some were answered, and the others still wait.
-    pub fn answer(&mut self, now_ms: u64) -> Result<(), AllocError>
-        ensures after { (count : ℕ) × OnOk result (length self.old.seats ≤ count) × (self.new ≡ desks.answered self.old count now_ms) }
+    /// are sent it, and kept while one of them has its place. All that are kept may have `limit` bytes together: where this one
+    /// might exceed that, it is not encoded, and they go on waiting; but one is always encoded where none is kept. It may be called
+    /// again after an error: then some were answered, and the others still wait.
+    pub fn answer(&mut self, limit: u64, now_ms: u64) -> Result<(), AllocError>
+        ensures after { (count : ℕ) × OnOk result (length self.old.seats ≤ count) × (self.new ≡ desks.answered self.old limit count now_ms) }
         ensures refused { OnErr result (list_any places.waits self.old.seats ≡ true) }
     {
         if !any_waits(&self.seats) {
@@ -168,12 +166,11 @@ impl<B: OrderBook> Desk<B> {
         let Some(next) = Seq::new(next) else {
             return Err(AllocError);
         };
-        let shot = shot_for(self.alloc, &self.seats, market, next)?;
+        let shot = shot_for(self.alloc, limit, &self.seats, market, next)?;
         hand_in(&mut self.seats, shot, next.value(), now_ms)
     }
 
-    /// The bytes of the snapshots that are kept for clients, each of them once; no more than a `u64` holds. Whoever calls
-    /// [`Desk::answer`] can have that wait until there is memory for one more.
+    /// The bytes of the snapshots that are kept for clients, each of them once; no more than a `u64` holds.
     pub fn snapshot_bytes(&self) -> u64
         ensures { result ≡ min (kept.snapshot_bytes self.now.seats) (2 ^ 64 - 1) }
     {
@@ -222,19 +219,20 @@ impl<B: OrderBook> Desk<B> {
     }
 }
 
-// The snapshot to hand in: that of this number which is kept, or else one of this market; none where too many others are kept.
+// The snapshot to hand in: that of this number which is kept, or else one of this market; none where there is no room for it.
 fn shot_for<B: OrderBook>(
     alloc: B::Alloc,
+    limit: u64,
     seats: &[Seat<B::Alloc>],
     market: &Market<B>,
     next: Seq,
 ) -> Result<Option<Shot<B::Alloc>>, AllocError>
-    ensures { IfOk result (λ shot. option_map (λ s. s.value.items) shot ≡ desks.shot_for seats.now market.now next) }
+    ensures { IfOk result (λ shot. option_map (λ s. s.value.items) shot ≡ desks.shot_for limit seats.now market.now next) }
 {
     if let Some(shot) = kept_shot(seats, next.value()) {
         return Ok(Some(shot.clone()?));
     }
-    if count_kept(seats) >= MOST_SNAPSHOTS {
+    if !has_room(limit, seats, market) {
         return Ok(None);
     }
     let bytes = shoot(alloc, market, next)?;

@@ -1,10 +1,12 @@
 //! The snapshots that are kept for clients.
-ghost use Rattle.std.specs.Prelude.{◌≡◌, ◌-◌, ◌^◌, length, min, option_map};
+ghost use Rattle.std.specs.Prelude.{◌≡◌, ◌-◌, ◌^◌, min, option_map};
 ghost use Rattle.std.specs.Option.{option_copied};
 ghost use Rattle.itch_live.specs.Kept as kept;
 
 use crate::seats::Seat;
-use crate::shot::Shot;
+use crate::shot::{Shot, longest_snapshot};
+use itch_book::OrderBook;
+use itch_market::Market;
 use std::alloc::Allocator;
 
 /// The number of the next message at which the snapshot of the client at a place was encoded.
@@ -39,18 +41,23 @@ pub(crate) fn kept_shot<A: Allocator>(seats: &[Seat<A>], number: u64) -> Option<
     None
 }
 
-/// How many different snapshots are kept, by their numbers.
-pub(crate) fn count_kept<A: Allocator>(seats: &[Seat<A>]) -> usize
-    ensures { result ≡ length (kept.kept seats.now) }
+/// Whether the snapshot of a market may be encoded, where all that are kept may have `limit` bytes together.
+pub(crate) fn has_room<B: OrderBook>(
+    limit: u64,
+    seats: &[Seat<B::Alloc>],
+    market: &Market<B>,
+) -> bool
+    ensures { result ≡ kept.has_room limit seats.now market.now }
 {
-    let mut count = 0;
-    let len = seats.len();
-    for place in 0..len {
-        if keeps_alone(&seats[place], &seats[place + 1..]) {
-            count += 1;
-        }
-    }
-    count
+    fits(limit, snapshot_bytes(seats), longest_snapshot(market))
+}
+
+/// Whether so many bytes may be added to those in use: all are within the limit, or none are in use. So a market whose snapshot is
+/// larger than the limit is served too.
+fn fits(limit: u64, used: u64, more: u64) -> bool
+    ensures { result ≡ kept.fits limit used more }
+{
+    used == 0 || u128::from(used) + u128::from(more) <= u128::from(limit)
 }
 
 /// The bytes of the snapshots that are kept, each of them once; no more than a `u64` holds.

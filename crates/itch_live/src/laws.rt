@@ -2,7 +2,7 @@
 //!
 //! Each function here does nothing: its clauses are the laws, over every list of calls. They do not say that a peer sends or takes
 //! anything, that it is served before another one, or how long anything takes.
-ghost use Rattle.std.specs.Prelude.{◌≡◌, ℕ, ◌+◌, ◌*◌, ◌≤◌, List, ◌∷◌, ◌++◌, true, length, Some};
+ghost use Rattle.std.specs.Prelude.{◌≡◌, ℕ, ◌+◌, ◌*◌, ◌≤◌, List, ◌∷◌, ◌++◌, true, length, max, Some};
 ghost use Rattle.std.specs.List.{AllByRecursion};
 ghost use Rattle.itch_codec.specs.Fields.{AreBytes};
 ghost use Rattle.itch_market.specs.Content.{Content};
@@ -15,7 +15,7 @@ ghost use Rattle.itch_live.specs.declared.gone.Gone.TheVariants as reason;
 ghost use Rattle.itch_live.specs.Fairness.{HasRoom, MayBecome, IsCutOff};
 ghost use Rattle.itch_join.specs.Positions.{Position};
 ghost use Rattle.itch_live.specs.Seats.{guest_at};
-ghost use Rattle.itch_live.specs.Kept.{kept, kept_bytes, most_snapshots};
+ghost use Rattle.itch_live.specs.Kept.{kept_bytes};
 ghost use Rattle.itch_live.specs.Stories.{Happening, Becomes, Story, IsSentRight};
 ghost use Rattle.itch_live.specs.Follows.{Following, HearsFeed};
 ghost use Rattle.itch_live.specs.Identity.{Led, IsInSession};
@@ -27,7 +27,7 @@ ghost use Rattle.itch_live.specs.Desks.{Desk, Answers, Event, History, sent_at};
 ghost use Rattle.itch_live.specs.Visits.{Visit, visit_at, IsVisit};
 ghost use Rattle.itch_live.specs.FeedDesks.{AreHonest, IsSentOfFeed, GoesOn};
 ghost use Rattle.itch_live.specs.Players.{Player};
-ghost use Rattle.itch_live.specs.Memory.{held_bytes, most_bytes, longest, most_messages, AreOfMarkets};
+ghost use Rattle.itch_live.specs.Memory.{held_bytes, most_bytes, largest_limit, longest, most_messages, AreOfMarkets};
 ghost use Rattle.itch_live.specs.Plays as plays;
 
 use itch_frame::CountedWrite;
@@ -59,12 +59,12 @@ pub fn clients_apart<W: CountedWrite>()
 {}
 
 /// Whoever waits is answered by the next [`Desk::answer`](crate::Desk::answer) that is refused no memory, once there is a market,
-/// if the snapshot of its number is kept or fewer than [`MOST_SNAPSHOTS`](crate::MOST_SNAPSHOTS) are: with the snapshot of the
+/// if the snapshot of its number is kept, or there is room for one more in the bytes that are allowed: with the snapshot of the
 /// market of that moment. No other client can change that.
 pub fn who_waits_is_answered<W: CountedWrite>()
-    ensures { (config : ServerConfig) → (begun : Following) → (past : List (Event W)) → (at : Event W) → (d : Desk) → (now count k : ℕ) → (j : Position) → (g : Guest)
-        → History W.contents W.failures config begun (at ∷ past) d → at.call ≡ Answers now count → length at.before.seats ≤ count → at.before.following.joining.state.joined ≡ Some j
-        → HasRoom at.before j → guest_at at.before.seats k ≡ Some g → is_waiting g ≡ true → guest_at d.seats k ≡ Some (answered g (session_bytes j.market j.next) j.next now) }
+    ensures { (config : ServerConfig) → (begun : Following) → (past : List (Event W)) → (at : Event W) → (d : Desk) → (limit now count k : ℕ) → (j : Position) → (g : Guest)
+        → History W.contents W.failures config begun (at ∷ past) d → at.call ≡ Answers limit now count → length at.before.seats ≤ count → at.before.following.joining.state.joined ≡ Some j
+        → HasRoom limit at.before j → guest_at at.before.seats k ≡ Some g → is_waiting g ≡ true → guest_at d.seats k ≡ Some (answered g (session_bytes j.market j.next) j.next now) }
 {}
 
 /// A client that waits goes on waiting until it is answered, whatever else happens: unless it logs out or breaks the protocol itself,
@@ -134,21 +134,20 @@ pub fn snapshots_of_the_feed<W: CountedWrite>()
         → AreHonest market_rules feed past → IsSentOfFeed market_rules feed config k past (sent_at k past) }
 {}
 
-/// A desk keeps at most [`MOST_SNAPSHOTS`](crate::MOST_SNAPSHOTS) different snapshots for its clients, by the numbers of the next
-/// messages at which they were encoded; and one that is kept under the number of the present market is its snapshot.
+/// A desk keeps the snapshots that its clients are sent, by the numbers of the next messages at which they were encoded: one that is
+/// kept under the number of the present market is its snapshot.
 pub fn snapshots_kept<W: CountedWrite>()
-    ensures most { (config : ServerConfig) → (begun : Following) → (past : List (Event W)) → (d : Desk) → History W.contents W.failures config begun past d
-        → length (kept d.seats) ≤ most_snapshots }
-    ensures present { (config : ServerConfig) → (begun : Following) → (past : List (Event W)) → (d : Desk) → (j : Position) → (bytes : List ℕ)
+    ensures { (config : ServerConfig) → (begun : Following) → (past : List (Event W)) → (d : Desk) → (j : Position) → (bytes : List ℕ)
         → History W.contents W.failures config begun past d → d.following.joining.state.joined ≡ Some j → kept_bytes d.seats j.next ≡ Some bytes → bytes ≡ session_bytes j.market j.next }
 {}
 
 /// What a desk holds beside the market of its feed and the words of its places: at most 65,537 bytes for the feed and for each
-/// place, and [`MOST_SNAPSHOTS`](crate::MOST_SNAPSHOTS) times those of the longest snapshot that was handed in. That one has at most
-/// 43 bytes for each of its messages, and 128 for the rest, where its market and its number are what the types of these say.
+/// place, and for all snapshots the largest number of bytes that a caller has allowed, or those of the longest snapshot that was
+/// handed in, if these are more. That one has at most 43 bytes for each of its messages, and 128 for the rest. All this holds where
+/// the markets and their numbers are what the types of these say.
 pub fn memory_of_a_desk<W: CountedWrite>()
-    ensures held { (config : ServerConfig) → (begun : Following) → (past : List (Event W)) → (d : Desk) → History W.contents W.failures config begun past d
-        → held_bytes d ≤ most_bytes (length d.seats) (longest past) }
+    ensures held { (config : ServerConfig) → (begun : Following) → (past : List (Event W)) → (d : Desk) → AreOfMarkets past
+        → History W.contents W.failures config begun past d → held_bytes d ≤ most_bytes (length d.seats) (max (largest_limit past) (longest past)) }
     ensures snapshots { (config : ServerConfig) → (begun : Following) → (past : List (Event W)) → (d : Desk) → AreOfMarkets past
         → History W.contents W.failures config begun past d → longest past ≤ 43 * most_messages past + 128 }
 {}

@@ -10,8 +10,8 @@
 //! feed does.
 //!
 //! Memory is that of the market, 65,537 bytes for the feed and for each client, and 43 bytes for each message of a snapshot that
-//! is being sent, plus 128, once for all who are sent the same one. At most [`MOST_SNAPSHOTS`] different ones are kept at a time.
-//! That of a player is 65,537 bytes for what it hears, and 131,076 for what it sends.
+//! is being sent, plus 128, once for all who are sent the same one. All that are kept have at most as many bytes as [`Desk::answer`] is
+//! allowed, or there is one alone. That of a player is 65,537 bytes for what it hears, and 131,076 for what it sends.
 #![tactic(auto)]
 
 mod desk;
@@ -32,7 +32,7 @@ mod sheet;
 mod shot;
 mod told;
 
-pub use desk::{Desk, MOST_SNAPSHOTS};
+pub use desk::Desk;
 pub use follower::Follower;
 pub use gone::Gone;
 pub use guest::Guest;

@@ -1,9 +1,9 @@
 -- How much of the time goes into snapshots, and which clients are slow.
 use Rattle.std.specs.Prelude.{ℕ, ◌-◌, ◌*◌, ◌||◌, ◌^◌, min, nat_le, nat_lt, Bool}
 
--- a snapshot may be encoded where there is nothing else to do, or three times as long has passed as encoding the last one took
+-- a snapshot may be encoded where there is nothing else to do, or twice as long has passed as encoding the last one took
 abbrev pub may_encode : ℕ → ℕ → ℕ → Bool → Bool
-may_encode ended took now idle = idle || nat_le (min (took * 3) (2 ^ 64 - 1)) (now - ended)
+may_encode ended took now idle = idle || nat_le (min (took * 2) (2 ^ 64 - 1)) (now - ended)
 
 -- less than a megabyte a second: 1,000 bytes a millisecond
 abbrev pub is_slow : ℕ → ℕ → Bool

@@ -38,12 +38,12 @@ impl Budget {
     }
 }
 
-/// Whether a snapshot may be encoded now, where encoding the last one took so long and ended then: at most a quarter of the time goes into that, as
+/// Whether a snapshot may be encoded now, where encoding the last one took so long and ended then: at most a third of the time goes into that, as
 /// long as there is something else to do.
 pub fn may_encode(ended_ms: u64, took_ms: u64, now_ms: u64, idle: bool) -> bool
     ensures { result ≡ may_encode ended_ms took_ms now_ms idle }
 {
-    idle || now_ms.saturating_sub(ended_ms) >= took_ms.saturating_mul(3)
+    idle || now_ms.saturating_sub(ended_ms) >= took_ms.saturating_mul(2)
 }
 
 /// Whether a client that took so many bytes of its snapshot in so many milliseconds is slow: less than a megabyte a second.

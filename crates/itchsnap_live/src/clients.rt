@@ -26,7 +26,7 @@ pub(crate) struct Clients {
     seated: Seated,
     // How many may be from one address.
     per_address: usize,
-    // Whether one more snapshot has room in memory.
+    // How many bytes the snapshots may have.
     room: SnapshotRoom,
     // The number of the socket at the first place.
     first_token: usize,
@@ -169,12 +169,9 @@ impl Clients {
             return;
         };
         let messages = u64::try_from(snapshot_len(market)).unwrap_or(u64::MAX);
-        let most = longest_snapshot(market);
-        if !self.is_sent(desk, next) && !self.room.takes(desk.snapshot_bytes(), most) {
-            return;
-        }
+        let limit = self.room.limit(longest_snapshot(market));
         // Also where it ends in an error, some were answered.
-        let _ = desk.answer(now_ms);
+        let _ = desk.answer(limit, now_ms);
         self.note_answers(desk, next, messages.saturating_add(1), now_ms);
     }
 
@@ -183,18 +180,6 @@ impl Clients {
         for place in 0..self.seats.len() {
             if let Some(guest) = desk.guest(place)
                 && guest.is_waiting()
-            {
-                return true;
-            }
-        }
-        false
-    }
-
-    // Whether some client is sent the snapshot of this number, which is then not encoded again.
-    fn is_sent<B: OrderBook>(&self, desk: &Desk<B>, next: u64) -> bool {
-        for place in 0..self.seats.len() {
-            if let Some(guest) = desk.guest(place)
-                && guest.snapshot() == Some(next)
             {
                 return true;
             }

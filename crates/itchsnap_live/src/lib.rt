@@ -59,7 +59,7 @@ pub use opening::{Opening, opening_of};
 pub use pace::is_due;
 pub use play::{Playing, play_feed};
 pub use question::{asks_session, is_another};
-pub use room::{has_room, limit_of};
+pub use room::limit_of;
 pub use route::Servers;
 pub use spot::{Pause, Spot, pause_after, spot_after, wait_after};
 pub use step::{Step, rejection_ends, step_of};

@@ -68,7 +68,7 @@ fn refuse_answer<B: OrderBook>(
 ) -> u64 {
     for nth in 0..16 {
         refusing.arm(nth);
-        let answered = desk.answer(0);
+        let answered = desk.answer(u64::MAX, 0);
         if !refusing.has_refused() {
             holds_in(rt, 2, answered.is_ok());
             return nth;

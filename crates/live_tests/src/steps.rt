@@ -31,6 +31,10 @@ pub(crate) enum Step<'a> {
     Hear(usize, &'a [u8]),
     /// Those who wait are answered.
     Answer,
+    /// They are answered where all snapshots may have so many bytes.
+    AnswerWithin(u64),
+    /// The snapshots that are kept have so many bytes.
+    Kept(u64),
     /// Exactly this is pending for a client.
     Pending(usize, &'a [u8]),
     /// The socket of a client takes so many bytes.
@@ -248,7 +252,9 @@ pub(crate) fn take_step<B: OrderBook>(
         Step::Session(want) => holds_in(rt, at, is_session(desk, want)),
         Step::Admit(want) => same_in(rt, at, desk.admit(now)?, want),
         Step::Hear(place, bytes) => same_in(rt, at, hear(desk, place, bytes, now), bytes.len()),
-        Step::Answer => desk.answer(now)?,
+        Step::Answer => desk.answer(u64::MAX, now)?,
+        Step::AnswerWithin(limit) => desk.answer(limit, now)?,
+        Step::Kept(want) => same_in(rt, at, desk.snapshot_bytes(), want),
         Step::Pending(place, want) => same_in(rt, at, desk.pending(place), want),
         Step::Take(place, count) => holds_in(rt, at, take(desk, place, count, now)),
         Step::Tick => desk.tick(now),

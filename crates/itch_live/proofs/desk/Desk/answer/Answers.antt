@@ -18,7 +18,7 @@ returns-then-not-any_waits g c = record {
   after = (
     length c.args.self.now.seats,
     omega arith,
-    none_waits c.args.self.now c.args.now_ms (ap (list_any waits) (ap (λ d. d.seats) (sym c.self.view_is) ∙ sym c.deref.ensures.value) ∙ sym c.any_waits.ensures ∙ c.if-not-any_waits.true),
+    none_waits c.args.self.now c.args.limit c.args.now_ms (ap (list_any waits) (ap (λ d. d.seats) (sym c.self.view_is) ∙ sym c.deref.ensures.value) ∙ sym c.any_waits.ensures ∙ c.if-not-any_waits.true),
   );
 }
 
@@ -28,7 +28,7 @@ returns-in_default g c = record {
   after = (
     length c.args.self.now.seats,
     omega arith,
-    no_market c.args.self.now (length c.args.self.now.seats) c.args.now_ms
+    no_market c.args.self.now c.args.limit (length c.args.self.now.seats) c.args.now_ms
         (ap (λ d. d.following.joining.state.joined) (sym c.self.view_is) ∙ elim c.in_default.branch [
           | in_default-via-in-Some+in_default w ↦ unmarketed _ (sym c.market.ensures ∙ ap option_copied w.in_default.is-1)
           | in_default-via-in_default w ↦ unnumbered _ (sym c.next.ensures ∙ w.in_default.is-0)
@@ -46,13 +46,13 @@ returns g c =
         subst (λ s. OnOk c.hand_in.result (length s ≤ c.hand_in.ensures.0)) (c.deref_mut.ensures.value ∙ ap (λ d. d.seats) c.self.view_is) c.hand_in.ensures.1,
         ap with_seats (with_items_is c.self.inside.seats c.hand_in.new.seats length_is)
             ∙ ap (λ (d : Desk). record d { seats = c.hand_in.new.seats }) c.self.view_is
-            ∙ handed_shot c.args.self.now (record { next = c.in-Some-Some.next; market = c.in-Some-Some.market.now }) (option_map (λ s. s.value.items) c.in_ok-shot.shot) c.hand_in.ensures.0
+            ∙ handed_shot c.args.self.now (record { next = c.in-Some-Some.next; market = c.in-Some-Some.market.now }) (option_map (λ s. s.value.items) c.in_ok-shot.shot) c.args.limit c.hand_in.ensures.0
             c.args.now_ms c.hand_in.new.seats
             (ap (λ (d : Desk). d.following.joining.state.joined) (sym c.self.view_is)
             ∙ position_is _ c.in-Some-Some.next c.in-Some-Some.market.now (sym c.next.ensures ∙ c.in-Some-Some.is-0) (sym c.market.ensures ∙ ap option_copied c.in-Some-Some.is-1))
-            (c.in_ok-shot.ensures ∙ ap (λ s. shot_for s c.in-Some-Some.market.now c.in-Some.next) c.deref-2.ensures.value
-            ∙ ap (λ n. shot_for c.self.inside.seats.items c.in-Some-Some.market.now n) c.in-Some.ensures.number
-            ∙ ap (λ (d : Desk). shot_for d.seats c.in-Some-Some.market.now c.in-Some-Some.next) c.self.view_is)
+            (c.in_ok-shot.ensures ∙ ap (λ s. shot_for c.args.limit s c.in-Some-Some.market.now c.in-Some.next) c.deref-2.ensures.value
+            ∙ ap (λ n. shot_for c.args.limit c.self.inside.seats.items c.in-Some-Some.market.now n) c.in-Some.ensures.number
+            ∙ ap (λ (d : Desk). shot_for c.args.limit d.seats c.in-Some-Some.market.now c.in-Some-Some.next) c.self.view_is)
             (c.hand_in.ensures.2 ∙ ap (λ s. handed (option_map (λ s. s.value.items) c.in_ok-shot.shot) c.value.result c.args.now_ms c.hand_in.ensures.0 s) (c.deref_mut.ensures.value ∙ ap (λ (d : Desk). d.seats) c.self.view_is)
             ∙ ap (λ n. handed (option_map (λ s. s.value.items) c.in_ok-shot.shot) n c.args.now_ms c.hand_in.ensures.0 c.args.self.now.seats) (c.value.ensures.value ∙ c.in-Some.ensures.number)),
       );
