@@ -1,5 +1,5 @@
 -- How many bytes the snapshots have that are kept.
-use Rattle.std.proofs.Common.{◌≡◌, ◌⊎◌, inl, inr, ℕ, ◌+◌, ◌-◌, ◌*◌, ◌≤◌, ◌||◌, ◌&&◌, ◌==◌, nat_lt, nat_le, max, Bool, true, false, not, if◌then◌else◌, List, [], ◌∷◌, ◌++◌, length, map, take, drop, Option, None, Some, Ok, Err, refl, sym, ap, ◌∙◌, subst, arith, set, replicate, zero, suc}
+use Rattle.std.proofs.Common.{◌≡◌, ◌⊎◌, inl, inr, ℕ, ◌+◌, ◌-◌, ◌≤◌, ◌||◌, ◌&&◌, ◌==◌, nat_lt, nat_le, max, Bool, true, false, not, if◌then◌else◌, List, [], ◌∷◌, ◌++◌, length, map, take, drop, Option, None, Some, Ok, Err, refl, sym, ap, ◌∙◌, subst, arith, set, replicate, zero, suc}
 use Rattle.std.specs.List.{sum_by}
 use Rattle.std.specs.Option.{option_or}
 use Rattle.std.proofs.lemmas.Bool.{eqb-true, leb-true}
@@ -20,7 +20,7 @@ use Rattle.itch_live.specs.Guests.{Guest, session_bytes, new_guest, is_waiting, 
 use Rattle.itch_live.specs.Seats.{Seats, guest_at, HearsBy, took_by, answered_seat, ticked_seat}
 use Rattle.itch_live.specs.Kept.{number_of, is_kept, keeps_alone, with_number, kept, kept_bytes, length_or, snapshot_bytes, most_bytes_of, has_room}
 use Rattle.itch_live.specs.Follows.{Following}
-use Rattle.itch_live.specs.Desks.{Desk, shot_for, with_shot, answered_with, Call, Feeds, Admits, Hears, Answers, Takes, Ticks, Leaves, Event, Step, History}
+use Rattle.itch_live.specs.Desks.{Desk, with_shot, answered_with, Call, Feeds, Admits, Hears, Answers, Takes, Ticks, Leaves, Event, Step, History}
 use Rattle.itch_live.specs.Memory.{handed_at, handed_by, limit_by, largest_limit, longest, IsOfMarket, AreOfMarkets}
 use Rattle.itch_live.proofs.Places.{none_seated, no_guest}
 use Rattle.itch_live.proofs.Seated.{Holds, AllHold, one_guest, set_holds, all_tick, all_answer, all_hear, all_take}
@@ -188,7 +188,7 @@ none_bounded : (most places : ℕ) → Bounded most (replicate places None)
 none_bounded most places = record { bytes = λ n. []; agree = λ k g there. absurd (no_guest (sym (none_seated places k) ∙ there)); within = none places } where
   none : (places : ℕ) → total (λ n. length {A = ℕ} []) (numbers (replicate places None)) ≤ most
   none zero = omega arith
-  none (suc places) = none places
+  none (suc places) = let rest = none places in omega (arith, rest)
 
 moved : (most : ℕ) (old new : Seats) → (b : Bounded most old) → AllHold (Agrees b.bytes) new → numbers new ≡ numbers old → Bounded most new
 moved most old new b agree same = let is = ap (total (λ n. length (b.bytes n))) same in record { bytes = b.bytes; agree = agree; within = omega (arith, is, b.within) }
@@ -263,7 +263,7 @@ fresh most seats shot next now count none b room = record {
       omega (arith, same, more, own, is, room)
 
 module _ {W : Type 0} (contents : W → Option (List ℕ)) (failures : W → Failures) (most : ℕ) where
-  abbrev pub IsBounded : Desk → Type 0
+  abbrev IsBounded : Desk → Type 0
   IsBounded d = Bounded most d.seats
 
   either_true : (a b : Bool) → (a || b) ≡ true → (a ≡ true) ⊎ (b ≡ true)

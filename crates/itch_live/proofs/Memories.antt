@@ -1,5 +1,5 @@
 -- What a desk holds in bytes.
-use Rattle.std.proofs.Common.{◌≡◌, ℕ, ◌+◌, ◌*◌, ◌≤◌, max, List, [], ◌∷◌, length, Option, None, Some, Ok, Err, refl, sym, ap, ◌∙◌, subst, arith}
+use Rattle.std.proofs.Common.{◌≡◌, ℕ, ◌+◌, ◌*◌, ◌≤◌, max, List, [], ◌∷◌, length, Option, None, Some, refl, ap, arith}
 use Rattle.itch_frame.specs.declared.tally.Failures.{Failures}
 use Rattle.itch_codec.specs.Widths.{IsSequence}
 use Rattle.itch_market.specs.GoodMarkets.{IsGood}

@@ -1,5 +1,5 @@
 -- A follower and its clients, over every list of calls.
-use Rattle.std.specs.Prelude.{◌≡◌, ℕ, ◌≤◌, ◌==◌, ◌++◌, Bool, false, List, [], ◌∷◌, length, take, Option, None, Some, Result, Ok, Err, slice_set, replicate, nat_lt, if◌then◌else◌}
+use Rattle.std.specs.Prelude.{◌≡◌, ℕ, ◌≤◌, ◌==◌, ◌++◌, Bool, false, List, [], ◌∷◌, length, take, Option, None, Some, Result, Ok, Err, slice_set, replicate, if◌then◌else◌}
 use Rattle.std.specs.List.{AllByRecursion}
 use Rattle.std.specs.declared.alloc.AllocError.{AllocError}
 use Rattle.itch_frame.specs.declared.tally.Failures.{Failures}

@@ -1,4 +1,4 @@
-use Rattle.std.proofs.Common.{◌≡◌, ℕ, ◌+◌, ◌-◌, ◌<◌, ◌≤◌, ◌^◌, ◌==◌, ◌||◌, nat_le, min, Bool, true, false, sym, ap, ◌∙◌, arith}
+use Rattle.std.proofs.Common.{◌≡◌, ℕ, ◌-◌, ◌<◌, ◌≤◌, ◌^◌, min, ap, ◌∙◌, arith}
 use Rattle.itch_live.specs.Kept.{fits, snapshot_bytes, most_bytes_of}
 use Rattle.itch_live.proofs.kept.has_room.Goals as goal
 
