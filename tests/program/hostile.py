@@ -318,12 +318,14 @@ def a_snapshot_waits_for_memory(program):
 
 
 def eight_slow_readers_hinder_no_other(program):
-    """There is memory for the snapshot of each: the ninth is accepted at once, told each second that the server is there, and has its snapshot."""
+    """There is memory for the snapshot of each: the ninth is accepted at once, told each second that the server is there, and has its snapshot
+    within four times what that takes alone."""
     with busy_server(program, "--snapshot-memory", "64M") as (server, _), contextlib.ExitStack() as readers:
+        bound = 4 * told_within(server.port).seconds + SLACK
         for _ in range(8):
             readers.enter_context(Reader(server.port, 100_000, 4096))
         told = told_within(server.port, 10)
-        if told.pause > PAUSE or not market().is_told(told.data):
+        if told.seconds > bound or told.pause > PAUSE or not market().is_told(told.data):
             yield f"the ninth had {len(told.data)} bytes after {told.seconds:.1f} seconds, and nothing for {told.pause:.1f}"
 
 
