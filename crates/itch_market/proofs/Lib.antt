@@ -18,5 +18,7 @@ pub mod OneStop
 pub mod Runs
 pub mod SameMarkets
 pub mod ReplayReaders
+pub mod DayReplays
+pub mod DayTakings
 pub mod Partials
 pub mod PlainMessages
