@@ -1,8 +1,8 @@
 -- What contracts see of a reader of blocks.
-use Rattle.std.specs.Prelude.{◌≡◌, ◌≢◌, ℕ, ◌<◌, ◌⊎◌, List, [], ◌++◌, length, Option, None, Some, Result, Ok, Err, IfSome}
+use Rattle.std.specs.Prelude.{◌≡◌, ◌≢◌, ℕ, ◌<◌, ◌⊎◌, Bool, true, false, List, [], ◌++◌, length, Option, None, Some, Result, Ok, Err, IfSome}
 use Rattle.std.specs.Borrow.{Bor}
 use Rattle.std.specs.Io.KnownBytes.{prepend_known, Keeps, Consumes, IsAtEnd}
-use Rattle.itch_frame.specs.Blocks.{IsPayload, block, Open}
+use Rattle.itch_frame.specs.Blocks.{IsPayload, IsBlock, block, Open}
 use Rattle.itch_frame.specs.Counting.{failed}
 use Rattle.itch_frame.specs.declared.tally.Failures.{Failures}
 use Rattle.itch_frame.specs.declared.reader.Stage.{Stage}
@@ -79,3 +79,43 @@ module _ {R : Type 0} (remaining : R → Option (List ℕ)) (failures : R → Fa
   abbrev pub NextAtHand : Reading R → Option (Bor (List ℕ)) → Reading R → Type 0
   NextAtHand old (Some p) new = NextBlock remaining failures old (Ok (Some p)) new × (old.stage ≢ Ended) × (old.stage ≢ Cut)
   NextAtHand old None new = new ≡ old
+
+-- a reader of blocks in this stage, after the block that is held, if one is
+abbrev pub passed_in : {R : Type 0} → Stage → Reading R → Reading R
+passed_in Going r = record { reader = r.reader; held = []; stage = Given }
+passed_in Given r = r
+passed_in Ended r = r
+passed_in Cut r = r
+
+abbrev pub passed : {R : Type 0} → Reading R → Reading R
+passed r = passed_in r.stage r
+
+-- once the input has ended, nothing more is read
+abbrev pub StaysAsEnded : {R : Type 0} → Reading R → Reading R → Type 0
+StaysAsEnded old new = (old.stage ≡ Ended → new ≡ old) × (old.stage ≡ Cut → new ≡ old)
+
+module _ {R : Type 0} (remaining : R → Option (List ℕ)) (failures : R → Failures) where
+  -- what a call that loads the next block may return, and leave: no byte comes off the front
+  abbrev pub Loads : Reading R → Result Bool FrameFault → Reading R → Type 0
+  -- the next block is held, and nothing after it was read
+  Loads old (Ok true) new =
+      IsBlock new.held × Keeps (bytes_left remaining old) (bytes_left remaining new) × (new.stage ≡ Going) × (failures new.reader ≡ failures old.reader)
+  -- no byte is left
+  Loads old (Ok false) new =
+      IsAtEnd (bytes_left remaining new) × Keeps (bytes_left remaining old) (bytes_left remaining new) × (new.stage ≡ Ended) × (new.held ≡ [])
+      × (failures new.reader ≡ failures old.reader)
+  -- some bytes are left, and no prefix of them is a block
+  Loads old (Err (Truncated held)) new =
+      IfSome (bytes_left remaining new) (λ b. Open b × (held ≡ length b)) × Keeps (bytes_left remaining old) (bytes_left remaining new)
+      × (new.stage ≡ Cut) × (held ≡ length new.held) × (failures new.reader ≡ failures old.reader)
+  -- nothing is lost: the bytes held are still held, and then any that were read after them
+  Loads old (Err (Read error)) new =
+      Keeps (bytes_left remaining old) (bytes_left remaining new) × (new.stage ≡ Going) × (failures new.reader ≡ failed error (failures old.reader))
+      × ((more : List ℕ) × (new.held ≡ old.held ++ more))
+  Loads old (Err (Write sent error)) new = ⊥
+  Loads old (Err TooLong) new = ⊥
+
+  -- the same of a block that lies at hand
+  abbrev pub LoadsAtHand : Reading R → Bool → Reading R → Type 0
+  LoadsAtHand old true new = Loads old (Ok true) new × (old.stage ≢ Ended) × (old.stage ≢ Cut)
+  LoadsAtHand old false new = new ≡ old

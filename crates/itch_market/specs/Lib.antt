@@ -9,6 +9,8 @@ pub mod SameMarkets
 pub mod FirstPlaces
 pub mod Stops
 pub mod Replays
+pub mod Takings
+pub mod DayParts
 pub mod Partial
 pub mod Wanted
 pub mod Plain

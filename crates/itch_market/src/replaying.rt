@@ -1,20 +1,22 @@
 //! Day files applied to a market, message by message.
-ghost use Rattle.std.specs.Prelude.{◌≡◌, ℕ, List, map, take, Option, Some, None, IfSome, IfNone, MatchResult};
+ghost use Rattle.std.specs.Prelude.{◌≡◌, ℕ, List, map, take, Some, IfSome};
 ghost use Rattle.itch_codec.specs.Messages.{message_of};
 ghost use Rattle.itch_frame.specs.Blocks.{Day};
 ghost use Rattle.itch_frame.specs.Reading.{bytes_left};
 ghost use Rattle.itch_market.specs.Content.{laid};
 ghost use Rattle.itch_market.specs.Runs.{after};
 ghost use Rattle.itch_market.specs.Stops.{Stops};
-ghost use Rattle.itch_market.specs.Replays.{Counts, CountsFirst, LeavesReader, LeavesReaderFirst, StopsAgain, Step, step_of, stop_of, TakesOne, Replays, ReplaysFirst, IsDecided};
+ghost use Rattle.itch_market.specs.Replays.{Counts, CountsFirst, LeavesReader, LeavesReaderFirst, StopsAgain, stop_of, Replays, ReplaysFirst, IsDecided};
+ghost use Rattle.itch_market.specs.DayParts.{LeavesPartOf, PartOf};
+ghost use Rattle.itch_market.specs.Takings.{IsLeft, left_by, reason_of};
+ghost use Rattle.itch_day.specs.declared.stop.Stop.TheVariants as part;
 
-use crate::ahead::look_ahead;
 use crate::market::Market;
-use crate::messages::next_message;
 use crate::not_taken::NotTaken;
+use crate::refused::Refused;
 use crate::stop::{ReplayEnd, Stop};
 use itch_book::OrderBook;
-use itch_codec::{MOST_MESSAGES, decode};
+use itch_day::{Limit, Stop as PartStop, read_part};
 use itch_frame::{BlockReader, CountedRead};
 use std::alloc::Allocator;
 
@@ -56,74 +58,62 @@ pub fn replay_first<R: CountedRead, A: Allocator, B: OrderBook>(
     ensures failures { CountsFirst result.1 (R.failures reader.old.reader) (R.failures reader.new.reader) }
     ensures reader { LeavesReaderFirst reader.old result.0 result.1 reader.new }
 {
+    replay_part(reader, market, Limit::counted(Some(most)))
+}
+
+/// Applies the messages of the part of a day file that is wanted, and returns how many there were and why it stopped before, if it did.
+///
+/// The block that it stopped at has been read.
+pub fn replay_part<R: CountedRead, A: Allocator, B: OrderBook>(
+    reader: &mut BlockReader<R, A>,
+    market: &mut Market<B>,
+    limit: Limit,
+) -> (u64, Option<Stop>)
+    ensures part { PartOf limit market.old (bytes_left R.remaining reader.old) (bytes_left R.remaining reader.new) result.0 result.1 market.new }
+    ensures failures { CountsFirst result.1 (R.failures reader.old.reader) (R.failures reader.new.reader) }
+    ensures reader { LeavesPartOf limit reader.old result.0 result.1 reader.new }
+{
     market.recall_invariant();
-    for count in 0..most {
-        look_ahead(reader, market, count);
-        match step_at_hand(reader, market, count == MOST_MESSAGES) {
-            Some(Ok(())) => continue,
-            Some(Err(why)) => return (count, Some(Stop::from(why))),
-            None => {}
+    let mut count = 0;
+    let stop = read_part(reader, &mut count, market, limit);
+    pass_stop(reader, &stop);
+    (count, reason_of(stop))
+}
+
+// Passes the block that a part of a day stopped at.
+fn pass_stop<R: CountedRead, A: Allocator>(reader: &mut BlockReader<R, A>, stop: &PartStop<Refused>)
+    requires { IsLeft stop.now reader.old }
+    ensures { reader.new ≡ left_by stop.now reader.old }
+{
+    match stop {
+        PartStop::Full | PartStop::Frame(_) => {}
+        PartStop::Late | PartStop::End | PartStop::TooMany | PartStop::Refused(_) => {
+            reader.pass_held();
         }
-        if let Err(stop) = step(reader, market, count == MOST_MESSAGES) {
-            return (count, Some(stop));
+    }
+}
+
+/// Why a replay stops where a part of a day goes no further, or `None` where it has all messages that are wanted.
+pub fn reason_of(stop: PartStop<Refused>) -> Option<Stop>
+    ensures { result ≡ reason_of stop }
+{
+    match stop {
+        PartStop::Full | PartStop::Late => None,
+        PartStop::End => Some(Stop::End),
+        PartStop::Frame(fault) => Some(Stop::Frame(fault)),
+        PartStop::TooMany => Some(Stop::TooManyMessages),
+        PartStop::Refused(why) => Some(Stop::from(why)),
+    }
+}
+
+impl From<Refused> for Stop {
+    ghost from_gives = { λ why stop. Some stop ≡ reason_of (part.Refused why) };
+
+    fn from(why: Refused) -> Stop {
+        match why {
+            Refused::Codec(fault) => Stop::Codec(fault),
+            Refused::Rule(why) => Stop::Rule(why),
         }
-    }
-    (most, None)
-}
-
-// Applies the next message if it lies at hand. Where none does, or where there were as many as may be (`is_full`), nothing changes.
-#[inline(always)]
-fn step_at_hand<R: CountedRead, A: Allocator, B: OrderBook>(
-    reader: &mut BlockReader<R, A>,
-    market: &mut Market<B>,
-    is_full: bool,
-) -> Option<Result<(), NotTaken>>
-    ensures step { IfSome result (λ taken. Step is_full market.old (bytes_left R.remaining reader.old) (bytes_left R.remaining reader.new) (step_of taken) market.new) }
-    ensures failures { IfSome result (λ taken. R.failures reader.new.reader ≡ R.failures reader.old.reader) }
-    ensures reader { IfSome result (λ taken. MatchResult (step_of taken) (λ _. LeavesReaderFirst reader.old 1 None reader.new) (λ stop. LeavesReaderFirst reader.old 0 (Some stop) reader.new)) }
-    ensures none { IfNone result ((reader.new ≡ reader.old) × (market.new ≡ market.old)) }
-{
-    if is_full {
-        return None;
-    }
-    let payload = reader.next_at_hand()?;
-    if payload.is_empty() {
-        return Some(Err(NotTaken::Ended));
-    }
-    Some(take(market, payload))
-}
-
-// Applies the next message, which may have to be read, unless there were as many as may be (`is_full`).
-#[inline(never)]
-fn step<R: CountedRead, A: Allocator, B: OrderBook>(
-    reader: &mut BlockReader<R, A>,
-    market: &mut Market<B>,
-    is_full: bool,
-) -> Result<(), Stop>
-    ensures step { Step is_full market.old (bytes_left R.remaining reader.old) (bytes_left R.remaining reader.new) result market.new }
-    ensures failures { MatchResult result (λ _. R.failures reader.new.reader ≡ R.failures reader.old.reader)
-        (λ stop. Counts stop (R.failures reader.old.reader) (R.failures reader.new.reader)) }
-    ensures reader { MatchResult result (λ _. LeavesReaderFirst reader.old 1 None reader.new) (λ stop. LeavesReaderFirst reader.old 0 (Some stop) reader.new) }
-{
-    let payload = next_message(reader, is_full)?;
-    match take(market, payload) {
-        Ok(()) => Ok(()),
-        Err(why) => Err(Stop::from(why)),
-    }
-}
-
-// Applies the message of a payload.
-#[inline(always)]
-fn take<B: OrderBook>(market: &mut Market<B>, payload: &[u8]) -> Result<(), NotTaken>
-    ensures { TakesOne market.old payload.now (step_of result) market.new }
-{
-    let message = match decode(payload) {
-        Ok(message) => message,
-        Err(fault) => return Err(NotTaken::Undecoded(fault)),
-    };
-    match market.apply(&message) {
-        Ok(()) => Ok(()),
-        Err(why) => Err(NotTaken::Refused(why)),
     }
 }
 

@@ -1,0 +1,161 @@
+-- What a reading of a part has done so far, and one block more.
+use Rattle.std.proofs.Common.{◌≡◌, ◌≢◌, ℕ, ◌+◌, ◌-◌, ◌^◌, ◌<◌, ◌≤◌, List, [], ◌∷◌, ◌++◌, length, zero, suc, Option, None, Some, Ok, Err, refl, sym, ap, subst, ◌∙◌, arith, length-append}
+use Rattle.std.proofs.KnownBytes.{Consumes-nil, Consumes-kept}
+use Rattle.itch_frame.specs.Blocks.{blocks, IsFull}
+use Rattle.itch_frame.specs.Reading.{Reading, bytes_left, StaysAsEnded}
+use Rattle.itch_frame.specs.declared.reader.Stage.{Stage}
+use Rattle.itch_frame.specs.declared.reader.Stage.TheVariants.{Ended, Cut}
+use Rattle.itch_frame.specs.declared.tally.Failures.{Failures}
+use Rattle.itch_frame.proofs.BlockLemmas.{consumed_more, each-push}
+use Rattle.itch_day.specs.declared.limit.Limit.{Limit}
+use Rattle.itch_day.specs.declared.stop.Stop.{Stop}
+use Rattle.itch_day.specs.declared.stop.Stop.TheVariants.{Full, Late, End, Frame, TooMany, Refused}
+use Rattle.itch_day.specs.Limits.{IsBefore, IsNotLate, IsWithin, most_of}
+use Rattle.itch_day.specs.Sinks.{TakesAll}
+use Rattle.itch_day.specs.Parts.{Counts, Leaves, Passes, ReadsPart, Steps, StopsAt, Takes}
+
+-- fewer messages than may come are fewer than are wanted
+pub before_most : (limit : Limit) (count : ℕ) → count < most_of limit.after → IsBefore limit count
+before_most limit count within = by_after limit.after within where
+  by_after : (after : Option ℕ) → count < most_of after → IsBefore (record { after = after; until = limit.until }) count
+  by_after None within = tt
+  by_after (Some most) within = within
+
+-- as many as may come are as many as are wanted, since no day has more
+pub full_at : (wanted : Option ℕ) (count : ℕ) → most_of wanted ≤ count → count ≤ 10 ^ 19 - 1 → (most : ℕ) × (wanted ≡ Some most) × (most ≤ count)
+full_at None count all few = absurd (omega (arith, all, few))
+full_at (Some most) count all few = (most, refl, all)
+
+-- one more than are fewer than are wanted
+pub within_more : (limit : Limit) (count more : ℕ) → IsBefore limit count → more ≡ count + 1 → IsWithin limit more
+within_more limit count more before is = by_after limit.after before where
+  by_after : (after : Option ℕ) → IsBefore (record { after = after; until = limit.until }) count → IsWithin (record { after = after; until = limit.until }) more
+  by_after None before = tt
+  by_after (Some most) before = omega (arith, before, is)
+
+-- one payload more is taken
+pub takes_push : {T : Type 0} (takes : T → ℕ → List ℕ → T → Type 0) (t : T) (count : ℕ) (ps : List (List ℕ)) (u : T) (p : List ℕ) (v : T) (number : ℕ)
+    → TakesAll takes t count ps u → number ≡ count + length ps + 1 → takes u number p v → TakesAll takes t count (ps ++ p ∷ []) v
+takes_push takes t count [] u p v number same is next =
+    let first : number ≡ count + 1 = omega (arith, is) in
+    (v, subst (λ x. takes x (count + 1) p v) same (subst (λ k. takes u k p v) first next), refl)
+takes_push takes t count (q ∷ ps) u p v number (mid, first, rest) is next =
+    (mid, first, takes_push takes mid (count + 1) ps u p v number rest (omega (arith, is)) next)
+
+module _ {R : Type 0} (old mid new : Reading R) where
+  -- a stage in which no message is given was not the first one
+  not_first : (stage : Stage) (count : ℕ) → (count ≡ 0 → mid ≡ old) → (0 < count → old.stage ≢ stage) → mid.stage ≢ stage → old.stage ≢ stage
+  not_first stage zero unread given is first = is (ap (λ (r : Reading R). r.stage) (unread refl) ∙ first)
+  not_first stage (suc count) unread given is first = given (omega arith) first
+
+  -- one message more
+  pub passes_on : (count more : ℕ) → Passes old count mid → (new.held ≡ []) × (new.stage ≡ Stage.Given) × (mid.stage ≢ Ended) × (mid.stage ≢ Cut) → more ≡ count + 1 → Passes old more new
+  passes_on count more passes leaves is = record {
+    unread = λ none. absurd (omega (arith, none, is));
+    given = λ some. (
+      leaves.0,
+      leaves.1,
+      not_first Ended count passes.unread (λ some. (passes.given some).2) leaves.2,
+      not_first Cut count passes.unread (λ some. (passes.given some).3) leaves.3,
+    );
+  }
+
+  -- in a stage in which no message is given, there was none before
+  still_first : (stage : Stage) (count : ℕ) → (count ≡ 0 → mid ≡ old) → (0 < count → old.stage ≢ stage) → (mid.stage ≡ stage → new ≡ mid) → old.stage ≡ stage → (count ≡ 0) × (new ≡ old)
+  still_first stage zero unread given stays is = (refl, stays (ap (λ (r : Reading R). r.stage) (unread refl) ∙ is) ∙ unread refl)
+  still_first stage (suc count) unread given stays is = absurd (given (omega arith) is)
+
+  pub stays_first : (count : ℕ) → Passes old count mid → StaysAsEnded mid new → (old.stage ≡ Ended → (count ≡ 0) × (new ≡ old)) × (old.stage ≡ Cut → (count ≡ 0) × (new ≡ old))
+  stays_first count passes stays = (
+    still_first Ended count passes.unread (λ some. (passes.given some).2) stays.0,
+    still_first Cut count passes.unread (λ some. (passes.given some).3) stays.1,
+  )
+
+-- a stop other than `Full` leaves the reader so
+pub leaves_at : {R T F : Type 0} (remaining : R → Option (List ℕ)) (refuses : T → ℕ → List ℕ → F → T → Type 0) (limit : Limit) (old new : Reading R) (count : ℕ) (k : ℕ) (t u : T) (stop : Stop F)
+    → IsBefore limit k → StopsAt remaining refuses limit k new t stop u
+    → (old.stage ≡ Ended → (count ≡ 0) × (new ≡ old)) × (old.stage ≡ Cut → (count ≡ 0) × (new ≡ old)) → Leaves old count stop new
+leaves_at remaining refuses limit old new count k t u Full before stops stays = absurd (too_many stops.1) where
+  too_many : (most : ℕ) × (limit.after ≡ Some most) × (most ≤ k) → ⊥
+  too_many (most, is, within) =
+      let P : Option ℕ → Type 0 = λ after. IsBefore (record { after = after; until = limit.until }) k in
+      let below : k < most = subst P is before in omega (arith, below, within)
+leaves_at remaining refuses limit old new count k t u Late before stops stays = stays
+leaves_at remaining refuses limit old new count k t u End before stops stays = stays
+leaves_at remaining refuses limit old new count k t u (Frame fault) before stops stays = stays
+leaves_at remaining refuses limit old new count k t u TooMany before stops stays = stays
+leaves_at remaining refuses limit old new count k t u (Refused why) before stops stays = stays
+
+-- a failure that is counted after none was
+pub counts_on : {F : Type 0} (stop : Stop F) (old mid new : Failures) → mid ≡ old → Counts stop mid new → Counts stop old new
+counts_on stop old mid new same counts = subst (λ f. Counts stop f new) same counts
+
+module _ {R T F : Type 0} (remaining : R → Option (List ℕ)) (failures : R → Failures) (takes : T → ℕ → List ℕ → T → Type 0) (refuses : T → ℕ → List ℕ → F → T → Type 0) (limit : Limit) where
+  -- some payloads were taken
+  pub record Going (old now : Reading R) (before mark : ℕ) (t u : T) : Type 0 where
+    pub payloads : List (List ℕ)
+    pub taken : Takes remaining takes limit old now before mark t u payloads
+    pub passes : Passes old (length payloads) now
+    pub uncounted : failures now.reader ≡ failures old.reader
+
+  -- at first none was
+  pub going_first : (r : Reading R) (mark : ℕ) (t : T) → Going r r mark mark t t
+  going_first r mark t = record {
+    payloads = [];
+    taken = record { bytes = Consumes-nil (bytes_left remaining r); full = tt; early = tt; wanted = λ some. absurd (omega arith); taken = refl; counted = omega arith };
+    passes = record { unread = λ _. refl; given = λ some. absurd (omega arith) };
+    uncounted = refl;
+  }
+
+  -- then one more
+  pub going_on : (old mid new : Reading R) (before mark marked : ℕ) (t u v : T) → Going old mid before mark t u → IsBefore limit mark → Steps remaining failures takes refuses limit mid new mark marked u (Ok tt) v
+      → Going old new before marked t v
+  going_on old mid new before mark marked t u v going few (p, off, full, (room, early, next, past), held, given, unended, uncut, uncounted) =
+      let ps = going.payloads in
+      let so_far = going.taken in
+      record {
+        payloads = ps ++ p ∷ [];
+        taken = record {
+          bytes = consumed_more (bytes_left remaining old) (bytes_left remaining mid) (bytes_left remaining new) ps p so_far.bytes off;
+          full = each-push IsFull ps p so_far.full full;
+          early = each-push (IsNotLate limit) ps p so_far.early early;
+          wanted = λ some. within_more limit mark marked few past;
+          taken = takes_push takes t before ps u p v (mark + 1) so_far.taken (ap (λ k. k + 1) so_far.counted) next;
+          counted = omega (arith, past, so_far.counted, length-append ps (p ∷ []));
+        };
+        passes = passes_on old mid new (length ps) (length (ps ++ p ∷ [])) going.passes (held, given, unended, uncut) (length-append ps (p ∷ []));
+        uncounted = uncounted ∙ going.uncounted;
+      }
+
+  -- and there it stops
+  pub going_stops : (old mid new : Reading R) (before mark marked : ℕ) (t u v : T) (stop : Stop F) → Going old mid before mark t u → IsBefore limit mark
+      → Steps remaining failures takes refuses limit mid new mark marked u (Err stop) v → ReadsPart remaining failures takes refuses limit old new before marked t stop v
+  going_stops old mid new before mark marked t u v stop going few (same, keeps, stops, stays, counts) =
+      let so_far = going.taken in
+      record {
+        payloads = going.payloads;
+        last = u;
+        taken = record {
+          bytes = Consumes-kept (bytes_left remaining old) (bytes_left remaining mid) (bytes_left remaining new) (blocks going.payloads) so_far.bytes keeps;
+          full = so_far.full;
+          early = so_far.early;
+          wanted = λ some. subst (λ (m : ℕ). IsWithin limit m) (sym same) (so_far.wanted some);
+          taken = so_far.taken;
+          counted = same ∙ so_far.counted;
+        };
+        stops = subst (λ (m : ℕ). StopsAt remaining refuses limit m new u stop v) (sym same) stops;
+        leaves = leaves_at remaining refuses limit old new (length going.payloads) mark u v stop few stops (stays_first old mid new (length going.payloads) going.passes stays);
+        counts = counts_on stop (failures old.reader) (failures mid.reader) (failures new.reader) going.uncounted counts;
+      }
+
+  -- or as many were taken as are wanted
+  pub going_full : (old now : Reading R) (before mark : ℕ) (t u : T) → Going old now before mark t u → most_of limit.after ≤ mark → mark ≤ 10 ^ 19 - 1
+      → ReadsPart remaining failures takes refuses limit old now before mark t Full u
+  going_full old now before mark t u going all few = record {
+    payloads = going.payloads;
+    last = u;
+    taken = going.taken;
+    stops = (refl, full_at limit.after mark all few);
+    leaves = going.passes;
+    counts = going.uncounted;
+  }

@@ -1,0 +1,116 @@
+-- What one reading of a part of a day does.
+use Rattle.std.specs.Prelude.{◌≡◌, ◌≢◌, ℕ, ◌+◌, ◌-◌, ◌<◌, ◌≤◌, ◌^◌, ◌⊎◌, List, [], length, ⊤, Option, Some, IfSome, Result, Ok, Err}
+use Rattle.std.specs.List.{AllByRecursion}
+use Rattle.std.specs.Io.KnownBytes.{Keeps, Consumes, IsAtEnd}
+use Rattle.itch_frame.specs.Blocks.{block, blocks, IsBlockOf, IsFull, Open}
+use Rattle.itch_frame.specs.Counting.{failed}
+use Rattle.itch_frame.specs.Reading.{Reading, bytes_left, StaysAsEnded}
+use Rattle.itch_frame.specs.declared.reader.Stage.TheVariants.{Going, Given, Ended, Cut}
+use Rattle.itch_frame.specs.declared.tally.Failures.{Failures}
+use Rattle.itch_frame.specs.declared.fault.FrameFault.TheVariants.{Read, Truncated, Write, TooLong}
+use Rattle.itch_day.specs.declared.limit.Limit.{Limit}
+use Rattle.itch_day.specs.declared.stop.Stop.{Stop}
+use Rattle.itch_day.specs.declared.stop.Stop.TheVariants.{Full, Late, End, Frame, TooMany, Refused}
+use Rattle.itch_day.specs.Limits.{IsBefore, IsLate, IsNoEarlier, IsNotLate, IsWithin}
+use Rattle.itch_day.specs.Sinks.{TakesAll}
+
+-- the block of this payload is the next one
+abbrev pub IsNext : {R : Type 0} → Reading R → List ℕ → Type 0
+IsNext r payload = IsBlockOf payload r.held × (r.stage ≡ Going)
+
+-- a failed read is counted with its error, and nothing else is
+abbrev pub Counts : {F : Type 0} → Stop F → Failures → Failures → Type 0
+Counts (Frame (Read error)) old new = new ≡ failed error old
+Counts stop old new = new ≡ old
+
+-- How the messages that were taken leave a reader of blocks: unread, or after the last one. Once the input has ended, there are none.
+pub record Passes {R : Type 0} (old : Reading R) (count : ℕ) (new : Reading R) : Type 0 where
+  pub unread : count ≡ 0 → new ≡ old
+  pub given : 0 < count → (new.held ≡ []) × (new.stage ≡ Given) × (old.stage ≢ Ended) × (old.stage ≢ Cut)
+
+-- how a stop after so many messages leaves a reader of blocks
+abbrev pub Leaves : {R F : Type 0} → Reading R → ℕ → Stop F → Reading R → Type 0
+Leaves old count Full new = Passes old count new
+Leaves old count stop new = (old.stage ≡ Ended → (count ≡ 0) × (new ≡ old)) × (old.stage ≡ Cut → (count ≡ 0) × (new ≡ old))
+
+-- a part after which the next one may go on
+abbrev pub GoesOn : {F : Type 0} → Stop F → Type 0
+GoesOn Full = ⊤
+GoesOn Late = ⊤
+GoesOn End = ⊤
+GoesOn (Frame fault) = ⊥
+GoesOn TooMany = ⊥
+GoesOn (Refused why) = ⊥
+
+-- A part that stopped so, after this many messages, may go on to this limit: it ends no smaller part, and wants more than were taken
+-- where the message after them was looked at.
+pub record GoesOnTo {F : Type 0} (before : Limit) (stop : Stop F) (count : ℕ) (limit : Limit) : Type 0 where
+  pub goes_on : GoesOn stop
+  pub later : IsNoEarlier before.until limit.until
+  pub within : IsWithin limit count
+  pub more : (stop ≡ Full) ⊎ IsBefore limit count
+
+-- so it is unless a message was refused
+abbrev pub UnlessRefused : {F : Type 0} → Stop F → Type 0 → Type 0
+UnlessRefused (Refused why) p = ⊤
+UnlessRefused stop p = p
+
+module _ {R T F : Type 0} (remaining : R → Option (List ℕ)) (refuses : T → ℕ → List ℕ → F → T → Type 0) (limit : Limit) where
+  -- why the message after `count` others is not taken from this reader, and what that leaves of the sink
+  abbrev pub StopsAt : ℕ → Reading R → T → Stop F → T → Type 0
+  StopsAt count r old Full new = (new ≡ old) × ((most : ℕ) × (limit.after ≡ Some most) × (most ≤ count))
+  StopsAt count r old Late new = (new ≡ old) × IsBefore limit count × ((payload : List ℕ) × IsNext r payload × IsFull payload × (count < 10 ^ 19 - 1) × IsLate limit payload)
+  StopsAt count r old End new =
+      (new ≡ old) × IsBefore limit count × (((r.stage ≡ Ended) × (r.held ≡ []) × IsAtEnd (bytes_left remaining r)) ⊎ IsNext r [])
+  StopsAt count r old (Frame (Truncated held)) new =
+      (new ≡ old) × IsBefore limit count × (r.stage ≡ Cut) × (held ≡ length r.held) × IfSome (bytes_left remaining r) (λ b. Open b × (held ≡ length b))
+  StopsAt count r old (Frame (Read error)) new = (new ≡ old) × IsBefore limit count × (r.stage ≡ Going)
+  StopsAt count r old (Frame (Write sent error)) new = ⊥
+  StopsAt count r old (Frame TooLong) new = ⊥
+  StopsAt count r old TooMany new = (new ≡ old) × IsBefore limit count × ((payload : List ℕ) × IsNext r payload × IsFull payload × (count ≡ 10 ^ 19 - 1))
+  StopsAt count r old (Refused why) new =
+      IsBefore limit count
+      × ((payload : List ℕ) × IsNext r payload × IsFull payload × (count < 10 ^ 19 - 1) × IsNotLate limit payload × refuses old (count + 1) payload why new)
+
+module _ {T F : Type 0} (takes : T → ℕ → List ℕ → T → Type 0) (refuses : T → ℕ → List ℕ → F → T → Type 0) (limit : Limit) where
+  -- what one payload does that is not empty: it is taken, or it is late, or it is refused
+  abbrev pub TakesPayload : List ℕ → ℕ → ℕ → T → Result (Unit {0}) (Stop F) → T → Type 0
+  TakesPayload payload before count t (Ok done) u =
+      (before < 10 ^ 19 - 1) × IsNotLate limit payload × takes t (before + 1) payload u × (count ≡ before + 1)
+  TakesPayload payload before count t (Err Late) u = (count ≡ before) × (u ≡ t) × (before < 10 ^ 19 - 1) × IsLate limit payload
+  TakesPayload payload before count t (Err TooMany) u = (count ≡ before) × (u ≡ t) × (before ≡ 10 ^ 19 - 1)
+  TakesPayload payload before count t (Err (Refused why)) u =
+      (count ≡ before) × (before < 10 ^ 19 - 1) × IsNotLate limit payload × refuses t (before + 1) payload why u
+  TakesPayload payload before count t (Err Full) u = ⊥
+  TakesPayload payload before count t (Err End) u = ⊥
+  TakesPayload payload before count t (Err (Frame fault)) u = ⊥
+
+module _ {R T : Type 0} (remaining : R → Option (List ℕ)) (takes : T → ℕ → List ℕ → T → Type 0) (limit : Limit) where
+  -- these payloads came off the front and were taken in order: none is empty or late, and no more are than are wanted
+  pub record Takes (old now : Reading R) (before count : ℕ) (t u : T) (payloads : List (List ℕ)) : Type 0 where
+    pub bytes : Consumes (bytes_left remaining old) (bytes_left remaining now) (blocks payloads)
+    pub full : AllByRecursion IsFull payloads
+    pub early : AllByRecursion (IsNotLate limit) payloads
+    pub wanted : 0 < length payloads → IsWithin limit count
+    pub taken : TakesAll takes t before payloads u
+    pub counted : count ≡ before + length payloads
+
+module _ {R T F : Type 0} (remaining : R → Option (List ℕ)) (failures : R → Failures) (takes : T → ℕ → List ℕ → T → Type 0) (refuses : T → ℕ → List ℕ → F → T → Type 0) (limit : Limit) where
+  -- what one block does: its payload is taken, or it stops there
+  abbrev pub Steps : Reading R → Reading R → ℕ → ℕ → T → Result (Unit {0}) (Stop F) → T → Type 0
+  Steps old new before count t (Ok done) u =
+      (payload : List ℕ) × Consumes (bytes_left remaining old) (bytes_left remaining new) (block payload) × IsFull payload
+      × TakesPayload takes refuses limit payload before count t (Ok done) u
+      × (new.held ≡ []) × (new.stage ≡ Given) × (old.stage ≢ Ended) × (old.stage ≢ Cut) × (failures new.reader ≡ failures old.reader)
+  Steps old new before count t (Err stop) u =
+      (count ≡ before) × Keeps (bytes_left remaining old) (bytes_left remaining new) × StopsAt remaining refuses limit before new t stop u
+      × StaysAsEnded old new × Counts stop (failures old.reader) (failures new.reader)
+
+  -- The longest beginning of the messages is taken, and then this stops it: the next message, where there is one, is left.
+  pub record ReadsPart (old new : Reading R) (before count : ℕ) (t : T) (stop : Stop F) (u : T) : Type 0 where
+    pub payloads : List (List ℕ)
+    pub last : T
+    pub taken : Takes remaining takes limit old new before count t last payloads
+    pub stops : StopsAt remaining refuses limit count new last stop u
+    pub leaves : Leaves old (length payloads) stop new
+    pub counts : Counts stop (failures old.reader) (failures new.reader)

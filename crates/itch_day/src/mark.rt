@@ -1,0 +1,94 @@
+//! How far a day was read, and which of two such places is nearer to a point of the day.
+ghost use Rattle.std.specs.Prelude.{◌≡◌, ℕ, ◌<◌, ◌≤◌, ◌-◌, ◌^◌, List, length, IfSome, true};
+ghost use Rattle.std.specs.List.{AllByRecursion};
+ghost use Rattle.itch_day.specs.Limits.{IsEarly};
+ghost use Rattle.itch_day.specs.Marks.{IsMark, first_mark, is_before, is_in, is_nearer, is_within, later, mark_past, time_at};
+
+use crate::limit::Limit;
+
+/// What the first messages of a day file are, as far as it was read.
+#[derive(Clone, Copy, Debug, PartialEq, Eq)]
+pub struct Mark {
+    /// How many they are.
+    pub count: u64,
+    /// Where in the file the first message begins that is not one of them. The number stops at 2^64 - 1.
+    pub offset: u64,
+    /// The latest timestamp of theirs, in nanoseconds since midnight, if one has a timestamp.
+    pub latest: Option<u64>,
+}
+
+impl Mark {
+    /// The mark at the beginning of a file.
+    pub fn new() -> Mark
+        ensures { result ≡ first_mark }
+    {
+        Mark {
+            count: 0,
+            offset: 0,
+            latest: None,
+        }
+    }
+
+    // The mark after this message, which has this time.
+    #[inline(always)]
+    pub(crate) fn past(self, payload: &[u8], time: Option<u64>) -> Mark
+        requires few { self.count < 2 ^ 64 - 1 }
+        requires time { time ≡ time_at payload.now }
+        ensures { result ≡ mark_past self payload.now }
+    {
+        Mark {
+            count: self.count + 1,
+            offset: self
+                .offset
+                .saturating_add((payload.len() as u64).saturating_add(2)),
+            latest: later(self.latest, time),
+        }
+    }
+
+    /// Whether its messages all belong to the part of the day that ends so: they are no more than are wanted, and none is at the time
+    /// where the part ends, or later.
+    pub fn is_in(&self, limit: Limit) -> bool
+        ensures exact { result ≡ is_in limit self.now }
+        ensures early { (payloads : List (List ℕ)) → IsMark self.now payloads → result ≡ true
+            → IfSome limit.after (λ most. length payloads ≤ most) × AllByRecursion (IsEarly limit) payloads }
+    {
+        is_within(limit.after, self.count) && is_before(limit.until, self.latest)
+    }
+
+    /// Whether it is nearer to the end of a part than another one: it is in the part, and has more messages.
+    pub fn is_nearer(&self, other: &Mark, limit: Limit) -> bool
+        ensures { result ≡ is_nearer limit self.now other.now }
+    {
+        self.is_in(limit) && other.count < self.count
+    }
+}
+
+// The later one of two times, of which there may be none.
+#[inline(always)]
+fn later(before: Option<u64>, time: Option<u64>) -> Option<u64>
+    ensures { result ≡ later before time }
+{
+    match (before, time) {
+        (Some(before), Some(time)) => Some(before.max(time)),
+        (None, time) => time,
+        (before, None) => before,
+    }
+}
+
+fn is_within(wanted: Option<u64>, count: u64) -> bool
+    ensures { result ≡ is_within wanted count }
+{
+    match wanted {
+        Some(wanted) => count <= wanted,
+        None => true,
+    }
+}
+
+fn is_before(until: Option<u64>, latest: Option<u64>) -> bool
+    ensures { result ≡ is_before until latest }
+{
+    match (until, latest) {
+        (Some(until), Some(time)) => time < until,
+        _ => true,
+    }
+}

@@ -1,0 +1,175 @@
+//! One reading of a part of a day.
+ghost use Rattle.std.specs.Prelude.{◌≡◌, ℕ, ◌+◌, ◌<◌, ◌≤◌, ◌-◌, ◌^◌, List, length, true, false, OnOk};
+ghost use Rattle.itch_frame.specs.Reading.{Loads, Reading, StaysAsEnded};
+ghost use Rattle.itch_day.specs.Limits.{IsLate, IsNotLate, IsBefore};
+ghost use Rattle.itch_day.specs.Parts.{GoesOnTo, ReadsPart, Steps, TakesPayload, UnlessRefused};
+ghost use Rattle.itch_day.specs.Sinks.{Decodes};
+ghost use Rattle.itch_day.specs.declared.limit.Limit.{Limit as AnyLimit};
+ghost use Rattle.itch_day.specs.declared.stop.Stop.{Stop as AnyStop};
+
+use crate::limit::Limit;
+use crate::sink::Sink;
+use crate::stop::Stop;
+use itch_codec::{CodecFault, MOST_MESSAGES, Message, decode};
+use itch_frame::{BlockReader, CountedRead, FrameFault};
+use std::alloc::Allocator;
+
+// A sink is told so often what comes next.
+const AHEAD: u64 = 16;
+
+/// Hands the next messages of a day to a sink, up to the first that is not taken, and returns why it is not.
+///
+/// The reader stands after so many messages, which goes on with it. The message that is not taken, and all that follow, are left
+/// for the next call: several points of a day are a call for each, over one reader. Nothing after that message was read.
+pub fn read_part<R: CountedRead, A: Allocator, T: Sink>(
+    reader: &mut BlockReader<R, A>,
+    count: &mut u64,
+    sink: &mut T,
+    limit: Limit,
+) -> Stop<T::Fault>
+    requires ready { T.is_ready sink.old (count.old + 1) }
+    requires few { count.old ≤ 10 ^ 19 - 1 }
+    ensures reads { ReadsPart R.remaining R.failures T.takes T.refuses limit reader.old reader.new count.old count.new sink.old result sink.new }
+    ensures ready { UnlessRefused result (T.is_ready sink.new (count.new + 1)) }
+    ensures few { count.new ≤ 10 ^ 19 - 1 }
+{
+    for at in *count..limit.most() {
+        look_ahead(reader, sink, at);
+        match step(reader, count, sink, limit) {
+            Ok(()) => {}
+            Err(stop) => return stop,
+        }
+    }
+    Stop::Full
+}
+
+/// Reads on after a part that went before, up to the end of one that is no smaller.
+///
+/// What is read then is what one reading of this part, from where the first one began, reads: so several points of a day are one pass.
+pub fn read_further<R: CountedRead, A: Allocator, T: Sink>(
+    reader: &mut BlockReader<R, A>,
+    count: &mut u64,
+    sink: &mut T,
+    limit: Limit,
+) -> Stop<T::Fault>
+    requires ready { T.is_ready sink.old (count.old + 1) }
+    requires few { count.old ≤ 10 ^ 19 - 1 }
+    ensures part { ReadsPart R.remaining R.failures T.takes T.refuses limit reader.old reader.new count.old count.new sink.old result sink.new }
+    ensures reads { (first : Reading R) → (begun : ℕ) → (t : T) → (before : AnyLimit) → (stop : AnyStop T.Fault)
+        → ReadsPart R.remaining R.failures T.takes T.refuses before first reader.old begun count.old t stop sink.old → GoesOnTo before stop count.old limit
+        → ReadsPart R.remaining R.failures T.takes T.refuses limit first reader.new begun count.new t result sink.new }
+    ensures ready { UnlessRefused result (T.is_ready sink.new (count.new + 1)) }
+    ensures few { count.new ≤ 10 ^ 19 - 1 }
+{
+    read_part(reader, count, sink, limit)
+}
+
+// Tells a sink what comes next, before each sixteenth message. Nothing changes.
+#[inline(always)]
+fn look_ahead<R: CountedRead, A: Allocator, T: Sink>(
+    reader: &BlockReader<R, A>,
+    sink: &mut T,
+    count: u64,
+)
+    ensures { sink.new ≡ sink.old }
+{
+    if count % AHEAD == 0 {
+        sink.look_ahead(reader.at_hand());
+    }
+}
+
+// Takes the next message, or returns why it is not taken.
+#[inline(always)]
+fn step<R: CountedRead, A: Allocator, T: Sink>(
+    reader: &mut BlockReader<R, A>,
+    count: &mut u64,
+    sink: &mut T,
+    limit: Limit,
+) -> Result<(), Stop<T::Fault>>
+    requires ready { T.is_ready sink.old (count.old + 1) }
+    requires few { count.old ≤ 10 ^ 19 - 1 }
+    requires before { IsBefore limit count.old }
+    ensures steps { Steps R.remaining R.failures T.takes T.refuses limit reader.old reader.new count.old count.new sink.old result sink.new }
+    ensures ready { OnOk result (T.is_ready sink.new (count.new + 1)) }
+{
+    match load(reader) {
+        Ok(true) => {}
+        Ok(false) => return Err(Stop::End),
+        Err(fault) => return Err(Stop::Frame(fault)),
+    }
+    let payload = reader.payload();
+    if payload.is_empty() {
+        return Err(Stop::End);
+    }
+    match take(count, sink, payload, limit) {
+        Ok(()) => {
+            reader.pass();
+            Ok(())
+        }
+        Err(stop) => Err(stop),
+    }
+}
+
+// Takes the message of a payload, or returns why it is not taken.
+#[inline(always)]
+fn take<T: Sink>(
+    count: &mut u64,
+    sink: &mut T,
+    payload: &[u8],
+    limit: Limit,
+) -> Result<(), Stop<T::Fault>>
+    requires ready { T.is_ready sink.old (count.old + 1) }
+    requires few { count.old ≤ 10 ^ 19 - 1 }
+    ensures takes { TakesPayload T.takes T.refuses limit payload.now count.old count.new sink.old result sink.new }
+    ensures ready { OnOk result (T.is_ready sink.new (count.new + 1)) }
+{
+    if *count == MOST_MESSAGES {
+        return Err(Stop::TooMany);
+    }
+    let message = decode(payload);
+    if is_late(limit, &message) {
+        return Err(Stop::Late);
+    }
+    match sink.take(*count + 1, payload, &message) {
+        Ok(()) => {
+            *count += 1;
+            Ok(())
+        }
+        Err(why) => Err(Stop::Refused(why)),
+    }
+}
+
+// Holds the next block.
+#[inline(always)]
+fn load<R: CountedRead, A: Allocator>(reader: &mut BlockReader<R, A>) -> Result<bool, FrameFault>
+    ensures loads { Loads R.remaining R.failures reader.old result reader.new }
+    ensures again { StaysAsEnded reader.old reader.new }
+{
+    if reader.load_at_hand() {
+        return Ok(true);
+    }
+    load_from_input(reader)
+}
+
+// The same of a block that may have to be read.
+#[inline(never)]
+fn load_from_input<R: CountedRead, A: Allocator>(
+    reader: &mut BlockReader<R, A>,
+) -> Result<bool, FrameFault>
+    ensures loads { Loads R.remaining R.failures reader.old result reader.new }
+    ensures again { StaysAsEnded reader.old reader.new }
+{
+    reader.load()
+}
+
+// Whether a payload that was decoded spells a message that is late.
+#[inline(always)]
+fn is_late(limit: Limit, message: &Result<Message<'_>, CodecFault>) -> bool
+    ensures late { result ≡ true → (payload : List ℕ) → Decodes payload message.now → IsLate limit payload }
+    ensures early { result ≡ false → (payload : List ℕ) → Decodes payload message.now → IsNotLate limit payload }
+{
+    match message {
+        Ok(message) => limit.is_late(message),
+        Err(_fault) => false,
+    }
+}
