@@ -14,7 +14,7 @@ from pathlib import Path
 TOP = Path(__file__).resolve().parent.parent.parent
 # Where no toolchain is.
 PLAIN = "/usr/bin:/bin"
-NAMES = ("itch_frame itch_codec itch_table itch_book itch_market itch_snapshot itch_soup itch_join itch_live itch_commands itchsnap_cli "
+NAMES = ("itch_frame itch_codec itch_day itch_table itch_book itch_market itch_snapshot itch_soup itch_join itch_live itch_commands itchsnap_cli "
          "itchsnap_live itch_tool").split()
 CHANGED = "crates/itch_frame/src/lib.rt"
 OTHER = "itchsnap: the sources are not those of the released program"

@@ -13,6 +13,7 @@ use std::test::Fail;
 
 mod at_hand;
 mod devices;
+mod loading;
 mod memory;
 
 // Five blocks, one of them empty.

@@ -16,6 +16,8 @@ mod book;
 #[cfg(test)]
 mod codec;
 #[cfg(test)]
+mod day;
+#[cfg(test)]
 mod days;
 #[cfg(test)]
 mod equal;

@@ -8,11 +8,11 @@
 mod limit;
 mod mark;
 mod reading;
-mod stop;
 mod sink;
+mod stop;
 
 pub use limit::Limit;
 pub use mark::Mark;
 pub use reading::{read_further, read_part};
-pub use stop::Stop;
 pub use sink::Sink;
+pub use stop::Stop;

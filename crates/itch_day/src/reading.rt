@@ -8,8 +8,8 @@ ghost use Rattle.itch_day.specs.declared.limit.Limit.{Limit as AnyLimit};
 ghost use Rattle.itch_day.specs.declared.stop.Stop.{Stop as AnyStop};
 
 use crate::limit::Limit;
-use crate::stop::Stop;
 use crate::sink::Sink;
+use crate::stop::Stop;
 use itch_codec::{CodecFault, MOST_MESSAGES, Message, decode};
 use itch_frame::{BlockReader, CountedRead, FrameFault};
 use std::alloc::Allocator;

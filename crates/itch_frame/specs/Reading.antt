@@ -108,9 +108,10 @@ module _ {R : Type 0} (remaining : R → Option (List ℕ)) (failures : R → Fa
   Loads old (Err (Truncated held)) new =
       IfSome (bytes_left remaining new) (λ b. Open b × (held ≡ length b)) × Keeps (bytes_left remaining old) (bytes_left remaining new)
       × (new.stage ≡ Cut) × (held ≡ length new.held) × (failures new.reader ≡ failures old.reader)
-  -- nothing is lost
+  -- nothing is lost: the bytes held are still held, and then any that were read after them
   Loads old (Err (Read error)) new =
       Keeps (bytes_left remaining old) (bytes_left remaining new) × (new.stage ≡ Going) × (failures new.reader ≡ failed error (failures old.reader))
+      × ((more : List ℕ) × (new.held ≡ old.held ++ more))
   Loads old (Err (Write sent error)) new = ⊥
   Loads old (Err TooLong) new = ⊥
 

@@ -81,28 +81,11 @@ impl<R: CountedRead, A: Allocator> BlockReader<R, A> {
         ensures* next { sem 𝓛 (Rests (reader_row R.row A.row R.CountedRead A.Allocator) self.entry (λ new.
             NextBlock R.remaining R.failures self.old result new × StaysEnded self.old result new)) }
     {
-        match self.stage {
-            Stage::Ended => return Ok(None),
-            Stage::Cut => return Err(FrameFault::Truncated { held: self.len }),
-            Stage::Given => self.len = 0,
-            Stage::Going => {}
+        if !self.load()? {
+            return Ok(None);
         }
-        self.stage = Stage::Going;
-        match fill_block(&mut self.reader, &mut self.buffer, &mut self.len) {
-            Err(error) => Err(FrameFault::Read(error)),
-            Ok(true) => {
-                self.stage = Stage::Given;
-                Ok(Some(&self.buffer[2..self.len]))
-            }
-            Ok(false) => {
-                if self.len == 0 {
-                    self.stage = Stage::Ended;
-                    return Ok(None);
-                }
-                self.stage = Stage::Cut;
-                Err(FrameFault::Truncated { held: self.len })
-            }
-        }
+        self.stage = Stage::Given;
+        Ok(Some(&self.buffer[2..self.len]))
     }
 
     /// The payload of the next block, if all of it lies at hand and nothing of it is held. The block returned before is dropped then;
@@ -115,12 +98,7 @@ impl<R: CountedRead, A: Allocator> BlockReader<R, A> {
         ensures* next { sem 𝓛 (Rests (reader_row R.row A.row R.CountedRead A.Allocator) self.entry (λ new.
             NextAtHand R.remaining R.failures self.old result new)) }
     {
-        match self.stage {
-            Stage::Ended | Stage::Cut => return None,
-            Stage::Given => self.len = 0,
-            Stage::Going => {}
-        }
-        if !take_block(&mut self.reader, &mut self.buffer, &mut self.len) {
+        if !self.load_at_hand() {
             return None;
         }
         self.stage = Stage::Given;
@@ -149,10 +127,11 @@ impl<R: CountedRead, A: Allocator> BlockReader<R, A> {
     ghost use Rattle.itch_frame.specs.Blocks.{IsBlock, IsBlockOf};
     ghost use Rattle.itch_frame.specs.Reading.{Loads, LoadsAtHand, StaysAsEnded, passed};
 
-    /// Reads on until the next block is held as a whole (true), unless the input ends where it would begin (false). It stays the next one
-    /// until it is passed ([`BlockReader::pass`]), and [`BlockReader::payload`] is its payload.
+    /// Reads on until all of the next block is held (true), unless the input ends where it would begin (false). It stays the next
+    /// block until it is passed ([`BlockReader::pass`]), and [`BlockReader::payload`] is its payload.
     ///
     /// The faults are those of [`BlockReader::next_block`], and leave the same.
+    #[inline(always)]
     pub fn load(&mut self) -> Result<bool, FrameFault>
         ensures loads { Loads R.remaining R.failures self.old result self.new }
         ensures again { StaysAsEnded self.old self.new }
@@ -195,7 +174,7 @@ impl<R: CountedRead, A: Allocator> BlockReader<R, A> {
         true
     }
 
-    /// The payload of the block that is held as a whole.
+    /// The payload of the block that is held.
     #[inline(always)]
     pub fn payload(&self) -> &[u8]
         requires { IsBlock self.now.held }
@@ -204,7 +183,7 @@ impl<R: CountedRead, A: Allocator> BlockReader<R, A> {
         &self.buffer[2..self.len]
     }
 
-    /// Passes the block that is held as a whole: the one after it is the next.
+    /// Passes the block that is held: the one after it is the next.
     #[inline(always)]
     pub fn pass(&mut self)
         requires { IsBlock self.old.held }

@@ -18,7 +18,8 @@ pub mod OneStop
 pub mod Runs
 pub mod SameMarkets
 pub mod ReplayReaders
-pub mod DayReplays
-pub mod DayTakings
+pub mod AppliedMessages
+pub mod PassedBlocks
+pub mod DayParts
 pub mod Partials
 pub mod PlainMessages

@@ -1,19 +1,15 @@
--- What the part of a day that is wanted does to a market: as itch_commands' Readings says, which would stand here.
+-- What reading the part of a day that is wanted does to a market, and leaves of its reader.
 use Rattle.std.specs.Prelude.{◌≡◌, ℕ, ◌+◌, ◌-◌, ◌≤◌, ◌^◌, ◌==◌, Bool, false, List, map, length, ◌⊎◌, Option, None, Some, IsSome}
 use Rattle.std.specs.List.{AllByRecursion}
 use Rattle.itch_codec.specs.Messages.{message_of}
 use Rattle.itch_frame.specs.Reading.{Reading, EndsHere}
-use Rattle.itch_day.specs.Limits.{IsBefore, IsLate, is_late}
+use Rattle.itch_day.specs.Limits.{IsBefore, IsEarly, IsLate}
 use Rattle.itch_day.specs.declared.limit.Limit.{Limit}
 use Rattle.itch_market.specs.Content.{Content}
 use Rattle.itch_market.specs.Runs.{after}
 use Rattle.itch_market.specs.Replays.{Halts, LeavesReaderFirst, Refuses, Takes, TakesOff}
 use Rattle.itch_market.specs.declared.stop.Stop.{Stop}
 use Rattle.itch_market.specs.declared.stop.Stop.TheVariants.{Rule}
-
--- a payload spells no message at the time where the part ends, or later
-abbrev pub IsEarly : Limit → List ℕ → Type 0
-IsEarly limit payload = is_late limit.until (message_of payload) ≡ false
 
 -- the next block, which came off the front, has a message that is late
 abbrev pub LateNext : Limit → Option (List ℕ) → Option (List ℕ) → Type 0

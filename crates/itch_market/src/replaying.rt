@@ -58,10 +58,7 @@ pub fn replay_first<R: CountedRead, A: Allocator, B: OrderBook>(
     ensures failures { CountsFirst result.1 (R.failures reader.old.reader) (R.failures reader.new.reader) }
     ensures reader { LeavesReaderFirst reader.old result.0 result.1 reader.new }
 {
-    market.recall_invariant();
-    let mut count = 0;
-    let stop = read_part(reader, &mut count, market, Limit::counted(Some(most)));
-    (count, pass_stop(reader, stop))
+    replay_part(reader, market, Limit::counted(Some(most)))
 }
 
 /// Applies the messages of the part of a day file that is wanted, and returns how many there were and why it stopped before, if it did.

@@ -1,5 +1,5 @@
 use Rattle.std.proofs.Common.{refl}
-use Rattle.itch_market.proofs.DayTakings.{is_left, is_part, is_part_left}
+use Rattle.itch_market.proofs.DayParts.{is_left, is_part, is_part_left}
 use Rattle.itch_market.proofs.replaying.replay_part.Goals as goal
 
 pub pass_stop-requires : goal.pass_stop-requires

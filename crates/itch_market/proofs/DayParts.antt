@@ -1,5 +1,5 @@
--- A part of a day that a market takes, up to any limit, is what `read_market` says of it.
-use Rattle.std.proofs.Common.{◌≡◌, ℕ, ◌-◌, ◌^◌, ◌<◌, ◌≤◌, ◌==◌, Bool, true, false, List, [], ◌∷◌, map, length, Option, None, Some, ◌⊎◌, inl, inr, refl, sym, ap, subst, ◌∙◌, arith, eq-eqb, IsSome}
+-- What a part of a day that a market takes is to the market and to the reader of blocks.
+use Rattle.std.proofs.Common.{◌≡◌, ℕ, ◌-◌, ◌^◌, ◌<◌, ◌≤◌, ◌==◌, Bool, true, false, List, [], ◌∷◌, map, length, zero, suc, Option, None, Some, IfSome, ◌⊎◌, inl, inr, refl, sym, ap, subst, ◌∙◌, arith, eq-eqb, IsSome}
 use Rattle.std.proofs.lemmas.Bool.{ne_eqb}
 use Rattle.std.specs.List.{AllByRecursion}
 use Rattle.std.specs.Io.KnownBytes.{Consumes, IsAtEnd}
@@ -14,20 +14,21 @@ use Rattle.itch_frame.specs.declared.fault.FrameFault.TheVariants.{Read, Truncat
 use Rattle.itch_day.specs.declared.limit.Limit.{Limit}
 use Rattle.itch_day.specs.declared.stop.Stop.{Stop as Part}
 use Rattle.itch_day.specs.declared.stop.Stop.TheVariants as part
-use Rattle.itch_day.specs.Limits.{IsBefore, IsNotLate, IsWithin, is_late}
+use Rattle.itch_day.specs.Limits.{IsBefore, IsEarly, IsNotLate, IsWithin, counted as wanted, is_late}
 use Rattle.itch_day.specs.Parts.{Counts as CountsPart, IsNext, Leaves, ReadsPart, StopsAt}
 use Rattle.itch_market.specs.Content.{Content, laid}
-use Rattle.itch_market.specs.DayParts.{HaltsEarly, HaltsPart, IsEarly, LeavesPartOf, PartOf, TakesEarly}
+use Rattle.itch_market.specs.DayParts.{HaltsEarly, HaltsPart, IsEnough, LeavesPartOf, PartOf, TakesEarly}
 use Rattle.itch_market.specs.GoodMarkets.{IsGood}
 use Rattle.itch_market.specs.Runs.{after}
-use Rattle.itch_market.specs.Replays.{CountsFirst, LeavesReaderFirst, Refuses}
+use Rattle.itch_market.specs.Replays.{CountsFirst, Halts, LeavesReaderFirst, Refuses, ReplaysFirst, Takes}
 use Rattle.itch_market.specs.Takings.{IsLeft, RefusesMessage, TakesMessage, left_by, reason_of}
 use Rattle.itch_market.specs.declared.refused.Refused.{Refused}
 use Rattle.itch_market.specs.declared.refused.Refused.TheVariants as is
 use Rattle.itch_market.specs.declared.stop.Stop.{Stop}
 use Rattle.itch_market.specs.declared.stop.Stop.TheVariants as stop
 use Rattle.itch_market.proofs.Causes.{none_clean, refuses-laid}
-use Rattle.itch_market.proofs.DayReplays.{AreApplied, are_applied, cut_not_ended, cut_not_going, full_count, is_not_going, never_next, passed_ended, passed_going, passed_off, passed_reader}
+use Rattle.itch_market.proofs.AppliedMessages.{AreApplied, are_applied}
+use Rattle.itch_market.proofs.PassedBlocks.{cut_not_ended, cut_not_going, is_not_going, never_next, passed_ended, passed_going, passed_off, passed_reader}
 
 -- a message that is not late is early
 is_early : (limit : Limit) (p : List ℕ) → fault p ≡ None → IsNotLate limit p → IsEarly limit p
@@ -39,6 +40,17 @@ is_early limit p clean not_late = by_test (is_late limit.until (message_of p)) r
 are_early : (limit : Limit) (ps : List (List ℕ)) → AllByRecursion (λ p. fault p ≡ None) ps → AllByRecursion (IsNotLate limit) ps → AllByRecursion (IsEarly limit) ps
 are_early limit [] clean early = tt
 are_early limit (p ∷ ps) clean early = (is_early limit p clean.0 early.0, are_early limit ps clean.1 early.1)
+
+-- as many are as are wanted
+full_count : (most count n : ℕ) (after : Option ℕ) → after ≡ Some most → (0 < n → IfSome after (λ k. count ≤ k)) → n ≡ count → (wanted : ℕ) × (after ≡ Some wanted) × (wanted ≤ count) → count ≡ most
+full_count most count n after is within counted (wanted, has, all) = by_count n refl where
+  same : wanted ≡ most
+  same = let e : Some wanted ≡ Some most = sym has ∙ is in cc
+
+  by_count : (k : ℕ) → k ≡ n → count ≡ most
+  by_count zero none = omega (arith, none, counted, all, same)
+  by_count (suc k) some =
+      let few : count ≤ most = subst (λ o. IfSome o (λ k. count ≤ k)) is (within (omega (arith, some))) in omega (arith, few, all, same)
 
 module _ {R : Type 0} (remaining : R → Option (List ℕ)) (limit : Limit) (old new : Reading R) (count : ℕ) (m last n : Content) (ps : List (List ℕ))
     (applied : AreApplied m ps last) (bytes : Consumes (bytes_left remaining old) (bytes_left remaining new) (blocks ps)) (full : AllByRecursion IsFull ps) (early : AllByRecursion (IsNotLate limit) ps)
@@ -193,3 +205,29 @@ is_part_left remaining failures limit old new begun mark m n why first reads =
       part_left remaining failures limit old new mark reads.last n why reads.stops (subst (λ k. Leaves old k why new) counted reads.leaves),
       part_counts remaining failures limit old new mark reads.last n why reads.stops reads.counts,
     )
+
+-- a part of a day of which a number of messages is wanted is a replay of the first ones
+halts_plain : (limit : Limit) (full : Bool) (m : Content) (old new : Option (List ℕ)) (why : Stop) → HaltsEarly limit full m old new why → Halts full m old new why
+halts_plain limit full m old new stop.End halts = halts
+halts_plain limit full m old new (stop.Frame fault) halts = halts
+halts_plain limit full m old new (stop.Codec f) halts = halts
+halts_plain limit full m old new (stop.Rule why) (p, off, room, refuses, early) = (p, off, room, refuses)
+halts_plain limit full m old new stop.TooManyMessages halts = halts
+
+pub replays_first : (most : ℕ) (m : Content) (old new : Option (List ℕ)) (count : ℕ) (why : Option Stop) (n : Content) → PartOf (wanted (Some most)) m old new count why n → ReplaysFirst most m old new count why n
+replays_first most m old new count (Some why) n (before, ps, mid, (takes, counted, few, early), halts) =
+    (before, (ps, mid, takes, counted, few, halts_plain (wanted (Some most)) (count == 10 ^ 19 - 1) (after m (map message_of ps)) mid new why halts))
+replays_first most m old new count None n (ps, mid, (takes, counted, few, early), enough) = by_end enough where
+  by_end : IsEnough (wanted (Some most)) count mid new → ReplaysFirst most m old new count None n
+  by_end (inl (is, same)) = (let e : Some most ≡ Some count = is in cc, few, ps, subst (λ to. Takes m old to ps n) (sym same) takes, counted)
+  by_end (inr (inl (before, (p, off, (clean, late))))) = absurd (let never : false ≡ true = late in cc)
+  by_end (inr (inr (is, end))) = absurd (let never : Some most ≡ None = is in cc)
+
+none_given : (until : Option ℕ) → until ≡ None → IsSome until → ⊥
+none_given None same some = cc
+none_given (Some time) same some = cc
+
+pub leaves_first : {R : Type 0} (most : ℕ) (old new : Reading R) (count : ℕ) (why : Option Stop) → LeavesPartOf (wanted (Some most)) old count why new → LeavesReaderFirst old count why new
+leaves_first most old new count (Some why) leaves = leaves
+leaves_first most old new count None (inl (some, leaves)) = leaves
+leaves_first most old new count None (inr (some, leaves)) = absurd (none_given None refl some)

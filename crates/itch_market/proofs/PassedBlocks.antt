@@ -1,0 +1,44 @@
+-- What passing a block leaves of a reader of blocks.
+use Rattle.std.proofs.Common.{◌≡◌, ℕ, List, [], ◌++◌, Option, None, Some, refl, sym, ap, subst, ◌∙◌}
+use Rattle.std.specs.Io.KnownBytes.{Consumes, prepend_known}
+use Rattle.itch_frame.specs.Blocks.{block}
+use Rattle.itch_frame.specs.Reading.{Reading, bytes_left, passed, passed_in}
+use Rattle.itch_frame.specs.declared.reader.Stage.{Stage}
+use Rattle.itch_frame.specs.declared.reader.Stage.TheVariants.{Going, Given, Ended, Cut}
+use Rattle.itch_day.specs.Parts.{IsNext}
+
+module _ {R : Type 0} (r : Reading R) where
+  pub passed_going : r.stage ≡ Going → passed r ≡ record { reader = r.reader; held = []; stage = Given }
+  passed_going going = ap (λ s. passed_in s r) going
+
+  pub passed_ended : r.stage ≡ Ended → passed r ≡ r
+  passed_ended ended = ap (λ s. passed_in s r) ended
+
+  pub passed_reader : Reading.reader (passed r) ≡ r.reader
+  passed_reader = by_stage r.stage where
+    by_stage : (s : Stage) → Reading.reader (passed_in s r) ≡ r.reader
+    by_stage Going = refl
+    by_stage Given = refl
+    by_stage Ended = refl
+    by_stage Cut = refl
+
+  -- the block that is held comes off the front
+  pub passed_off : (remaining : R → Option (List ℕ)) (p : List ℕ) → IsNext r p → Consumes (bytes_left remaining r) (bytes_left remaining (passed r)) (block p)
+  passed_off remaining p ((fits, same), going) =
+      subst (λ (x : Reading R). Consumes (bytes_left remaining r) (bytes_left remaining x) (block p)) (sym (passed_going going)) (came_off (remaining r.reader)) where
+        came_off : (rest : Option (List ℕ)) → Consumes (prepend_known r.held rest) (prepend_known [] rest) (block p)
+        came_off None = tt
+        came_off (Some rest) = ap (λ h. h ++ rest) same
+
+-- where no message comes any more there is no next one
+pub never_next : {R : Type 0} (old new : Reading R) (count : ℕ) (stage : Stage) → (stage ≡ Going → ⊥) → new.stage ≡ Going → (old.stage ≡ stage → (count ≡ 0) × (new ≡ old)) → old.stage ≡ stage → ⊥
+never_next old new count stage other going stays at = other (sym at ∙ sym (ap (λ (r : Reading _). r.stage) (stays at).1) ∙ going)
+
+pub is_not_going : Ended ≡ Going → ⊥
+is_not_going same = cc
+
+pub cut_not_going : Cut ≡ Going → ⊥
+cut_not_going same = cc
+
+pub cut_not_ended : Cut ≡ Ended → ⊥
+cut_not_ended same = cc
