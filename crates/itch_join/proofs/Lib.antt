@@ -16,3 +16,4 @@ pub mod Premises
 pub mod LastResults
 pub mod RestrictedFeeds
 pub mod SetSnapshots
+pub mod Takings

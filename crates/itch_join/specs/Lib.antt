@@ -8,3 +8,4 @@ pub mod Stands
 pub mod Premise
 pub mod Waits
 pub mod HalfReads
+pub mod Takings

@@ -1,7 +1,8 @@
 //! A snapshot and the live feed, joined.
-ghost use Rattle.std.specs.Prelude.{◌≡◌, ℕ, ◌<◌, ◌^◌, true, Some, None, option_map};
+ghost use Rattle.std.specs.Prelude.{◌≡◌, ℕ, ◌<◌, ◌^◌, List, true, Some, None, option_map};
 ghost use Rattle.std.specs.Option.{option_copied};
 ghost use Rattle.std.specs.FinMap as map;
+ghost use Rattle.itch_day.specs.Sinks.{Decodes};
 ghost use Rattle.itch_market.specs.Wanted.{has};
 ghost use Rattle.itch_join.specs.Rules.{rules_of};
 ghost use Rattle.itch_join.specs.States.{new, unread};
@@ -15,7 +16,7 @@ use crate::position::{Position, advance, drain};
 use crate::state::{Halt, LiveCase, Stopped};
 use crate::waiting::Waiting;
 use itch_book::OrderBook;
-use itch_codec::{GREATEST_SEQ, MOST_MESSAGES};
+use itch_codec::{CodecFault, GREATEST_SEQ, MOST_MESSAGES, Message, decode};
 use itch_market::{LocateSet, Market, Refusal};
 use itch_snapshot::{SnapFault, SnapshotReader};
 use std::marker::Model;
@@ -213,11 +214,15 @@ impl<B: OrderBook> Joiner<B> {
     }
 
     // Applies the message with the next number, and then what waits.
-    fn apply_next(&mut self, number: u64, payload: &[u8]) -> Result<Live, JoinFault>
+    fn apply_next(
+        &mut self,
+        number: u64,
+        message: &Result<Message<'_>, CodecFault>,
+    ) -> Result<Live, JoinFault>
         requires joined { option_map (λ j. j.next) self.old.state.joined ≡ Some number }
         requires fits { number < 10 ^ 19 }
         requires running { self.old.state.halt ≡ None }
-        ensures goes { NextBy (rules_of (has self.old.set)) self.old.state number payload.now self.old.state.joined result self.new.state }
+        ensures goes { (payload : List ℕ) → Decodes payload message.now → NextBy (rules_of (has self.old.set)) self.old.state number payload self.old.state.joined result self.new.state }
         ensures cap { self.new.cap ≡ self.old.cap }
         ensures set { self.new.set ≡ self.old.set }
     {
@@ -225,7 +230,7 @@ impl<B: OrderBook> Joiner<B> {
             unreachable!()
         };
         let waits = self.wait.has(number);
-        let ended = advance(&mut self.wait, &self.set, position, payload);
+        let ended = advance(&mut self.wait, &self.set, position, message);
         let next = position.next;
         self.halt = halt_of(ended, next);
         match ended {
@@ -256,6 +261,21 @@ impl<B: OrderBook> Joiner<B> {
         ensures cap { self.new.cap ≡ self.old.cap }
         ensures set { self.new.set ≡ self.old.set }
     {
+        self.live_decoded(number, payload, &decode(payload))
+    }
+
+    /// The same for a caller that has decoded the payload.
+    pub fn live_decoded(
+        &mut self,
+        number: u64,
+        payload: &[u8],
+        message: &Result<Message<'_>, CodecFault>,
+    ) -> Result<Live, JoinFault>
+        requires decoded { Decodes payload.now message.now }
+        ensures step { Step (rules_of (has self.old.set)) self.old.cap self.old.state (CallLive number payload.now result) self.new.state }
+        ensures cap { self.new.cap ≡ self.old.cap }
+        ensures set { self.new.set ≡ self.old.set }
+    {
         match self.live_case(number, payload) {
             LiveCase::Halted(halt) => Err(JoinFault::Halted {
                 number: halt.number,
@@ -264,7 +284,7 @@ impl<B: OrderBook> Joiner<B> {
             LiveCase::BadNumber => Err(JoinFault::BadNumber),
             LiveCase::Old => Ok(Live::Old),
             LiveCase::Conflict => Err(JoinFault::Conflict { number }),
-            LiveCase::Next => self.apply_next(number, payload),
+            LiveCase::Next => self.apply_next(number, message),
             LiveCase::Kept => Ok(Live::Kept),
             LiveCase::Full => Err(JoinFault::Full { cap: self.cap }),
             LiveCase::Stored => self.store(number, payload),

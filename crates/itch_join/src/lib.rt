@@ -18,6 +18,7 @@ mod joiner;
 pub mod laws;
 mod outcome;
 mod position;
+mod sink;
 mod state;
 mod waiting;
 

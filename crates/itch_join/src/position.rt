@@ -1,13 +1,15 @@
 //! Where a joiner stands once it has joined.
-ghost use Rattle.std.specs.Prelude.{◌<◌, ◌^◌, Some};
+ghost use Rattle.std.specs.Prelude.{◌<◌, ◌^◌, ℕ, List, Some};
+ghost use Rattle.itch_day.specs.Sinks.{Decodes};
 ghost use Rattle.itch_market.specs.Wanted.{has};
 ghost use Rattle.itch_join.specs.Rules.{rules_of};
 ghost use Rattle.itch_join.specs.Applying.{Advances, Drains};
 
-use crate::applying::apply;
+use crate::applying::{apply, apply_decoded};
 use crate::state::Stopped;
 use crate::waiting::Waiting;
 use itch_book::OrderBook;
+use itch_codec::{CodecFault, Message};
 use itch_market::{LocateSet, Market};
 use std::marker::Model;
 
@@ -51,12 +53,12 @@ pub(crate) fn advance<B: OrderBook>(
     wait: &mut Waiting<B::Alloc>,
     set: &LocateSet<B::Alloc>,
     position: &mut Position<B>,
-    payload: &[u8],
+    message: &Result<Message<'_>, CodecFault>,
 ) -> Result<(), Stopped>
     requires { position.old.next < 10 ^ 19 }
-    ensures { Advances (rules_of (has set.now)) wait.old position.old (Some payload.now) result wait.new position.new }
+    ensures { (payload : List ℕ) → Decodes payload message.now → Advances (rules_of (has set.now)) wait.old position.old (Some payload) result wait.new position.new }
 {
-    apply(&mut position.market, set, payload)?;
+    apply_decoded(&mut position.market, set, message)?;
     wait.remove(position.next);
     position.next += 1;
     drain(wait, set, position)

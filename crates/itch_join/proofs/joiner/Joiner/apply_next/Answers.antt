@@ -14,7 +14,7 @@ use Rattle.itch_join.proofs.joiner.Joiner.apply_next.Goals as goal
 use Rattle.itch_join.proofs.joiner.Joiner.apply_next.Goals.{in-Ok, in-Err, then-waits, else-waits}
 
 pub returns-clause-goes : goal.returns-clause-goes
-returns-clause-goes g c =
+returns-clause-goes g c payload decoded =
     let i = c.self.inside in
     let R = rules_of (has i.set) in
     let s : State = record { wait = i.wait; half = half_of i.half; joined = i.joined; halt = i.halt } in
@@ -24,16 +24,16 @@ returns-clause-goes g c =
     let first = c.in-Some.position in
     let there : s.joined ≡ Some first = search rules in
     let number : first.next ≡ c.args.number = is_next s.joined first c.args.number there (rw (← c.self.view_is) at c.requires.joined) in
-    let ps = c.advance-ended.ensures.0 in
+    let (ps, applies) = c.advance-ended.ensures payload decoded in
     let any : not (j.next == first.next) ≡ not (is_empty ps) =
-    was_any R (front_of s first) (front c.advance-ended.new.wait j) (Some c.args.payload.now) ps ending c.advance-ended.ensures.1 in
+    was_any R (front_of s first) (front c.advance-ended.new.wait j) (Some payload) ps ending applies in
     let waits : c.has-waits.result ≡ is_some (map.get s.wait first.next) = c.has-waits.ensures ∙ ap (λ n. is_some (map.get s.wait n)) (sym number) in
     let taken = is_some (map.get s.wait first.next) || not (is_empty ps) in
     let now : State = record { wait = c.advance-ended.new.wait; half = half_of i.half; joined = Some j; halt = c.halt_of-self-inside.result } in
-    subst (λ (k : Joining). NextBy (rules_of (has k.set)) k.state c.args.number c.args.payload.now k.state.joined c.match-ended.result now) c.self.view_is
-    (nexted R s now first c.args.number c.args.payload.now c.match-ended.result there
-    (went R s.half s.half (front_of s first) c.advance-ended.new.wait j (Some c.args.payload.now) Applied (λ any. is_some (map.get s.wait first.next) || any) ending c.match-ended.result c.halt_of-self-inside.result ps
-    c.advance-ended.ensures.1
+    subst (λ (k : Joining). NextBy (rules_of (has k.set)) k.state c.args.number payload k.state.joined c.match-ended.result now) c.self.view_is
+    (nexted R s now first c.args.number payload c.match-ended.result there
+    (went R s.half s.half (front_of s first) c.advance-ended.new.wait j (Some payload) Applied (λ any. is_some (map.get s.wait first.next) || any) ending c.match-ended.result c.halt_of-self-inside.result ps
+    applies
     refl
     (c.halt_of-self-inside.ensures ∙ ap (halt_of ending) number_is)
     (elim c.match-ended.branch [
