@@ -69,11 +69,11 @@ impl<'a> Record<'a> {
         };
         let session = session_of(opened.length, beside, named)?;
         let whole = replay_record(rt.alloc(), open_again(rt, path)?, joiner)?;
-        if whole.bytes < opened.length {
-            let (rest, messages) = (opened.length - whole.bytes, whole.messages);
+        if whole.offset < opened.length {
+            let (rest, messages) = (opened.length - whole.offset, whole.count);
             let _ = eprintln!(rt; "record: dropped {rest} bytes after message {messages}");
-            cut(&file, whole.bytes)?;
-            opened.length = whole.bytes;
+            cut(&file, whole.offset)?;
+            opened.length = whole.offset;
         }
         let Ok(file) = BufWriter::with_capacity(rt.alloc(), PIECE, file) else {
             return Err(LiveFault::Tool(ToolFault::OutOfMemory));

@@ -3,7 +3,9 @@
 use crate::fault::{LiveFault, RecordFault};
 use crate::step::stop_of;
 use itch_book::OrderBook;
+use itch_codec::{CodecFault, Message};
 use itch_commands::ToolFault;
+use itch_day::{Limit, Mark, Marked, Sink, Stop as DayStop, read_part};
 use itch_frame::{BlockReader, Buffered, CountedRead, FrameFault};
 use itch_join::{JoinFault, Joiner, Live};
 use itch_market::{Refusal, ReplayEnd, Stop};
@@ -22,74 +24,72 @@ pub(crate) fn at_the_first<B: OrderBook>(joiner: &mut Joiner<B>) -> Result<(), T
     }
 }
 
-/// The whole messages of a record: how many they are, and how many bytes their blocks are.
-#[derive(Clone, Copy, Debug, PartialEq, Eq)]
-pub(crate) struct Whole {
-    pub messages: u64,
-    pub bytes: u64,
+// A joiner that takes the messages of a record, or says why a replay of the record stops.
+#[derive(Drop)]
+struct Resuming<'a, B: OrderBook> {
+    joiner: &'a mut Joiner<B>,
+}
+
+impl<'a, B: OrderBook> Sink for Resuming<'a, B> {
+    type Fault = Stop;
+
+    ghost is_ready = { λ _ _. Unit {0} };
+
+    ghost takes = { λ _ _ _ _. Unit {0} };
+
+    ghost refuses = { λ _ _ _ _ _. Unit {0} };
+
+    fn take(
+        &mut self,
+        number: u64,
+        payload: &[u8],
+        message: &Result<Message<'_>, CodecFault>,
+    ) -> Result<(), Stop> {
+        match self.joiner.live_decoded(number, payload, message) {
+            Ok(Live::Applied { .. }) => Ok(()),
+            Err(JoinFault::Halted { cause, .. }) => Err(stop_of(cause)),
+            Err(JoinFault::OutOfMemory { .. }) => Err(Stop::Rule(Refusal::OutOfMemory)),
+            _ => Err(Stop::TooManyMessages),
+        }
+    }
 }
 
 /// Replays the messages of a record: those that `check` counts, up to the end of the file, to a block of length 0 or to a
-/// block that was not written whole.
+/// block that was not written whole. The mark says how many they are, and how many bytes their blocks are.
 ///
 /// A message that is refused is the fault.
 pub(crate) fn replay_record<F: Read + Drop, B: OrderBook>(
     alloc: Global,
     file: F,
     joiner: &mut Joiner<B>,
-) -> Result<Whole, LiveFault> {
+) -> Result<Mark, LiveFault> {
     let Ok(buffered) = BufReader::with_capacity(alloc, PIECE, file) else {
         return Err(LiveFault::Tool(ToolFault::OutOfMemory));
     };
-    let blocks = BlockReader::new(alloc, Buffered::new(buffered))?;
-    match replay(blocks, joiner) {
-        Ok(whole) => Ok(whole),
+    let mut blocks = BlockReader::new(alloc, Buffered::new(buffered))?;
+    match replay(&mut blocks, joiner) {
+        Ok(mark) => Ok(mark),
         Err(end) => Err(LiveFault::Record(RecordFault::Refused(end))),
     }
 }
 
 fn replay<R: CountedRead, A: Allocator, B: OrderBook>(
-    blocks: BlockReader<R, A>,
+    blocks: &mut BlockReader<R, A>,
     joiner: &mut Joiner<B>,
-) -> Result<Whole, ReplayEnd>
-where
-    R: Drop,
-{
-    let mut blocks = blocks;
-    let mut bytes = 0u64;
-    for count in 0..u64::MAX {
-        match blocks.next_message() {
-            Ok(Some(payload)) => {
-                take(joiner, count, payload)?;
-                bytes = bytes.saturating_add(payload.len() as u64 + 2);
-            }
-            Ok(None) | Err(FrameFault::Truncated { .. }) => {
-                return Ok(Whole {
-                    messages: count,
-                    bytes,
-                });
-            }
-            Err(fault) => {
-                return Err(ReplayEnd {
-                    count,
-                    stop: Stop::Frame(fault),
-                });
-            }
-        }
-    }
-    Ok(Whole {
-        messages: u64::MAX,
-        bytes,
-    })
-}
-
-// Takes the message after so many.
-fn take<B: OrderBook>(joiner: &mut Joiner<B>, count: u64, payload: &[u8]) -> Result<(), ReplayEnd> {
-    let stop = match joiner.live(count.saturating_add(1), payload) {
-        Ok(Live::Applied { .. }) => return Ok(()),
-        Err(JoinFault::Halted { cause, .. }) => stop_of(cause),
-        Err(JoinFault::OutOfMemory { .. }) => Stop::Rule(Refusal::OutOfMemory),
-        _ => Stop::TooManyMessages,
+) -> Result<Mark, ReplayEnd> {
+    let mut resuming = Marked {
+        sink: Resuming { joiner },
+        mark: Mark::new(),
+    };
+    let mut count = 0;
+    let stop = match read_part(blocks, &mut count, &mut resuming, Limit::whole()) {
+        DayStop::Full
+        | DayStop::Late
+        | DayStop::End
+        | DayStop::Frame(FrameFault::Truncated { .. }) => return Ok(resuming.mark),
+        DayStop::Frame(fault) => Stop::Frame(fault),
+        DayStop::TooMany => Stop::TooManyMessages,
+        DayStop::Refused(stop) => stop,
     };
     Err(ReplayEnd { count, stop })
 }
