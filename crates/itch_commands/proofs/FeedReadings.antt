@@ -11,14 +11,15 @@ use Rattle.itch_join.specs.States.{State}
 use Rattle.itch_commands.specs.FeedParts.{beyond, misfit_of, part_of}
 use Rattle.itch_commands.specs.Joiners.{FeedsAll, LeavesFeed}
 use Rattle.itch_commands.specs.Joining.{Start, TakesWanted, StopsFeed, ReadsFeed}
-use Rattle.itch_commands.specs.Readings.{IsPart, CountsRead, LateNext, stopped}
+use Rattle.itch_market.specs.DayParts.{LateNext}
+use Rattle.itch_commands.specs.Readings.{IsPart, CountsRead, stopped}
 use Rattle.itch_commands.specs.declared.fault.Source.TheVariants.{Only}
 use Rattle.itch_commands.specs.declared.fault.ToolFault.{ToolFault}
 use Rattle.itch_commands.specs.declared.fault.ToolFault.TheVariants as tool
 use Rattle.itch_commands.specs.declared.feed_part.FeedPart.{FeedPart}
 use Rattle.itch_commands.specs.declared.feed_part.Misfit.{Misfit}
 use Rattle.itch_commands.specs.declared.feed_part.Misfit.TheVariants.{Gap, Beyond, Late}
-use Rattle.itch_commands.specs.declared.limit.Limit.{Limit}
+use Rattle.itch_day.specs.declared.limit.Limit.{Limit}
 use Rattle.itch_commands.proofs.DayReadings.{is_part}
 use Rattle.itch_commands.proofs.FeedStops.{feed_decided}
 use Rattle.itch_commands.proofs.PartReadings.{late_given}

@@ -25,14 +25,15 @@ use Rattle.itch_commands.specs.AsRead.{as_read}
 use Rattle.itch_commands.specs.FeedParts.{beyond, misfit_of, part_of}
 use Rattle.itch_commands.specs.Joining.{Start, IsNotLate, HaltsFeed, LateFeed, from_number, joined_market, joined_next, TakesFeed, EndsFeed}
 use Rattle.itch_commands.specs.Joiners.{position_of, IsJoined, IsStart, IsAfter, FeedStep, DeliversAll, StaysJoined, start_of}
-use Rattle.itch_commands.specs.Limits.{IsBefore}
-use Rattle.itch_commands.specs.Readings.{LateNext, stopped}
+use Rattle.itch_day.specs.Limits.{IsBefore}
+use Rattle.itch_market.specs.DayParts.{LateNext}
+use Rattle.itch_commands.specs.Readings.{stopped}
 use Rattle.itch_commands.specs.declared.fault.Source.TheVariants.{Only}
 use Rattle.itch_commands.specs.declared.fault.ToolFault.{ToolFault}
 use Rattle.itch_commands.specs.declared.fault.ToolFault.TheVariants as tool
 use Rattle.itch_commands.specs.declared.feed_part.FeedPart.{FeedPart}
 use Rattle.itch_commands.specs.declared.feed_part.Misfit.TheVariants.{Gap, Late}
-use Rattle.itch_commands.specs.declared.limit.Limit.{Limit}
+use Rattle.itch_day.specs.declared.limit.Limit.{Limit}
 
 -- a feed that fits to a snapshot does not begin after the message that is next
 near : (part : FeedPart) (next : ℕ) → misfit_of part next ≡ None → part.before < next

@@ -1,10 +1,10 @@
 -- Which messages of a day a feed has, and where a join ends.
 use Rattle.std.specs.Prelude.{ℕ, ◌+◌, ◌-◌, nat_le, nat_lt, if◌then◌else◌, List, length, Option, None, Some}
-use Rattle.itch_commands.specs.Limits.{counted}
+use Rattle.itch_day.specs.Limits.{counted}
 use Rattle.itch_commands.specs.declared.feed_part.FeedPart.{FeedPart}
 use Rattle.itch_commands.specs.declared.feed_part.Misfit.{Misfit}
 use Rattle.itch_commands.specs.declared.feed_part.Misfit.TheVariants.{Gap, Beyond}
-use Rattle.itch_commands.specs.declared.limit.Limit.{Limit}
+use Rattle.itch_day.specs.declared.limit.Limit.{Limit}
 
 -- the whole of a feed that begins with the first message of its day
 abbrev pub whole : FeedPart

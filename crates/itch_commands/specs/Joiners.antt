@@ -23,12 +23,13 @@ use Rattle.itch_commands.specs.declared.fault.ToolFault.TheVariants as tool
 use Rattle.itch_commands.specs.declared.fault.Source.TheVariants.{Only}
 use Rattle.itch_commands.specs.declared.feed_part.FeedPart.{FeedPart}
 use Rattle.itch_commands.specs.declared.feed_part.Misfit.TheVariants.{Late}
-use Rattle.itch_commands.specs.declared.limit.Limit.{Limit}
+use Rattle.itch_day.specs.declared.limit.Limit.{Limit}
 use Rattle.itch_commands.specs.AsRead.{ReadsAs}
 use Rattle.itch_commands.specs.FeedParts.{number_after, part_of}
 use Rattle.itch_commands.specs.Joining.{Start, IsNotLate, IsOfMessage, HaltsFeed, EndsFeed, LateFeed, TakesWanted, joined_market, joined_next}
 use Rattle.itch_commands.specs.Outputs.{WritesOutput, closed_bytes}
-use Rattle.itch_commands.specs.Readings.{LateNext, LeavesDay}
+use Rattle.itch_market.specs.DayParts.{LateNext}
+use Rattle.itch_commands.specs.Readings.{LeavesDay}
 use Rattle.itch_commands.specs.Stocks.{IsStockFault, are_known, only_stocks}
 
 -- the market that a half-read snapshot leaves

@@ -8,15 +8,15 @@ ghost use Rattle.itch_commands.specs.AsRead.{as_read};
 ghost use Rattle.itch_commands.specs.FeedParts.{misfit_of};
 ghost use Rattle.itch_commands.specs.Joiners.{IsJoined, IsStart, FeedsAll, start_of, IsOfFeed, FeedsOne, FeedStep, FeedsJoiner, StaysJoined, position_of, feed_stop};
 ghost use Rattle.itch_commands.specs.Joining.{IsNotLate, ReadsFeed};
-ghost use Rattle.itch_commands.specs.Limits.{IsLate};
+ghost use Rattle.itch_day.specs.Limits.{IsLate};
 ghost use Rattle.itch_commands.specs.Readings.{CountsRead};
 
 use crate::fault::{Source, ToolFault};
 use crate::feed_part::{FeedPart, Misfit};
-use crate::limit::Limit;
 use crate::reading::stopped;
 use itch_book::OrderBook;
 use itch_codec::{MOST_MESSAGES, decode};
+use itch_day::Limit;
 use itch_frame::{BlockReader, CountedRead};
 use itch_join::{Cause, JoinFault, Joiner};
 use itch_market::{Refusal, Stop, next_message};

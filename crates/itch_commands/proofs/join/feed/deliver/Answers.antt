@@ -5,11 +5,11 @@ use Rattle.itch_join.specs.Positions.{Position}
 use Rattle.itch_commands.specs.AsRead.{as_read}
 use Rattle.itch_commands.specs.FeedParts.{part_of}
 use Rattle.itch_commands.specs.Joiners.{FeedsAll, position_of, start_of}
-use Rattle.itch_commands.specs.Limits.{IsBefore}
+use Rattle.itch_day.specs.Limits.{IsBefore}
 use Rattle.itch_commands.specs.Readings.{stopped}
 use Rattle.itch_commands.specs.declared.fault.Source.TheVariants.{Only}
 use Rattle.itch_commands.specs.declared.fault.ToolFault.{ToolFault}
-use Rattle.itch_commands.specs.declared.limit.Limit.{Limit}
+use Rattle.itch_day.specs.declared.limit.Limit.{Limit}
 use Rattle.itch_commands.proofs.FeedReadings.{feed_leaves, late_leaves}
 use Rattle.itch_commands.proofs.FeedsTaken.{feeding_first, on_along, stops_along, late_returns}
 use Rattle.itch_commands.proofs.JoinedStocks.{number_there}
