@@ -1,38 +1,122 @@
 -- The blocks that are passed before a time.
-use Rattle.std.proofs.Common.{◌≡◌, ◌⊎◌, ℕ, ◌-◌, List, [], ◌∷◌, ◌++◌, length, None, Some, sym, ap, ◌∙◌, append_assoc, arith}
-use Rattle.std.proofs.lemmas.List.{length-append}
-use Rattle.itch_day.specs.Limits.{IsLate}
-use Rattle.itch_day.specs.declared.limit.Limit.{Limit}
+use Rattle.std.proofs.Common.{◌≡◌, ◌⊎◌, inl, inr, ℕ, ◌+◌, ◌-◌, ◌*◌, ◌^◌, ◌≤◌, min, List, [], ◌∷◌, ◌++◌, length, Option, None, Some, IfSome, refl, sym, ap, ◌∙◌, subst, arith, length-append}
+use Rattle.std.specs.List.{AllByRecursion}
+use Rattle.std.specs.Io.KnownBytes.{Consumes, IsAtEnd, prepend_known}
 use Rattle.itch_frame.specs.Blocks.{block, blocks, Ends, IsFull, Open}
-use Rattle.itch_frame.proofs.BlockLemmas.{blocks-push, each-push}
-use Rattle.itchsnap_c.specs.Times.{Finds, IsPassed, Passes}
+use Rattle.itch_frame.specs.Counting.{failed}
+use Rattle.itch_frame.specs.Reading.{Reading, bytes_left}
+use Rattle.itch_frame.specs.declared.fault.FrameFault.TheVariants.{Read, Truncated, Write, TooLong}
+use Rattle.itch_frame.specs.declared.tally.Failures.{Failures}
+use Rattle.itch_day.specs.Limits.{IsNotLate}
+use Rattle.itch_day.specs.Marks.{RefusesMarked, TakesMarked, first_mark, mark_after, mark_past}
+use Rattle.itch_day.specs.Parts.{Counts, ReadsPart, StopsAt}
+use Rattle.itch_day.specs.declared.limit.Limit.{Limit}
+use Rattle.itch_day.specs.declared.mark.Mark.{Mark}
+use Rattle.itch_day.specs.declared.marked.Marked.{Marked}
+use Rattle.itch_day.specs.declared.stop.Stop.{Stop}
+use Rattle.itch_day.specs.declared.stop.Stop.TheVariants.{Full, Late, End, Frame, TooMany, Refused}
+use Rattle.itch_day.proofs.Marks.{marked_after}
+use Rattle.itchsnap_c.specs.Times.{Finds, IsPassed, before}
 
-module _ (limit : Limit) (bytes : List ℕ) where
-  -- these bytes are left after blocks that were passed
-  pub record PassedSoFar (rest : List ℕ) : Type 0 where
-    pub payloads : List (List ℕ)
-    pub passes : Passes limit bytes payloads rest
+length-block : (p : List ℕ) → length (block p) ≡ length p + 2
+length-block p = omega arith
 
-  -- none was passed yet
-  pub none_passed : (rest : List ℕ) → rest ≡ bytes → PassedSoFar rest
-  none_passed rest all = record { payloads = []; passes = record { whole = sym all; each = tt } }
+-- where the blocks of a mark end
+offset_after : (mark : Mark) (ps : List (List ℕ)) → mark.offset ≤ 2 ^ 64 - 1 → Mark.offset (mark_after mark ps) ≡ min (mark.offset + length (blocks ps)) (2 ^ 64 - 1)
+offset_after mark [] within = omega (arith, within)
+offset_after mark (p ∷ ps) within =
+    let rest = offset_after (mark_past mark p) ps (omega arith) in omega (arith, rest, length-append (block p) (blocks ps), length-block p)
 
-  module _ (rest more payload : List ℕ) (so_far : PassedSoFar rest) (next : rest ≡ block payload ++ more) (full : IsFull payload) where
-    -- one more was passed
-    pub one_passed : (IsLate limit payload → ⊥) → PassedSoFar more
-    one_passed early = record {
-      payloads = so_far.payloads ++ payload ∷ [];
-      passes = record {
-        whole = so_far.passes.whole ∙ ap (λ bs. blocks so_far.payloads ++ bs) next ∙ sym (append_assoc (blocks so_far.payloads) (block payload) more)
-            ∙ ap (λ bs. bs ++ more) (sym (blocks-push so_far.payloads payload));
-        each = each-push (IsPassed limit) so_far.payloads payload so_far.passes.each (full, early);
-      };
-    }
+many_bytes : (ps : List (List ℕ)) → AllByRecursion IsFull ps → 3 * length ps ≤ length (blocks ps)
+many_bytes [] full = omega arith
+many_bytes (p ∷ ps) full =
+    let rest = many_bytes ps full.1 in
+    let some = full.0.0 in
+    omega (arith, rest, some, length-append (block p) (blocks ps), length-block p)
 
-    -- or it has a message that is late
-    pub late_found : (left : ℕ) → left ≡ length rest → IsLate limit payload → Finds limit bytes (Some (length bytes - left))
-    late_found left size late = (so_far.payloads, rest, so_far.passes, (payload, more, next, full, late), omega (arith, size, ap length so_far.passes.whole, length-append (blocks so_far.payloads) rest))
+each_passed : (limit : Limit) (ps : List (List ℕ)) → AllByRecursion IsFull ps → AllByRecursion (IsNotLate limit) ps → AllByRecursion (IsPassed limit) ps
+each_passed limit [] full early = tt
+each_passed limit (p ∷ ps) full early = ((full.0, early.0), each_passed limit ps full.1 early.1)
 
-  -- the blocks ended before
-  pub none_found : (rest : List ℕ) → PassedSoFar rest → Ends rest ⊎ Open rest → Finds limit bytes None
-  none_found rest so_far last = (so_far.payloads, rest, so_far.passes, last)
+no_number : {n : ℕ} → None ≡ Some n → ⊥
+no_number {n} h = cc
+
+-- what is left begins with the block that is held
+record Begins (p rest : List ℕ) : Type 0 where
+  pub more : List ℕ
+  pub is : rest ≡ block p ++ more
+
+begins : (held p rest : List ℕ) (o : Option (List ℕ)) → held ≡ block p → prepend_known held o ≡ Some rest → Begins p rest
+begins held p rest None same is = absurd (never is) where
+  never : None ≡ Some rest → ⊥
+  never h = cc
+begins held p rest (Some more) same is = record { more = more; is = sym (one is) ∙ ap (λ h. h ++ more) same } where
+  one : {xs ys : List ℕ} → Some xs ≡ Some ys → xs ≡ ys
+  one {xs} {ys} h = cc
+
+abbrev pub Nothing : {S F : Type 0} → S → ℕ → List ℕ → F → S → Type 0
+Nothing s number payload why t = ⊥
+
+-- All is passed up to the first message that is late, over bytes of which no read fails.
+module _ {R S F : Type 0} (remaining : R → Option (List ℕ)) (failures : R → Failures) (takes : S → ℕ → List ℕ → S → Type 0) (none : Failures) (error_free : none.last ≡ None)
+    (never_fails : (r : R) → failures r ≡ none) (bytes : List ℕ) (short : length bytes ≤ 2 ^ 64 - 1) (time : ℕ) (old new : Reading R) (known : bytes_left remaining old ≡ Some bytes) (count : ℕ)
+    (s t : Marked S) (first : s.mark ≡ first_mark) (stop : Stop F)
+    (reads : ReadsPart remaining failures (TakesMarked takes) (RefusesMarked Nothing) (before time) old new 0 count s stop t) where
+  record Left : Type 0 where
+    pub rest : List ℕ
+    pub is : bytes_left remaining new ≡ Some rest
+    pub whole : bytes ≡ blocks reads.payloads ++ rest
+
+  left_of : (o : Option (List ℕ)) → bytes_left remaining new ≡ o → Consumes (Some bytes) o (blocks reads.payloads) → Left
+  left_of None is never = absurd never
+  left_of (Some rest) is whole = record { rest = rest; is = is; whole = whole }
+
+  left : Left
+  left = left_of (bytes_left remaining new) refl (subst (λ o. Consumes o (bytes_left remaining new) (blocks reads.payloads)) known reads.taken.bytes)
+
+  within : length (blocks reads.payloads) ≤ length bytes
+  within = omega (arith, ap length left.whole, length-append (blocks reads.payloads) left.rest)
+
+  offset_is : t.mark.offset ≡ length (blocks reads.payloads)
+  offset_is =
+      let after = ap Mark.offset (marked_after remaining failures takes Nothing (before time) old new 0 count s stop t reads ∙ ap (λ m. mark_after m reads.payloads) first) in
+      let size = offset_after first_mark reads.payloads (omega arith) in
+      omega (arith, after, size, within, short)
+
+  pub late_found : stop ≡ Late → Finds (before time) bytes (Some t.mark.offset)
+  late_found is = by_stop (subst (λ w. StopsAt remaining (RefusesMarked Nothing) (before time) count new reads.last w t) is reads.stops) where
+    by_stop : StopsAt {F = F} remaining (RefusesMarked Nothing) (before time) count new reads.last Late t → Finds (before time) bytes (Some t.mark.offset)
+    by_stop (same, wanted, (p, next, full, few, late)) =
+        let starts = begins new.held p left.rest (remaining new.reader) next.0.1 left.is in (
+          reads.payloads,
+          left.rest,
+          record { whole = left.whole; each = each_passed (before time) reads.payloads reads.taken.full reads.taken.early },
+          (p, starts.more, starts.is, full, late),
+          offset_is,
+        )
+
+  ended : (w : Stop F) → (w ≡ Late → ⊥) → StopsAt remaining (RefusesMarked Nothing) (before time) count new reads.last w t → Counts w (failures old.reader) (failures new.reader)
+      → Ends left.rest ⊎ Open left.rest
+  ended Full other (same, (most, is, all)) counts = absurd (no_number is)
+  ended Late other stops counts = absurd (other refl)
+  ended End other (same, wanted, inl (at, held, at_end)) counts = inl (inl (subst IsAtEnd left.is at_end))
+  ended End other (same, wanted, inr next) counts =
+      let starts = begins new.held [] left.rest (remaining new.reader) next.0.1 left.is in inl (inr (starts.more, starts.is))
+  ended (Frame (Truncated held)) other (same, wanted, cut, is_held, some) counts = inr (subst (λ o. IfSome o (λ b. Open b × (held ≡ length b))) left.is some).0
+  ended (Frame (Read error)) other (same, wanted, going) counts = absurd (clash (sym error_free ∙ ap Failures.last (sym (never_fails new.reader) ∙ counts))) where
+    clash : None ≡ Failures.last (failed error (failures old.reader)) → ⊥
+    clash h = cc
+  ended (Frame (Write sent error)) other never counts = absurd never
+  ended (Frame TooLong) other never counts = absurd never
+  ended TooMany other (same, wanted, (p, next, full, many)) counts =
+      let least = many_bytes reads.payloads reads.taken.full in
+      absurd (omega (arith, many, reads.taken.counted, least, within, short))
+  ended (Refused why) other (wanted, (p, next, full, room, early, (never, marked))) counts = absurd never
+
+  pub none_found : (stop ≡ Late → ⊥) → Finds (before time) bytes None
+  none_found other = (
+    reads.payloads,
+    left.rest,
+    record { whole = left.whole; each = each_passed (before time) reads.payloads reads.taken.full reads.taken.early },
+    ended stop other reads.stops reads.counts,
+  )

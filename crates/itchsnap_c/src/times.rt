@@ -1,13 +1,12 @@
 //! Where a time of the day begins in the blocks of a day file.
-ghost use Rattle.std.specs.Prelude.{◌≡◌, true, false, IfOk};
-ghost use Rattle.itchsnap_c.specs.Times.{FindsTime, Finds};
-ghost use Rattle.itch_day.specs.Limits.{IsLate};
+ghost use Rattle.std.specs.Prelude.{IfOk};
+ghost use Rattle.itchsnap_c.specs.Times.{FindsTime, Finds, before};
 
 use crate::answers::Count;
 use crate::codes::{ABSENT, OUT_OF_MEMORY, counted, no_count};
 use crate::slice::SliceReader;
-use itch_codec::decode;
-use itch_commands::Limit;
+use itch_codec::{CodecFault, Message};
+use itch_day::{Limit, Mark, Marked, Sink, Stop, read_part};
 use itch_frame::BlockReader;
 use std::alloc::{AllocError, Global};
 
@@ -20,39 +19,56 @@ use std::alloc::{AllocError, Global};
 pub extern "C" fn itchsnap_first_at(alloc: Global, blocks: &[u8], time: u64) -> Count
     ensures { FindsTime blocks.now time result }
 {
-    let limit = Limit {
-        after: None,
-        until: Some(time),
-    };
-    match bytes_before(alloc, blocks, limit) {
-        Ok(Some(count)) => counted(count as u64),
+    match bytes_before(alloc, blocks, time) {
+        Ok(Some(count)) => counted(count),
         Ok(None) => no_count(ABSENT),
         Err(AllocError) => no_count(OUT_OF_MEMORY),
     }
 }
 
-// How many bytes come before the block of the first message that is late, if there is one.
-fn bytes_before(alloc: Global, blocks: &[u8], limit: Limit) -> Result<Option<usize>, AllocError>
-    ensures { IfOk result (λ count. Finds limit blocks.now count) }
+// How many bytes come before the block of the first message at a time or later, if there is one.
+fn bytes_before(alloc: Global, blocks: &[u8], time: u64) -> Result<Option<u64>, AllocError>
+    ensures { IfOk result (λ count. Finds (before time) blocks.now count) }
 {
     let mut reader = BlockReader::new(alloc, SliceReader { rest: blocks })?;
-    let mut left = blocks.len();
-    while let Ok(Some(payload)) = reader.next_message() {
-        if is_late(payload, limit) {
-            return Ok(Some(blocks.len() - left));
-        }
-        left -= 2 + payload.len();
+    let mut passed = Marked {
+        sink: Anything,
+        mark: Mark::new(),
+    };
+    let limit = Limit {
+        after: None,
+        until: Some(time),
+    };
+    let mut count = 0;
+    match read_part(&mut reader, &mut count, &mut passed, limit) {
+        Stop::Late => Ok(Some(passed.mark.offset)),
+        _ => Ok(None),
     }
-    Ok(None)
 }
 
-// Whether a payload spells a message that is late.
-fn is_late(payload: &[u8], limit: Limit) -> bool
-    ensures late { result ≡ true → IsLate limit payload.now }
-    ensures early { result ≡ false → IsLate limit payload.now → ⊥ }
-{
-    match decode(payload) {
-        Ok(message) => limit.is_late(&message),
-        Err(_) => false,
+// Takes every payload, also one that spells no message.
+#[derive(Drop)]
+struct Anything;
+
+impl Sink for Anything {
+    type Fault = ();
+
+    ghost is_ready = { λ _ _. Unit {0} };
+
+    ghost takes = { λ _ _ _ _. Unit {0} };
+
+    ghost refuses = { λ _ _ _ _ _. ⊥ };
+
+    #[inline(always)]
+    fn take(
+        &mut self,
+        number: u64,
+        payload: &[u8],
+        message: &Result<Message<'_>, CodecFault>,
+    ) -> Result<(), ()> {
+        let _number = number;
+        let _payload = payload;
+        let _message = message;
+        Ok(())
     }
 }

@@ -1,12 +1,13 @@
-use Rattle.std.proofs.Common.{◌++◌, ap, arith, length, length-append}
-use Rattle.itchsnap_c.proofs.PassedBlocks.{one_passed}
+use Rattle.std.proofs.Common.{◌++◌, None, Some, refl, ap, ◌∙◌, arith}
+use Rattle.itchsnap_c.proofs.PassedBlocks.{late_found, none_found}
 use Rattle.itchsnap_c.proofs.times.bytes_before.Goals as goal
 
-pub loop-payload-preserved : goal.loop-payload-preserved
-loop-payload-preserved c =
-    let rest = c.loop-payload.reader.held ++ c.loop-payload.reader.reader.rest.now in
-    let more = c.next_message.follows.lender-at-none.held ++ c.next_message.follows.lender-at-none.reader.rest.now in
-    let next = rw (c.in-Ok-Some.is, c.in-Ok-Some.field-0-is) at c.next_message.follows.holds-at-none in (
-      one_passed c.args.limit c.args.blocks.now rest more c.in-Ok-Some.payload.now c.loop-payload.invariant.0 next.0.1.1 (next.0.0, next.0.1.0) (c.is_late.ensures.early c.if-is_late.false),
-      omega (arith, c.loop-payload.invariant.1, ap length next.0.1.1, length-append c.in-Ok-Some.payload.now more),
-    )
+pub returns-in-Late : goal.returns-in-Late
+returns-in-Late c =
+    late_found _ _ _ (record { count = 0; last = None }) refl (λ r. refl) c.args.blocks.now (omega arith) c.args.time c.in_ok-reader.reader c.read_part.new.reader (ap (λ h. Some (h ++ c.in_ok-reader.reader.reader.rest.now)) c.in_ok-reader.ensures.1 ∙ ap (λ s. Some s.rest.now) c.in_ok-reader.ensures.0)
+    c.read_part.new.count _ c.read_part.new.sink c.new-2.ensures c.read_part.result c.read_part.ensures.reads c.in-Late.is
+
+pub returns : goal.returns
+returns c =
+    none_found _ _ _ (record { count = 0; last = None }) refl (λ r. refl) c.args.blocks.now (omega arith) c.args.time c.in_ok-reader.reader c.read_part.new.reader (ap (λ h. Some (h ++ c.in_ok-reader.reader.reader.rest.now)) c.in_ok-reader.ensures.1 ∙ ap (λ s. Some s.rest.now) c.in_ok-reader.ensures.0)
+    c.read_part.new.count _ c.read_part.new.sink c.new-2.ensures c.read_part.result c.read_part.ensures.reads c.in_default.not-Late
