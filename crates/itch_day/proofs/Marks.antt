@@ -1,14 +1,131 @@
--- How marks go on.
-use Rattle.std.proofs.Common.{◌≡◌, ℕ, ◌+◌, List, [], ◌∷◌, ◌++◌, length, refl, arith}
+-- What a mark says of the messages before it.
+use Rattle.std.proofs.Common.{◌≡◌, ℕ, ◌+◌, ◌-◌, ◌^◌, ◌≤◌, min, true, false, List, [], ◌∷◌, ◌++◌, map, length, Option, None, Some, IfSome, refl, subst, ap, ◌∙◌, arith, length-append}
+use Rattle.std.specs.List.{AllByRecursion}
+use Rattle.std.proofs.lemmas.Bool.Decides.{nat_tests}
+use Rattle.itch_codec.specs.Headers.{time_of}
+use Rattle.itch_codec.specs.Messages.{fault, message_of}
+use Rattle.itch_frame.specs.Blocks.{block, blocks}
+use Rattle.itch_frame.specs.Reading.{Reading}
+use Rattle.itch_frame.specs.declared.tally.Failures.{Failures}
+use Rattle.itch_frame.specs.declared.fault.FrameFault.TheVariants.{Read, Truncated, Write, TooLong}
+use Rattle.itch_day.specs.declared.limit.Limit.{Limit}
 use Rattle.itch_day.specs.declared.mark.Mark.{Mark}
-use Rattle.itch_day.specs.Marks.{mark_past, mark_after}
+use Rattle.itch_day.specs.declared.marked.Marked.{Marked}
+use Rattle.itch_day.specs.declared.stop.Stop.{Stop}
+use Rattle.itch_day.specs.declared.stop.Stop.TheVariants.{Full, Late, End, Frame, TooMany, Refused}
+use Rattle.itch_day.specs.Limits.{IsEarly, is_from, is_late}
+use Rattle.itch_day.specs.Marks.{IsMark, RefusesMarked, TakesMarked, first_mark, is_before, is_within, later, latest, mark_after, mark_past, time_by}
+use Rattle.itch_day.specs.Parts.{ReadsPart, StopsAt}
+use Rattle.itch_day.specs.Sinks.{TakesAll}
+
+-- if the later one of two times is before another time, both are
+both_before : (until : ℕ) (before time : Option ℕ) → is_before (Some until) (later before time) ≡ true → (is_before (Some until) before ≡ true) × (is_from until time ≡ false)
+both_before until None None is = (refl, refl)
+both_before until None (Some time) is = (refl, grind (arith, nat_tests))
+both_before until (Some before) None is = (is, refl)
+both_before until (Some before) (Some time) is = (grind (arith, nat_tests), grind (arith, nat_tests))
+
+-- so is each message, if the latest time is
+each_early : (until : Option ℕ) (before : Option ℕ) (ps : List (List ℕ)) → is_before until (latest before (map message_of ps)) ≡ true
+    → (is_before until before ≡ true) × AllByRecursion (λ p. is_late until (message_of p) ≡ false) ps
+each_early None before [] is = (refl, tt)
+each_early None before (p ∷ ps) is = (refl, (refl, (each_early None (later before (time_of (message_of p))) ps is).1))
+each_early (Some until) before [] is = (is, tt)
+each_early (Some until) before (p ∷ ps) is =
+    let rest = each_early (Some until) (later before (time_of (message_of p))) ps is in
+    let first = both_before until before (time_of (message_of p)) rest.0 in
+    (first.0, (first.1, rest.1))
+
+few_enough : (wanted : Option ℕ) (count : ℕ) → is_within wanted count ≡ true → IfSome wanted (λ most. count ≤ most)
+few_enough None count is = tt
+few_enough (Some wanted) count is = grind (arith, nat_tests)
+
+-- the messages of a mark that is in a part are all of that part
+pub in_part : (limit : Limit) (mark : Mark) (ps : List (List ℕ)) → IsMark mark ps → is_within limit.after mark.count ≡ true → is_before limit.until mark.latest ≡ true
+    → IfSome limit.after (λ most. length ps ≤ most) × AllByRecursion (IsEarly limit) ps
+in_part limit mark ps is within before = (
+  subst (λ k. IfSome limit.after (λ most. k ≤ most)) is.count (few_enough limit.after mark.count within),
+  (each_early limit.until None ps (subst (λ t. is_before limit.until t ≡ true) is.latest before)).1,
+)
 
 -- how many messages there are then
 pub count-mark_after : (mark : Mark) (ps : List (List ℕ)) → Mark.count (mark_after mark ps) ≡ mark.count + length ps
 count-mark_after mark [] = omega arith
 count-mark_after mark (p ∷ ps) = omega (arith, count-mark_after (mark_past mark p) ps)
 
--- one message more
-pub mark_after-push : (mark : Mark) (ps : List (List ℕ)) (p : List ℕ) → mark_after mark (ps ++ p ∷ []) ≡ mark_past (mark_after mark ps) p
-mark_after-push mark [] p = refl
-mark_after-push mark (q ∷ ps) p = mark_after-push (mark_past mark q) ps p
+-- how a mark goes on over payloads that spell messages
+record GoesOver (mark : Mark) (ps : List (List ℕ)) (new : Mark) : Type 0 where
+  pub count : new.count ≡ mark.count + length ps
+  pub offset : new.offset ≡ min (mark.offset + length (blocks ps)) (2 ^ 64 - 1)
+  pub times : new.latest ≡ latest mark.latest (map message_of ps)
+
+length-block : (p : List ℕ) → length (block p) ≡ length p + 2
+length-block p = omega arith
+
+goes_over : (mark : Mark) (ps : List (List ℕ)) → mark.offset ≤ 2 ^ 64 - 1 → AllByRecursion (λ p. fault p ≡ None) ps → GoesOver mark ps (mark_after mark ps)
+goes_over mark [] within clean = record { count = omega arith; offset = omega (arith, within); times = refl }
+goes_over mark (p ∷ ps) within clean =
+    let rest = goes_over (mark_past mark p) ps (omega arith) clean.1 in
+    record {
+      count = omega (arith, rest.count);
+      offset = omega (arith, rest.offset, length-append (block p) (blocks ps), length-block p);
+      times = rest.times ∙ ap (λ why. latest (later mark.latest (time_by why p)) (map message_of ps)) clean.0;
+    }
+
+-- the mark after the payloads at the beginning of a day
+pub is_mark : (ps : List (List ℕ)) → AllByRecursion (λ p. fault p ≡ None) ps → IsMark (mark_after first_mark ps) ps
+is_mark ps clean =
+    let over = goes_over first_mark ps (omega arith) clean in record { count = omega (arith, over.count); offset = omega (arith, over.offset); latest = over.times }
+
+module _ {R S F : Type 0} (remaining : R → Option (List ℕ)) (failures : R → Failures) (takes : S → ℕ → List ℕ → S → Type 0) (refuses : S → ℕ → List ℕ → F → S → Type 0) where
+  pub unmarked_all : (s : Marked S) (count : ℕ) (ps : List (List ℕ)) (t : Marked S) → TakesAll (TakesMarked takes) s count ps t
+      → TakesAll takes s.sink count ps t.sink × (t.mark ≡ mark_after s.mark ps)
+  unmarked_all s count [] t same = (ap (λ (m : Marked S). m.sink) same, ap (λ (m : Marked S). m.mark) same)
+  unmarked_all s count (p ∷ ps) t (mid, (took, marked), rest) =
+      let later = unmarked_all mid (count + 1) ps t rest in ((mid.sink, took, later.0), later.1 ∙ ap (λ m. mark_after m ps) marked)
+
+  sink_same : (s t : Marked S) → t ≡ s → t.sink ≡ s.sink
+  sink_same s t same = ap (λ (m : Marked S). m.sink) same
+
+  mark_same : (s t : Marked S) → t ≡ s → t.mark ≡ s.mark
+  mark_same s t same = ap (λ (m : Marked S). m.mark) same
+
+  pub unmarked_stop : (limit : Limit) (count : ℕ) (r : Reading R) (s : Marked S) (stop : Stop F) (t : Marked S) → StopsAt remaining (RefusesMarked refuses) limit count r s stop t
+      → StopsAt remaining refuses limit count r s.sink stop t.sink × (t.mark ≡ s.mark)
+  unmarked_stop limit count r s Full t (same, all) = ((sink_same s t same, all), mark_same s t same)
+  unmarked_stop limit count r s Late t (same, before, late) = ((sink_same s t same, before, late), mark_same s t same)
+  unmarked_stop limit count r s End t (same, before, end) = ((sink_same s t same, before, end), mark_same s t same)
+  unmarked_stop limit count r s (Frame (Truncated held)) t (same, before, cut, is_held, open_end) = ((sink_same s t same, before, cut, is_held, open_end), mark_same s t same)
+  unmarked_stop limit count r s (Frame (Read error)) t (same, before, going) = ((sink_same s t same, before, going), mark_same s t same)
+  unmarked_stop limit count r s (Frame (Write sent error)) t never = absurd never
+  unmarked_stop limit count r s (Frame TooLong) t never = absurd never
+  unmarked_stop limit count r s TooMany t (same, before, many) = ((sink_same s t same, before, many), mark_same s t same)
+  unmarked_stop limit count r s (Refused why) t (before, (p, next, full, room, early, (refused, marked))) = ((before, (p, next, full, room, early, refused)), marked)
+
+  -- what reading a part does to a sink with a mark is what it does to the sink
+  pub unmarked : (limit : Limit) (old new : Reading R) (before count : ℕ) (s : Marked S) (stop : Stop F) (t : Marked S)
+      → ReadsPart remaining failures (TakesMarked takes) (RefusesMarked refuses) limit old new before count s stop t
+      → ReadsPart remaining failures takes refuses limit old new before count s.sink stop t.sink
+  unmarked limit old new before count s stop t reads =
+      let taken = reads.taken in
+      record {
+        payloads = reads.payloads;
+        last = reads.last.sink;
+        taken = record {
+          bytes = taken.bytes;
+          full = taken.full;
+          early = taken.early;
+          wanted = taken.wanted;
+          taken = (unmarked_all s before reads.payloads reads.last taken.taken).0;
+          counted = taken.counted;
+        };
+        stops = (unmarked_stop limit count new reads.last stop t reads.stops).0;
+        leaves = reads.leaves;
+        counts = reads.counts;
+      }
+
+  -- and the mark goes on over its payloads
+  pub marked_after : (limit : Limit) (old new : Reading R) (before count : ℕ) (s : Marked S) (stop : Stop F) (t : Marked S)
+      → (reads : ReadsPart remaining failures (TakesMarked takes) (RefusesMarked refuses) limit old new before count s stop t) → t.mark ≡ mark_after s.mark reads.payloads
+  marked_after limit old new before count s stop t reads =
+      (unmarked_stop limit count new reads.last stop t reads.stops).1 ∙ (unmarked_all s before reads.payloads reads.last reads.taken.taken).1

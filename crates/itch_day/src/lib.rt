@@ -7,12 +7,14 @@
 
 mod limit;
 mod mark;
+mod marked;
 mod reading;
 mod sink;
 mod stop;
 
 pub use limit::Limit;
 pub use mark::Mark;
+pub use marked::Marked;
 pub use reading::{read_further, read_part};
 pub use sink::Sink;
 pub use stop::Stop;

@@ -54,6 +54,7 @@ pub fn read_further<R: CountedRead, A: Allocator, T: Sink>(
 ) -> Stop<T::Fault>
     requires ready { T.is_ready sink.old (count.old + 1) }
     requires few { count.old ≤ 10 ^ 19 - 1 }
+    ensures part { ReadsPart R.remaining R.failures T.takes T.refuses limit reader.old reader.new count.old count.new sink.old result sink.new }
     ensures reads { (first : Reading R) → (begun : ℕ) → (t : T) → (before : AnyLimit) → (stop : AnyStop T.Fault)
         → ReadsPart R.remaining R.failures T.takes T.refuses before first reader.old begun count.old t stop sink.old → GoesOnTo before stop count.old limit
         → ReadsPart R.remaining R.failures T.takes T.refuses limit first reader.new begun count.new t result sink.new }

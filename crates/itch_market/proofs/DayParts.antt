@@ -28,7 +28,7 @@ use Rattle.itch_market.specs.declared.stop.Stop.{Stop}
 use Rattle.itch_market.specs.declared.stop.Stop.TheVariants as stop
 use Rattle.itch_market.proofs.Causes.{none_clean, refuses-laid}
 use Rattle.itch_market.proofs.AppliedMessages.{AreApplied, are_applied}
-use Rattle.itch_market.proofs.PassedBlocks.{cut_not_ended, cut_not_going, is_not_going, never_next, passed_ended, passed_going, passed_off, passed_reader}
+use Rattle.itch_market.proofs.PassedBlocks.{ends_here, cut_not_ended, cut_not_going, is_not_going, never_next, passed_ended, passed_going, passed_off, passed_reader}
 
 -- a message that is not late is early
 is_early : (limit : Limit) (p : List ℕ) → fault p ≡ None → IsNotLate limit p → IsEarly limit p
@@ -42,7 +42,7 @@ are_early limit [] clean early = tt
 are_early limit (p ∷ ps) clean early = (is_early limit p clean.0 early.0, are_early limit ps clean.1 early.1)
 
 -- as many are as are wanted
-full_count : (most count n : ℕ) (after : Option ℕ) → after ≡ Some most → (0 < n → IfSome after (λ k. count ≤ k)) → n ≡ count → (wanted : ℕ) × (after ≡ Some wanted) × (wanted ≤ count) → count ≡ most
+pub full_count : (most count n : ℕ) (after : Option ℕ) → after ≡ Some most → (0 < n → IfSome after (λ k. count ≤ k)) → n ≡ count → (wanted : ℕ) × (after ≡ Some wanted) × (wanted ≤ count) → count ≡ most
 full_count most count n after is within counted (wanted, has, all) = by_count n refl where
   same : wanted ≡ most
   same = let e : Some wanted ≡ Some most = sym has ∙ is in cc
@@ -55,7 +55,7 @@ full_count most count n after is within counted (wanted, has, all) = by_count n 
 module _ {R : Type 0} (remaining : R → Option (List ℕ)) (limit : Limit) (old new : Reading R) (count : ℕ) (m last n : Content) (ps : List (List ℕ))
     (applied : AreApplied m ps last) (bytes : Consumes (bytes_left remaining old) (bytes_left remaining new) (blocks ps)) (full : AllByRecursion IsFull ps) (early : AllByRecursion (IsNotLate limit) ps)
     (counts : length ps ≡ count) (few : count ≤ 10 ^ 19 - 1) where
-  takes_early : n ≡ last → TakesEarly limit m (bytes_left remaining old) (bytes_left remaining new) count ps n
+  pub takes_early : n ≡ last → TakesEarly limit m (bytes_left remaining old) (bytes_left remaining new) count ps n
   takes_early same = (
     record { bytes = bytes; full = full; none = applied.none; fits = applied.fits; left = same ∙ applied.left },
     counts,
@@ -70,10 +70,6 @@ module _ {R : Type 0} (remaining : R → Option (List ℕ)) (limit : Limit) (old
   room : count < 10 ^ 19 - 1 → (count == 10 ^ 19 - 1) ≡ false
   room some = ne_eqb count (10 ^ 19 - 1) (λ same. omega (arith, some, same))
 
-  end_here : ((new.stage ≡ Ended) × (new.held ≡ []) × IsAtEnd (bytes_left remaining new)) ⊎ IsNext new [] → EndsHere (bytes_left remaining new) (bytes_left remaining (passed new))
-  end_here (inl (ended, none, at_end)) = inl at_end
-  end_here (inr next) = inr (passed_off new remaining [] next)
-
   in_frame : (fault : FrameFault) → StopsAt remaining RefusesMessage limit count new last (part.Frame fault) n → HaltsPart limit m (bytes_left remaining old) (bytes_left remaining new) count (stop.Frame fault) n
   in_frame (Truncated held) (same, before, cut, is_held, some) = halts_so (bytes_left remaining new) (stop.Frame (Truncated held)) same before some
   in_frame (Read error) (same, before, going) = halts_so (bytes_left remaining new) (stop.Frame (Read error)) same before (Keeps-refl (bytes_left remaining new))
@@ -87,7 +83,7 @@ module _ {R : Type 0} (remaining : R → Option (List ℕ)) (limit : Limit) (old
       (ps, bytes_left remaining new, takes_early same, inl (wanted ∙ ap Some (sym is), refl))
   part_of part.Late (same, before, (p, next, some, few_before, late)) within =
       (ps, bytes_left remaining new, takes_early same, inr (inl (before, (p, (some, passed_off new remaining p next), late))))
-  part_of part.End (same, before, end) within = halts_so (bytes_left remaining (passed new)) stop.End same before (end_here end)
+  part_of part.End (same, before, end) within = halts_so (bytes_left remaining (passed new)) stop.End same before (ends_here new remaining end)
   part_of (part.Frame fault) stops within = in_frame fault stops
   part_of part.TooMany (same, before, (p, next, some, many)) within =
       halts_so (bytes_left remaining (passed new)) stop.TooManyMessages same before (p, (some, passed_off new remaining p next), eq-eqb count (10 ^ 19 - 1) many)

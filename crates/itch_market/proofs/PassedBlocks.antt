@@ -1,8 +1,8 @@
 -- What passing a block leaves of a reader of blocks.
-use Rattle.std.proofs.Common.{◌≡◌, ℕ, List, [], ◌++◌, Option, None, Some, refl, sym, ap, subst, ◌∙◌}
-use Rattle.std.specs.Io.KnownBytes.{Consumes, prepend_known}
+use Rattle.std.proofs.Common.{◌≡◌, ℕ, List, [], ◌++◌, Option, None, Some, ◌⊎◌, inl, inr, refl, sym, ap, subst, ◌∙◌}
+use Rattle.std.specs.Io.KnownBytes.{Consumes, IsAtEnd, prepend_known}
 use Rattle.itch_frame.specs.Blocks.{block}
-use Rattle.itch_frame.specs.Reading.{Reading, bytes_left, passed, passed_in}
+use Rattle.itch_frame.specs.Reading.{EndsHere, Reading, bytes_left, passed, passed_in}
 use Rattle.itch_frame.specs.declared.reader.Stage.{Stage}
 use Rattle.itch_frame.specs.declared.reader.Stage.TheVariants.{Going, Given, Ended, Cut}
 use Rattle.itch_day.specs.Parts.{IsNext}
@@ -29,6 +29,12 @@ module _ {R : Type 0} (r : Reading R) where
         came_off : (rest : Option (List ℕ)) → Consumes (prepend_known r.held rest) (prepend_known [] rest) (block p)
         came_off None = tt
         came_off (Some rest) = ap (λ h. h ++ rest) same
+
+  -- the messages end there
+  pub ends_here : (remaining : R → Option (List ℕ)) → ((r.stage ≡ Ended) × (r.held ≡ []) × IsAtEnd (bytes_left remaining r)) ⊎ IsNext r []
+      → EndsHere (bytes_left remaining r) (bytes_left remaining (passed r))
+  ends_here remaining (inl (ended, none, at_end)) = inl at_end
+  ends_here remaining (inr next) = inr (passed_off remaining [] next)
 
 -- where no message comes any more there is no next one
 pub never_next : {R : Type 0} (old new : Reading R) (count : ℕ) (stage : Stage) → (stage ≡ Going → ⊥) → new.stage ≡ Going → (old.stage ≡ stage → (count ≡ 0) × (new ≡ old)) → old.stage ≡ stage → ⊥

@@ -76,37 +76,33 @@ pub fn replay_part<R: CountedRead, A: Allocator, B: OrderBook>(
     market.recall_invariant();
     let mut count = 0;
     let stop = read_part(reader, &mut count, market, limit);
-    (count, pass_stop(reader, stop))
+    pass_stop(reader, &stop);
+    (count, reason_of(stop))
 }
 
-/// Passes the block that a part of a day stopped at, and returns why a replay stops there.
-pub fn pass_stop<R: CountedRead, A: Allocator>(
-    reader: &mut BlockReader<R, A>,
-    stop: PartStop<Refused>,
-) -> Option<Stop>
-    requires { IsLeft stop reader.old }
-    ensures reason { result ≡ reason_of stop }
-    ensures reader { reader.new ≡ left_by stop reader.old }
+// Passes the block that a part of a day stopped at.
+fn pass_stop<R: CountedRead, A: Allocator>(reader: &mut BlockReader<R, A>, stop: &PartStop<Refused>)
+    requires { IsLeft stop.now reader.old }
+    ensures { reader.new ≡ left_by stop.now reader.old }
 {
     match stop {
-        PartStop::Full => None,
+        PartStop::Full | PartStop::Frame(_) => {}
+        PartStop::Late | PartStop::End | PartStop::TooMany | PartStop::Refused(_) => {
+            reader.pass_held();
+        }
+    }
+}
+
+/// Why a replay stops where a part of a day goes no further, or `None` where it has all messages that are wanted.
+pub fn reason_of(stop: PartStop<Refused>) -> Option<Stop>
+    ensures { result ≡ reason_of stop }
+{
+    match stop {
+        PartStop::Full | PartStop::Late => None,
+        PartStop::End => Some(Stop::End),
         PartStop::Frame(fault) => Some(Stop::Frame(fault)),
-        PartStop::Late => {
-            reader.pass_held();
-            None
-        }
-        PartStop::End => {
-            reader.pass_held();
-            Some(Stop::End)
-        }
-        PartStop::TooMany => {
-            reader.pass_held();
-            Some(Stop::TooManyMessages)
-        }
-        PartStop::Refused(why) => {
-            reader.pass_held();
-            Some(Stop::from(why))
-        }
+        PartStop::TooMany => Some(Stop::TooManyMessages),
+        PartStop::Refused(why) => Some(Stop::from(why)),
     }
 }
 

@@ -12,8 +12,8 @@ returns g c =
     let reads = c.read_part-stop.ensures.reads in
     let left = is_part_left _ _ c.args.limit _ _ _ _ _ _ _ refl reads in
     record {
-      part = rw (c.pass_stop.ensures.reason, c.pass_stop.ensures.reader)
+      part = rw (c.reason_of.ensures, c.pass_stop.ensures)
           (is_part _ _ c.args.limit _ _ _ _ _ _ _ c.recall_invariant.ensures.good c.recall_invariant.ensures.in_order refl reads c.read_part-stop.ensures.few);
-      failures = rw (c.pass_stop.ensures.reason, c.pass_stop.ensures.reader) left.1;
-      reader = rw (c.pass_stop.ensures.reason, c.pass_stop.ensures.reader) left.0;
+      failures = rw (c.reason_of.ensures, c.pass_stop.ensures) left.1;
+      reader = rw (c.reason_of.ensures, c.pass_stop.ensures) left.0;
     }

@@ -1,0 +1,62 @@
+//! A sink that notes how far the day was read.
+ghost use Rattle.std.specs.Prelude.{◌≡◌, ℕ, List};
+ghost use Rattle.itch_day.specs.Marks.{time_at};
+ghost use Rattle.itch_day.specs.Sinks.{Decodes};
+
+use crate::mark::Mark;
+use crate::sink::Sink;
+use itch_codec::{CodecFault, Message};
+
+/// A sink, and the mark after the messages that it took.
+#[derive(Drop)]
+pub struct Marked<S> {
+    /// What takes the messages.
+    pub sink: S,
+    /// How far the day was read.
+    pub mark: Mark,
+}
+
+impl<S: Sink> Sink for Marked<S> {
+    ghost use Rattle.std.specs.Prelude.{◌≡◌, ◌+◌};
+    ghost use Rattle.itch_day.specs.Marks.{RefusesMarked, TakesMarked};
+
+    type Fault = S::Fault;
+
+    ghost is_ready = { λ s number. S.is_ready s.sink number × (number ≡ s.mark.count + 1) };
+
+    ghost takes = { TakesMarked S.takes };
+
+    ghost refuses = { RefusesMarked S.refuses };
+
+    #[inline(always)]
+    fn take(
+        &mut self,
+        number: u64,
+        payload: &[u8],
+        message: &Result<Message<'_>, CodecFault>,
+    ) -> Result<(), S::Fault> {
+        match self.sink.take(number, payload, message) {
+            Ok(()) => {
+                self.mark = self.mark.past(payload, time_of(message));
+                Ok(())
+            }
+            Err(why) => Err(why),
+        }
+    }
+
+    #[inline(always)]
+    fn look_ahead(&mut self, blocks: &[u8]) {
+        self.sink.look_ahead(blocks);
+    }
+}
+
+// The time of what was decoded, if it is a message that has one.
+#[inline(always)]
+fn time_of(message: &Result<Message<'_>, CodecFault>) -> Option<u64>
+    ensures { (payload : List ℕ) → Decodes payload message.now → result ≡ time_at payload }
+{
+    match message {
+        Ok(message) => message.time(),
+        Err(_fault) => None,
+    }
+}
