@@ -266,7 +266,7 @@ fn the_nearest_checkpoint_is_not_beyond(rt: HostRuntime) {
     for (mark, limit, wanted) in cases {
         same_in(&rt, mark, mark.is_nearer(&at(1, None), limit), wanted);
     }
-    let read = |latest, limit| Mark::read(2, 200, latest, limit);
+    let read = |latest: Latest, limit| latest.mark(2, 200, limit);
     same(
         &rt,
         read(Latest::Known(Some(5)), before(6)),

@@ -1,7 +1,7 @@
 //! Parts of a day, read one after another.
 use crate::equal::{same, same_in};
 use itch_codec::{CodecFault, MOST_MESSAGES, Message};
-use itch_day::{Limit, Sink, Stop, read_further, read_part};
+use itch_day::{Limit, Mark, Marked, Sink, Stop, read_further, read_part};
 use itch_frame::testing::PieceReader;
 use itch_frame::{BlockReader, CountedRead, FrameFault};
 use std::alloc::Allocator;
@@ -223,6 +223,39 @@ fn nothing_is_lost_whichever_read_fails(rt: HostRuntime) -> Result<(), Fail> {
         let source = PieceReader::new(DAY, 1, Some(at));
         let mut reader = BlockReader::new(rt.alloc(), source)?;
         fails_and_goes_on(&rt, &mut reader, at);
+    }
+    Ok(())
+}
+
+// The mark after the messages before a time.
+fn mark_at<R: CountedRead, A: Allocator>(reader: &mut BlockReader<R, A>, until: u64) -> Mark {
+    let sink = Picky {
+        refused: 0,
+        taken: 0,
+    };
+    let mut marked = Marked {
+        sink,
+        mark: Mark::new(),
+    };
+    let mut count = 0;
+    let limit = Limit {
+        after: None,
+        until: Some(until),
+    };
+    let _stop = read_part(reader, &mut count, &mut marked, limit);
+    marked.mark
+}
+
+#[test]
+fn a_mark_is_past_what_was_taken(rt: HostRuntime) -> Result<(), Fail> {
+    for (until, count, latest) in [(1, 0, None), (3, 2, Some(2)), (9, 5, Some(4))] {
+        let mut reader = BlockReader::new(rt.alloc(), PieceReader::new(DAY, 9, None))?;
+        let mark = Mark {
+            count,
+            offset: 14 * count,
+            latest,
+        };
+        same_in(&rt, until, mark_at(&mut reader, until), mark);
     }
     Ok(())
 }

@@ -16,7 +16,7 @@ use Rattle.itch_snapshot.specs.Snapshot.{snap}
 use Rattle.itch_snapshot.proofs.OneSnapshot.{snap_same, same_snap, snap-laid}
 use Rattle.itch_commands.specs.Comparing.{IsPartPlace}
 use Rattle.itch_commands.specs.Readings.{AreTaken}
-use Rattle.itch_commands.specs.declared.limit.Limit.{Limit}
+use Rattle.itch_day.specs.declared.limit.Limit.{Limit}
 use Rattle.itch_commands.proofs.Snapshots.{taken_short}
 
 -- what was taken leaves a good market

@@ -16,8 +16,9 @@ use Rattle.itch_market.proofs.ReplayedFiles.{replays_stop}
 use Rattle.itch_commands.specs.declared.fault.ToolFault.{ToolFault}
 use Rattle.itch_commands.specs.declared.fault.ToolFault.TheVariants as tool
 use Rattle.itch_commands.specs.declared.fault.Source.{Source}
-use Rattle.itch_commands.specs.declared.limit.Limit.{Limit}
-use Rattle.itch_commands.specs.Readings.{AreTaken, IsPart, IsCut, IsEnough, HaltsPart, LeavesPart, LeavesDay, ReadsMarket, CountsRead, ReadsDay}
+use Rattle.itch_day.specs.declared.limit.Limit.{Limit}
+use Rattle.itch_market.specs.DayParts.{IsEnough, HaltsPart}
+use Rattle.itch_commands.specs.Readings.{AreTaken, IsPart, IsCut, LeavesPart, LeavesDay, ReadsMarket, CountsRead, ReadsDay}
 use Rattle.itch_commands.proofs.PartReadings.{halts_replays}
 
 -- the messages that were applied

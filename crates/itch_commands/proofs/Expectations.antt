@@ -5,7 +5,7 @@ use Rattle.itch_market.specs.Content.{Content}
 use Rattle.itch_market.specs.Runs.{run}
 use Rattle.itch_commands.specs.Expectations.{unmet, unmet_of}
 use Rattle.itch_commands.specs.declared.expected.Expected.{Expected}
-use Rattle.itch_commands.specs.declared.limit.Limit.{Limit}
+use Rattle.itch_day.specs.declared.limit.Limit.{Limit}
 use Rattle.itch_commands.proofs.DayReadings.{Applied}
 
 -- what the number of the messages and the last event differ in, the messages differ in

@@ -5,16 +5,14 @@ use Rattle.std.proofs.lemmas.List.{length-map}
 use Rattle.std.proofs.KnownBytes.{Keeps-refl}
 use Rattle.std.specs.List.{AllByRecursion}
 use Rattle.std.specs.Option.{option_map}
-use Rattle.itch_book.proofs.Lists.{All-weaker_rec}
 use Rattle.itch_codec.specs.Messages.{fault, message_of}
-use Rattle.itch_codec.specs.Headers.{time_of}
 use Rattle.itch_frame.specs.Reading.{Reading, bytes_left, passed}
 use Rattle.itch_frame.specs.declared.fault.FrameFault.{FrameFault}
 use Rattle.itch_frame.specs.declared.fault.FrameFault.TheVariants.{Read, Truncated, Write, TooLong}
 use Rattle.itch_frame.specs.declared.tally.Failures.{Failures}
 use Rattle.itch_day.specs.declared.stop.Stop.{Stop as Part}
 use Rattle.itch_day.specs.declared.stop.Stop.TheVariants as reading
-use Rattle.itch_day.specs.Limits as day
+use Rattle.itch_day.specs.Limits.{IsBefore, IsWithin}
 use Rattle.itch_day.specs.Parts.{Counts as CountsPart, IsNext, Leaves, StopsAt, Takes, UnlessRefused}
 use Rattle.itch_market.specs.Content.{Content, laid}
 use Rattle.itch_market.specs.GoodMarkets.{IsGood}
@@ -35,16 +33,16 @@ use Rattle.itch_join.specs.Takings.{IsJoined, MayTake, RefusesNumbered, TakesNum
 use Rattle.itch_commands.specs.AsRead.{as_read}
 use Rattle.itch_commands.specs.FeedParts.{beyond, misfit_of, number_after, of_day, part_of}
 use Rattle.itch_commands.specs.Joiners.{FeedsJoiner, IsAfter, IsStart, ended_feed, start_of, uncounted}
-use Rattle.itch_commands.specs.Joining.{EndsFeed, HaltsFeed, IsNotLate, IsOfMessage, LateFeed, ReadsFeed, Start, StopsFeed, TakesFeed, TakesWanted, joined_market}
-use Rattle.itch_commands.specs.Limits.{IsBefore, IsLate, is_from, is_late}
-use Rattle.itch_commands.specs.Readings.{IsPart, LateNext, LeavesDay, stopped}
+use Rattle.itch_commands.specs.Joining.{EndsFeed, HaltsFeed, IsOfMessage, LateFeed, ReadsFeed, Start, StopsFeed, TakesFeed, TakesWanted, joined_market}
+use Rattle.itch_market.specs.DayParts.{LateNext}
+use Rattle.itch_commands.specs.Readings.{IsPart, LeavesDay, stopped}
 use Rattle.itch_commands.specs.declared.fault.Source.TheVariants.{Only}
 use Rattle.itch_commands.specs.declared.fault.ToolFault.{ToolFault}
 use Rattle.itch_commands.specs.declared.fault.ToolFault.TheVariants as tool
 use Rattle.itch_commands.specs.declared.feed_part.FeedPart.{FeedPart}
 use Rattle.itch_commands.specs.declared.feed_part.Misfit.{Misfit}
 use Rattle.itch_commands.specs.declared.feed_part.Misfit.TheVariants.{Gap, Beyond, Late}
-use Rattle.itch_commands.specs.declared.limit.Limit.{Limit}
+use Rattle.itch_day.specs.declared.limit.Limit.{Limit}
 use Rattle.itch_commands.proofs.DayReadings.{is_part}
 use Rattle.itch_commands.proofs.FeedsTaken.{AreFed, are_fed, near}
 use Rattle.itch_commands.proofs.FeedStops.{feed_decided}
@@ -74,21 +72,8 @@ feed_misfits remaining failures read part old new start (Late number) is same = 
 
 -- a part, counted from the first message of the day ----------------------------
 
-same_late : (until : Option ℕ) (p : List ℕ) → day.is_late until (message_of p) ≡ is_late until (message_of p)
-same_late None p = refl
-same_late (Some until) p = by_time (time_of (message_of p)) where
-  by_time : (time : Option ℕ) → day.is_from until time ≡ is_from until time
-  by_time None = refl
-  by_time (Some time) = refl
-
-late_here : (before : ℕ) (limit : Limit) (p : List ℕ) → day.IsLate (of_day before limit) p → IsLate limit p
-late_here before limit p (clean, late) = (clean, sym (same_late limit.until p) ∙ late)
-
-late_there : (before : ℕ) (limit : Limit) (p : List ℕ) → IsLate limit p → day.IsLate (of_day before limit) p
-late_there before limit p (clean, late) = (clean, same_late limit.until p ∙ late)
-
 -- fewer are fewer, by either count
-before_here : (before count n : ℕ) (limit : Limit) → count ≡ before + n → day.IsBefore (of_day before limit) count → IsBefore limit n
+before_here : (before count n : ℕ) (limit : Limit) → count ≡ before + n → IsBefore (of_day before limit) count → IsBefore limit n
 before_here before count n limit counted = by_after limit.after where
   by_after : (after : Option ℕ) → IfSome (option_map (λ most. before + most) after) (λ most. count < most) → IfSome after (λ most. n < most)
   by_after None few = tt
@@ -96,7 +81,7 @@ before_here before count n limit counted = by_after limit.after where
 
 -- and as many as are wanted
 all_here : (before count n : ℕ) (limit : Limit) → count ≡ before + n → (most : ℕ) × ((of_day before limit).after ≡ Some most) × (most ≤ count)
-    → (0 < n → day.IsWithin (of_day before limit) count) → limit.after ≡ Some n
+    → (0 < n → IsWithin (of_day before limit) count) → limit.after ≡ Some n
 all_here before count n limit counted = by_after limit.after where
   by_after : (after : Option ℕ) → (most : ℕ) × (option_map (λ most. before + most) after ≡ Some most) × (most ≤ count)
       → (0 < n → IfSome (option_map (λ most. before + most) after) (λ most. count ≤ most)) → after ≡ Some n
@@ -161,7 +146,7 @@ module _ {R : Type 0} (remaining : R → Option (List ℕ)) (failures : R → Fa
     full = took.full;
     taken = fed.none;
     few = omega (arith, within, took.counted);
-    in_time = All-weaker_rec (day.IsNotLate (of_day part.before limit)) (IsNotLate part.limit) (λ p early late. early (late_there part.before limit p late)) ps took.early;
+    in_time = took.early;
   }
 
   number : count + 1 ≡ number_after part.before ps
@@ -170,7 +155,7 @@ module _ {R : Type 0} (remaining : R → Option (List ℕ)) (failures : R → Fa
   sum : part.before + length ps ≡ count
   sum = sym took.counted
 
-  fewer : day.IsBefore (of_day part.before limit) count → IsBefore limit (length ps)
+  fewer : IsBefore (of_day part.before limit) count → IsBefore limit (length ps)
   fewer is = before_here part.before count (length ps) limit took.counted is
 
   after_now : k ≡ last → IsJoined k.state → IsAfter part.before start (map read ps) k.state
@@ -191,7 +176,7 @@ module _ {R : Type 0} (remaining : R → Option (List ℕ)) (failures : R → Fa
   )
 
   -- a stop where more are wanted
-  ends : (why : Stop) (to : Reading R) → day.IsBefore (of_day part.before limit) count → (IsOfMessage why → Position.next (position_of last.state) ≡ count + 1)
+  ends : (why : Stop) (to : Reading R) → IsBefore (of_day part.before limit) count → (IsOfMessage why → Position.next (position_of last.state) ≡ count + 1)
       → HaltsFeed read part.limit (count + 1 == 10 ^ 19) (Position.market (position_of last.state)) (bytes_left remaining new) (bytes_left remaining to) why
       → EndsFeed read part start (bytes_left remaining old) (bytes_left remaining to) ps why
   ends why to more at_next halts =
@@ -288,7 +273,7 @@ module _ {R : Type 0} (remaining : R → Option (List ℕ)) (failures : R → Fa
           (some, passed_off new remaining p next),
           room few,
           subst (λ s. Refuses (Position.market (position_of last.state)) (as_read (has s) p) r) fed_so.1 (denied_as (has last.set) (Position.market (position_of last.state)) p r denies.refused),
-          λ late. in_time (late_there part.before limit p late),
+          in_time,
         ))
         failed left
 
@@ -304,7 +289,7 @@ module _ {R : Type 0} (remaining : R → Option (List ℕ)) (failures : R → Fa
     failed = stop_counts remaining failures RefusesNumbered (of_day part.before limit) old new count (length ps) last k reading.Late (same, more, (p, is_next, some, few, late)) counts
 
     at_late : LateFeed read part start (bytes_left remaining old) (bytes_left remaining (passed new)) ps
-    at_late = (fewer more, bytes_left remaining new, takes, (p, (some, passed_off new remaining p is_next), late_here part.before limit p late))
+    at_late = (fewer more, bytes_left remaining new, takes, (p, (some, passed_off new remaining p is_next), late))
 
     onto : next ≡ max start.1 (number_after part.before ps)
     onto = there ∙ ap (λ (i : Joining). Position.next (position_of i.state)) same ∙ fed.next ∙ ap (λ l. max start.1 (part.before + l + 1)) (length-map ps read)

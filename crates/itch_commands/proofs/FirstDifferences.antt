@@ -27,13 +27,14 @@ use Rattle.itch_market.proofs.SameMarkets.{laid_is_same, same_back, same_chain}
 use Rattle.itch_snapshot.specs.Snapshot.{snap}
 use Rattle.itch_join.proofs.Premises.{laid_empty}
 use Rattle.itch_commands.specs.FirstDifferences.{IsChange, IsSameAt, IsWithin, limited_to, count_of, ReadsUpTo, IsRefusedAfter, AppliesNext, AreAlike, Steps, FindsFirst}
-use Rattle.itch_commands.specs.Limits.{IsBefore, most_of}
-use Rattle.itch_commands.specs.Readings.{AreTaken, TakesEarly, IsEnough, LeavesDay, ReadsDay, ReadsMarket, CountsRead, stopped}
+use Rattle.itch_day.specs.Limits.{IsBefore, most_of}
+use Rattle.itch_market.specs.DayParts.{TakesEarly, IsEnough}
+use Rattle.itch_commands.specs.Readings.{AreTaken, LeavesDay, ReadsDay, ReadsMarket, CountsRead, stopped}
 use Rattle.itch_commands.specs.declared.fault.Source.{Source}
 use Rattle.itch_commands.specs.declared.fault.Source.TheVariants.{First, Second}
 use Rattle.itch_commands.specs.declared.fault.ToolFault.{ToolFault}
 use Rattle.itch_commands.specs.declared.fault.ToolFault.TheVariants as tool
-use Rattle.itch_commands.specs.declared.limit.Limit.{Limit}
+use Rattle.itch_day.specs.declared.limit.Limit.{Limit}
 use Rattle.itch_commands.proofs.Comparisons.{taken_good, taken_few}
 use Rattle.itch_commands.proofs.DayReadings.{is_part, day_fails}
 use Rattle.itch_commands.proofs.PartReadings.{SoFar, all_wanted, taken_more, stops_there, stopped_so, stopped_counts, stopped_leaves, late_given, late_leaves, all_leaves}

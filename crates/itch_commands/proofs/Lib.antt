@@ -33,8 +33,6 @@ pub mod RecordedLines
 pub mod LocateLists
 pub mod StockNames
 pub mod UnfilteredLines
-pub mod Marks
-pub mod Points
 pub mod PointReadings
 pub mod PassedBytes
 pub mod WrittenLocates

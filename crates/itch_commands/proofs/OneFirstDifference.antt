@@ -10,9 +10,9 @@ use Rattle.itch_frame.proofs.Days.{day_one, day_last, day_some, front_of_day}
 use Rattle.itch_market.specs.Runs.{run}
 use Rattle.itch_market.specs.SameMarkets.{Same}
 use Rattle.itch_commands.specs.FirstDifferences.{IsSameAt, IsFront, IsPlaceIn, IsSameIn}
-use Rattle.itch_commands.specs.Limits.{IsEarly, is_late}
+use Rattle.itch_day.specs.Limits.{IsEarly, is_late}
 use Rattle.itch_commands.specs.Readings.{AreTaken, IsPart, IsCut}
-use Rattle.itch_commands.specs.declared.limit.Limit.{Limit}
+use Rattle.itch_day.specs.declared.limit.Limit.{Limit}
 use Rattle.itch_commands.proofs.FirstDifferences.{within_so_far}
 
 -- the payloads in front of a file are the first of all its payloads

@@ -1,4 +1,4 @@
--- What reading the wanted part of a day file has done so far, and one block more.
+-- What reading the wanted part of a day file returns, and what it has done so far.
 use Rattle.std.proofs.Common.{◌≡◌, ℕ, ◌+◌, ◌-◌, ◌^◌, ◌≤◌, ◌<◌, ◌==◌, Bool, true, false, List, [], ◌∷◌, ◌++◌, map, Option, None, Some, IsSome, IfSome, Ok, Err, inl, inr, refl, sym, ap, subst, ◌∙◌, arith, length-append}
 use Rattle.std.proofs.KnownBytes.{Consumes-nil}
 use Rattle.itch_codec.specs.Messages.{message_of}
@@ -16,19 +16,16 @@ use Rattle.itch_market.specs.declared.stop.Stop.TheVariants.{End, Frame, Codec, 
 use Rattle.itch_market.proofs.Causes.{halts-laid, refuses-laid, none_more, after_more}
 use Rattle.itch_market.proofs.ReplayProgress.{taken_on, not_full}
 use Rattle.itch_market.proofs.ReplayReaders.{Standing, standing_on, standing_stops, standing_short}
-use Rattle.itch_commands.specs.Limits.{IsEarly, IsBefore, is_late, most_of}
-use Rattle.itch_commands.specs.Readings.{TakesEarly, TakesPart, TakesNext, TakesPayload, HaltsEarly, HaltsPart, ReadsMarket, CountsRead, LeavesDay, stopped}
+use Rattle.itch_day.specs.Limits.{IsEarly, IsBefore, is_late, most_of}
+use Rattle.itch_market.specs.DayParts.{TakesEarly, HaltsEarly, HaltsPart, LeavesPartOf}
+use Rattle.itch_commands.specs.Readings.{TakesNext, TakesPayload, ReadsMarket, CountsRead, LeavesDay, stopped}
 use Rattle.itch_commands.specs.declared.fault.Source.{Source}
-use Rattle.itch_commands.specs.declared.limit.Limit.{Limit}
+use Rattle.itch_day.specs.declared.limit.Limit.{Limit}
 
 -- only where a time is given, a message is late
 pub late_given : (until : Option ℕ) (message : Message) → is_late until message ≡ true → IsSome until
 late_given None message late = cc
 late_given (Some time) message late = refl
-
--- a message that is late is so by the time that is given
-pub late_until : (limit : Limit) (full : Bool) (m n : Content) (old new : Option (List ℕ)) → TakesNext limit full m old new (Ok false) n → IsSome limit.until
-late_until limit full m n old new (same, (p, off, (clean, late))) = late_given limit.until (message_of p) late
 
 -- fewer messages than may come are fewer than are wanted
 pub before_most : (wanted : Option ℕ) (count : ℕ) → count < most_of wanted → IfSome wanted (λ most. count < most)
@@ -50,19 +47,6 @@ pub record SoFar (limit : Limit) (m : Content) (old new : Option (List ℕ)) (co
   pub good : IsGood (after m (map message_of payloads))
 
 module _ (limit : Limit) (m : Content) where
-  -- at first none was
-  pub none_so_far : (bytes : Option (List ℕ)) → IsGood m → laid m ≡ m → SoFar limit m bytes bytes 0 m
-  none_so_far bytes good in_place = record {
-    payloads = [];
-    takes = (
-      record { bytes = Consumes-nil bytes; full = tt; none = λ k within. absurd (omega arith); fits = tt; left = sym in_place },
-      refl,
-      omega arith,
-      tt,
-    );
-    good = good;
-  }
-
   -- one message more is taken
   pub taken_more : (old mid new : Option (List ℕ)) (count : ℕ) (n k : Content) (ps : List (List ℕ)) (p : List ℕ) → TakesEarly limit m old mid count ps n → IsGood (after m (map message_of ps))
       → TakesOff mid new p → (count == 10 ^ 19 - 1) ≡ false → TakesPayload limit n p (Ok true) k
@@ -85,12 +69,6 @@ module _ (limit : Limit) (m : Content) where
       )
 
   module _ (old mid new : Option (List ℕ)) (count : ℕ) (n k : Content) (so_far : SoFar limit m old mid count n) where
-    -- then one more
-    pub one_more : TakesNext limit (count == 10 ^ 19 - 1) n mid new (Ok true) k → SoFar limit m old new (count + 1) k
-    one_more (p, off, room, early, step) =
-        let more = taken_more old mid new count n k so_far.payloads p so_far.takes so_far.good off room (early, step) in
-        record { payloads = so_far.payloads ++ p ∷ []; takes = more.0; good = more.1 }
-
     laid_halts : (full : Bool) (x : Content) (stop : Stop) → IsGood x → HaltsEarly limit full (laid x) mid new stop → HaltsEarly limit full x mid new stop
     laid_halts full x (Rule why) good (p, off, room, refuses, early) = (p, off, room, refuses-laid x p why good refuses, early)
     laid_halts full x End good halts = halts-laid full x mid new End good halts
@@ -109,15 +87,6 @@ module _ (limit : Limit) (m : Content) where
           laid_halts (count == 10 ^ 19 - 1) (after m (map message_of ps)) stop so_far.good
               (subst (λ x. HaltsEarly limit (count == 10 ^ 19 - 1) x mid new stop) so_far.takes.0.left halts),
         )
-
-    -- or the next one is late
-    pub late_there : IsBefore limit count → TakesNext limit (count == 10 ^ 19 - 1) n mid new (Ok false) k → TakesPart limit m old new count k
-    late_there before (same, late) =
-        (so_far.payloads, mid, subst (TakesEarly limit m old mid count so_far.payloads) (sym same) so_far.takes, inr (inl (before, late)))
-
-  -- or no more are wanted
-  pub all_there : (old new : Option (List ℕ)) (count : ℕ) (n : Content) → SoFar limit m old new count n → limit.after ≡ Some count → TakesPart limit m old new count n
-  all_there old new count n so_far all = (so_far.payloads, new, so_far.takes, inl (all, refl))
 
 -- a message that is late is not refused; apart from that it is a stop of a replay
 pub halts_replays : (limit : Limit) (m : Content) (old new : Option (List ℕ)) (count : ℕ) (stop : Stop) (n : Content) → HaltsPart limit m old new count stop n
@@ -155,6 +124,11 @@ module _ (file : Source) (limit : Limit) (m : Content) (old new : Option (List �
   stopped_counts (Codec f) before now counts = counts
   stopped_counts (Rule why) before now counts = counts
   stopped_counts TooManyMessages before now counts = counts
+
+-- where a part that nothing stopped leaves the reader
+pub part_leaves : {R : Type 0} (limit : Limit) (old : Reading R) (count : ℕ) (new : Reading R) → LeavesPartOf limit old count None new → LeavesDay (Ok count) limit old new
+part_leaves limit old count new (inl leaves) = inl leaves
+part_leaves limit old count new (inr leaves) = inr (inl leaves)
 
 module _ {R : Type 0} (file : Source) (limit : Limit) (count : ℕ) (old new : Reading R) where
   ended_leaves : (wanted : Option ℕ) → limit.after ≡ wanted → LeavesReaderFirst old count (Some End) new → LeavesDay (stopped End wanted file count) limit old new

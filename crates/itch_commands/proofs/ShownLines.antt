@@ -22,9 +22,9 @@ use Rattle.itch_commands.specs.declared.fault.Source.TheVariants.{Only}
 use Rattle.itch_commands.specs.declared.fault.ToolFault.{ToolFault}
 use Rattle.itch_commands.specs.declared.fault.ToolFault.TheVariants as tool
 use Rattle.itch_commands.specs.declared.form.ShowForm.{ShowForm}
-use Rattle.itch_commands.specs.declared.limit.Limit.{Limit}
+use Rattle.itch_day.specs.declared.limit.Limit.{Limit}
 use Rattle.itch_commands.specs.Choices.{Chosen, chosen_after, chosen_past, chosen_line, chosen_lines, are_found_in}
-use Rattle.itch_commands.specs.Limits.{IsEarly, IsBefore}
+use Rattle.itch_day.specs.Limits.{IsEarly, IsBefore}
 use Rattle.itch_commands.specs.Sought.{are_found}
 use Rattle.itch_commands.specs.Readings.{CountsRead}
 use Rattle.itch_commands.specs.Outputs.{Wrote}

@@ -30,7 +30,7 @@ use Rattle.itch_snapshot.proofs.CanonicalBytes.{canon-laid}
 use Rattle.itch_commands.specs.Outputs.{snapshot_of, snapshot_in, directory_after, stocks_snapshot}
 use Rattle.itch_commands.specs.Stocks.{are_known, has_one_of, only_stocks, IsStockFault}
 use Rattle.itch_commands.specs.declared.fault.ToolFault.{ToolFault}
-use Rattle.itch_commands.specs.declared.limit.Limit.{Limit}
+use Rattle.itch_day.specs.declared.limit.Limit.{Limit}
 use Rattle.itch_commands.proofs.DayReadings.{Applied}
 
 -- what was taken from the empty market has no more messages than were taken

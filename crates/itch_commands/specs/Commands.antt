@@ -25,7 +25,7 @@ use Rattle.itch_commands.specs.declared.form.BookForm.TheVariants.{Text}
 use Rattle.itch_commands.specs.declared.form.Form.{Form}
 use Rattle.itch_commands.specs.declared.form.ShowForm.{ShowForm}
 use Rattle.itch_commands.specs.declared.kind.FileKind.{FileKind}
-use Rattle.itch_commands.specs.declared.limit.Limit.{Limit}
+use Rattle.itch_day.specs.declared.limit.Limit.{Limit}
 
 module _ {R W : Type 0} (remaining : R → Option (List ℕ)) (failed_reads : R → Failures) (contents : W → Option (List ℕ)) (failed_writes : W → Failures) where
   -- `check`: the number of the messages of a day file, or of its part, which is as expected

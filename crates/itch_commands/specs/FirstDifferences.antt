@@ -21,7 +21,7 @@ use Rattle.itch_commands.specs.declared.fault.ToolFault.{ToolFault}
 use Rattle.itch_commands.specs.declared.fault.ToolFault.TheVariants as tool
 use Rattle.itch_commands.specs.declared.form.Form.{Form}
 use Rattle.itch_commands.specs.declared.form.Form.TheVariants as form
-use Rattle.itch_commands.specs.declared.limit.Limit.{Limit}
+use Rattle.itch_day.specs.declared.limit.Limit.{Limit}
 
 -- the markets after k messages of each are the same; of fewer payloads all count
 abbrev pub IsSameAt : List (List ℕ) → List (List ℕ) → ℕ → Type 0

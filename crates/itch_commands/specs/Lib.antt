@@ -1,5 +1,4 @@
 pub mod Statuses
-pub mod Limits
 pub mod Readings
 pub mod Points
 pub mod PointFiles

@@ -1,7 +1,7 @@
 -- The index of the snapshots of a folder: a line for each.
 use Rattle.std.specs.Prelude.{ℕ, List, [], ◌++◌, codes, decimal, Option, None, Some}
 use Rattle.itch_commands.specs.declared.snap.fingerprint.Fingerprint.{Fingerprint}
-use Rattle.itch_commands.specs.declared.snap.mark.Mark.{Mark}
+use Rattle.itch_day.specs.declared.mark.Mark.{Mark}
 
 -- a number of JSON, or null where there is none
 abbrev pub number_or_null : Option ℕ → List ℕ

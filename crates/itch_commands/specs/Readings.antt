@@ -8,6 +8,7 @@ use Rattle.itch_frame.specs.Reading.{Reading, bytes_left, EndsHere}
 use Rattle.itch_frame.specs.declared.reader.Stage.TheVariants.{Going}
 use Rattle.itch_frame.specs.declared.tally.Failures.{Failures}
 use Rattle.itch_market.specs.Content.{Content, empty}
+use Rattle.itch_market.specs.DayParts.{HaltsEarly, HaltsPart, IsEnough, LateNext, TakesPart}
 use Rattle.itch_market.specs.Runs.{after}
 use Rattle.itch_market.specs.declared.stop.Stop.{Stop}
 use Rattle.itch_market.specs.declared.stop.Stop.TheVariants.{End, Rule}
@@ -15,11 +16,11 @@ use Rattle.itch_market.specs.Replays.{NoCause, TakesOff, TakesOne, Takes, Halts,
 use Rattle.itch_market.specs.Stops.{Stops}
 use Rattle.itch_snapshot.specs.Files.{IsFaultOf, IsMarketOf}
 use Rattle.itch_snapshot.specs.Reads.{ReadsSnapshot, CountsFault, IsDecidedFault}
-use Rattle.itch_commands.specs.Limits.{IsEarly, IsLate, IsBefore}
+use Rattle.itch_day.specs.Limits.{IsEarly, IsLate, IsBefore}
 use Rattle.itch_commands.specs.declared.fault.ToolFault.{ToolFault}
 use Rattle.itch_commands.specs.declared.fault.ToolFault.TheVariants as tool
 use Rattle.itch_commands.specs.declared.fault.Source.{Source}
-use Rattle.itch_commands.specs.declared.limit.Limit.{Limit}
+use Rattle.itch_day.specs.declared.limit.Limit.{Limit}
 
 -- these payloads were taken in order, from the empty market: none is empty, faulty, refused or late
 pub record AreTaken (limit : Limit) (payloads : List (List ℕ)) : Type 0 where
@@ -43,37 +44,6 @@ IsCut limit count rest = (limit.after ≡ Some count) ⊎ (IsBefore limit count 
 -- the payloads of the part of a file that is wanted, with their blocks one after the other
 abbrev pub IsPart : Limit → List ℕ → List (List ℕ) → Type 0
 IsPart limit bytes payloads = (rest : List ℕ) × (bytes ≡ blocks payloads ++ rest) × IsCut limit (length payloads) rest
-
--- the next block, which came off the front, has a message that is late
-abbrev pub LateNext : Limit → Option (List ℕ) → Option (List ℕ) → Type 0
-LateNext limit old new = (payload : List ℕ) × TakesOff old new payload × IsLate limit payload
-
--- No message is wanted after this many: no more are, and none was read; or the next one is late, and was read; or the file ended.
-abbrev pub IsEnough : Limit → ℕ → Option (List ℕ) → Option (List ℕ) → Type 0
-IsEnough limit count old new =
-    ((limit.after ≡ Some count) × (new ≡ old)) ⊎ (IsBefore limit count × LateNext limit old new) ⊎ ((limit.after ≡ None) × EndsHere old new)
-
--- these payloads were taken off the front, and their messages applied: none is late
-abbrev pub TakesEarly : Limit → Content → Option (List ℕ) → Option (List ℕ) → ℕ → List (List ℕ) → Content → Type 0
-TakesEarly limit m old new count payloads n =
-    Takes m old new payloads n × (length payloads ≡ count) × (count ≤ 10 ^ 19 - 1) × AllByRecursion (IsEarly limit) payloads
-
--- the part that is wanted was applied
-abbrev pub TakesPart : Limit → Content → Option (List ℕ) → Option (List ℕ) → ℕ → Content → Type 0
-TakesPart limit m old new count n =
-    (payloads : List (List ℕ)) × (mid : Option (List ℕ)) × TakesEarly limit m old mid count payloads n × IsEnough limit count mid new
-
--- why no further message is applied to this market: as `Halts` says, and a message that is late is not refused
-abbrev pub HaltsEarly : Limit → Bool → Content → Option (List ℕ) → Option (List ℕ) → Stop → Type 0
-HaltsEarly limit full m old new (Rule why) =
-    (payload : List ℕ) × TakesOff old new payload × (full ≡ false) × Refuses m payload why × IsEarly limit payload
-HaltsEarly limit full m old new stop = Halts full m old new stop
-
--- or it stopped before
-abbrev pub HaltsPart : Limit → Content → Option (List ℕ) → Option (List ℕ) → ℕ → Stop → Content → Type 0
-HaltsPart limit m old new count stop n =
-    IsBefore limit count × (payloads : List (List ℕ)) × (mid : Option (List ℕ)) × TakesEarly limit m old mid count payloads n
-    × HaltsEarly limit (count == 10 ^ 19 - 1) (after m (map message_of payloads)) mid new stop
 
 -- fewer messages than are wanted
 abbrev pub IsShort : Limit → ℕ → Type 0

@@ -18,7 +18,7 @@ use Rattle.itch_commands.specs.declared.form.BookForm.{BookForm}
 use Rattle.itch_commands.specs.declared.form.ShowForm.{ShowForm}
 use Rattle.itch_commands.specs.declared.kind.FileKind.{FileKind}
 use Rattle.itch_commands.specs.declared.kind.FileKind.TheVariants as kind
-use Rattle.itch_commands.specs.declared.limit.Limit.{Limit}
+use Rattle.itch_day.specs.declared.limit.Limit.{Limit}
 use Rattle.itch_commands.specs.declared.selection.Selection.{Selection}
 use Rattle.itch_commands.specs.declared.selection.Selection.TheVariants.{All, Locates, Stocks}
 use Rattle.itch_commands.specs.Readings.{FromBlocks}

@@ -15,15 +15,16 @@ use Rattle.itch_market.specs.declared.stop.Stop.{Stop}
 use Rattle.itch_market.specs.declared.stop.Stop.TheVariants as stop
 use Rattle.itch_snapshot.specs.Snapshot.{snap}
 use Rattle.itch_commands.specs.Choices.{Chosen, chosen_after, chosen_past, chosen_line, chosen_lines, are_found_in}
-use Rattle.itch_commands.specs.Limits.{IsEarly, IsLate, IsBefore}
+use Rattle.itch_day.specs.Limits.{IsEarly, IsLate, IsBefore}
 use Rattle.itch_commands.specs.Outputs.{Wrote, WritesText}
-use Rattle.itch_commands.specs.Readings.{LateNext, IsEnough, IsShort, LeavesDay}
+use Rattle.itch_market.specs.DayParts.{LateNext, IsEnough}
+use Rattle.itch_commands.specs.Readings.{IsShort, LeavesDay}
 use Rattle.itch_commands.specs.declared.fault.Source.{Source}
 use Rattle.itch_commands.specs.declared.fault.Source.TheVariants.{Only}
 use Rattle.itch_commands.specs.declared.fault.ToolFault.{ToolFault}
 use Rattle.itch_commands.specs.declared.fault.ToolFault.TheVariants as tool
 use Rattle.itch_commands.specs.declared.form.ShowForm.{ShowForm}
-use Rattle.itch_commands.specs.declared.limit.Limit.{Limit}
+use Rattle.itch_day.specs.declared.limit.Limit.{Limit}
 
 -- the lines of the messages that these payloads spell, of those that are chosen
 abbrev pub lines_from : ShowForm → Chosen → List (List ℕ) → List ℕ

@@ -2,7 +2,7 @@
 ghost use Rattle.std.specs.Prelude.{◌≡◌, ◌<◌, ◌≤◌};
 ghost use Rattle.itch_commands.specs.FeedParts.{beyond, misfit_of, part_of, wanted_of, whole};
 
-use crate::limit::Limit;
+use itch_day::Limit;
 use std::fmt;
 
 /// Which messages of a day a feed has, and where a join ends. Messages are counted from the first of the day.

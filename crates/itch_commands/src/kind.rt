@@ -6,10 +6,10 @@ ghost use Rattle.itch_commands.specs.Readings.{ReadsSnap};
 ghost use Rattle.itch_commands.specs.declared.kind.FileKind.TheVariants.{Day, Snapshot};
 
 use crate::fault::{Source, ToolFault};
-use crate::limit::Limit;
 use crate::reading::read_settled;
 use itch_book::OrderBook;
 use itch_codec::Seq;
+use itch_day::Limit;
 use itch_frame::{BlockReader, CountedRead};
 use itch_market::Market;
 use itch_snapshot::read_snapshot;

@@ -20,7 +20,7 @@ ghost use Rattle.itch_commands.specs.FirstDifferences.{IsPlaceIn, IsSameIn};
 ghost use Rattle.itch_commands.specs.Sought.{sought, found_at, has_name, is_of_one, stock_past};
 ghost use Rattle.itch_commands.specs.Joining.{from_number, joined_market, joined_next};
 ghost use Rattle.itch_commands.specs.declared.form.ShowForm.TheVariants.{Text};
-ghost use Rattle.itch_commands.specs.declared.limit.Limit.{Limit};
+ghost use Rattle.itch_day.specs.declared.limit.Limit.{Limit};
 
 /// Under the rules of markets, a payload as it is read with a set acts as the payload itself does under the rules of the set: it
 /// is refused for the same cause, has the same effect, takes memory if and only if that does, and ends a snapshot if and only if

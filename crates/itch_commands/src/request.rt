@@ -8,9 +8,9 @@ use crate::feed_part::FeedPart;
 use crate::filters::Filters;
 use crate::form::{BookForm, Form, ShowForm};
 use crate::kind::FileKind;
-use crate::limit::Limit;
 use crate::locates::list_file;
 use crate::selection::Selection;
+use itch_day::Limit;
 
 /// What the program is asked to do. A file is its path, or none for standard input; a limit says which part of it is wanted.
 #[derive(Clone, Copy, Debug, PartialEq, Eq)]

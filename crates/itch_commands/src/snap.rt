@@ -1,21 +1,17 @@
 //! `snap`: the canonical snapshot of a file.
 ghost use Rattle.std.specs.Option.{option_copied};
 ghost use Rattle.itch_commands.specs.Commands.{Snaps};
-ghost use Rattle.itch_commands.specs.Limits.{counted};
+ghost use Rattle.itch_day.specs.Limits.{counted};
 ghost use Rattle.itch_commands.specs.Readings.{FromBlocks, FromReader};
 
-mod ahead;
 mod checkpoint;
 mod fingerprint;
 mod index;
-mod mark;
 mod pass;
 mod passed;
-mod points;
 mod stocks;
 
 use crate::fault::{Source, ToolFault};
-use crate::limit::Limit;
 use crate::order_book::Book;
 use crate::reading::read_settled;
 use crate::writing::write_closed_of;
@@ -24,9 +20,10 @@ pub use fingerprint::{Fingerprint, MOST_FIRST, MOST_LAST, Unfit, why_unfit};
 pub use index::write_index;
 use itch_book::OrderBook;
 use itch_codec::Seq;
+use itch_day::Limit;
+pub use itch_day::Mark;
 use itch_frame::{BlockReader, CountedRead, CountedWrite};
 use itch_market::{LocateSet, Market};
-pub use mark::Mark;
 pub use pass::Pass;
 pub use passed::Passed;
 use std::alloc::Allocator;

@@ -102,7 +102,7 @@ fn read_checkpoint(
 fn read_mark(fields: &Value, point: Limit) -> Option<Mark> {
     let count = fields.get("messages")?.as_u64()?;
     let offset = fields.get("offset")?.as_u64()?;
-    Mark::read(count, offset, read_latest(fields.get("timestamp")), point)
+    read_latest(fields.get("timestamp")).mark(count, offset, point)
 }
 
 fn read_latest(timestamp: Option<&Value>) -> Latest {

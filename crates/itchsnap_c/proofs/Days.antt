@@ -34,8 +34,9 @@ use Rattle.itchsnap_c.specs.Markets.{IsRefusedFor}
 use Rattle.itch_snapshot.proofs.PartialSnapshots.{snap_only}
 use Rattle.itch_snapshot.proofs.OneSnapshot.{snap-laid}
 use Rattle.itch_snapshot.proofs.CanonicalBytes.{canon-laid}
-use Rattle.itch_commands.specs.declared.limit.Limit.{Limit}
-use Rattle.itch_commands.specs.Readings.{AreTaken, HaltsPart, ReadsMarket, CountsRead}
+use Rattle.itch_day.specs.declared.limit.Limit.{Limit}
+use Rattle.itch_market.specs.DayParts.{HaltsPart}
+use Rattle.itch_commands.specs.Readings.{AreTaken, ReadsMarket, CountsRead}
 use Rattle.itch_commands.proofs.PartReadings.{halts_replays}
 use Rattle.itch_commands.specs.declared.fault.Source.TheVariants.{Only}
 use Rattle.itch_commands.specs.declared.fault.ToolFault.{ToolFault}

@@ -1,8 +1,8 @@
 -- The blocks that are passed before a time.
 use Rattle.std.proofs.Common.{◌≡◌, ◌⊎◌, ℕ, ◌-◌, List, [], ◌∷◌, ◌++◌, length, None, Some, sym, ap, ◌∙◌, append_assoc, arith}
 use Rattle.std.proofs.lemmas.List.{length-append}
-use Rattle.itch_commands.specs.Limits.{IsLate}
-use Rattle.itch_commands.specs.declared.limit.Limit.{Limit}
+use Rattle.itch_day.specs.Limits.{IsLate}
+use Rattle.itch_day.specs.declared.limit.Limit.{Limit}
 use Rattle.itch_frame.specs.Blocks.{block, blocks, Ends, IsFull, Open}
 use Rattle.itch_frame.proofs.BlockLemmas.{blocks-push, each-push}
 use Rattle.itchsnap_c.specs.Times.{Finds, IsPassed, Passes}

@@ -5,9 +5,10 @@ use Rattle.itch_codec.specs.Messages.{message_of}
 use Rattle.itch_commands.specs.declared.fault.ToolFault.{ToolFault}
 use Rattle.itch_commands.specs.declared.fault.ToolFault.TheVariants as tool
 use Rattle.itch_commands.specs.Comparing.{IsPartPlace}
-use Rattle.itch_commands.specs.Limits.{counted}
-use Rattle.itch_commands.specs.declared.limit.Limit.{Limit}
-use Rattle.itch_commands.specs.Readings.{AreTaken, HaltsPart, IsPart, IsShort}
+use Rattle.itch_day.specs.Limits.{counted}
+use Rattle.itch_day.specs.declared.limit.Limit.{Limit}
+use Rattle.itch_market.specs.DayParts.{HaltsPart}
+use Rattle.itch_commands.specs.Readings.{AreTaken, IsPart, IsShort}
 use Rattle.itch_market.specs.Content.{Content, empty, laid}
 use Rattle.itch_market.specs.Replays.{Fits}
 use Rattle.itch_market.specs.Runs.{run}

@@ -1,7 +1,7 @@
 //! Where a time of the day begins in the blocks of a day file.
 ghost use Rattle.std.specs.Prelude.{◌≡◌, true, false, IfOk};
 ghost use Rattle.itchsnap_c.specs.Times.{FindsTime, Finds};
-ghost use Rattle.itch_commands.specs.Limits.{IsLate};
+ghost use Rattle.itch_day.specs.Limits.{IsLate};
 
 use crate::answers::Count;
 use crate::codes::{ABSENT, OUT_OF_MEMORY, counted, no_count};

@@ -1,7 +1,7 @@
 //! The book of one locate.
 ghost use Rattle.std.specs.Prelude.{None};
 ghost use Rattle.itch_commands.specs.Commands.{ListsBook};
-ghost use Rattle.itch_commands.specs.Limits.{counted};
+ghost use Rattle.itch_day.specs.Limits.{counted};
 ghost use Rattle.itch_commands.specs.Readings.{FromBlocks, FromReader};
 ghost use Rattle.itch_commands.specs.declared.kind.FileKind.TheVariants.{Day};
 
@@ -9,10 +9,10 @@ use crate::book::listed::write_listed;
 use crate::fault::{Source, ToolFault};
 use crate::form::BookForm;
 use crate::kind::{FileKind, file_market};
-use crate::limit::Limit;
 use crate::order_book::Book;
 use itch_book::OrderBook;
 use itch_codec::Seq;
+use itch_day::Limit;
 use itch_frame::{BlockReader, CountedRead, CountedWrite};
 use itch_market::Market;
 use std::alloc::Allocator;

@@ -9,10 +9,9 @@ ghost use Rattle.itch_commands.specs.Joining.{ReadsFeed};
 
 use crate::fault::{Source, ToolFault};
 use crate::feed_part::{FeedPart, Misfit};
-use crate::limit::Limit;
 use crate::reading::stopped;
 use itch_book::OrderBook;
-use itch_day::{Limit as DayLimit, Stop as PartStop, read_part};
+use itch_day::{Limit, Stop as PartStop, read_part};
 use itch_frame::{BlockReader, CountedRead};
 use itch_join::Joiner;
 use itch_market::{Stop, pass_stop, reason_of};
@@ -43,11 +42,11 @@ pub fn read_feed<R: CountedRead, A: Allocator, B: OrderBook>(
 }
 
 // A part of a feed, counted from the first message of the day.
-fn of_day(before: u64, limit: Limit) -> DayLimit
+fn of_day(before: u64, limit: Limit) -> Limit
     requires { IfSome limit.after (λ most. before + most < 2 ^ 64) }
     ensures { result ≡ of_day before limit }
 {
-    DayLimit {
+    Limit {
         after: limit.after.map(|most| before + most),
         until: limit.until,
     }

@@ -3,8 +3,7 @@ ghost use Rattle.std.specs.Prelude.{◌≡◌, ◌<◌, ℕ, true, false};
 ghost use Rattle.itch_market.specs.Wanted.{has};
 ghost use Rattle.itch_commands.specs.Marks.{mark_for};
 
-use crate::limit::Limit;
-use crate::snap::mark::Mark;
+use itch_day::{Limit, Mark};
 use itch_market::LocateSet;
 use std::alloc::Allocator;
 
@@ -17,12 +16,12 @@ pub enum Latest {
     Unknown,
 }
 
-impl Mark {
+impl Latest {
     /// The mark that a line of an index says, for a point of the day. If nothing is known of its timestamps, there is none for a time.
-    pub fn read(count: u64, offset: u64, latest: Latest, point: Limit) -> Option<Mark>
-        ensures { result ≡ mark_for point count offset latest }
+    pub fn mark(self, count: u64, offset: u64, point: Limit) -> Option<Mark>
+        ensures { result ≡ mark_for point count offset self }
     {
-        let latest = match latest {
+        let latest = match self {
             Latest::Known(latest) => latest,
             Latest::Unknown if point.until.is_some() => return None,
             Latest::Unknown => None,

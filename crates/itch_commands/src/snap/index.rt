@@ -6,8 +6,8 @@ ghost use Rattle.itch_commands.specs.PointFiles.{digits_part, index_line, list_p
 use crate::fault::ToolFault;
 use crate::line::Line;
 use crate::snap::fingerprint::Fingerprint;
-use crate::snap::mark::Mark;
 use crate::writing::write_text;
+use itch_day::Mark;
 use itch_frame::CountedWrite;
 
 /// How much of a long text is written at once.

@@ -4,13 +4,13 @@ ghost use Rattle.itch_commands.specs.Readings.{FromBlocks};
 ghost use Rattle.itch_commands.specs.Stocks.{names_of};
 
 use crate::fault::{Source, ToolFault};
-use crate::limit::Limit;
 use crate::order_book::Book;
 use crate::reading::read_settled;
 use crate::stocks::stock_locates;
 use crate::writing::write_closed_of;
 use itch_book::OrderBook;
 use itch_codec::Seq;
+use itch_day::Limit;
 use itch_frame::{BlockReader, CountedRead, CountedWrite};
 use itch_market::Market;
 use std::alloc::Allocator;

@@ -1,7 +1,7 @@
 use Rattle.std.proofs.Common.{true, subst, inr}
 use Rattle.std.specs.Option.{option_copied}
 use Rattle.itch_commands.specs.declared.fault.Source.TheVariants.{Only}
-use Rattle.itch_commands.specs.Limits.{counted}
+use Rattle.itch_day.specs.Limits.{counted}
 use Rattle.itch_commands.specs.Outputs.{snapshot_in}
 use Rattle.itch_commands.specs.Commands.{Snaps}
 use Rattle.itch_commands.specs.Readings.{ReadsDay, FromBlocks, FromReader}

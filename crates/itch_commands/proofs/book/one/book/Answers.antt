@@ -2,7 +2,7 @@ use Rattle.std.proofs.Common.{None, true, subst, inr}
 use Rattle.itch_commands.specs.declared.fault.Source.TheVariants.{Only}
 use Rattle.itch_commands.specs.Books.{lines_at, ReadsEntry}
 use Rattle.itch_commands.specs.declared.form.BookForm.TheVariants.{Text}
-use Rattle.itch_commands.specs.Limits.{counted}
+use Rattle.itch_day.specs.Limits.{counted}
 use Rattle.itch_commands.specs.Commands.{ListsBook}
 use Rattle.itch_commands.specs.Files.{ReadsFile}
 use Rattle.itch_commands.specs.Readings.{FromBlocks, FromReader}

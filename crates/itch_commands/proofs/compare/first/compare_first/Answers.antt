@@ -1,7 +1,7 @@
 use Rattle.std.proofs.Common.{None, is_none, subst, inr}
 use Rattle.itch_commands.specs.Commands.{ComparesFirst}
 use Rattle.itch_commands.specs.FirstDifferences.{FindsFirst, first_line}
-use Rattle.itch_commands.specs.Limits.{counted}
+use Rattle.itch_day.specs.Limits.{counted}
 use Rattle.itch_commands.specs.Readings.{FromBlocks, FromReader}
 use Rattle.itch_commands.specs.declared.form.Form.TheVariants.{Text}
 use Rattle.itch_commands.proofs.Outputs.{Outputs-weaker}
