@@ -13,7 +13,8 @@ use Rattle.itch_join.specs.Positions.{Position}
 use Rattle.itch_join.specs.States.{State}
 use Rattle.itch_commands.specs.declared.fault.ToolFault.{ToolFault}
 use Rattle.itch_commands.specs.declared.fault.ToolFault.TheVariants as tool
-use Rattle.itch_commands.specs.Joiners.{IsAfter, IsJoined, WritesStocks, position_of}
+use Rattle.itch_join.specs.Takings.{IsJoined, position_of}
+use Rattle.itch_commands.specs.Joiners.{IsAfter, WritesStocks}
 use Rattle.itch_commands.specs.Joining.{Start, joined_market, joined_next, HasRoom}
 use Rattle.itch_commands.specs.Readings.{Then}
 use Rattle.itch_commands.specs.Outputs.{WritesOutput, Outputs, closed_bytes}

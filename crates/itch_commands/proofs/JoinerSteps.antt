@@ -10,12 +10,13 @@ use Rattle.itch_codec.specs.Messages.{fault, message_of, spelling}
 use Rattle.itch_codec.proofs.Spelling.{IsMessage-Spells, Spells-message_of}
 use Rattle.itch_market.specs.declared.refusal.Refusal.{Refusal}
 use Rattle.itch_market.specs.declared.refusal.Refusal.TheVariants as why
+use Rattle.itch_market.specs.declared.refused.Refused.TheVariants as refused
 use Rattle.itch_market.specs.declared.stop.Stop.{Stop}
 use Rattle.itch_market.specs.declared.stop.Stop.TheVariants as stop
 use Rattle.itch_market.specs.Content.{Content, laid}
 use Rattle.itch_market.specs.Effects.{effect, takes_memory}
 use Rattle.itch_market.specs.Reasons.{reason}
-use Rattle.itch_market.specs.Replays.{IsRefusal, TakesOne}
+use Rattle.itch_market.specs.Replays.{IsRefusal, Refuses, TakesOne}
 use Rattle.itch_market.specs.Stops.{cause_by}
 use Rattle.itch_snapshot.specs.TakenMessages.{TakesNext, closing_number, is_full, is_skipped}
 use Rattle.itch_join.specs.declared.fault.Cause.{Cause}
@@ -40,9 +41,11 @@ use Rattle.itch_join.proofs.LawfulRules.{faultless, reasonless}
 use Rattle.itch_join.proofs.Maps.{get-remove, get-from}
 use Rattle.itch_join.proofs.SkippedMessages.{refused_here, effect_here, memory_here, refused_skipped, effect_skipped}
 use Rattle.itch_join.proofs.SnapshotMessages.{case_here}
+use Rattle.itch_join.specs.Takings.{IsJoined, IsRefusedFor, position_of}
+use Rattle.itch_join.proofs.Takings.{never_as, stays}
 use Rattle.itch_commands.specs.AsRead.{idle, as_read}
 use Rattle.itch_commands.proofs.AsRead.{idle_clean, idle_read, idle_fitting, read_skipped, read_stays, read_number}
-use Rattle.itch_commands.specs.Joiners.{half_market, IsReading, position_of, IsJoined, FeedsOne, IsOfSnapshot, snapshot_fault, IsOfFeed, feed_stop}
+use Rattle.itch_commands.specs.Joiners.{half_market, IsReading, IsOfSnapshot, snapshot_fault}
 
 -- why a message is refused, as a joiner and as a replay say it -----------------
 
@@ -79,13 +82,6 @@ module _ (m : Content) (p : List ℕ) where
   one_refused : (r : Refusal) → refused_by (fault p) m p ≡ Some (cause.Rule r) → TakesOne m p (Err (stop.Rule r)) m
   one_refused r h = let refusal = refusal_by (fault p) r h in (refl, refusal)
 
-  never_many : (f : Option CodecFault) → refused_by f m p ≡ Some cause.TooMany → ⊥
-  never_many (Some f) h = cc
-  never_many None h = by_reason (reason m (message_of p)) h where
-    by_reason : (o : Option Refusal) → option_map cause.Rule o ≡ Some cause.TooMany → ⊥
-    by_reason None h = cc
-    by_reason (Some q) h = cc
-
   one_unmade : refused_by (fault p) m p ≡ None → takes_memory m (message_of p) ≡ true → TakesOne m p (Err (stop.Rule why.OutOfMemory)) m
   one_unmade none memory = (
     refl,
@@ -99,10 +95,6 @@ module _ (m : Content) (p : List ℕ) where
 none_there : (b : Bool) (o : Option (List ℕ)) → o ≡ None → cond b o None ≡ None
 none_there true o none = none
 none_there false o none = refl
-
-none_left : (b : Bool) (o : Option (List ℕ)) → o ≡ None → cond b None o ≡ None
-none_left true o none = refl
-none_left false o none = none
 
 -- the same of a joiner that is restricted to some locates -------------------------
 
@@ -118,16 +110,12 @@ module _ (wanted : ℕ → Bool) where
   R = rules_of wanted
 
   module _ (m : Content) (p : List ℕ) where
-    stays : (c : Cause) → R.refused m p ≡ Some c → is_skipped wanted p ≡ false
-    stays c some =
-        by_test (is_skipped wanted p) (λ skip. absurd (let none : None ≡ Some c = sym (refused_skipped wanted m p skip) ∙ some in let no_one : ⊥ = cc in no_one)) (λ wants. wants)
-
     refused_as : (c : Cause) (result : Result (Unit {0}) Stop) → (refused_by (fault p) m p ≡ Some c → TakesOne m p result m) → R.refused m p ≡ Some c → TakesOne m (as_read wanted p) result m
     refused_as c result here some =
-        let wants = stays c some in
+        let wants = stays wanted m p c some in
         subst (λ q. TakesOne m q result m) (sym (read_stays wanted p wants)) (here (sym (refused_here wanted m p wants) ∙ some))
 
-    taken_as : AreBytes p → R.refused m p ≡ None → TakesOne m (as_read wanted p) (Ok tt) (laid (R.effect m p))
+    pub taken_as : AreBytes p → R.refused m p ≡ None → TakesOne m (as_read wanted p) (Ok tt) (laid (R.effect m p))
     taken_as bytes none =
         by_test (is_skipped wanted p)
         (λ skip.
@@ -144,8 +132,12 @@ module _ (wanted : ℕ → Bool) where
         subst (λ q. TakesOne m q (Err (stop.Rule why.OutOfMemory)) m) (sym (read_stays wanted p wants))
         (one_unmade m p (sym (refused_here wanted m p wants) ∙ none) (sym (memory_here wanted m p wants) ∙ memory)))
 
-    never_as : R.refused m p ≡ Some cause.TooMany → ⊥
-    never_as some = never_many m p (fault p) (sym (refused_here wanted m p (stays cause.TooMany some)) ∙ some)
+    pub faulty_as : (f : CodecFault) → R.refused m p ≡ Some (cause.Codec f) → fault (as_read wanted p) ≡ Some f
+    faulty_as f some = (refused_as (cause.Codec f) (Err (stop.Codec f)) (one_faulty m p f) some).1
+
+    pub denied_as : (r : Refusal) → IsRefusedFor (rules_of wanted) m p (refused.Rule r) → Refuses m (as_read wanted p) r
+    denied_as r (inl some) = (refused_as (cause.Rule r) (Err (stop.Rule r)) (one_refused m p r) some).1
+    denied_as r (inr (memory, none, takes)) = subst (Refuses m (as_read wanted p)) (sym memory) (unmade_as none takes).1
 
   -- a message of the snapshot ----------------------------------------------------
 
@@ -181,7 +173,7 @@ module _ (wanted : ℕ → Bool) where
         → Given (Err (join.BadSnapshot place c)) now
     one_fails place (cause.Codec f) now here room unclosed some = (tt, (room, here, refused_as m p (cause.Codec f) (Err (stop.Codec f)) (one_faulty m p f) some))
     one_fails place (cause.Rule r) now here room unclosed some = (tt, (room, here, unclosed_as unclosed, refused_as m p (cause.Rule r) (Err (stop.Rule r)) (one_refused m p r) some))
-    one_fails place cause.TooMany now here room unclosed some = absurd (never_as m p some)
+    one_fails place cause.TooMany now here room unclosed some = absurd (never_as wanted m p some)
 
     by_refused : (o : Option Cause) (result : Result Snap JoinFault) (now : State) → is_full taken ≡ false → closing_number p ≡ None → R.refused m p ≡ o
         → SnapshotBy R s p (message_case taken m o) result now → Given result now
@@ -220,72 +212,3 @@ module _ (wanted : ℕ → Bool) where
         by_number (closing_number p) result now refl
         (subst (λ k. SnapshotBy R s p k result now)
         (case_here wanted s taken m p (closing_number p) (R.refused m p) is.running (ap is_some is.unjoined) is.half refl refl) h)
-
-  -- a message of the feed --------------------------------------------------------
-
-  module _ (cap number : ℕ) (s : State) (p : List ℕ) (is : IsJoined s) (low : 0 < number) (high : number < 10 ^ 19) (within : number ≤ Position.next (position_of s)) (bytes : AreBytes p) where
-    abbrev j : Position
-    j = position_of s
-
-    abbrev pub Heard : Result Live JoinFault → State → Type 0
-    Heard (Ok outcome) now = FeedsOne number (position_of s) (as_read wanted p) (Ok tt) (position_of now) × IsJoined now
-    Heard (Err f) now = IsOfFeed f × FeedsOne number (position_of s) (as_read wanted p) (Err (feed_stop f)) (position_of now)
-
-    heard_by : (result r : Result Live JoinFault) (now n : State) → result ≡ r → now ≡ n → Heard r n → Heard result now
-    heard_by result r now n one two g = subst (λ x. Heard x now) (sym one) (subst (Heard r) (sym two) g)
-
-    refused_one : (c : Cause) (next : ℕ) (now : State) → j.next ≡ number → R.refused j.market p ≡ Some c → Heard (Err (join.Halted next c)) now
-    refused_one (cause.Codec f) next now here some = (tt, (here, refused_as j.market p (cause.Codec f) (Err (stop.Codec f)) (one_faulty j.market p f) some))
-    refused_one (cause.Rule r) next now here some = (tt, (here, refused_as j.market p (cause.Rule r) (Err (stop.Rule r)) (one_refused j.market p r) some))
-    refused_one cause.TooMany next now here some = absurd (never_as j.market p some)
-
-    after_one : (taken : Bool) (q : List ℕ) (qs : List (List ℕ)) (ending : Result (Unit {0}) Stopped) (b : Front) (result : Result Live JoinFault) (now : State) → j.next ≡ number
-        → q ≡ p → R.refused j.market p ≡ None → Applies R (advanced R (front_of s j) p) None qs ending b
-        → result ≡ result_by hears.Applied taken ending b.next → now ≡ standing s.half ending b → Heard result now
-    after_one taken q [] (Ok done) b result now here this none (ends, same) answer left =
-        heard_by result (Ok (hears.Applied b.next)) now (standing s.half (Ok done) b) answer left
-        (subst (λ (f : Front). Heard (Ok (hears.Applied f.next)) (standing s.half (Ok done) f)) (sym same) (
-          inr (here, taken_as j.market p bytes none, ap (λ n. n + 1) here),
-          record { waits = λ i. get-remove s.wait j.next i ∙ none_left (i == j.next) (map.get s.wait i) (is.waits i); joined = refl; running = refl },
-        ))
-    after_one taken q [] (Err stopped) b result now here this none (ends, same) answer left = absurd ends
-    after_one taken q (r ∷ qs) ending b result now here this none (hand, clean, rest) answer left = absurd (let no_one : ⊥ = cc in no_one)
-
-    applied : (taken : Bool) (ps : List (List ℕ)) (ending : Result (Unit {0}) Stopped) (b : Front) (result : Result Live JoinFault) (now : State) → j.next ≡ number
-        → Applies R (front_of s j) (Some p) ps ending b
-        → result ≡ result_by hears.Applied taken ending b.next → now ≡ standing s.half ending b → Heard result now
-    applied taken [] (Ok done) b result now here (ends, same) answer left = absurd ends
-    applied taken [] (Err (Refused c)) b result now here (ends, same) answer left =
-        subst (λ r. Heard r now) (sym answer) (refused_one c b.next now here ends)
-    applied taken [] (Err NoMemory) b result now here (ends, same) answer left =
-        subst (λ r. Heard r now) (sym answer) (tt, (here, unmade_as j.market p ends.0 ends.1))
-    applied taken (q ∷ ps) ending b result now here (hand, none, rest) answer left =
-        let this : q ≡ p = cc in
-        let clean : R.refused j.market p ≡ None = subst (λ x. R.refused j.market x ≡ None) this none in
-        let on : Applies R (advanced R (front_of s j) p) (at_hand (advanced R (front_of s j) p)) ps ending b =
-        subst (λ x. Applies R (advanced R (front_of s j) x) (at_hand (advanced R (front_of s j) x)) ps ending b) this rest in
-        let gone : at_hand (advanced R (front_of s j) p) ≡ None =
-        get-remove s.wait j.next (j.next + 1) ∙ none_left (j.next + 1 == j.next) (map.get s.wait (j.next + 1)) (is.waits (j.next + 1)) in
-        after_one taken q ps ending b result now here this clean (subst (λ o. Applies R (advanced R (front_of s j) p) o ps ending b) gone on) answer left
-
-    numbered : is_number number ≡ true
-    numbered = grind (arith, nat_tests)
-
-    by_kind : (kind : LiveCase) (result : Result Live JoinFault) (now : State) → IsLiveCase cap s number p kind → LiveBy R cap s number p kind result now → Heard result now
-    by_kind (live.Halted h) result now halted by = absurd (let no : None ≡ Some h = sym is.running ∙ halted in let no_one : ⊥ = cc in no_one)
-    by_kind live.BadNumber result now (none, bad) by = absurd (let no : true ≡ false = sym numbered ∙ bad in let no_one : ⊥ = cc in no_one)
-    by_kind live.Old result now (none, k, there, below) (answer, left) =
-        let same : k ≡ j = let e : Some k ≡ Some j = sym there ∙ is.joined in cc in
-        heard_by result (Ok hears.Old) now s answer left (inl (subst (λ (i : Position). number < i.next) same below, refl), is)
-    by_kind live.Conflict result now (none, w, there, other) by = absurd (let no : None ≡ Some w = sym (is.waits number) ∙ there in let no_one : ⊥ = cc in no_one)
-    by_kind live.Next result now (none, num, k, there, at) by =
-        let same : k ≡ j = let e : Some k ≡ Some j = sym there ∙ is.joined in cc in
-        let here : j.next ≡ number = ap (λ (i : Position). i.next) (sym same) ∙ sym at in
-        let goes = subst (λ o. NextBy R s number p o result now) is.joined by in
-        applied _ goes.payloads goes.ending goes.front result now here goes.applies goes.returned goes.left
-    by_kind live.Kept result now (none, waits, above) by = absurd (let less : j.next < number = above j is.joined in omega arith)
-    by_kind live.Full result now (none, full, above) by = absurd (let less : j.next < number = above j is.joined in omega arith)
-    by_kind live.Stored result now (none, num, room, free, above) by = absurd (let less : j.next < number = above j is.joined in omega arith)
-
-    pub heard : (result : Result Live JoinFault) (now : State) → LiveBy R cap s number p (live_case cap s number p) result now → Heard result now
-    heard result now h = by_kind (live_case cap s number p) result now (live_case_is cap s number p) h

@@ -13,7 +13,8 @@ use Rattle.itch_commands.specs.declared.fault.ToolFault.{ToolFault}
 use Rattle.itch_commands.specs.declared.fault.ToolFault.TheVariants as tool
 use Rattle.itch_commands.specs.declared.feed_part.FeedPart.{FeedPart}
 use Rattle.itch_commands.specs.AsRead.{as_read}
-use Rattle.itch_commands.specs.Joiners.{IsAfter, WritesRoom, position_of}
+use Rattle.itch_join.specs.Takings.{position_of}
+use Rattle.itch_commands.specs.Joiners.{IsAfter, WritesRoom}
 use Rattle.itch_commands.specs.Joining.{Start, ReadsFeed, joined_market, joined, HasRoom}
 use Rattle.itch_commands.specs.Readings.{Then}
 use Rattle.itch_commands.specs.Outputs.{WritesOutput, Outputs, closed_bytes}

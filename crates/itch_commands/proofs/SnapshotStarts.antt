@@ -28,7 +28,8 @@ use Rattle.itch_snapshot.proofs.FileLemmas.{Spells-number}
 use Rattle.itch_join.specs.Positions.{Position}
 use Rattle.itch_join.specs.States.{State, new}
 use Rattle.itch_commands.specs.AsRead.{as_read, TakesAs, ReadsNextAs, ReadsAs}
-use Rattle.itch_commands.specs.Joiners.{half_market, position_of, IsReading, IsJoined, IsStart, StartsAll}
+use Rattle.itch_join.specs.Takings.{IsJoined, position_of}
+use Rattle.itch_commands.specs.Joiners.{half_market, IsReading, IsStart, StartsAll}
 use Rattle.itch_commands.proofs.AsRead.{read_number}
 
 -- these payloads of a snapshot came off the front, and as they are read they leave this market

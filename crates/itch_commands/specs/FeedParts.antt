@@ -1,10 +1,10 @@
 -- Which messages of a day a feed has, and where a join ends.
-use Rattle.std.specs.Prelude.{ℕ, ◌+◌, ◌-◌, nat_le, nat_lt, if◌then◌else◌, List, length, Option, None, Some}
+use Rattle.std.specs.Prelude.{ℕ, ◌+◌, ◌-◌, nat_le, nat_lt, if◌then◌else◌, List, length, Option, None, Some, option_map}
+use Rattle.itch_day.specs.declared.limit.Limit.{Limit}
 use Rattle.itch_day.specs.Limits.{counted}
 use Rattle.itch_commands.specs.declared.feed_part.FeedPart.{FeedPart}
 use Rattle.itch_commands.specs.declared.feed_part.Misfit.{Misfit}
 use Rattle.itch_commands.specs.declared.feed_part.Misfit.TheVariants.{Gap, Beyond}
-use Rattle.itch_day.specs.declared.limit.Limit.{Limit}
 
 -- the whole of a feed that begins with the first message of its day
 abbrev pub whole : FeedPart
@@ -32,3 +32,7 @@ wanted_of (Some wanted) before held = Some (if nat_le wanted held then 0 else wa
 -- the part of the feed that is wanted after such a snapshot, counted from the feed's first message
 abbrev pub part_of : FeedPart → ℕ → Limit
 part_of part next = record { after = wanted_of part.limit.after part.before (next - 1); until = part.limit.until }
+
+-- the same part, counted from the first message of the day
+abbrev pub of_day : ℕ → Limit → Limit
+of_day before limit = record { after = option_map (λ most. before + most) limit.after; until = limit.until }

@@ -1,35 +1,28 @@
 -- A joiner in which nothing waits: while it reads a snapshot, and after it has joined.
-use Rattle.std.specs.Prelude.{◌≡◌, ℕ, ◌+◌, ◌<◌, ◌≤◌, ◌^◌, ◌==◌, ◌⊎◌, ◌≢◌, true, false, Bool, List, map, length, ⊤, Option, Some, None, IsSome, Result, Ok, Err}
+use Rattle.std.specs.Prelude.{◌≡◌, ℕ, ◌+◌, ◌<◌, ◌≤◌, ◌^◌, ◌⊎◌, true, Bool, List, length, ⊤, Option, Some, None, Result, Ok, Err}
 use Rattle.std.specs.FinMap as finite
 use Rattle.itch_codec.specs.Widths.{IsSequence}
-use Rattle.itch_frame.specs.Reading.{Reading as Blocks, bytes_left}
 use Rattle.itch_frame.specs.declared.tally.Failures.{Failures}
 use Rattle.itch_market.specs.Content.{Content, empty, laid}
 use Rattle.itch_market.specs.GoodMarkets.{IsGood}
-use Rattle.itch_market.specs.Replays.{TakesOne, TakesOff, LeavesReaderFirst}
 use Rattle.itch_market.specs.declared.refusal.Refusal.TheVariants as why
 use Rattle.itch_market.specs.declared.stop.Stop.{Stop}
-use Rattle.itch_market.specs.declared.stop.Stop.TheVariants as stop
 use Rattle.itch_snapshot.specs.declared.fault.SnapFault.{SnapFault}
 use Rattle.itch_snapshot.specs.declared.fault.SnapFault.TheVariants as snapshot
 use Rattle.itch_snapshot.specs.Snapshot.{snap}
 use Rattle.itch_join.specs.Positions.{Position}
 use Rattle.itch_join.specs.States.{HalfRead, Reading, Broken, State}
+use Rattle.itch_join.specs.Takings.{IsJoined, position_of}
 use Rattle.itch_join.specs.declared.fault.Cause.TheVariants as cause
 use Rattle.itch_join.specs.declared.fault.JoinFault.{JoinFault}
 use Rattle.itch_join.specs.declared.fault.JoinFault.TheVariants as join
 use Rattle.itch_commands.specs.declared.fault.ToolFault.{ToolFault}
 use Rattle.itch_commands.specs.declared.fault.ToolFault.TheVariants as tool
 use Rattle.itch_commands.specs.declared.fault.Source.TheVariants.{Only}
-use Rattle.itch_commands.specs.declared.feed_part.FeedPart.{FeedPart}
-use Rattle.itch_commands.specs.declared.feed_part.Misfit.TheVariants.{Late}
-use Rattle.itch_day.specs.declared.limit.Limit.{Limit}
 use Rattle.itch_commands.specs.AsRead.{ReadsAs}
-use Rattle.itch_commands.specs.FeedParts.{number_after, part_of}
-use Rattle.itch_commands.specs.Joining.{Start, IsNotLate, IsOfMessage, HaltsFeed, EndsFeed, LateFeed, TakesWanted, joined_market, joined_next}
+use Rattle.itch_commands.specs.Joining.{Start, joined_market, joined_next}
 use Rattle.itch_commands.specs.Outputs.{WritesOutput, closed_bytes}
-use Rattle.itch_market.specs.DayParts.{LateNext}
-use Rattle.itch_commands.specs.Readings.{LeavesDay}
+use Rattle.itch_commands.specs.Readings.{stopped}
 use Rattle.itch_commands.specs.Stocks.{IsStockFault, are_known, only_stocks}
 
 -- the market that a half-read snapshot leaves
@@ -44,20 +37,6 @@ pub record IsReading (taken : ℕ) (s : State) : Type 0 where
   pub unjoined : s.joined ≡ None
   pub running : s.halt ≡ None
 
-abbrev pub position_by : Option Position → Position
-position_by None = record { next = 0; market = empty }
-position_by (Some j) = j
-
--- the position of a joiner
-abbrev pub position_of : State → Position
-position_of s = position_by s.joined
-
--- a joiner has joined, and is at its position
-pub record IsJoined (s : State) : Type 0 where
-  pub waits : (i : ℕ) → finite.get s.wait i ≡ None
-  pub joined : s.joined ≡ Some (position_of s)
-  pub running : s.halt ≡ None
-
 -- the market of a snapshot after one message, which is taken, is End of Snapshot, or is refused
 abbrev pub started_market : State → Result (Option ℕ) SnapFault → State → Content
 started_market old (Ok None) new = half_market new.half
@@ -69,27 +48,6 @@ abbrev pub Starts : ℕ → State → Result (Option ℕ) SnapFault → State �
 Starts taken old (Ok None) new = IsReading (taken + 1) new
 Starts taken old (Ok (Some next)) new = IsJoined new × (position_of new ≡ record { next = next; market = half_market old.half })
 Starts taken old (Err fault) new = ⊤
-
--- the message of a feed with this number is below the joiner's next one, or it is applied, or refused
-abbrev pub FeedsOne : ℕ → Position → List ℕ → Result (Unit {0}) Stop → Position → Type 0
-FeedsOne number old payload (Ok done) new =
-    ((number < old.next) × (new ≡ old)) ⊎ ((old.next ≡ number) × TakesOne old.market payload (Ok done) new.market × (new.next ≡ number + 1))
-FeedsOne number old payload (Err why) new = (old.next ≡ number) × TakesOne old.market payload (Err why) old.market
-
--- what the block of the message with this number of a feed does: it is taken, or it is late, or the reading stops
-abbrev pub FeedStep : (List ℕ → List ℕ) → Limit → ℕ → Position → Option (List ℕ) → Option (List ℕ) → Result Bool Stop → Position → Type 0
-FeedStep read limit number old before after (Ok true) new =
-    (payload : List ℕ) × TakesOff before after payload × ((number == 10 ^ 19) ≡ false) × IsNotLate limit payload × FeedsOne number old (read payload) (Ok tt) new
-FeedStep read limit number old before after (Ok false) new = (new ≡ old) × LateNext limit before after
-FeedStep read limit number old before after (Err why) new =
-    (IsOfMessage why → old.next ≤ number) × HaltsFeed read limit (number == 10 ^ 19) old.market before after why
-
--- a joiner stays joined after a message, and is left as it was at a message that is late, and at the end of the feed
-abbrev pub StaysJoined : State → Result Bool Stop → State → Type 0
-StaysJoined old (Ok true) new = IsJoined new
-StaysJoined old (Ok false) new = new ≡ old
-StaysJoined old (Err stop.End) new = new ≡ old
-StaysJoined old (Err why) new = ⊤
 
 -- a joiner that has not joined may refuse a message of a snapshot for this
 abbrev pub IsOfSnapshot : JoinFault → Type 0
@@ -103,19 +61,6 @@ snapshot_fault (join.BadSnapshot at (cause.Codec f)) place = snapshot.Codec at f
 snapshot_fault (join.BadSnapshot at (cause.Rule reason)) place = snapshot.Rule at reason
 snapshot_fault (join.BadSnapshot at cause.TooMany) place = snapshot.TooManyMessages
 snapshot_fault fault place = snapshot.Rule place why.OutOfMemory
-
--- a joiner may refuse the next message of a feed for this
-abbrev pub IsOfFeed : JoinFault → Type 0
-IsOfFeed (join.Halted number (cause.Codec f)) = ⊤
-IsOfFeed (join.Halted number (cause.Rule reason)) = ⊤
-IsOfFeed (join.OutOfMemory taken) = ⊤
-IsOfFeed fault = ⊥
-
--- what stops the reading of the feed then
-abbrev pub feed_stop : JoinFault → Stop
-feed_stop (join.Halted number (cause.Codec f)) = stop.Codec f
-feed_stop (join.Halted number (cause.Rule reason)) = stop.Rule reason
-feed_stop fault = stop.Rule why.OutOfMemory
 
 -- the market and the number at a position
 abbrev pub start_of : Position → Start
@@ -145,31 +90,15 @@ pub record IsAfter (before : ℕ) (start : Start) (payloads : List (List ℕ)) (
   pub market : Position.market (position_of s) ≡ laid (joined_market before start payloads)
   pub next : Position.next (position_of s) ≡ joined_next before start payloads
 
--- a joiner was given the messages of a feed that are wanted, or as many as were taken
-abbrev pub DeliversAll : (List ℕ → List ℕ) → FeedPart → Start → Option (List ℕ) → Option (List ℕ) → Result ℕ ToolFault → List (List ℕ) → State → Type 0
-DeliversAll read part start before after (Ok reached) payloads now =
-    (part.before + length payloads ≡ reached) × TakesWanted read part start before after payloads × IsAfter part.before start (map read payloads) now
-DeliversAll read part start before after (Err (tool.Stopped at end)) payloads now =
-    (at ≡ Only) × (end.stop ≢ stop.End) × (part.before + length payloads ≡ end.count) × EndsFeed read part start before after payloads end.stop
-DeliversAll read part start before after (Err (tool.Short at count)) payloads now =
-    (at ≡ Only) × IsSome (part_of part start.1).after × (part.before + length payloads ≡ count) × EndsFeed read part start before after payloads stop.End
-DeliversAll read part start before after (Err (tool.Misfit (Late number))) payloads now =
-    (number < start.1) × (number_after part.before payloads ≡ number) × LateFeed read part start before after payloads
-DeliversAll read part start before after (Err fault) payloads now = ⊥
+-- what a command returns that counts no messages
+abbrev pub uncounted : Result ℕ ToolFault → Result (Unit {0}) ToolFault
+uncounted (Ok count) = Ok tt
+uncounted (Err fault) = Err fault
 
--- where that leaves the reader of blocks
-abbrev pub LeavesFeed : {R : Type 0} → Limit → Result ℕ ToolFault → Blocks R → List (List ℕ) → Blocks R → Type 0
-LeavesFeed limit (Ok reached) old payloads new = LeavesDay (Ok (length payloads)) limit old new
-LeavesFeed limit (Err (tool.Stopped at end)) old payloads new = LeavesReaderFirst old (length payloads) (Some end.stop) new
-LeavesFeed limit (Err (tool.Short at count)) old payloads new = LeavesReaderFirst old (length payloads) (Some stop.End) new
-LeavesFeed limit (Err (tool.Misfit (Late number))) old payloads new = LeavesReaderFirst old (length payloads + 1) None new
-LeavesFeed limit (Err fault) old payloads new = ⊥
-
--- what of a feed was delivered, and where that leaves its reader
-abbrev pub FeedsAll : {R : Type 0} → (R → Option (List ℕ)) → (List ℕ → List ℕ) → FeedPart → Start → Blocks R → Blocks R → Result ℕ ToolFault → State → Type 0
-FeedsAll remaining read part start old new result now =
-    (payloads : List (List ℕ)) × DeliversAll read part start (bytes_left remaining old) (bytes_left remaining new) result payloads now
-    × LeavesFeed (part_of part start.1) result old payloads new
+-- what the reading of a feed returns that this stops, or nothing, after so many messages of the day
+abbrev pub ended_feed : Option Stop → Option ℕ → ℕ → Result (Unit {0}) ToolFault
+ended_feed None wanted count = Ok tt
+ended_feed (Some why) wanted count = uncounted (stopped why wanted Only count)
 
 -- a joiner has the market of the feed that was read
 abbrev pub FeedsJoiner : ℕ → (Start → Result (List (List ℕ)) ToolFault → Type 0) → Position → Result (Unit {0}) ToolFault → State → Type 0

@@ -23,7 +23,7 @@ use Rattle.itch_day.specs.declared.limit.Limit.{Limit}
 use Rattle.itch_commands.specs.declared.fault.Source.TheVariants.{Only, Snapshot}
 use Rattle.itch_commands.specs.AsRead.{ReadsAs, IsFaultAs, HaltsAs}
 use Rattle.itch_commands.specs.FeedParts.{number_after, misfit_of, part_of}
-use Rattle.itch_day.specs.Limits.{IsLate, IsBefore}
+use Rattle.itch_day.specs.Limits.{IsBefore, IsNotLate}
 use Rattle.itch_market.specs.DayParts.{LateNext}
 use Rattle.itch_commands.specs.Readings.{IsPart, LeavesDay}
 
@@ -46,10 +46,6 @@ joined_next before start payloads = max start.1 (number_after before payloads)
 -- the two of them
 abbrev pub joined : ℕ → Start × List (List ℕ) → Content × ℕ
 joined before both = (joined_market before both.0 both.1, joined_next before both.0 both.1)
-
--- a payload spells no message at the time where the part ends, or later: an earlier one, or none, since it is faulty
-abbrev pub IsNotLate : Limit → List ℕ → Type 0
-IsNotLate limit payload = IsLate limit payload → ⊥
 
 -- These payloads of a feed came off the front, and none is empty or late. As they are read, none from the snapshot's number on is
 -- faulty or refused; those below it may be anything else.

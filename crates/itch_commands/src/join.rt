@@ -7,7 +7,8 @@ ghost use Rattle.itch_join.specs.States.{new as fresh};
 ghost use Rattle.itch_commands.specs.AsRead.{as_read, read_by};
 ghost use Rattle.itch_commands.specs.Commands.{Joins};
 ghost use Rattle.itch_commands.specs.FeedParts.{whole};
-ghost use Rattle.itch_commands.specs.Joiners.{IsJoined, WritesRoom, position_of};
+ghost use Rattle.itch_join.specs.Takings.{IsJoined, position_of};
+ghost use Rattle.itch_commands.specs.Joiners.{WritesRoom};
 ghost use Rattle.itch_commands.specs.Readings.{FromBlocks, FromReader};
 
 mod feed;
@@ -34,7 +35,7 @@ pub use stocks::join_stocks;
 /// message that is not contained.
 ///
 /// The snapshot is read up to its End of Snapshot, before anything of the feed. The feed's messages are numbered from 1, and
-/// those below the snapshot's number are not decoded. A feed that ends before that number leaves the snapshot as it is.
+/// those below the snapshot's number may be anything. A feed that ends before that number leaves the snapshot as it is.
 ///
 /// With a set, messages at locates that it does not contain are decoded, in both files, but follow no rule and change
 /// nothing: what is written is the snapshot cut down to the set.

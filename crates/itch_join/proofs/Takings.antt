@@ -1,8 +1,9 @@
 -- What one message of the feed does to a joiner that has joined and in which nothing waits.
-use Rattle.std.proofs.Common.{◌≡◌, ℕ, ◌+◌, ◌^◌, ◌<◌, ◌≤◌, ◌==◌, Bool, true, false, cond, List, [], ◌∷◌, Option, Some, None, Result, Ok, Err, refl, sym, ap, ◌∙◌, subst, inl, inr, arith}
+use Rattle.std.proofs.Common.{◌≡◌, ℕ, ◌+◌, ◌^◌, ◌<◌, ◌≤◌, ◌==◌, Bool, true, false, cond, nat_le, List, [], ◌∷◌, Option, Some, None, is_some, Result, Ok, Err, refl, sym, ap, ◌∙◌, subst, inl, inr, arith}
 use Rattle.std.proofs.lemmas.Bool.Decides.{nat_tests}
 use Rattle.std.specs.Option.{option_map}
 use Rattle.std.specs.FinMap as map
+use Rattle.std.specs.Ordering.{nat_cmp}
 use Rattle.itch_codec.specs.declared.fault.CodecFault.{CodecFault}
 use Rattle.itch_codec.specs.Messages.{fault, message_of}
 use Rattle.itch_book.proofs.Lists.{by_test}
@@ -16,6 +17,7 @@ use Rattle.itch_join.specs.declared.fault.JoinFault.{JoinFault}
 use Rattle.itch_join.specs.declared.fault.JoinFault.TheVariants as join
 use Rattle.itch_join.specs.declared.outcome.Live.{Live}
 use Rattle.itch_join.specs.declared.outcome.Live.TheVariants as hears
+use Rattle.itch_join.specs.declared.state.Halt.{Halt}
 use Rattle.itch_join.specs.declared.state.LiveCase.{LiveCase}
 use Rattle.itch_join.specs.declared.state.LiveCase.TheVariants as live
 use Rattle.itch_join.specs.declared.state.Stopped.{Stopped}
@@ -25,7 +27,7 @@ use Rattle.itch_join.specs.Rules.{Rules, refused_by as cause_by, market_rules, r
 use Rattle.itch_join.specs.States.{Joining, State, is_number}
 use Rattle.itch_join.specs.Applying.{Front, front_of, advanced, at_hand, Applies, standing, result_by}
 use Rattle.itch_join.specs.Steps.{live_case, LiveBy, NextBy}
-use Rattle.itch_join.specs.Takings.{position_of, IsJoined, MayTake, Passes, IsRefusedFor, IsOfNext, refused_by}
+use Rattle.itch_join.specs.Takings.{position_by, position_of, IsJoined, MayTake, Passes, IsRefusedFor, IsOfNext, refused_by}
 use Rattle.itch_join.proofs.CallCases.{IsLiveCase, live_case_is}
 use Rattle.itch_join.proofs.Maps.{get-remove}
 use Rattle.itch_join.proofs.SkippedMessages.{refused_here, refused_skipped}
@@ -132,3 +134,25 @@ pub may_go_on : (wanted : ℕ → Bool) (number : ℕ) (old : Position) (p : Lis
 may_go_on wanted number old p new (inl (below, same)) joined =
     let next : Position.next (position_of new.state) ≡ old.next = ap (λ (j : Position). j.next) same in (joined, omega (arith, below, next))
 may_go_on wanted number old p new (inr (at, applies, onto)) joined = (joined, omega (arith, onto))
+
+position_there : (o : Option Position) (next : ℕ) → option_map (λ (j : Position). j.next) o ≡ Some next → (o ≡ Some (position_by o)) × (Position.next (position_by o) ≡ next)
+position_there None next there = absurd (let no_one : ⊥ = cc in no_one)
+position_there (Some j) next there = (refl, cc)
+
+-- a joiner may be handed the messages from a number on that is no higher than its next one
+pub may_begin : (j : Joining) (number next waiting : ℕ) → is_some j.state.halt ≡ false → waiting ≡ map.len j.state.wait → waiting ≤ 0
+    → option_map (λ (k : Position). k.next) j.state.joined ≡ Some next → nat_le number next ≡ true → MayTake j number
+may_begin j number next waiting running counted none there within =
+    let (at_one, here) = position_there j.state.joined next there in
+    let low : number ≤ next = grind (arith, nat_tests) in
+    let empty : map.len j.state.wait ≡ 0 = omega (arith, counted, none) in (
+      record {
+        waits = λ i. ap (λ w. map.get w i) (map.empty_of_len j.state.wait empty) ∙ map.get-empty nat_cmp i;
+        joined = at_one;
+        running = unhalted j.state.halt running;
+      },
+      omega (arith, low, here),
+    ) where
+      unhalted : (o : Option Halt) → is_some o ≡ false → o ≡ None
+      unhalted None none = refl
+      unhalted (Some h) none = absurd (let no_one : ⊥ = cc in no_one)

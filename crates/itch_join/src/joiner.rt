@@ -9,6 +9,7 @@ ghost use Rattle.itch_join.specs.States.{new, unread};
 ghost use Rattle.itch_join.specs.Applying.{CatchesUp, at_hand, halt_of, fault_of};
 ghost use Rattle.itch_join.specs.Steps.{Step, CallLive, CallSnapshot, CallRestart, CallResume, live_case, Stores, started, NextBy};
 ghost use Rattle.itch_join.specs.HalfReads.{IsOfMessage, join_fault_of};
+ghost use Rattle.itch_join.specs.Takings.{MayTake};
 
 use crate::fault::{Cause, JoinFault};
 use crate::outcome::{Live, Snap};
@@ -156,6 +157,23 @@ impl<B: OrderBook> Joiner<B> {
         if let Some(position) = &mut self.joined {
             position.market.settle();
         }
+    }
+
+    /// Whether it may be handed the messages of a day from this one on: it has joined, nothing waits, no message was refused, and its
+    /// market contains the messages before this one.
+    pub fn may_take(&self, number: u64) -> bool
+        ensures { result ≡ true → MayTake self.now number }
+    {
+        let Some(next) = self.next() else {
+            return false;
+        };
+        if self.halt.is_some() {
+            return false;
+        }
+        if self.waiting() > 0 {
+            return false;
+        }
+        number <= next
     }
 
     /// The number of messages that wait.

@@ -19,7 +19,8 @@ pub record AreApplied (m : Content) (ps : List (List ℕ)) (n : Content) : Type 
   pub left : n ≡ laid (after m (map message_of ps))
   pub good : IsGood (after m (map message_of ps))
 
-none_first : (m : Content) (p : List ℕ) (ps : List (List ℕ)) → cause m p ≡ None → NoCause (effect m (message_of p)) ps → NoCause m (p ∷ ps)
+-- none has a cause, where the first has none and none after it has
+pub none_first : (m : Content) (p : List ℕ) (ps : List (List ℕ)) → cause m p ≡ None → NoCause (effect m (message_of p)) ps → NoCause m (p ∷ ps)
 none_first m p ps clean none zero within = clean
 none_first m p ps clean none (suc k) within = none k (omega arith)
 

@@ -2,12 +2,11 @@
 use Rattle.std.proofs.Common.{◌≡◌, ℕ, ◌-◌, ◌^◌, ◌<◌, ◌≤◌, ◌==◌, Bool, true, false, List, [], ◌∷◌, map, length, zero, suc, Option, None, Some, IfSome, ◌⊎◌, inl, inr, refl, sym, ap, subst, ◌∙◌, arith, eq-eqb, IsSome}
 use Rattle.std.proofs.lemmas.Bool.{ne_eqb}
 use Rattle.std.specs.List.{AllByRecursion}
-use Rattle.std.specs.Io.KnownBytes.{Consumes, IsAtEnd}
+use Rattle.std.specs.Io.KnownBytes.{Consumes}
 use Rattle.std.proofs.KnownBytes.{Keeps-refl}
 use Rattle.itch_codec.specs.Messages.{fault, message_of}
 use Rattle.itch_frame.specs.Blocks.{IsFull, blocks}
-use Rattle.itch_frame.specs.Reading.{Reading, EndsHere, bytes_left, passed}
-use Rattle.itch_frame.specs.declared.reader.Stage.TheVariants.{Cut, Ended, Given}
+use Rattle.itch_frame.specs.Reading.{Reading, bytes_left, passed}
 use Rattle.itch_frame.specs.declared.tally.Failures.{Failures}
 use Rattle.itch_frame.specs.declared.fault.FrameFault.{FrameFault}
 use Rattle.itch_frame.specs.declared.fault.FrameFault.TheVariants.{Read, Truncated, Write, TooLong}
@@ -15,20 +14,21 @@ use Rattle.itch_day.specs.declared.limit.Limit.{Limit}
 use Rattle.itch_day.specs.declared.stop.Stop.{Stop as Part}
 use Rattle.itch_day.specs.declared.stop.Stop.TheVariants as part
 use Rattle.itch_day.specs.Limits.{IsBefore, IsEarly, IsNotLate, IsWithin, counted as wanted, is_late}
-use Rattle.itch_day.specs.Parts.{Counts as CountsPart, IsNext, Leaves, ReadsPart, StopsAt}
+use Rattle.itch_day.specs.Parts.{Leaves, ReadsPart, StopsAt}
 use Rattle.itch_market.specs.Content.{Content, laid}
 use Rattle.itch_market.specs.DayParts.{HaltsEarly, HaltsPart, IsEnough, LeavesPartOf, PartOf, TakesEarly}
 use Rattle.itch_market.specs.GoodMarkets.{IsGood}
 use Rattle.itch_market.specs.Runs.{after}
 use Rattle.itch_market.specs.Replays.{CountsFirst, Halts, LeavesReaderFirst, Refuses, ReplaysFirst, Takes}
-use Rattle.itch_market.specs.Takings.{IsLeft, RefusesMessage, TakesMessage, left_by, reason_of}
+use Rattle.itch_market.specs.Takings.{RefusesMessage, TakesMessage, left_by, reason_of}
 use Rattle.itch_market.specs.declared.refused.Refused.{Refused}
 use Rattle.itch_market.specs.declared.refused.Refused.TheVariants as is
 use Rattle.itch_market.specs.declared.stop.Stop.{Stop}
 use Rattle.itch_market.specs.declared.stop.Stop.TheVariants as stop
 use Rattle.itch_market.proofs.Causes.{none_clean, refuses-laid}
 use Rattle.itch_market.proofs.AppliedMessages.{AreApplied, are_applied}
-use Rattle.itch_market.proofs.PassedBlocks.{ends_here, cut_not_ended, cut_not_going, is_not_going, never_next, passed_ended, passed_going, passed_off, passed_reader}
+use Rattle.itch_market.proofs.LeftReaders.{late_left, stop_counts, stop_left}
+use Rattle.itch_market.proofs.PassedBlocks.{ends_here, passed_off}
 
 -- a message that is not late is early
 is_early : (limit : Limit) (p : List ℕ) → fault p ≡ None → IsNotLate limit p → IsEarly limit p
@@ -98,16 +98,6 @@ module _ {R : Type 0} (remaining : R → Option (List ℕ)) (limit : Limit) (old
         is_early limit p refuses.0 not_late,
       )
 
--- what is held where it stops is the block that was not taken
-pub is_left : {R : Type 0} (remaining : R → Option (List ℕ)) (limit : Limit) (new : Reading R) (count : ℕ) (last n : Content) (why : Part Refused) → StopsAt remaining RefusesMessage limit count new last why n → IsLeft why new
-is_left remaining limit new count last n part.Full stops = tt
-is_left remaining limit new count last n part.Late (same, before, (p, next, some, few_before, late)) = λ going. (p, next.0)
-is_left remaining limit new count last n part.End (same, before, inl (ended, none, at_end)) = λ going. absurd (is_not_going (sym ended ∙ going))
-is_left remaining limit new count last n part.End (same, before, inr next) = λ going. ([], next.0)
-is_left remaining limit new count last n (part.Frame fault) stops = tt
-is_left remaining limit new count last n part.TooMany (same, before, (p, next, some, many)) = λ going. (p, next.0)
-is_left remaining limit new count last n (part.Refused why) (before, (p, next, some, few_before, not_late, refuses)) = λ going. (p, next.0)
-
 -- what reading a part of a day into a market does, whatever the limit
 pub is_part : {R : Type 0} (remaining : R → Option (List ℕ)) (failures : R → Failures) (limit : Limit) (old new : Reading R) (begun mark : ℕ) (m n : Content) (why : Part Refused) → IsGood m → laid m ≡ m → begun ≡ 0
     → ReadsPart remaining failures TakesMessage RefusesMessage limit old new begun mark m why n → mark ≤ 10 ^ 19 - 1
@@ -124,73 +114,18 @@ late_given None p late = cc
 late_given (Some time) p late = refl
 
 module _ {R : Type 0} (remaining : R → Option (List ℕ)) (failures : R → Failures) (limit : Limit) (old new : Reading R) (count : ℕ) (last n : Content) where
-  -- once the input has ended, no message came
-  abbrev Stays : Type 0
-  Stays = (old.stage ≡ Ended → (count ≡ 0) × (new ≡ old)) × (old.stage ≡ Cut → (count ≡ 0) × (new ≡ old))
-
-  next_left : (p : List ℕ) → IsNext new p → Stays → (Reading.held (passed new) ≡ []) × (Reading.stage (passed new) ≡ Given) × (old.stage ≡ Ended → ⊥) × (old.stage ≡ Cut → ⊥)
-  next_left p (block_of, going) stays = (
-    ap (λ (r : Reading R). r.held) (passed_going new going),
-    ap (λ (r : Reading R). r.stage) (passed_going new going),
-    never_next old new count Ended is_not_going going stays.0,
-    never_next old new count Cut cut_not_going going stays.1,
-  )
-
-  frame_left : (fault : FrameFault) → StopsAt remaining RefusesMessage limit count new last (part.Frame fault) n → Stays → LeavesReaderFirst old count (Some (stop.Frame fault)) new
-  frame_left (Truncated held) (same, before, cut, is_held, some) stays = (
-    (cut, is_held),
-    (
-      λ at. absurd (cut_not_ended (sym cut ∙ ap (λ (r : Reading R). r.stage) (stays.0 at).1 ∙ at)),
-      λ at. ((stays.1 at).0, ap (λ k. stop.Frame (Truncated k)) (is_held ∙ ap (λ (r : Reading R). length r.held) (stays.1 at).1), (stays.1 at).1),
-    ),
-  )
-  frame_left (Read error) (same, before, going) stays = (
-    going,
-    (λ at. absurd (never_next old new count Ended is_not_going going stays.0 at), λ at. absurd (never_next old new count Cut cut_not_going going stays.1 at)),
-  )
-  frame_left (Write sent error) never stays = absurd never
-  frame_left TooLong never stays = absurd never
-
-  end_left : ((new.stage ≡ Ended) × (new.held ≡ []) × IsAtEnd (bytes_left remaining new)) ⊎ IsNext new [] → Stays → LeavesReaderFirst old count (Some stop.End) (passed new)
-  end_left (inl (ended, none, at_end)) stays = subst (λ (r : Reading R). LeavesReaderFirst old count (Some stop.End) r) (sym (passed_ended new ended)) (
-    (none, inl ended),
-    (λ at. ((stays.0 at).0, refl, (stays.0 at).1), λ at. absurd (cut_not_ended (sym at ∙ sym (ap (λ (r : Reading R). r.stage) (stays.1 at).1) ∙ ended))),
-  )
-  end_left (inr next) stays =
-      let (held, given, unended, uncut) = next_left [] next stays in ((held, inr given), (λ at. absurd (unended at), λ at. absurd (uncut at)))
-
   -- how the reader of blocks is left
-  pub part_left : (why : Part Refused) → StopsAt remaining RefusesMessage limit count new last why n → Leaves old count why new → LeavesPartOf limit old count (reason_of why) (left_by why new)
+  part_left : (why : Part Refused) → StopsAt remaining RefusesMessage limit count new last why n → Leaves old count why new → LeavesPartOf limit old count (reason_of why) (left_by why new)
   part_left part.Full (same, (most, wanted, all)) passes = inl (subst IsSome (sym wanted) refl, (passes.unread, passes.given))
-  part_left part.Late (same, before, (p, next, some, few_before, (clean, late))) stays =
-      let (held, given, unended, uncut) = next_left p next stays in
-      inr (late_given limit.until p late, (λ none. absurd (omega arith), λ more. (held, given, unended, uncut)))
-  part_left part.End (same, before, end) stays = end_left end stays
-  part_left (part.Frame fault) stops stays = frame_left fault stops stays
-  part_left part.TooMany (same, before, (p, next, some, many)) stays =
-      let (held, given, unended, uncut) = next_left p next stays in ((held, given), (λ at. absurd (unended at), λ at. absurd (uncut at)))
-  part_left (part.Refused (is.Codec f)) (before, (p, next, some, few_before, not_late, refuses)) stays =
-      let (held, given, unended, uncut) = next_left p next stays in ((held, given), (λ at. absurd (unended at), λ at. absurd (uncut at)))
-  part_left (part.Refused (is.Rule reason)) (before, (p, next, some, few_before, not_late, refuses)) stays =
-      let (held, given, unended, uncut) = next_left p next stays in ((held, given), (λ at. absurd (unended at), λ at. absurd (uncut at)))
-
-  frame_counts : (fault : FrameFault) → StopsAt remaining RefusesMessage limit count new last (part.Frame fault) n → CountsPart {F = Refused} (part.Frame fault) (failures old.reader) (failures new.reader)
-      → CountsFirst (Some (stop.Frame fault)) (failures old.reader) (failures new.reader)
-  frame_counts (Truncated held) stops counts = counts
-  frame_counts (Read error) stops counts = counts
-  frame_counts (Write sent error) never counts = absurd never
-  frame_counts TooLong never counts = absurd never
-
-  -- and what failed
-  pub part_counts : (why : Part Refused) → StopsAt remaining RefusesMessage limit count new last why n → CountsPart why (failures old.reader) (failures new.reader)
-      → CountsFirst (reason_of why) (failures old.reader) (failures (Reading.reader (left_by why new)))
-  part_counts part.Full stops counts = counts
-  part_counts part.Late stops counts = ap failures (passed_reader new) ∙ counts
-  part_counts part.End stops counts = ap failures (passed_reader new) ∙ counts
-  part_counts (part.Frame fault) stops counts = frame_counts fault stops counts
-  part_counts part.TooMany stops counts = ap failures (passed_reader new) ∙ counts
-  part_counts (part.Refused (is.Codec f)) stops counts = ap failures (passed_reader new) ∙ counts
-  part_counts (part.Refused (is.Rule reason)) stops counts = ap failures (passed_reader new) ∙ counts
+  part_left part.Late (same, before, (p, next, some, few, (clean, late))) stays =
+      inr (late_given limit.until p late, late_left remaining failures RefusesMessage limit old new count count last n (same, before, (p, next, some, few, (clean, late))) stays)
+  part_left part.End stops stays = stop_left remaining failures RefusesMessage limit old new count count last n part.End (λ late. absurd (cc)) stops stays
+  part_left (part.Frame fault) stops stays = stop_left remaining failures RefusesMessage limit old new count count last n (part.Frame fault) (λ late. absurd (cc)) stops stays
+  part_left part.TooMany stops stays = stop_left remaining failures RefusesMessage limit old new count count last n part.TooMany (λ late. absurd (cc)) stops stays
+  part_left (part.Refused (is.Codec f)) stops stays =
+      stop_left remaining failures RefusesMessage limit old new count count last n (part.Refused (is.Codec f)) (λ late. absurd (cc)) stops stays
+  part_left (part.Refused (is.Rule reason)) stops stays =
+      stop_left remaining failures RefusesMessage limit old new count count last n (part.Refused (is.Rule reason)) (λ late. absurd (cc)) stops stays
 
 -- what reading a part leaves of its reader, whatever the limit
 pub is_part_left : {R : Type 0} (remaining : R → Option (List ℕ)) (failures : R → Failures) (limit : Limit) (old new : Reading R) (begun mark : ℕ) (m n : Content) (why : Part Refused) → begun ≡ 0
@@ -199,7 +134,7 @@ pub is_part_left : {R : Type 0} (remaining : R → Option (List ℕ)) (failures 
 is_part_left remaining failures limit old new begun mark m n why first reads =
     let counted : length reads.payloads ≡ mark = omega (arith, reads.taken.counted, first) in (
       part_left remaining failures limit old new mark reads.last n why reads.stops (subst (λ k. Leaves old k why new) counted reads.leaves),
-      part_counts remaining failures limit old new mark reads.last n why reads.stops reads.counts,
+      stop_counts remaining failures RefusesMessage limit old new mark mark reads.last n why reads.stops reads.counts,
     )
 
 -- a part of a day of which a number of messages is wanted is a replay of the first ones

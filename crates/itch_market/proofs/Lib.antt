@@ -20,6 +20,7 @@ pub mod SameMarkets
 pub mod ReplayReaders
 pub mod AppliedMessages
 pub mod PassedBlocks
+pub mod LeftReaders
 pub mod DayParts
 pub mod Partials
 pub mod PlainMessages

@@ -42,6 +42,6 @@ pub use not_taken::NotTaken;
 pub use positions::Positions;
 pub use refusal::Refusal;
 pub use refused::Refused;
-pub use replaying::{reason_of, replay, replay_first, replay_part};
+pub use replaying::{pass_stop, reason_of, replay, replay_first, replay_part};
 pub use security::{Action, Security};
 pub use stop::{ReplayEnd, Stop};

@@ -80,8 +80,11 @@ pub fn replay_part<R: CountedRead, A: Allocator, B: OrderBook>(
     (count, reason_of(stop))
 }
 
-// Passes the block that a part of a day stopped at.
-fn pass_stop<R: CountedRead, A: Allocator>(reader: &mut BlockReader<R, A>, stop: &PartStop<Refused>)
+/// Passes the block that a part of a day stopped at.
+pub fn pass_stop<R: CountedRead, A: Allocator>(
+    reader: &mut BlockReader<R, A>,
+    stop: &PartStop<Refused>,
+)
     requires { IsLeft stop.now reader.old }
     ensures { reader.new ≡ left_by stop.now reader.old }
 {

@@ -11,6 +11,7 @@ use std::test::Fail;
 
 mod refused_memory;
 mod restricted;
+mod sink;
 
 const OPENS: &[u8] = b"S\0\0\0\0\0\0\0\0\0\0O";
 

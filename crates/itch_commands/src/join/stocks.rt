@@ -6,7 +6,8 @@ ghost use Rattle.itch_join.specs.Positions.{Position};
 ghost use Rattle.itch_join.specs.States.{new as fresh};
 ghost use Rattle.itch_commands.specs.AsRead.{as_read, read_by};
 ghost use Rattle.itch_commands.specs.Commands.{JoinsStocks};
-ghost use Rattle.itch_commands.specs.Joiners.{IsJoined, WritesStocks, position_of};
+ghost use Rattle.itch_join.specs.Takings.{IsJoined, position_of};
+ghost use Rattle.itch_commands.specs.Joiners.{WritesStocks};
 ghost use Rattle.itch_commands.specs.Readings.{FromBlocks};
 ghost use Rattle.itch_commands.specs.Stocks.{names_of};
 

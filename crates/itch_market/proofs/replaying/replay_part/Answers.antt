@@ -1,11 +1,13 @@
 use Rattle.std.proofs.Common.{refl}
-use Rattle.itch_market.proofs.DayParts.{is_left, is_part, is_part_left}
+use Rattle.itch_market.specs.Takings.{RefusesMessage}
+use Rattle.itch_market.proofs.DayParts.{is_part, is_part_left}
+use Rattle.itch_market.proofs.LeftReaders.{stop_held}
 use Rattle.itch_market.proofs.replaying.replay_part.Goals as goal
 
 pub pass_stop-requires : goal.pass_stop-requires
 pass_stop-requires g c =
     let reads = c.read_part-stop.ensures.reads in
-    is_left g.R.CountedRead.remaining c.args.limit c.read_part-stop.new.reader c.read_part-stop.new.count reads.last c.read_part-stop.new.sink c.read_part-stop.result reads.stops
+    stop_held g.R.CountedRead.remaining RefusesMessage c.args.limit c.read_part-stop.new.reader c.read_part-stop.new.count reads.last c.read_part-stop.new.sink c.read_part-stop.result reads.stops
 
 pub returns : goal.returns
 returns g c =

@@ -1,27 +1,49 @@
-use Rattle.std.proofs.Common.{◌≡◌, None, sym, ap, ◌∙◌, map}
-use Rattle.itch_market.specs.Wanted.{has}
+use Rattle.std.proofs.Common.{◌≡◌, ◌+◌, None, sym, ap, ◌∙◌, subst}
+use Rattle.itch_day.specs.declared.limit.Limit.{Limit as DayLimit}
+use Rattle.itch_day.specs.declared.stop.Stop.TheVariants.{Late}
+use Rattle.itch_day.specs.Parts.{ReadsPart}
+use Rattle.itch_market.proofs.LeftReaders.{stop_held}
 use Rattle.itch_join.specs.Positions.{Position}
-use Rattle.itch_commands.specs.AsRead.{as_read}
-use Rattle.itch_commands.specs.FeedParts.{misfit_of}
-use Rattle.itch_commands.specs.Joiners.{position_of, start_of}
-use Rattle.itch_commands.proofs.FeedReadings.{feed_done, feed_fails}
+use Rattle.itch_join.specs.Takings.{MayTake, RefusesNumbered, TakesNumbered, position_of}
+use Rattle.itch_commands.specs.FeedParts.{misfit_of, of_day, part_of}
+use Rattle.itch_commands.proofs.FeedReadings.{feed_ends, feed_late}
 use Rattle.itch_commands.proofs.JoinedStocks.{number_there}
 use Rattle.itch_commands.proofs.join.feed.read_feed.Goals as goal
 
-pub returns-in-Ok : goal.returns-in-Ok
-returns-in-Ok g c =
-    let first = c.args.joiner.now.state in
-    let next = number_there first c.next.result c.unwrap.result c.requires.joined c.next.ensures c.unwrap.ensures in
-    let fits : misfit_of c.args.part (Position.next (position_of first)) ≡ None = ap (misfit_of c.args.part) (sym next) ∙ sym c.misfit.ensures ∙ c.in_default.is in
-    let feeds = c.in-Ok.ensures.feeds in (
-      map (as_read (has c.args.joiner.now.set)) feeds.0,
-      feed_done g.R.CountedRead.remaining g.R.CountedRead.failures _ c.args.part c.args.reader.now c.deliver.new.reader (start_of (position_of first)) _ fits _ feeds c.in-Ok.ensures.failures,
-      feeds.1.2,
-    )
+pub pass_stop-requires : goal.pass_stop-requires
+pass_stop-requires g c =
+    let reads = c.read_part-stop.ensures.reads in
+    stop_held g.R.CountedRead.remaining RefusesNumbered c.of_day-limit.result c.read_part-stop.new.reader c.read_part-stop.new.count reads.last c.read_part-stop.new.sink c.read_part-stop.result reads.stops
 
-pub returns-in-Err : goal.returns-in-Err
-returns-in-Err g c =
-    let first = c.args.joiner.now.state in
-    let next = number_there first c.next.result c.unwrap.result c.requires.joined c.next.ensures c.unwrap.ensures in
-    let fits : misfit_of c.args.part (Position.next (position_of first)) ≡ None = ap (misfit_of c.args.part) (sym next) ∙ sym c.misfit.ensures ∙ c.in_default.is in
-    feed_fails g.R.CountedRead.remaining g.R.CountedRead.failures _ c.args.part c.args.reader.now c.deliver.new.reader (start_of (position_of first)) _ fits c.in-Err.fault c.in-Err.ensures.feeds c.in-Err.ensures.failures
+pub returns-in-Late : goal.returns-in-Late
+returns-in-Late g c =
+    let part = c.args.part in
+    let first = c.args.joiner.now in
+    let start = Position.next (position_of first.state) in
+    let next = number_there first.state c.next.result c.unwrap-next.result c.requires.joined c.next.ensures c.unwrap-next.ensures in
+    let fits : misfit_of part start ≡ None = ap (misfit_of part) (sym next) ∙ sym c.misfit.ensures ∙ c.in_default.is in
+    let limit : c.of_day-limit.result ≡ of_day part.before (part_of part start) = c.of_day-limit.ensures ∙ ap (of_day part.before) (c.wanted.ensures ∙ ap (part_of part) next) in
+    let reads =
+    subst (λ (l : DayLimit). ReadsPart g.R.CountedRead.remaining g.R.CountedRead.failures TakesNumbered RefusesNumbered l c.args.reader.now c.read_part-stop.new.reader part.before c.read_part-stop.new.count first Late c.read_part-stop.new.sink)
+    limit (rw c.in-Late.is at c.read_part-stop.ensures.reads) in
+    let ready : MayTake c.read_part-stop.new.sink (c.read_part-stop.new.count + 1) = rw c.in-Late.is at c.read_part-stop.ensures.ready in
+    let there = number_there c.read_part-stop.new.sink.state c.next-in-Late.result c.unwrap.result ready.0 c.next-in-Late.ensures c.unwrap.ensures in
+    rw (c.pass_stop.ensures, c.in-Late.is)
+    (feed_late g.R.CountedRead.remaining g.R.CountedRead.failures part c.args.reader.now c.read_part-stop.new.reader c.read_part-stop.new.count first reads.last c.read_part-stop.new.sink reads.payloads c.requires.start fits reads.taken c.read_part-stop.ensures.few
+    c.unwrap.result c.late_at.result reads.stops reads.leaves reads.counts ready there c.late_at.ensures)
+
+pub returns-in_default-stop : goal.returns-in_default-stop
+returns-in_default-stop g c =
+    let part = c.args.part in
+    let first = c.args.joiner.now in
+    let start = Position.next (position_of first.state) in
+    let why = c.read_part-stop.result in
+    let next = number_there first.state c.next.result c.unwrap-next.result c.requires.joined c.next.ensures c.unwrap-next.ensures in
+    let fits : misfit_of part start ≡ None = ap (misfit_of part) (sym next) ∙ sym c.misfit.ensures ∙ c.in_default.is in
+    let limit : c.of_day-limit.result ≡ of_day part.before (part_of part start) = c.of_day-limit.ensures ∙ ap (of_day part.before) (c.wanted.ensures ∙ ap (part_of part) next) in
+    let reads =
+    subst (λ (l : DayLimit). ReadsPart g.R.CountedRead.remaining g.R.CountedRead.failures TakesNumbered RefusesNumbered l c.args.reader.now c.read_part-stop.new.reader part.before c.read_part-stop.new.count first why c.read_part-stop.new.sink)
+    limit c.read_part-stop.ensures.reads in
+    rw (c.ended.ensures, c.reason_of.ensures, c.pass_stop.ensures, limit)
+    (feed_ends g.R.CountedRead.remaining g.R.CountedRead.failures part c.args.reader.now c.read_part-stop.new.reader c.read_part-stop.new.count first reads.last c.read_part-stop.new.sink reads.payloads c.requires.start fits reads.taken c.read_part-stop.ensures.few
+    why c.in_default-stop.not-Late reads.stops reads.leaves reads.counts c.read_part-stop.ensures.ready)

@@ -3,7 +3,7 @@ use Rattle.itch_frame.specs.Reading.{bytes_left}
 use Rattle.itch_market.specs.Wanted.{has}
 use Rattle.itch_join.specs.Positions.{Position}
 use Rattle.itch_commands.specs.AsRead.{as_read, ReadsAs}
-use Rattle.itch_commands.specs.Joiners.{position_of}
+use Rattle.itch_join.specs.Takings.{position_of}
 use Rattle.itch_commands.proofs.SnapshotFaults.{fault_seen}
 use Rattle.itch_commands.proofs.SnapshotStarts.{is_start}
 use Rattle.itch_commands.proofs.join.start.read_start.Goals as goal

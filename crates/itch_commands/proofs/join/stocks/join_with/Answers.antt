@@ -2,7 +2,8 @@ use Rattle.std.proofs.Common.{◌≡◌, Ok, Err, refl, inl}
 use Rattle.std.proofs.lemmas.Result.{err_from_is_err_and}
 use Rattle.itch_market.specs.Wanted.{has}
 use Rattle.itch_commands.specs.AsRead.{as_read}
-use Rattle.itch_commands.specs.Joiners.{position_of, start_of}
+use Rattle.itch_join.specs.Takings.{position_of}
+use Rattle.itch_commands.specs.Joiners.{start_of}
 use Rattle.itch_commands.specs.Joining.{ReadsStart, ReadsFeed}
 use Rattle.itch_commands.proofs.Joinings.{feeds_along}
 use Rattle.itch_commands.proofs.JoinedStocks.{stocks_fail, stocks_joined}

@@ -2,7 +2,7 @@ use Rattle.std.proofs.Common.{◌^◌, ◌<◌, length, refl, ◌∙◌, arith}
 use Rattle.std.proofs.lemmas.Result.{err_from_is_err_and}
 use Rattle.itch_market.specs.Wanted.{has}
 use Rattle.itch_snapshot.specs.Snapshot.{snap}
-use Rattle.itch_commands.specs.Joiners.{position_of}
+use Rattle.itch_join.specs.Takings.{position_of}
 use Rattle.itch_commands.specs.Stocks.{names_of}
 use Rattle.itch_commands.proofs.JoinedStocks.{market_there, number_there, stocks_not_found, stocks_cut}
 use Rattle.itch_commands.proofs.Snapshots.{only_short}
