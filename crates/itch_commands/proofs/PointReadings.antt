@@ -33,7 +33,8 @@ use Rattle.itch_market.specs.declared.stop.Stop.{Stop}
 use Rattle.itch_market.specs.declared.stop.Stop.TheVariants.{End, Frame, Codec, Rule, TooManyMessages}
 use Rattle.itch_market.proofs.AppliedMessages.{AreApplied, are_applied}
 use Rattle.itch_market.proofs.Causes.{no_reason, none_clean}
-use Rattle.itch_market.proofs.DayParts.{full_count, part_counts, part_left, takes_early, is_part}
+use Rattle.itch_market.proofs.DayParts.{full_count, part_left, takes_early, is_part}
+use Rattle.itch_market.proofs.LeftReaders.{stop_counts}
 use Rattle.itch_market.proofs.GoodMarkets.{effect_good, empty_good}
 use Rattle.itch_market.proofs.PassedBlocks.{ends_here, passed_off}
 use Rattle.itch_market.proofs.ReplayProgress.{taken_on}
@@ -164,7 +165,8 @@ module _ {R : Type 0} (remaining : R → Option (List ℕ)) (failures : R → Fa
           (subst (λ k. Leaves first k stop now) number stands.leaves)
 
       counts : CountsFirst (reason_of stop) (failures first.reader) (failures (Reading.reader (left_by stop now)))
-      counts = part_counts remaining failures limit first now marked.mark.count stands.last.sink marked.sink stop stops stands.counts
+      counts =
+          stop_counts remaining failures RefusesMessage limit first now marked.mark.count marked.mark.count stands.last.sink marked.sink stop stops stands.counts
 
       read : IsEnough limit marked.mark.count (bytes_left remaining now) (bytes_left remaining (left_by stop now))
           → failures (Reading.reader (left_by stop now)) ≡ failures first.reader → LeavesDay (Ok marked.mark.count) limit first (left_by stop now)

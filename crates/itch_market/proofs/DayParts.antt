@@ -115,7 +115,7 @@ late_given (Some time) p late = refl
 
 module _ {R : Type 0} (remaining : R → Option (List ℕ)) (failures : R → Failures) (limit : Limit) (old new : Reading R) (count : ℕ) (last n : Content) where
   -- how the reader of blocks is left
-  part_left : (why : Part Refused) → StopsAt remaining RefusesMessage limit count new last why n → Leaves old count why new → LeavesPartOf limit old count (reason_of why) (left_by why new)
+  pub part_left : (why : Part Refused) → StopsAt remaining RefusesMessage limit count new last why n → Leaves old count why new → LeavesPartOf limit old count (reason_of why) (left_by why new)
   part_left part.Full (same, (most, wanted, all)) passes = inl (subst IsSome (sym wanted) refl, (passes.unread, passes.given))
   part_left part.Late (same, before, (p, next, some, few, (clean, late))) stays =
       inr (late_given limit.until p late, late_left remaining failures RefusesMessage limit old new count count last n (same, before, (p, next, some, few, (clean, late))) stays)
