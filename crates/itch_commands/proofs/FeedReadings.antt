@@ -1,9 +1,8 @@
 -- What the reading of a feed returns.
-use Rattle.std.proofs.Common.{◌≡◌, ℕ, ◌+◌, ◌-◌, ◌^◌, ◌<◌, ◌≤◌, ◌==◌, max, nat_le, nat_lt, Bool, true, false, cond, List, [], map, length, zero, suc, Option, None, Some, IsSome, IfSome, MatchResult, Result, Ok, Err, refl, sym, ap, subst, ◌∙◌, inl, inr, arith, eq-eqb}
+use Rattle.std.proofs.Common.{◌≡◌, ℕ, ◌+◌, ◌-◌, ◌^◌, ◌<◌, ◌≤◌, ◌==◌, max, nat_le, nat_lt, Bool, true, false, cond, List, map, length, zero, suc, Option, None, Some, IsSome, IfSome, MatchResult, Result, Ok, Err, refl, sym, ap, subst, ◌∙◌, inl, inr, arith, eq-eqb}
 use Rattle.std.proofs.lemmas.Bool.{ne_eqb}
 use Rattle.std.proofs.lemmas.List.{length-map}
 use Rattle.std.proofs.KnownBytes.{Keeps-refl}
-use Rattle.std.specs.List.{AllByRecursion}
 use Rattle.std.specs.Option.{option_map}
 use Rattle.itch_codec.specs.Messages.{fault, message_of}
 use Rattle.itch_frame.specs.Reading.{Reading, bytes_left, passed}
@@ -13,7 +12,7 @@ use Rattle.itch_frame.specs.declared.tally.Failures.{Failures}
 use Rattle.itch_day.specs.declared.stop.Stop.{Stop as Part}
 use Rattle.itch_day.specs.declared.stop.Stop.TheVariants as reading
 use Rattle.itch_day.specs.Limits.{IsBefore, IsWithin}
-use Rattle.itch_day.specs.Parts.{Counts as CountsPart, IsNext, Leaves, StopsAt, Takes, UnlessRefused}
+use Rattle.itch_day.specs.Parts.{Counts as CountsPart, Leaves, StopsAt, Takes, UnlessRefused}
 use Rattle.itch_market.specs.Content.{Content, laid}
 use Rattle.itch_market.specs.GoodMarkets.{IsGood}
 use Rattle.itch_market.specs.Replays.{Counts, CountsFirst, LeavesReaderFirst, IsDecided, Refuses}
@@ -27,14 +26,12 @@ use Rattle.itch_market.proofs.Causes.{halts-laid, refuses-laid}
 use Rattle.itch_market.proofs.PassedBlocks.{ends_here, passed_off}
 use Rattle.itch_market.proofs.LeftReaders.{late_left, stop_counts, stop_left}
 use Rattle.itch_join.specs.Positions.{Position}
-use Rattle.itch_join.specs.Rules.{rules_of}
 use Rattle.itch_join.specs.States.{Joining}
 use Rattle.itch_join.specs.Takings.{IsJoined, MayTake, RefusesNumbered, TakesNumbered, position_of}
 use Rattle.itch_commands.specs.AsRead.{as_read}
 use Rattle.itch_commands.specs.FeedParts.{beyond, misfit_of, number_after, of_day, part_of}
 use Rattle.itch_commands.specs.Joiners.{FeedsJoiner, IsAfter, IsStart, ended_feed, start_of, uncounted}
 use Rattle.itch_commands.specs.Joining.{EndsFeed, HaltsFeed, IsOfMessage, LateFeed, ReadsFeed, Start, StopsFeed, TakesFeed, TakesWanted, joined_market}
-use Rattle.itch_market.specs.DayParts.{LateNext}
 use Rattle.itch_commands.specs.Readings.{IsPart, LeavesDay, stopped}
 use Rattle.itch_commands.specs.declared.fault.Source.TheVariants.{Only}
 use Rattle.itch_commands.specs.declared.fault.ToolFault.{ToolFault}

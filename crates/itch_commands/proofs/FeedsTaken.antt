@@ -1,7 +1,7 @@
 -- What a joiner has taken of a feed that was read.
-use Rattle.std.proofs.Common.{◌≡◌, ℕ, ◌+◌, ◌-◌, ◌^◌, ◌<◌, ◌≤◌, max, nat_le, Bool, true, false, cond, List, [], ◌∷◌, map, length, drop, zero, suc, Option, None, Some, Ok, Err, refl, sym, ap, ◌∙◌, subst, inl, inr, arith}
+use Rattle.std.proofs.Common.{◌≡◌, ℕ, ◌+◌, ◌-◌, ◌<◌, max, nat_le, Bool, true, false, cond, List, [], ◌∷◌, map, length, drop, suc, None, Some, Ok, refl, sym, ap, ◌∙◌, subst, inl, inr, arith}
 use Rattle.std.proofs.lemmas.Bool.Decides.{nat_tests}
-use Rattle.std.proofs.lemmas.List.{drop_all, length-map}
+use Rattle.std.proofs.lemmas.List.{drop_all}
 use Rattle.itch_codec.specs.Messages.{message_of}
 use Rattle.itch_day.specs.Sinks.{TakesAll}
 use Rattle.itch_market.specs.Content.{Content, laid}
@@ -13,9 +13,8 @@ use Rattle.itch_market.specs.Stops.{cause}
 use Rattle.itch_market.specs.Wanted.{Wanted, has}
 use Rattle.itch_market.proofs.AppliedMessages.{none_first}
 use Rattle.itch_market.proofs.ReplayProgress.{taken_on}
-use Rattle.itch_join.specs.Applying.{AppliesOne}
 use Rattle.itch_join.specs.Positions.{Position}
-use Rattle.itch_join.specs.Rules.{Rules, rules_of}
+use Rattle.itch_join.specs.Rules.{rules_of}
 use Rattle.itch_join.specs.States.{Joining}
 use Rattle.itch_join.specs.Takings.{position_of, Passes, TakesNumbered}
 use Rattle.itch_commands.specs.AsRead.{as_read}

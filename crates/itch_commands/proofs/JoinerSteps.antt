@@ -1,6 +1,5 @@
 -- What one message does to a joiner in which nothing waits.
-use Rattle.std.proofs.Common.{◌≡◌, ℕ, ◌+◌, ◌^◌, ◌<◌, ◌≤◌, ◌==◌, Bool, true, false, cond, not, nat_lt, List, [], ◌∷◌, Option, Some, None, is_some, Result, Ok, Err, refl, sym, ap, ◌∙◌, subst, inl, inr, arith}
-use Rattle.std.proofs.lemmas.Bool.Decides.{nat_tests}
+use Rattle.std.proofs.Common.{◌≡◌, ℕ, ◌+◌, ◌^◌, Bool, true, false, cond, not, nat_lt, List, [], ◌∷◌, Option, Some, None, is_some, Result, Ok, Err, refl, sym, ap, ◌∙◌, subst, inl, inr}
 use Rattle.std.specs.Option.{option_map}
 use Rattle.std.specs.FinMap as map
 use Rattle.itch_codec.specs.declared.fault.CodecFault.{CodecFault}
@@ -23,23 +22,16 @@ use Rattle.itch_join.specs.declared.fault.Cause.{Cause}
 use Rattle.itch_join.specs.declared.fault.Cause.TheVariants as cause
 use Rattle.itch_join.specs.declared.fault.JoinFault.{JoinFault}
 use Rattle.itch_join.specs.declared.fault.JoinFault.TheVariants as join
-use Rattle.itch_join.specs.declared.outcome.Live.{Live}
-use Rattle.itch_join.specs.declared.outcome.Live.TheVariants as hears
 use Rattle.itch_join.specs.declared.outcome.Snap.{Snap}
 use Rattle.itch_join.specs.declared.outcome.Snap.TheVariants as snap
-use Rattle.itch_join.specs.declared.state.LiveCase.{LiveCase}
-use Rattle.itch_join.specs.declared.state.LiveCase.TheVariants as live
 use Rattle.itch_join.specs.declared.state.Stopped.{Stopped}
-use Rattle.itch_join.specs.declared.state.Stopped.TheVariants.{Refused, NoMemory}
-use Rattle.itch_join.specs.Positions.{Position}
 use Rattle.itch_join.specs.Rules.{Rules, refused_by, market_rules, rules_of}
-use Rattle.itch_join.specs.States.{Reading, State, unread, is_number}
-use Rattle.itch_join.specs.Applying.{Front, front_of, advanced, at_hand, Applies, standing, result_by}
-use Rattle.itch_join.specs.Steps.{SnapFails, message_case, payload_case, snapshot_case, Takes, SnapshotBy, started, live_case, LiveBy, NextBy}
-use Rattle.itch_join.proofs.CallCases.{IsLiveCase, live_case_is}
+use Rattle.itch_join.specs.States.{Reading, State, unread}
+use Rattle.itch_join.specs.Applying.{Front, at_hand, Applies, standing, result_by}
+use Rattle.itch_join.specs.Steps.{SnapFails, message_case, payload_case, snapshot_case, Takes, SnapshotBy, started}
 use Rattle.itch_join.proofs.LawfulRules.{faultless, reasonless}
-use Rattle.itch_join.proofs.Maps.{get-remove, get-from}
-use Rattle.itch_join.proofs.SkippedMessages.{refused_here, effect_here, memory_here, refused_skipped, effect_skipped}
+use Rattle.itch_join.proofs.Maps.{get-from}
+use Rattle.itch_join.proofs.SkippedMessages.{refused_here, effect_here, memory_here, effect_skipped}
 use Rattle.itch_join.proofs.SnapshotMessages.{case_here}
 use Rattle.itch_join.specs.Takings.{IsJoined, IsRefusedFor, position_of}
 use Rattle.itch_join.proofs.Takings.{never_as, stays}

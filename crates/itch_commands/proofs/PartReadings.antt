@@ -1,6 +1,5 @@
 -- What reading the wanted part of a day file returns, and what it has done so far.
 use Rattle.std.proofs.Common.{◌≡◌, ℕ, ◌+◌, ◌-◌, ◌^◌, ◌≤◌, ◌<◌, ◌==◌, Bool, true, false, List, [], ◌∷◌, ◌++◌, map, Option, None, Some, IsSome, IfSome, Ok, Err, inl, inr, refl, sym, ap, subst, ◌∙◌, arith, length-append}
-use Rattle.std.proofs.KnownBytes.{Consumes-nil}
 use Rattle.itch_codec.specs.Messages.{message_of}
 use Rattle.itch_codec.specs.declared.message.Message.{Message}
 use Rattle.itch_frame.specs.Blocks.{IsFull}

@@ -1,5 +1,5 @@
 -- The bytes of a day file that have passed, as far as they are kept.
-use Rattle.std.proofs.Common.{◌≡◌, ℕ, ◌<◌, ◌≤◌, ◌+◌, ◌-◌, ◌^◌, min, nat_lt, true, false, List, [], ◌∷◌, ◌++◌, length, take, drop, refl, sym, ap, ap₂, subst, ◌∙◌, append-nil, append_assoc, arith, length-append}
+use Rattle.std.proofs.Common.{◌≡◌, ℕ, ◌<◌, ◌≤◌, ◌+◌, ◌-◌, ◌^◌, min, nat_lt, List, ◌++◌, length, take, drop, sym, ap, ap₂, ◌∙◌, append-nil, arith, length-append}
 use Rattle.std.proofs.lemmas.Bool.Decides.{nat_tests}
 use Rattle.std.proofs.lemmas.List.{take-append-le, take-append-drop, take_all, take_min, length-take, drop-append-le, drop-take, take_rest}
 use Rattle.std.proofs.Math.Seq.{take-append-add, drop-append-add}

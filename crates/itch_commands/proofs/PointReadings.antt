@@ -1,5 +1,5 @@
 -- What reading on from point to point returns.
-use Rattle.std.proofs.Common.{◌≡◌, ℕ, ◌+◌, ◌-◌, ◌^◌, ◌≤◌, ◌<◌, min, Bool, true, false, List, [], ◌∷◌, ◌++◌, map, length, Option, None, Some, IfSome, Result, Ok, Err, inl, inr, refl, sym, ap, subst, ◌∙◌, arith}
+use Rattle.std.proofs.Common.{◌≡◌, ℕ, ◌+◌, ◌-◌, ◌^◌, ◌≤◌, ◌<◌, min, Bool, true, false, List, [], ◌∷◌, ◌++◌, length, Option, None, Some, Result, Ok, Err, inl, inr, refl, sym, ap, subst, ◌∙◌, arith}
 use denote.Ref.{Bor}
 use Rattle.std.specs.Option.{option_copied}
 use Rattle.std.proofs.KnownBytes.{Consumes-nil}
@@ -9,8 +9,8 @@ use Rattle.itch_codec.specs.declared.message.Message.{Message}
 use Rattle.itch_frame.specs.Reading.{Reading, bytes_left}
 use Rattle.itch_frame.specs.declared.tally.Failures.{Failures}
 use Rattle.itch_frame.specs.declared.fault.FrameFault.TheVariants.{Read, Truncated, Write, TooLong}
-use Rattle.itch_day.specs.Limits.{counted, IsBefore, IsWithin}
-use Rattle.itch_day.specs.Marks.{IsMark, RefusesMarked, TakesMarked, first_mark, mark_after}
+use Rattle.itch_day.specs.Limits.{counted}
+use Rattle.itch_day.specs.Marks.{IsMark, RefusesMarked, TakesMarked, first_mark}
 use Rattle.itch_day.specs.Parts.{GoesOn, GoesOnTo, Leaves, ReadsPart, StopsAt}
 use Rattle.itch_day.specs.Sinks.{TakesAll}
 use Rattle.itch_day.specs.declared.limit.Limit.{Limit}
@@ -24,7 +24,7 @@ use Rattle.itch_market.specs.DayParts.{HaltsPart, IsEnough, LeavesPartOf, PartOf
 use Rattle.itch_market.specs.Effects.{effect}
 use Rattle.itch_market.specs.GoodMarkets.{IsGood}
 use Rattle.itch_market.specs.Reasons.{reason}
-use Rattle.itch_market.specs.Replays.{CountsFirst, LeavesReaderFirst}
+use Rattle.itch_market.specs.Replays.{CountsFirst}
 use Rattle.itch_market.specs.Takings.{RefusesMessage, TakesMessage, left_by, reason_of}
 use Rattle.itch_market.specs.Wanted.{Wanted}
 use Rattle.itch_market.specs.declared.refused.Refused.{Refused}

@@ -1,12 +1,12 @@
 -- The list of a set's locates, run by run.
-use Rattle.std.proofs.Common.{◌≡◌, ℕ, ◌<◌, ◌≤◌, ◌+◌, ◌-◌, ◌≢◌, ◌==◌, Bool, true, false, nat_lt, not, ◌&&◌, ◌||◌, if◌then◌else◌, List, [], ◌∷◌, ◌++◌, Option, None, Some, Result, Ok, Err, IfOk, refl, sym, ap, ap₂, subst, ◌∙◌, append_assoc, append-nil, arith}
+use Rattle.std.proofs.Common.{◌≡◌, ℕ, ◌<◌, ◌≤◌, ◌+◌, ◌≢◌, ◌==◌, Bool, true, false, nat_lt, not, ◌||◌, List, [], ◌∷◌, ◌++◌, None, Some, Result, Ok, Err, IfOk, refl, sym, ap, ap₂, subst, ◌∙◌, append_assoc, arith}
 use Rattle.std.specs.List.{AllByRecursion, list_any}
 use Rattle.std.proofs.lemmas.Bool.Decides.{nat_tests}
 use Rattle.std.proofs.lemmas.List.Folds.{list_any-append}
 use Rattle.itch_book.proofs.Lists.{by_test, All-weaker_rec, All-append_rec}
 use Rattle.itch_market.specs.Wanted.{Wanted, has}
 use Rattle.itch_commands.specs.Locates.{AreApart, IsListText, is_in, list_text, range_text}
-use Rattle.itch_commands.specs.Runs.{IsWritten, before_next, bound, comma, in_run}
+use Rattle.itch_commands.specs.Runs.{IsWritten, before_next, comma}
 
 -- what follows from what a result is
 pub ok_so : {X E : Type 0} (P Q : X → Type 0) (r : Result X E) → ((x : X) → P x → Q x) → IfOk r P → IfOk r Q

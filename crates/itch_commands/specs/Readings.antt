@@ -1,18 +1,16 @@
 -- How a command reads the messages of a day file into a new market.
-use Rattle.std.specs.Prelude.{◌≡◌, ◌≢◌, ℕ, ◌+◌, ◌-◌, ◌^◌, ◌≤◌, ◌==◌, Bool, true, false, List, [], ◌++◌, map, length, ◌⊎◌, Option, Some, None, IsSome, IfSome, Result, Ok, Err}
+use Rattle.std.specs.Prelude.{◌≡◌, ◌≢◌, ℕ, ◌+◌, ◌-◌, ◌^◌, ◌≤◌, Bool, true, false, List, [], ◌++◌, length, ◌⊎◌, Option, Some, None, IsSome, IfSome, Result, Ok, Err}
 use Rattle.std.specs.List.{AllByRecursion}
 use Rattle.std.specs.Io.KnownBytes.{Consumes}
-use Rattle.itch_codec.specs.Messages.{message_of}
 use Rattle.itch_frame.specs.Blocks.{block, blocks, Ends, IsFull, Day}
-use Rattle.itch_frame.specs.Reading.{Reading, bytes_left, EndsHere}
+use Rattle.itch_frame.specs.Reading.{Reading, bytes_left}
 use Rattle.itch_frame.specs.declared.reader.Stage.TheVariants.{Going}
 use Rattle.itch_frame.specs.declared.tally.Failures.{Failures}
 use Rattle.itch_market.specs.Content.{Content, empty}
 use Rattle.itch_market.specs.DayParts.{HaltsEarly, HaltsPart, IsEnough, LateNext, TakesPart}
-use Rattle.itch_market.specs.Runs.{after}
 use Rattle.itch_market.specs.declared.stop.Stop.{Stop}
 use Rattle.itch_market.specs.declared.stop.Stop.TheVariants.{End, Rule}
-use Rattle.itch_market.specs.Replays.{NoCause, TakesOff, TakesOne, Takes, Halts, Refuses, Counts, LeavesReaderFirst, IsDecided}
+use Rattle.itch_market.specs.Replays.{NoCause, TakesOff, TakesOne, Counts, LeavesReaderFirst, IsDecided}
 use Rattle.itch_market.specs.Stops.{Stops}
 use Rattle.itch_snapshot.specs.Files.{IsFaultOf, IsMarketOf}
 use Rattle.itch_snapshot.specs.Reads.{ReadsSnapshot, CountsFault, IsDecidedFault}

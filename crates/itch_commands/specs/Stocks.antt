@@ -1,5 +1,5 @@
 -- Stocks by their names, and the locates of the directory that have them.
-use Rattle.std.specs.Prelude.{◌≡◌, ℕ, ◌==◌, ◌⊎◌, ◌||◌, Bool, true, false, if◌then◌else◌, List, [], ◌∷◌, bytes_eq, not, Option, None, Some, Result, Ok, Err}
+use Rattle.std.specs.Prelude.{◌≡◌, ℕ, ◌==◌, ◌⊎◌, Bool, true, false, if◌then◌else◌, List, [], ◌∷◌, bytes_eq, not, Option, None, Some, Result, Ok, Err}
 use Rattle.std.specs.List.{filter, list_all, list_any}
 use Rattle.std.specs.FinMap as finite
 use Rattle.itch_codec.specs.Text.{before_spaces}

@@ -23,7 +23,7 @@ use Rattle.itch_join.specs.declared.state.LiveCase.TheVariants as live
 use Rattle.itch_join.specs.declared.state.Stopped.{Stopped}
 use Rattle.itch_join.specs.declared.state.Stopped.TheVariants.{Refused, NoMemory}
 use Rattle.itch_join.specs.Positions.{Position}
-use Rattle.itch_join.specs.Rules.{Rules, refused_by as cause_by, market_rules, rules_of}
+use Rattle.itch_join.specs.Rules.{Rules, refused_by as cause_by, rules_of}
 use Rattle.itch_join.specs.States.{Joining, State, is_number}
 use Rattle.itch_join.specs.Applying.{Front, front_of, advanced, at_hand, Applies, standing, result_by}
 use Rattle.itch_join.specs.Steps.{live_case, LiveBy, NextBy}

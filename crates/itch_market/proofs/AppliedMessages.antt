@@ -1,5 +1,5 @@
 -- Messages of a day that a market takes one after another are applied to it.
-use Rattle.std.proofs.Common.{◌≡◌, ℕ, ◌+◌, ◌<◌, List, [], ◌∷◌, map, length, zero, suc, None, ◌∙◌, arith}
+use Rattle.std.proofs.Common.{◌≡◌, ℕ, ◌+◌, List, [], ◌∷◌, map, zero, suc, None, ◌∙◌, arith}
 use Rattle.std.specs.List.{AllByRecursion}
 use Rattle.itch_codec.specs.Messages.{message_of}
 use Rattle.itch_day.specs.Sinks.{TakesAll}

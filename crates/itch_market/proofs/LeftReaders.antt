@@ -1,5 +1,5 @@
 -- How a part of a day leaves its reader of blocks once the block that was not taken is passed, whatever takes it.
-use Rattle.std.proofs.Common.{◌≡◌, ℕ, ◌+◌, ◌<◌, List, [], length, Option, None, Some, ◌⊎◌, inl, inr, refl, sym, ap, subst, ◌∙◌, arith}
+use Rattle.std.proofs.Common.{◌≡◌, ℕ, ◌+◌, List, [], length, Option, None, Some, ◌⊎◌, inl, inr, refl, sym, ap, subst, ◌∙◌, arith}
 use Rattle.std.specs.Io.KnownBytes.{IsAtEnd}
 use Rattle.itch_frame.specs.Reading.{Reading, bytes_left, passed}
 use Rattle.itch_frame.specs.declared.reader.Stage.TheVariants.{Cut, Ended, Given}

@@ -26,7 +26,7 @@ use Rattle.itch_market.specs.Reasons.{reason, order_reason, take_reason}
 use Rattle.itch_market.specs.Effects.{effect, entered, with_action, with_sho, with_halt, with_position, action_of, position_of, changed_at}
 use Rattle.itch_market.specs.GoodMarkets.{IsGood}
 use Rattle.itch_market.specs.SameMarkets.{Same}
-use Rattle.itch_market.specs.Plain.{plain_header, nothing, is_number, is_text, is_action, same_entry, has_entry, has_action, has_sho, has_halt, has_position, unless, are_all, plain_take, plain}
+use Rattle.itch_market.specs.Plain.{plain_header, nothing, is_number, is_text, is_action, same_entry, has_entry, has_action, has_sho, has_halt, has_position, are_all, plain_take, plain}
 use Rattle.itch_market.proofs.Trees.{insert_present}
 use Rattle.itch_market.proofs.AllowedMessages.{passed}
 use Rattle.itch_market.proofs.SameMarkets.{effect_same}

@@ -1,4 +1,4 @@
-use Rattle.std.proofs.Common.{◌≡◌, ℕ, Result, Some, sym, subst}
+use Rattle.std.proofs.Common.{ℕ, Result, sym, subst}
 use Rattle.itch_frame.specs.Reading.{bytes_left}
 use Rattle.itch_commands.specs.declared.fault.ToolFault.{ToolFault}
 use Rattle.itch_commands.specs.Readings.{ReadsMarket, CountsRead, LeavesDay}

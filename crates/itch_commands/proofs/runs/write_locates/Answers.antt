@@ -1,6 +1,5 @@
-use Rattle.std.proofs.Common.{◌≡◌, ◌+◌, sym, subst, arith}
+use Rattle.std.proofs.Common.{◌≡◌, ◌+◌, subst, arith}
 use Rattle.std.specs.String.{string_bytes}
-use Rattle.itch_commands.specs.Locates.{IsListText}
 use Rattle.itch_commands.specs.Runs.{IsWritten}
 use Rattle.itch_commands.proofs.WrittenLocates.{ok_so}
 use Rattle.itch_commands.proofs.runs.write_locates.Goals as goal

@@ -1,4 +1,4 @@
-use Rattle.std.proofs.Common.{[], sym, ap, subst, ◌∙◌}
+use Rattle.std.proofs.Common.{[], sym, subst, ◌∙◌}
 use Rattle.itch_market.specs.Content.{Content}
 use Rattle.itch_commands.specs.Stocks.{names_of}
 use Rattle.itch_commands.proofs.StockNames.{StocksSoFar, stocks_begun, stock_passed, stock_added, stocks_found, stock_missing}

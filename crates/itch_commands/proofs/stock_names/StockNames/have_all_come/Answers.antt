@@ -1,5 +1,5 @@
-use Rattle.std.proofs.Common.{ℕ, List, ap, map, not, length, bytes_eq, ◌∙◌, ◌==◌, sym}
-use Rattle.std.specs.List.{list_all, filter}
+use Rattle.std.proofs.Common.{ℕ, List, ap, map, length, bytes_eq, ◌∙◌, ◌==◌, sym}
+use Rattle.std.specs.List.{list_all}
 use Rattle.std.specs.HashMap.{get_by}
 use Rattle.itch_commands.specs.Sought.{Names, has_come}
 use Rattle.itch_commands.proofs.StockNames.{all_in, none_left}

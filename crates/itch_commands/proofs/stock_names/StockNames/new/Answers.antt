@@ -1,4 +1,4 @@
-use Rattle.std.proofs.Common.{Bor, List, ℕ, ap, map, bytes_eq, ◌∙◌, sym}
+use Rattle.std.proofs.Common.{map, bytes_eq, ◌∙◌}
 use Rattle.std.specs.List.{list_any}
 use Rattle.std.specs.HashMap.{get_by}
 use Rattle.itch_commands.proofs.StockNames.{names_are, missing_first}

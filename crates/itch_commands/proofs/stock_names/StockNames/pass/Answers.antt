@@ -1,8 +1,8 @@
-use Rattle.std.proofs.Common.{◌≡◌, ℕ, List, Bool, true, false, Some, is_some, refl, ap, map, not, bytes_eq, ◌∙◌, sym, subst, rules}
-use Rattle.std.specs.List.{filter, list_any}
+use Rattle.std.proofs.Common.{◌≡◌, true, false, Some, is_some, refl, ap, map, bytes_eq, ◌∙◌, sym, rules}
+use Rattle.std.specs.List.{list_any}
 use Rattle.std.specs.HashMap.{get_by}
 use Rattle.std.proofs.lemmas.Map.Text.{hash_map_updates_str}
-use Rattle.itch_commands.specs.Sought.{Names, has_come, is_one_of, others}
+use Rattle.itch_commands.specs.Sought.{Names, has_come, is_one_of}
 use Rattle.itch_commands.proofs.StockNames.{names_are, marked_on, missing_on_mark, missing_same, one_of_names}
 use Rattle.itch_commands.proofs.stock_names.StockNames.pass.Goals as goal
 

@@ -1,4 +1,4 @@
-use Rattle.std.proofs.Common.{◌≡◌, refl, sym, ◌∙◌, arith}
+use Rattle.std.proofs.Common.{refl, sym, ◌∙◌, arith}
 use Rattle.itch_commands.specs.Points.{begun}
 use Rattle.itch_commands.proofs.PointReadings.{count_on, reached_on, short_on, stands_on, stopped_on}
 use Rattle.itch_commands.proofs.snap.pass.Pass.read_to.Goals as goal
