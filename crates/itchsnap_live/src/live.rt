@@ -120,8 +120,7 @@ where
     R: Net + Clock + Files<File = File> + Eprint + AllocGlobal,
 {
     let saver = open_folder(rt, serving)?;
-    let mut joiner = joiner;
-    let record = open_record(rt, serving, &mut joiner)?;
+    let (record, joiner) = open_record(rt, serving, joiner)?;
     let follower = follower_of(rt.alloc(), serving, &record, joiner)?;
     Server::new(rt, servers, serving, follower, record, saver)
 }

@@ -33,14 +33,15 @@ pub(crate) fn open_folder<'a, R: Files<File = File>>(
 pub(crate) fn open_record<'a, R: Files<File = File> + Eprint + AllocGlobal, B: OrderBook>(
     rt: &R,
     serving: &Serving<'a>,
-    joiner: &mut Joiner<B>,
-) -> Result<Record<'a>, LiveFault> {
+    joiner: Joiner<B>,
+) -> Result<(Record<'a>, Joiner<B>), LiveFault> {
+    let mut joiner = joiner;
     if !serving.from_snapshot {
-        at_the_first(joiner)?;
+        at_the_first(&mut joiner)?;
     }
     match serving.record {
         Some(words) => Record::open(rt, words, serving.session, joiner),
-        None => Ok(Record::none()),
+        None => Ok((Record::none(), joiner)),
     }
 }
 

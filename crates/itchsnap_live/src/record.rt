@@ -57,8 +57,8 @@ impl<'a> Record<'a> {
         rt: &R,
         words: RecordWords<'a>,
         named: Option<Alpha<10>>,
-        joiner: &mut Joiner<B>,
-    ) -> Result<Record<'a>, LiveFault> {
+        joiner: Joiner<B>,
+    ) -> Result<(Record<'a>, Joiner<B>), LiveFault> {
         let path = words.path;
         let file = open_alone(rt, path)?;
         let mut opened = seen(&file)?;
@@ -68,7 +68,7 @@ impl<'a> Record<'a> {
             read_session(rt, path)?
         };
         let session = session_of(opened.length, beside, named)?;
-        let whole = replay_record(rt.alloc(), open_again(rt, path)?, joiner)?;
+        let (joiner, whole) = replay_record(rt.alloc(), open_again(rt, path)?, joiner)?;
         if whole.offset < opened.length {
             let (rest, messages) = (opened.length - whole.offset, whole.count);
             let _ = eprintln!(rt; "record: dropped {rest} bytes after message {messages}");
@@ -78,21 +78,20 @@ impl<'a> Record<'a> {
         let Ok(file) = BufWriter::with_capacity(rt.alloc(), PIECE, file) else {
             return Err(LiveFault::Tool(ToolFault::OutOfMemory));
         };
-        Ok(Record {
-            recording: Recording::File {
-                file,
-                failures: Failures::none(),
-                added: 0,
-            },
-            kept: Some(Kept {
-                words,
-                opened,
-                session,
-                is_named: beside.is_some(),
-                synced: 0,
-                watched_ms: 0,
-            }),
-        })
+        let recording = Recording::File {
+            file,
+            failures: Failures::none(),
+            added: 0,
+        };
+        let kept = Some(Kept {
+            words,
+            opened,
+            session,
+            is_named: beside.is_some(),
+            synced: 0,
+            watched_ms: 0,
+        });
+        Ok((Record { recording, kept }, joiner))
     }
 
     /// The session of the messages that it has, if it has any.

@@ -26,11 +26,11 @@ pub(crate) fn at_the_first<B: OrderBook>(joiner: &mut Joiner<B>) -> Result<(), T
 
 // A joiner that takes the messages of a record, or says why a replay of the record stops.
 #[derive(Drop)]
-struct Resuming<'a, B: OrderBook> {
-    joiner: &'a mut Joiner<B>,
+struct Resuming<B: OrderBook> {
+    joiner: Joiner<B>,
 }
 
-impl<'a, B: OrderBook> Sink for Resuming<'a, B> {
+impl<B: OrderBook> Sink for Resuming<B> {
     type Fault = Stop;
 
     ghost is_ready = { λ _ _. Unit {0} };
@@ -61,22 +61,22 @@ impl<'a, B: OrderBook> Sink for Resuming<'a, B> {
 pub(crate) fn replay_record<F: Read + Drop, B: OrderBook>(
     alloc: Global,
     file: F,
-    joiner: &mut Joiner<B>,
-) -> Result<Mark, LiveFault> {
+    joiner: Joiner<B>,
+) -> Result<(Joiner<B>, Mark), LiveFault> {
     let Ok(buffered) = BufReader::with_capacity(alloc, PIECE, file) else {
         return Err(LiveFault::Tool(ToolFault::OutOfMemory));
     };
     let mut blocks = BlockReader::new(alloc, Buffered::new(buffered))?;
     match replay(&mut blocks, joiner) {
-        Ok(mark) => Ok(mark),
+        Ok(replayed) => Ok(replayed),
         Err(end) => Err(LiveFault::Record(RecordFault::Refused(end))),
     }
 }
 
 fn replay<R: CountedRead, A: Allocator, B: OrderBook>(
     blocks: &mut BlockReader<R, A>,
-    joiner: &mut Joiner<B>,
-) -> Result<Mark, ReplayEnd> {
+    joiner: Joiner<B>,
+) -> Result<(Joiner<B>, Mark), ReplayEnd> {
     let mut resuming = Marked {
         sink: Resuming { joiner },
         mark: Mark::new(),
@@ -86,7 +86,9 @@ fn replay<R: CountedRead, A: Allocator, B: OrderBook>(
         DayStop::Full
         | DayStop::Late
         | DayStop::End
-        | DayStop::Frame(FrameFault::Truncated { .. }) => return Ok(resuming.mark),
+        | DayStop::Frame(FrameFault::Truncated { .. }) => {
+            return Ok((resuming.sink.joiner, resuming.mark));
+        }
         DayStop::Frame(fault) => Stop::Frame(fault),
         DayStop::TooMany => Stop::TooManyMessages,
         DayStop::Refused(stop) => stop,
