@@ -1,34 +1,49 @@
--- What `show` has written so far, and one block more.
-use Rattle.std.proofs.Common.{Bool, ◌≡◌, ◌≢◌, ℕ, ◌+◌, ◌-◌, ◌^◌, ◌≤◌, ◌<◌, ◌==◌, true, false, List, [], ◌∷◌, ◌++◌, length, map, take, Option, Ok, Err, None, Some, inl, inr, refl, sym, ap, subst, ◌∙◌, arith, length-append, append-nil}
-use Rattle.std.proofs.lemmas.Bool.Decides.{nat_tests}
-use Rattle.std.proofs.lemmas.List.{append_assoc, map-append, length-map}
-use Rattle.std.specs.Io.KnownBytes.{Consumes, Appends}
-use Rattle.std.proofs.KnownBytes.{Consumes-nil, Consumes-trans, Appends-nil}
-use Rattle.itch_codec.specs.Messages.{message_of}
+-- What `show` has written of a part of a day.
+use Rattle.std.proofs.Common.{Bool, ◌≡◌, ℕ, ◌+◌, ◌-◌, ◌^◌, ◌≤◌, ◌<◌, ◌==◌, true, false, List, [], ◌∷◌, ◌++◌, length, map, take, Option, Result, Ok, Err, None, Some, inl, inr, refl, sym, ap, subst, ◌∙◌, arith, length-append, append-nil, eq-eqb}
+use Rattle.std.proofs.lemmas.Bool.{ne_eqb}
+use Rattle.std.proofs.lemmas.List.{append_assoc}
+use Rattle.std.specs.List.{AllByRecursion}
+use Rattle.std.specs.Io.KnownBytes.{Appends}
+use Rattle.std.specs.declared.io.Error.{Error}
+use Rattle.std.proofs.KnownBytes.{Appends-nil, Keeps-refl}
+use Rattle.itch_codec.specs.Messages.{fault, message_of}
 use Rattle.itch_codec.specs.declared.message.Message.{Message}
-use Rattle.itch_frame.specs.Blocks.{block, blocks, IsFull}
-use Rattle.itch_frame.specs.Reading.{Reading, bytes_left}
+use Rattle.itch_frame.specs.Blocks.{IsFull}
+use Rattle.itch_frame.specs.Reading.{Reading, bytes_left, passed}
 use Rattle.itch_frame.specs.Counting.{failed}
+use Rattle.itch_frame.specs.declared.reader.Stage.TheVariants.{Cut, Ended}
+use Rattle.itch_frame.specs.declared.fault.FrameFault.{FrameFault}
+use Rattle.itch_frame.specs.declared.fault.FrameFault.TheVariants.{Read, Truncated, Write, TooLong}
 use Rattle.itch_frame.specs.declared.tally.Failures.{Failures}
-use Rattle.itch_frame.proofs.BlockLemmas.{blocks-append, each-push}
+use Rattle.itch_frame.proofs.BlockLemmas.{consumed_more, each-push}
 use Rattle.itch_frame.proofs.Writes.{Appends-more}
-use Rattle.itch_market.specs.Replays.{Counts, LeavesReaderFirst}
+use Rattle.itch_day.specs.Limits.{IsBefore, IsEarly, IsNotLate, is_late}
+use Rattle.itch_day.specs.Parts.{Counts as CountsPart, IsNext, Leaves, ReadsPart, StopsAt, Takes}
+use Rattle.itch_day.specs.Sinks.{TakesAll}
+use Rattle.itch_day.specs.declared.limit.Limit.{Limit}
+use Rattle.itch_day.specs.declared.stop.Stop.{Stop as Part}
+use Rattle.itch_day.specs.declared.stop.Stop.TheVariants as part
+use Rattle.itch_market.specs.Content.{empty}
+use Rattle.itch_market.specs.DayParts.{IsEnough}
+use Rattle.itch_market.specs.Replays.{Counts, Halts, LeavesReaderFirst}
+use Rattle.itch_market.specs.declared.refused.Refused.{Refused}
+use Rattle.itch_market.specs.declared.refused.Refused.TheVariants as refused
 use Rattle.itch_market.specs.declared.stop.ReplayEnd.{ReplayEnd}
 use Rattle.itch_market.specs.declared.stop.Stop.{Stop}
 use Rattle.itch_market.specs.declared.stop.Stop.TheVariants as stop
-use Rattle.itch_market.proofs.ReplayReaders.{Standing, standing_first, standing_on, standing_stops, standing_short}
+use Rattle.itch_market.proofs.DayParts.{full_count}
+use Rattle.itch_market.proofs.LeftReaders.{late_left, stop_left}
+use Rattle.itch_market.proofs.PassedBlocks.{cut_not_going, ends_here, is_not_going, never_next, passed_going, passed_off, passed_reader}
+use Rattle.itch_commands.specs.Choices.{Chosen, chosen_after, chosen_past, chosen_line, chosen_lines}
+use Rattle.itch_commands.specs.Outputs.{Wrote}
+use Rattle.itch_commands.specs.Readings.{LeavesDay}
+use Rattle.itch_commands.specs.Showing.{IsClean, IsFaultOf, IsLeft, IsNoRule, ReadsOff, ShowsMessage, ShowsPart, ShowsUntil, WithholdsMessage, answer_of, ended_show, left_by, line_after, lines_from}
+use Rattle.itch_commands.specs.Sought.{are_found}
 use Rattle.itch_commands.specs.declared.fault.Source.{Source}
 use Rattle.itch_commands.specs.declared.fault.Source.TheVariants.{Only}
 use Rattle.itch_commands.specs.declared.fault.ToolFault.{ToolFault}
 use Rattle.itch_commands.specs.declared.fault.ToolFault.TheVariants as tool
 use Rattle.itch_commands.specs.declared.form.ShowForm.{ShowForm}
-use Rattle.itch_day.specs.declared.limit.Limit.{Limit}
-use Rattle.itch_commands.specs.Choices.{Chosen, chosen_after, chosen_past, chosen_line, chosen_lines, are_found_in}
-use Rattle.itch_day.specs.Limits.{IsEarly, IsBefore}
-use Rattle.itch_commands.specs.Sought.{are_found}
-use Rattle.itch_commands.specs.Readings.{CountsRead}
-use Rattle.itch_commands.specs.Outputs.{Wrote}
-use Rattle.itch_commands.specs.Showing.{lines_from, line_after, IsClean, ReadsOff, ReadsNext, ShowsNext, ShowsAll, ShowsUntil, ShowsPart, LeavesNext, finish_end, finish_at, finish}
 use Rattle.itch_commands.proofs.PartReadings.{is_given, late_given}
 
 -- lines one after the other
@@ -75,204 +90,303 @@ unfolding chosen_past
 past_push chosen [] x = refl
 past_push chosen (y ∷ ys) x = past_push (chosen_after chosen y) ys x
 
--- one line more
-lines-push : (form : ShowForm) (chosen : Chosen) (ps : List (List ℕ)) (p : List ℕ)
-    → lines_from form chosen (ps ++ p ∷ []) ≡ lines_from form chosen ps ++ line_after form chosen ps p
-lines-push form chosen ps p =
-    let same : 1 + length (map message_of ps) ≡ length ps + 1 = omega (arith, length-map ps message_of) in
-    ap (chosen_lines form chosen 1) (map-append message_of ps (p ∷ [])) ∙ last_line form chosen 1 (map message_of ps) (message_of p)
-    ∙ ap (λ n. lines_from form chosen ps ++ chosen_line form (chosen_past chosen (map message_of ps)) n (message_of p)) same
+-- and then others are
+pub past_on : (chosen : Chosen) (x : Message) (xs : List Message) → chosen_past (chosen_after chosen x) xs ≡ chosen_past chosen (x ∷ xs)
+unfolding chosen_past
+past_on chosen x xs = refl
 
--- one payload more
-reads_more : (limit : Limit) (old mid new : Option (List ℕ)) (ps : List (List ℕ)) (p : List ℕ) → ReadsOff limit old mid ps → ReadsNext limit (length ps) mid new p → ReadsOff limit old new (ps ++ p ∷ [])
-reads_more limit old mid new ps p reads (off, clean, room, early) = record {
-  bytes = subst (Consumes old new) (ap (λ last. blocks ps ++ last) (sym (append-nil (block p))) ∙ sym (blocks-append ps (p ∷ []))) (Consumes-trans old mid new (blocks ps) (block p) reads.bytes off.1);
-  full = each-push IsFull ps p reads.full off.0;
-  clean = each-push IsClean ps p reads.clean clean;
-  few = let one = length-append ps (p ∷ []) in few_more (length ps) (length (ps ++ p ∷ [])) one reads.few room;
-  early = each-push (IsEarly limit) ps p reads.early early;
-} where
-  few_more : (c d : ℕ) → d ≡ c + 1 → c ≤ 10 ^ 19 - 1 → (c == 10 ^ 19 - 1) ≡ false → d ≤ 10 ^ 19 - 1
-  few_more c d one few room = grind (arith, nat_tests)
+-- a message that is not late is early
+is_early : (limit : Limit) (p : List ℕ) → fault p ≡ None → IsNotLate limit p → IsEarly limit p
+is_early limit p clean not_late = by_test (is_late limit.until (message_of p)) refl where
+  by_test : (late : Bool) → is_late limit.until (message_of p) ≡ late → IsEarly limit p
+  by_test true late = absurd (not_late (clean, late))
+  by_test false early = early
 
-module _ {R W : Type 0} (contents : W → Option (List ℕ)) (failures : W → Failures) (remaining : R → Option (List ℕ)) (failed_reads : R → Failures)
-    (limit : Limit) (form : ShowForm) (chosen : Chosen) where
-  -- the lines of these payloads were written, and what chooses the next ones is `now`
-  pub record Shown (old : Reading R) (count : ℕ) (new : Reading R) (now : Chosen) (out out' : W) : Type 0 where
-    pub payloads : List (List ℕ)
-    pub reads : ReadsOff limit (bytes_left remaining old) (bytes_left remaining new) payloads
-    pub counted : length payloads ≡ count
-    pub passed : now ≡ chosen_past chosen (map message_of payloads)
-    pub wrote : Wrote contents failures (lines_from form chosen payloads) out out'
-    pub uncounted : failed_reads new.reader ≡ failed_reads old.reader
-    pub standing : Standing old count new
+are_early : (limit : Limit) (ps : List (List ℕ)) → AllByRecursion IsClean ps → AllByRecursion (IsNotLate limit) ps → AllByRecursion (IsEarly limit) ps
+are_early limit [] clean early = tt
+are_early limit (p ∷ ps) clean early = (is_early limit p clean.0 early.0, are_early limit ps clean.1 early.1)
 
-  pub shown_first : (r : Reading R) (w : W) → Shown r 0 r chosen w w
-  shown_first r w = record {
-    payloads = [];
-    reads = record { bytes = Consumes-nil (bytes_left remaining r); full = tt; clean = tt; few = omega arith; early = tt };
-    counted = refl;
-    passed = past_none chosen;
-    wrote = (subst (Appends (contents w) (contents w)) (sym (no_lines form chosen 1)) (Appends-nil (contents w)), refl);
-    uncounted = refl;
-    standing = standing_first r;
+module _ {R T : Type 0} (remaining : R → Option (List ℕ)) (refuses : T → ℕ → List ℕ → ToolFault → T → Type 0) (limit : Limit) (new : Reading R) (count : ℕ) (last t : T) where
+  -- what is held where it stops is the block that is not shown
+  pub shown_held : (why : Part ToolFault) → StopsAt remaining refuses limit count new last why t → IsLeft why new
+  shown_held part.Full stops = tt
+  shown_held part.Late (same, before, (p, next, some, few, late)) = λ going. (p, next.0)
+  shown_held part.End (same, before, inl (ended, none, at_end)) = λ going. absurd (is_not_going (sym ended ∙ going))
+  shown_held part.End (same, before, inr next) = λ going. ([], next.0)
+  shown_held (part.Frame fault) stops = tt
+  shown_held part.TooMany (same, before, (p, next, some, many)) = λ going. (p, next.0)
+  shown_held (part.Refused why) (before, (p, next, some, few, not_late, withheld)) = λ going. (p, next.0)
+
+module _ {W T N M : Type 0} (contents : W → Option (List ℕ)) (failures : W → Failures) (at : T → W) (name : T → N) (choice_name : T → M) (form : T → ShowForm) (choice : T → Chosen) where
+  -- a sink that writes to what it lends
+  abbrev pub Shown : T → ℕ → List ℕ → T → Type 0
+  Shown s number payload t = (name t ≡ name s) × (choice_name t ≡ choice_name s) × (form t ≡ form s) × ShowsMessage contents failures (form s) number payload (choice s) (at s) (choice t) (at t)
+
+  abbrev pub Unshown : T → ℕ → List ℕ → ToolFault → T → Type 0
+  Unshown s number payload why t = (name t ≡ name s) × (choice_name t ≡ choice_name s) × WithholdsMessage contents failures (form s) number payload (choice s) (at s) why (at t)
+
+  -- the lines of these payloads were written, of which the first has this number
+  record AreShown (s : T) (number : ℕ) (ps : List (List ℕ)) (t : T) : Type 0 where
+    pub named : name t ≡ name s
+    pub choice_named : choice_name t ≡ choice_name s
+    pub formed : form t ≡ form s
+    pub clean : AllByRecursion IsClean ps
+    pub chosen : choice t ≡ chosen_past (choice s) (map message_of ps)
+    pub wrote : Wrote contents failures (chosen_lines (form s) (choice s) number (map message_of ps)) (at s) (at t)
+
+  are_shown : (s t : T) (count : ℕ) (ps : List (List ℕ)) → TakesAll Shown s count ps t → AreShown s (count + 1) ps t
+  are_shown s t count [] takes = record {
+    named = ap name takes;
+    choice_named = ap choice_name takes;
+    formed = ap form takes;
+    clean = tt;
+    chosen = ap choice takes ∙ past_none (choice s);
+    wrote = subst (λ x. Wrote contents failures (chosen_lines (form s) (choice s) (count + 1) []) (at s) (at x)) (sym takes)
+        (subst (λ bytes. Wrote contents failures bytes (at s) (at s)) (sym (no_lines (form s) (choice s) (count + 1))) (Appends-nil (contents (at s)), refl));
   }
-
-  -- the line of the next payload, by the number of those before it
-  line_is : (ps : List (List ℕ)) (p : List ℕ) (count : ℕ) (now : Chosen) → length ps ≡ count → now ≡ chosen_past chosen (map message_of ps)
-      → chosen_line form now (count + 1) (message_of p) ≡ line_after form chosen ps p
-  line_is ps p count now counted passed =
-      ap (λ c. chosen_line form c (count + 1) (message_of p)) passed
-      ∙ ap (λ n. chosen_line form (chosen_past chosen (map message_of ps)) (n + 1) (message_of p)) (sym counted)
-
-  -- whether all stocks were found is the same by what chooses the next ones
-  found_is : (count : ℕ) (old new : Reading R) (now : Chosen) (out out' : W) (shown : Shown old count new now out out') (found : Bool) → found ≡ are_found now.stocks
-      → found ≡ are_found_in chosen (map message_of (Shown.payloads shown))
-  found_is count old new now out out' shown found is = is ∙ ap (λ c. are_found (Chosen.stocks c)) shown.passed
-
-  pub shown_on : (old mid new : Reading R) (count : ℕ) (now then : Chosen) (out on out' : W) → Shown old count mid now out on
-      → ShowsNext contents failures form limit count (bytes_left remaining mid) (bytes_left remaining new) now on (Ok true) then out'
-      → failed_reads new.reader ≡ failed_reads mid.reader → LeavesReaderFirst mid 1 None new → Shown old (count + 1) new then out out'
-  shown_on old mid new count now then out on out' shown (p, next, (line, unfailed), passes) same leaves =
-      let ps = shown.payloads in
-      let is : chosen_line form now (count + 1) (message_of p) ≡ line_after form chosen ps p = line_is ps p count now shown.counted shown.passed in
+  are_shown s t count (p ∷ ps) (mid, (named, choice_named, formed, (clean, (bytes, uncounted), next)), rest) =
+      let later = are_shown mid t (count + 1) ps rest in
+      let x = message_of p in
+      let xs = map message_of ps in
+      let line = chosen_line (form s) (choice s) (count + 1) x in
+      let others : chosen_lines (form mid) (choice mid) (count + 1 + 1) xs ≡ chosen_lines (form s) (chosen_after (choice s) x) (count + 1 + 1) xs =
+      ap (λ f. chosen_lines f (choice mid) (count + 1 + 1) xs) formed ∙ ap (λ c. chosen_lines (form s) c (count + 1 + 1) xs) next in
       record {
-        payloads = ps ++ p ∷ [];
-        reads = reads_more limit _ _ _ ps p shown.reads (subst (λ c. ReadsNext limit c (bytes_left remaining mid) (bytes_left remaining new) p) (sym shown.counted) next);
-        counted = length-append ps (p ∷ []) ∙ ap (λ c. c + 1) shown.counted;
-        passed = passes ∙ ap (λ c. chosen_after c (message_of p)) shown.passed ∙ past_push chosen (map message_of ps) (message_of p)
-            ∙ ap (chosen_past chosen) (sym (map-append message_of ps (p ∷ [])));
+        named = later.named ∙ named;
+        choice_named = later.choice_named ∙ choice_named;
+        formed = later.formed ∙ formed;
+        clean = (clean, later.clean);
+        chosen = later.chosen ∙ ap (λ c. chosen_past c xs) next ∙ past_on (choice s) x xs;
         wrote = (
-          subst (Appends (contents out) (contents out')) (ap (λ t. lines_from form chosen ps ++ t) is ∙ sym (lines-push form chosen ps p))
-              (Appends-more (contents out) (contents on) (contents out') (lines_from form chosen ps) _ shown.wrote.0 line),
-          unfailed ∙ shown.wrote.1,
+          subst (Appends (contents (at s)) (contents (at t))) (ap (λ ys. line ++ ys) others ∙ sym (one_line (form s) (choice s) (count + 1) x xs))
+              (Appends-more (contents (at s)) (contents (at mid)) (contents (at t)) line (chosen_lines (form mid) (choice mid) (count + 1 + 1) xs) bytes later.wrote.0),
+          later.wrote.1 ∙ uncounted,
         );
-        uncounted = same ∙ shown.uncounted;
-        standing = standing_on old mid new count shown.standing leaves;
       }
 
-  -- as many lines as are wanted were written
-  pub shown_all : (old new : Reading R) (count : ℕ) (now : Chosen) (out out' : W) (found : Bool) → Shown old count new now out out' → found ≡ are_found now.stocks → limit.after ≡ Some count
-      → ShowsAll contents failures remaining failed_reads limit form chosen found old new out out'
-  shown_all old new count now out out' found shown is all =
-      let ps = shown.payloads in
-      let each : limit.after ≡ Some (length ps) = all ∙ ap Some (sym shown.counted) in (
-        ps,
-        bytes_left remaining new,
-        shown.reads,
-        inl (each, refl),
-        shown.wrote,
-        shown.uncounted,
-        inl (is_given limit.after (length ps) each, standing_short old (length ps) new (subst (λ c. Standing old c new) (sym shown.counted) shown.standing)),
-        found_is count old new now out out' shown found is,
+  module _ {R : Type 0} (remaining : R → Option (List ℕ)) (failed_reads : R → Failures) (limit : Limit) (old new : Reading R) (count : ℕ) (s last t : T) (ps : List (List ℕ))
+      (taken : Takes remaining Shown limit old new 0 count s last ps) (few : count ≤ 10 ^ 19 - 1) where
+    shown : AreShown s 1 ps last
+    shown = are_shown s last 0 ps taken.taken
+
+    number : length ps ≡ count
+    number = omega (arith, taken.counted)
+
+    off : ReadsOff limit (bytes_left remaining old) (bytes_left remaining new) ps
+    off = record {
+      bytes = taken.bytes;
+      full = taken.full;
+      clean = shown.clean;
+      few = omega (arith, number, few);
+      early = are_early limit ps shown.clean taken.early;
+    }
+
+    -- what is returned then, and leaves
+    abbrev Returns : Reading R → Result Bool ToolFault → Type 0
+    Returns left result = ShowsPart contents failures remaining failed_reads limit (form s) (choice s) old left (at s) result (at t)
+
+    -- whether all stocks were found
+    abbrev found : Bool
+    found = are_found (Chosen.stocks (choice t))
+
+    -- To the reader of blocks these stops are those of a market, whatever that refuses.
+    abbrev Any : T → ℕ → List ℕ → Refused → T → Type 0
+    Any u k p why v = Unit {0}
+
+    abbrev Stays : Type 0
+    Stays = (old.stage ≡ Ended → (length ps ≡ 0) × (new ≡ old)) × (old.stage ≡ Cut → (length ps ≡ 0) × (new ≡ old))
+
+    abbrev Stops : Part ToolFault → Type 0
+    Stops why = StopsAt remaining Unshown limit count new last why t
+
+    still : t ≡ last → (name t ≡ name s) × (choice_name t ≡ choice_name s)
+    still same = (ap name same ∙ shown.named, ap choice_name same ∙ shown.choice_named)
+
+    all : (left : Reading R) → t ≡ last → IsEnough limit (length ps) (bytes_left remaining new) (bytes_left remaining left) → failed_reads left.reader ≡ failed_reads old.reader
+        → LeavesDay (Ok (length ps)) limit old left → Returns left (Ok found)
+    all left same enough uncounted leaves = (
+      ps,
+      bytes_left remaining new,
+      off,
+      enough,
+      subst (λ x. Wrote contents failures (lines_from (form s) (choice s) ps) (at s) (at x)) (sym same) shown.wrote,
+      uncounted,
+      leaves,
+      ap (λ x. are_found (Chosen.stocks (choice x))) same ∙ ap (λ c. are_found (Chosen.stocks c)) shown.chosen,
+    )
+
+    -- the next message is not shown
+    until : (why : Stop) (left : Reading R) → at t ≡ at last → IsBefore limit count → IsNoRule why → Halts (count == 10 ^ 19 - 1) empty (bytes_left remaining new) (bytes_left remaining left) why
+        → Counts why (failed_reads old.reader) (failed_reads left.reader) → LeavesReaderFirst old (length ps) (Some why) left
+        → ShowsUntil contents failures remaining failed_reads limit (form s) (choice s) count why old left (at s) (at t)
+    until why left kept before rule halts counts leaves = (
+      before,
+      ps,
+      bytes_left remaining new,
+      off,
+      number,
+      (rule, halts),
+      subst (Wrote contents failures (lines_from (form s) (choice s) ps) (at s)) (sym kept) shown.wrote,
+      counts,
+      subst (λ k. LeavesReaderFirst old k (Some why) left) number leaves,
+    )
+
+    to_passed : failed_reads new.reader ≡ failed_reads old.reader → failed_reads (Reading.reader (passed new)) ≡ failed_reads old.reader
+    to_passed counts = ap failed_reads (passed_reader new) ∙ counts
+
+    room : count < 10 ^ 19 - 1 → (count == 10 ^ 19 - 1) ≡ false
+    room some = ne_eqb count (10 ^ 19 - 1) (λ same. omega (arith, some, same))
+
+    -- as many lines as are wanted were written
+    at_full : Stops part.Full → Leaves {F = ToolFault} old (length ps) part.Full new → failed_reads new.reader ≡ failed_reads old.reader → Returns new (Ok found)
+    at_full (same, (most, wanted, enough)) passes counts =
+        let exact : count ≡ most = full_count most count (length ps) limit.after wanted taken.wanted number (most, wanted, enough) in
+        all new same (inl (wanted ∙ ap Some (sym (number ∙ exact)), refl)) counts (inl (is_given limit.after most wanted, (passes.unread, passes.given)))
+
+    -- or the next message is late
+    at_late : Stops part.Late → Stays → failed_reads new.reader ≡ failed_reads old.reader → Returns (passed new) (Ok found)
+    at_late (same, before, (p, next, some, few_before, late)) stays counts =
+        all (passed new) same (inr (inl (subst (IsBefore limit) (sym number) before, (p, (some, passed_off new remaining p next), late)))) (to_passed counts)
+        (inr (inl (late_given limit.until (message_of p) late.1, late_left remaining failed_reads Any limit old new count (length ps) last t (same, before, (p, next, some, few_before, late)) stays)))
+
+    -- or the file ended, which is a fault where more are wanted
+    at_end : (wanted : Option ℕ) → limit.after ≡ wanted → Stops part.End → Stays → failed_reads new.reader ≡ failed_reads old.reader → Returns (passed new) (ended_show wanted count found)
+    at_end None whole (same, before, end) stays counts =
+        all (passed new) same (inr (inr (whole, ends_here new remaining end))) (to_passed counts)
+        (inr (inr (whole, stop_left remaining failed_reads Any limit old new count (length ps) last t part.End (λ late. absurd (cc)) (same, before, end) stays)))
+    at_end (Some most) is (same, before, end) stays counts = (
+      refl,
+      (is_given limit.after most is, before),
+      until stop.End (passed new) (ap at same) before tt (ends_here new remaining end) (to_passed counts)
+          (stop_left remaining failed_reads Any limit old new count (length ps) last t part.End (λ late. absurd (cc)) (same, before, end) stays),
+    )
+
+    -- or a read failed, or the file ended within a block
+    at_frame : (why : FrameFault) → Stops (part.Frame why) → Stays → CountsPart {F = ToolFault} (part.Frame why) (failed_reads old.reader) (failed_reads new.reader)
+        → Returns new (Err (tool.Stopped Only (record { count = count; stop = stop.Frame why })))
+    at_frame (Truncated held) (same, before, cut, is_held, some) stays counts = (
+      refl,
+      λ e. absurd (cc),
+      until (stop.Frame (Truncated held)) new (ap at same) before tt some counts
+          (stop_left remaining failed_reads Any limit old new count (length ps) last t (part.Frame (Truncated held)) (λ late. absurd (cc)) (same, before, cut, is_held, some) stays),
+    )
+    at_frame (Read error) (same, before, going) stays counts = (
+      refl,
+      λ e. absurd (cc),
+      until (stop.Frame (Read error)) new (ap at same) before tt (Keeps-refl (bytes_left remaining new)) counts
+          (stop_left remaining failed_reads Any limit old new count (length ps) last t (part.Frame (Read error)) (λ late. absurd (cc)) (same, before, going) stays),
+    )
+    at_frame (Write sent error) never stays counts = absurd never
+    at_frame TooLong never stays counts = absurd never
+
+    -- or no message has that number
+    at_many : Stops part.TooMany → Stays → failed_reads new.reader ≡ failed_reads old.reader → Returns (passed new) (Err (tool.Stopped Only (record { count = count; stop = stop.TooManyMessages })))
+    at_many (same, before, (p, next, some, many)) stays counts = (
+      refl,
+      λ e. absurd (cc),
+      until stop.TooManyMessages (passed new) (ap at same) before tt (p, (some, passed_off new remaining p next), eq-eqb count (10 ^ 19 - 1) many) (to_passed counts)
+          (stop_left remaining failed_reads Any limit old new count (length ps) last t part.TooMany (λ late. absurd (cc)) (same, before, (p, next, some, many)) stays),
+    )
+
+    module _ (p : List ℕ) (next : IsNext new p) (some : IsFull p) (few_before : count < 10 ^ 19 - 1) (early : IsNotLate limit p) (before : IsBefore limit count) (stays : Stays)
+        (counts : failed_reads new.reader ≡ failed_reads old.reader) where
+      -- or the next block spells no message
+      unclean : (file : Source) (end : ReplayEnd) (why : Stop) → end.stop ≡ why → file ≡ Only → end.count ≡ count → IsFaultOf p why → at t ≡ at last → Returns (passed new) (Err (tool.Stopped file end))
+      unclean file end (stop.Codec f) is only counted faulty kept = (
+        only,
+        λ e. absurd (let never : stop.Codec f ≡ stop.End = sym is ∙ e in cc),
+        subst (λ k. ShowsUntil contents failures remaining failed_reads limit (form s) (choice s) k end.stop old (passed new) (at s) (at t)) (sym counted)
+            (subst (λ why. ShowsUntil contents failures remaining failed_reads limit (form s) (choice s) count why old (passed new) (at s) (at t)) (sym is)
+            (until (stop.Codec f) (passed new) kept before tt (p, (some, passed_off new remaining p next), room few_before, faulty) (to_passed counts)
+            (stop_left remaining failed_reads Any limit old new count (length ps) last t (part.Refused (refused.Codec f)) (λ late. absurd (cc)) (before, (p, next, some, few_before, early, tt)) stays))),
       )
+      unclean file end stop.End is only counted never kept = absurd never
+      unclean file end (stop.Frame f) is only counted never kept = absurd never
+      unclean file end (stop.Rule f) is only counted never kept = absurd never
+      unclean file end stop.TooManyMessages is only counted never kept = absurd never
 
-  -- or the next message is late
-  pub shown_early : (old mid new : Reading R) (count : ℕ) (now then : Chosen) (out on out' : W) (found : Bool) → Shown old count mid now out on → found ≡ are_found then.stocks → IsBefore limit count
-      → ShowsNext contents failures form limit count (bytes_left remaining mid) (bytes_left remaining new) now on (Ok false) then out'
-      → failed_reads new.reader ≡ failed_reads mid.reader → LeavesReaderFirst mid 1 None new → ShowsAll contents failures remaining failed_reads limit form chosen found old new out out'
-  shown_early old mid new count now then out on out' found shown is before (unwritten, (p, off, late), unpassed) same leaves =
-      let ps = shown.payloads in (
-        ps,
-        bytes_left remaining mid,
-        shown.reads,
-        inr (inl (subst (IsBefore limit) (sym shown.counted) before, (p, off, late))),
-        subst (Wrote contents failures (lines_from form chosen ps) out) (sym unwritten) shown.wrote,
-        same ∙ shown.uncounted,
-        inr (inl (
-          late_given limit.until (message_of p) late.1,
-          standing_short old (length ps + 1) new (standing_on old mid new (length ps) (subst (λ c. Standing old c mid) (sym shown.counted) shown.standing) leaves),
-        )),
-        found_is count old mid now out on shown found (is ∙ ap (λ c. are_found (Chosen.stocks c)) unpassed),
-      )
+      -- the line of the next message, by the sink
+      line_is : chosen_line (form last) (choice last) (count + 1) (message_of p) ≡ line_after (form s) (choice s) ps p
+      line_is =
+          ap (λ f. chosen_line f (choice last) (count + 1) (message_of p)) shown.formed ∙ ap (λ c. chosen_line (form s) c (count + 1) (message_of p)) shown.chosen
+          ∙ ap (λ k. chosen_line (form s) (chosen_past (choice s) (map message_of ps)) (k + 1) (message_of p)) (sym number)
 
-  -- the lines of the first messages were written, and then this stop came; whether all stocks were found in these messages is this
-  abbrev Stopped : Bool → ℕ → Stop → Reading R → Reading R → W → W → Type 0
-  Stopped found count why old new out out' =
-      (until : ShowsUntil contents failures remaining failed_reads limit form chosen count why old new out out') × (found ≡ are_found_in chosen (map message_of until.1))
-
-  -- the file ended, or has fewer messages than are wanted
-  at_end : (wanted : Option ℕ) → limit.after ≡ wanted → (old new : Reading R) (count : ℕ) (out out' : W) (found : Bool) → Stopped found count stop.End old new out out'
-      → ShowsPart contents failures remaining failed_reads limit form chosen old new out (finish_end wanted found Only count) out'
-  at_end None is old new count out out' found ((before, ps, mid, reads, counted, withholds, wrote, counts, leaves), all) = (
-    ps,
-    mid,
-    reads,
-    inr (inr (is, withholds.1)),
-    wrote,
-    counts,
-    inr (inr (is, subst (λ c. LeavesReaderFirst old c (Some stop.End) new) (sym counted) leaves)),
-    all,
-  )
-  at_end (Some most) is old new count out out' found (until, all) = (refl, (is_given limit.after most is, until.0), until)
-
-  -- a stop that is a fault
-  refused : (old new : Reading R) (count : ℕ) (out out' : W) (found : Bool) (file : Source) (end : ReplayEnd) → file ≡ Only → end.count ≡ count → end.stop ≢ stop.End
-      → Stopped found count end.stop old new out out' → ShowsPart contents failures remaining failed_reads limit form chosen old new out (Err (tool.Stopped file end)) out'
-  refused old new count out out' found file end only counted fault (until, all) =
-      (only, fault, subst (λ c. ShowsUntil contents failures remaining failed_reads limit form chosen c end.stop old new out out') (sym counted) until)
-
-  stops : (old new : Reading R) (count : ℕ) (out out' : W) (found : Bool) (file : Source) (end : ReplayEnd) (why : Stop) → end.stop ≡ why → file ≡ Only → end.count ≡ count
-      → Stopped found count end.stop old new out out'
-      → ShowsPart contents failures remaining failed_reads limit form chosen old new out (finish_at why limit.after found file end.count (tool.Stopped file end)) out'
-  stops old new count out out' found file end stop.End is only counted stopped =
-      subst (λ f. ShowsPart contents failures remaining failed_reads limit form chosen old new out (finish_end limit.after found f end.count) out') (sym only)
-      (at_end limit.after refl old new end.count out out' found
-      (subst (λ c. Stopped found c stop.End old new out out') (sym counted) (subst (λ w. Stopped found count w old new out out') is stopped)))
-  stops old new count out out' found file end (stop.Frame f) is only counted stopped = refused old new count out out' found file end only counted (λ e. absurd (cc)) stopped
-  stops old new count out out' found file end (stop.Codec f) is only counted stopped = refused old new count out out' found file end only counted (λ e. absurd (cc)) stopped
-  stops old new count out out' found file end (stop.Rule f) is only counted stopped = refused old new count out out' found file end only counted (λ e. absurd (cc)) stopped
-  stops old new count out out' found file end stop.TooManyMessages is only counted stopped = refused old new count out out' found file end only counted (λ e. absurd (cc)) stopped
-
-  -- and there it ends
-  pub shown_ends : (old mid new : Reading R) (count : ℕ) (now then : Chosen) (out on out' : W) (found : Bool) (fault : ToolFault) → Shown old count mid now out on → found ≡ are_found then.stocks → IsBefore limit count
-      → ShowsNext contents failures form limit count (bytes_left remaining mid) (bytes_left remaining new) now on (Err fault) then out'
-      → CountsRead {X = Bool} (Err fault) (failed_reads mid.reader) (failed_reads new.reader) → LeavesNext (Err fault) mid new
-      → ShowsPart contents failures remaining failed_reads limit form chosen old new out (finish limit.after found fault) out'
-  shown_ends old mid new count now then out on out' found (tool.Stopped file end) shown is before (only, counted, withholds, same, unpassed) counts leaves =
-      stops old new count out out' found file end end.stop refl only counted (
-        (
-          before,
-          shown.payloads,
-          bytes_left remaining mid,
-          shown.reads,
-          shown.counted,
-          withholds,
-          subst (Wrote contents failures (lines_from form chosen shown.payloads) out) (sym same) shown.wrote,
-          subst (λ f. Counts end.stop f (failed_reads new.reader)) shown.uncounted counts,
-          standing_stops old mid new count end.stop shown.standing leaves,
-        ),
-        found_is count old mid now out on shown found (is ∙ ap (λ c. are_found (Chosen.stocks c)) unpassed),
-      )
-  shown_ends old mid new count now then out on out' found (tool.Write error) shown found_all before (p, next, (sent, within, part, unfailed)) same leaves =
-      let ps = shown.payloads in
-      let number : count + 1 ≡ length ps + 1 = ap (λ c. c + 1) (sym shown.counted) in
-      let is : chosen_line form now (count + 1) (message_of p) ≡ line_after form chosen ps p = line_is ps p count now shown.counted shown.passed in (
+      -- or its line could not be written
+      unwritten : (error : Error) → WithholdsMessage contents failures (form last) (count + 1) p (choice last) (at last) (tool.Write error) (at t) → Returns (passed new) (Err (tool.Write error))
+      unwritten error (clean, (sent, within, bytes, unfailed)) = (
         ps,
         p,
-        reads_more limit _ _ _ ps p shown.reads (subst (λ c. ReadsNext limit c (bytes_left remaining mid) (bytes_left remaining new) p) (sym shown.counted) next),
-        subst (IsBefore limit) (sym shown.counted) before,
+        record {
+          bytes = consumed_more (bytes_left remaining old) (bytes_left remaining new) (bytes_left remaining (passed new)) ps p taken.bytes (passed_off new remaining p next);
+          full = each-push IsFull ps p taken.full some;
+          clean = each-push IsClean ps p shown.clean clean;
+          few = let one = length-append ps (p ∷ []) in omega (arith, one, number, few_before);
+          early = each-push (IsEarly limit) ps p off.early (is_early limit p clean early);
+        },
+        subst (IsBefore limit) (sym number) before,
         (
           sent,
-          subst (λ line. sent < length line) is within,
-          subst (λ line. Appends (contents out) (contents out') (lines_from form chosen ps ++ take sent line)) is
-              (Appends-more (contents out) (contents on) (contents out') (lines_from form chosen ps) _ shown.wrote.0 part),
+          subst (λ line. sent < length line) line_is within,
+          subst (λ line. Appends (contents (at s)) (contents (at t)) (lines_from (form s) (choice s) ps ++ take sent line)) line_is
+              (Appends-more (contents (at s)) (contents (at last)) (contents (at t)) (lines_from (form s) (choice s) ps) _ shown.wrote.0 bytes),
           unfailed ∙ ap (failed error) shown.wrote.1,
         ),
-        same ∙ shown.uncounted,
-        subst (λ n. LeavesReaderFirst old n None new) number (standing_short old (count + 1) new (standing_on old mid new count shown.standing leaves)),
+        to_passed counts,
+        (
+          λ none. absurd (omega (arith, none)),
+          λ more. (
+            ap (λ (r : Reading R). r.held) (passed_going new next.1),
+            ap (λ (r : Reading R). r.stage) (passed_going new next.1),
+            never_next old new (length ps) Ended is_not_going next.1 stays.0,
+            never_next old new (length ps) Cut cut_not_going next.1 stays.1,
+          ),
+        ),
       )
-  shown_ends old mid new count now then out on out' found (tool.Short at k) shown is before (p, next, none) counts leaves = absurd none
-  shown_ends old mid new count now then out on out' found tool.OutOfMemory shown is before (p, next, none) counts leaves = absurd none
-  shown_ends old mid new count now then out on out' found (tool.Open file error) shown is before (p, next, none) counts leaves = absurd none
-  shown_ends old mid new count now then out on out' found tool.BadUser shown is before (p, next, none) counts leaves = absurd none
-  shown_ends old mid new count now then out on out' found tool.BadPassword shown is before (p, next, none) counts leaves = absurd none
-  shown_ends old mid new count now then out on out' found (tool.Unmet unmet) shown is before (p, next, none) counts leaves = absurd none
-  shown_ends old mid new count now then out on out' found (tool.Misfit misfit) shown is before (p, next, none) counts leaves = absurd none
-  shown_ends old mid new count now then out on out' found tool.BadLocates shown is before (p, next, none) counts leaves = absurd none
-  shown_ends old mid new count now then out on out' found tool.TooMany shown is before (p, next, none) counts leaves = absurd none
-  shown_ends old mid new count now then out on out' found (tool.Soup f) shown is before (p, next, none) counts leaves = absurd none
-  shown_ends old mid new count now then out on out' found (tool.Socket error) shown is before (p, next, none) counts leaves = absurd none
-  shown_ends old mid new count now then out on out' found (tool.Snap file f) shown is before (p, next, none) counts leaves = absurd none
-  shown_ends old mid new count now then out on out' found tool.UnknownLocate shown is before (p, next, none) counts leaves = absurd none
-  shown_ends old mid new count now then out on out' found tool.UnknownStock shown is before (p, next, none) counts leaves = absurd none
+
+      at_refused : (why : ToolFault) → Unshown last (count + 1) p why t → Returns (passed new) (Err why)
+      at_refused (tool.Stopped file end) (named, choice_named, (only, counted, faulty, kept)) = unclean file end end.stop refl only (omega (arith, counted)) faulty kept
+      at_refused (tool.Write error) (named, choice_named, withheld) = unwritten error withheld
+      at_refused (tool.Short file k) (named, choice_named, (clean, never)) = absurd never
+      at_refused tool.OutOfMemory (named, choice_named, (clean, never)) = absurd never
+      at_refused (tool.Open file error) (named, choice_named, (clean, never)) = absurd never
+      at_refused tool.BadUser (named, choice_named, (clean, never)) = absurd never
+      at_refused tool.BadPassword (named, choice_named, (clean, never)) = absurd never
+      at_refused (tool.Unmet unmet) (named, choice_named, (clean, never)) = absurd never
+      at_refused (tool.Misfit misfit) (named, choice_named, (clean, never)) = absurd never
+      at_refused tool.BadLocates (named, choice_named, (clean, never)) = absurd never
+      at_refused tool.TooMany (named, choice_named, (clean, never)) = absurd never
+      at_refused (tool.Soup f) (named, choice_named, (clean, never)) = absurd never
+      at_refused (tool.Socket error) (named, choice_named, (clean, never)) = absurd never
+      at_refused (tool.Snap file f) (named, choice_named, (clean, never)) = absurd never
+      at_refused tool.UnknownLocate (named, choice_named, (clean, never)) = absurd never
+      at_refused tool.UnknownStock (named, choice_named, (clean, never)) = absurd never
+
+    returns_so : (why : Part ToolFault) → Stops why → Leaves old (length ps) why new → CountsPart why (failed_reads old.reader) (failed_reads new.reader)
+        → Returns (left_by why new) (answer_of limit.after count found why)
+    returns_so part.Full stops leaves counts = at_full stops leaves counts
+    returns_so part.Late stops stays counts = at_late stops stays counts
+    returns_so part.End stops stays counts = at_end limit.after refl stops stays counts
+    returns_so (part.Frame why) stops stays counts = at_frame why stops stays counts
+    returns_so part.TooMany stops stays counts = at_many stops stays counts
+    returns_so (part.Refused why) (before, (p, next, some, few_before, early, unshown)) stays counts = at_refused p next some few_before early before stays counts why unshown
+
+    named_so : (why : Part ToolFault) → Stops why → (name t ≡ name s) × (choice_name t ≡ choice_name s)
+    named_so part.Full (same, most) = still same
+    named_so part.Late (same, before, next) = still same
+    named_so part.End (same, before, next) = still same
+    named_so (part.Frame (Truncated held)) (same, before, cut, is_held, some) = still same
+    named_so (part.Frame (Read error)) (same, before, going) = still same
+    named_so (part.Frame (Write sent error)) never = absurd never
+    named_so (part.Frame TooLong) never = absurd never
+    named_so part.TooMany (same, before, next) = still same
+    named_so (part.Refused why) (before, (p, next, some, few_before, early, (named, choice_named, withheld))) = (named ∙ shown.named, choice_named ∙ shown.choice_named)
+
+  -- what reading a part into such a sink writes, returns and leaves
+  pub shown_part : {R : Type 0} (remaining : R → Option (List ℕ)) (failed_reads : R → Failures) (limit : Limit) (old new : Reading R) (count : ℕ) (s t : T) (why : Part ToolFault)
+      → ReadsPart remaining failed_reads Shown Unshown limit old new 0 count s why t → count ≤ 10 ^ 19 - 1
+      → ((name t ≡ name s) × (choice_name t ≡ choice_name s))
+      × ShowsPart contents failures remaining failed_reads limit (form s) (choice s) old (left_by why new) (at s) (answer_of limit.after count (are_found (Chosen.stocks (choice t))) why) (at t)
+  shown_part remaining failed_reads limit old new count s t why reads few = (
+    named_so remaining failed_reads limit old new count s reads.last t reads.payloads reads.taken few why reads.stops,
+    returns_so remaining failed_reads limit old new count s reads.last t reads.payloads reads.taken few why reads.stops reads.leaves reads.counts,
+  )

@@ -5,26 +5,28 @@ use Rattle.std.specs.Io.KnownBytes.{Consumes, Appends}
 use Rattle.std.specs.declared.io.Error.{Error}
 use Rattle.itch_codec.specs.Messages.{fault, message_of}
 use Rattle.itch_codec.specs.declared.message.Message.TheVariants as is
-use Rattle.itch_frame.specs.Blocks.{blocks, IsFull}
+use Rattle.itch_frame.specs.Blocks.{blocks, IsBlock, IsFull}
 use Rattle.itch_frame.specs.Counting.{failed}
-use Rattle.itch_frame.specs.Reading.{Reading, bytes_left}
+use Rattle.itch_frame.specs.Reading.{Reading, bytes_left, passed}
+use Rattle.itch_frame.specs.declared.reader.Stage.TheVariants.{Going}
 use Rattle.itch_frame.specs.declared.tally.Failures.{Failures}
 use Rattle.itch_market.specs.Content.{Content, empty}
-use Rattle.itch_market.specs.Replays.{TakesOff, Halts, Counts, LeavesReaderFirst}
+use Rattle.itch_market.specs.Replays.{Halts, Counts, LeavesReaderFirst}
 use Rattle.itch_market.specs.declared.stop.Stop.{Stop}
 use Rattle.itch_market.specs.declared.stop.Stop.TheVariants as stop
 use Rattle.itch_snapshot.specs.Snapshot.{snap}
 use Rattle.itch_commands.specs.Choices.{Chosen, chosen_after, chosen_past, chosen_line, chosen_lines, are_found_in}
-use Rattle.itch_day.specs.Limits.{IsEarly, IsLate, IsBefore}
+use Rattle.itch_day.specs.Limits.{IsEarly, IsBefore}
 use Rattle.itch_commands.specs.Outputs.{Wrote, WritesText}
-use Rattle.itch_market.specs.DayParts.{LateNext, IsEnough}
+use Rattle.itch_market.specs.DayParts.{IsEnough}
 use Rattle.itch_commands.specs.Readings.{IsShort, LeavesDay}
-use Rattle.itch_commands.specs.declared.fault.Source.{Source}
 use Rattle.itch_commands.specs.declared.fault.Source.TheVariants.{Only}
 use Rattle.itch_commands.specs.declared.fault.ToolFault.{ToolFault}
 use Rattle.itch_commands.specs.declared.fault.ToolFault.TheVariants as tool
 use Rattle.itch_commands.specs.declared.form.ShowForm.{ShowForm}
 use Rattle.itch_day.specs.declared.limit.Limit.{Limit}
+use Rattle.itch_day.specs.declared.stop.Stop.{Stop as Part}
+use Rattle.itch_day.specs.declared.stop.Stop.TheVariants as part
 
 -- the lines of the messages that these payloads spell, of those that are chosen
 abbrev pub lines_from : ShowForm → Chosen → List (List ℕ) → List ℕ
@@ -66,28 +68,42 @@ IsNoRule stop.TooManyMessages = ⊤
 abbrev pub Withholds : ℕ → Option (List ℕ) → Option (List ℕ) → Stop → Type 0
 Withholds count old new why = IsNoRule why × Halts (count == 10 ^ 19 - 1) empty old new why
 
--- The payload of the next block, which spells the message with the number after `count`, came off the front. It is not late.
-abbrev pub ReadsNext : Limit → ℕ → Option (List ℕ) → Option (List ℕ) → List ℕ → Type 0
-ReadsNext limit count old new payload = TakesOff old new payload × IsClean payload × ((count == 10 ^ 19 - 1) ≡ false) × IsEarly limit payload
-
 -- the stop of a payload that spells no message
 abbrev pub IsFaultOf : List ℕ → Stop → Type 0
 IsFaultOf payload (stop.Codec found) = fault payload ≡ Some found
 IsFaultOf payload why = ⊥
 
 -- what a part that is shown returns at the end of the file, which is no fault where no number is wanted: whether all stocks were found
-abbrev pub finish_end : Option ℕ → Bool → Source → ℕ → Result Bool ToolFault
-finish_end None found file count = Ok found
-finish_end (Some most) found file count = Err (tool.Short file count)
+abbrev pub ended_show : Option ℕ → ℕ → Bool → Result Bool ToolFault
+ended_show None count found = Ok found
+ended_show (Some most) count found = Err (tool.Short Only count)
 
--- what it returns at a stop
-abbrev pub finish_at : Stop → Option ℕ → Bool → Source → ℕ → ToolFault → Result Bool ToolFault
-finish_at stop.End wanted found file count fault = finish_end wanted found file count
-finish_at why wanted found file count fault = Err fault
+-- what it returns where it goes no further after so many messages
+abbrev pub answer_of : Option ℕ → ℕ → Bool → Part ToolFault → Result Bool ToolFault
+answer_of wanted count found part.Full = Ok found
+answer_of wanted count found part.Late = Ok found
+answer_of wanted count found part.End = ended_show wanted count found
+answer_of wanted count found (part.Frame fault) = Err (tool.Stopped Only (record { count = count; stop = stop.Frame fault }))
+answer_of wanted count found part.TooMany = Err (tool.Stopped Only (record { count = count; stop = stop.TooManyMessages }))
+answer_of wanted count found (part.Refused fault) = Err fault
 
-abbrev pub finish : Option ℕ → Bool → ToolFault → Result Bool ToolFault
-finish wanted found (tool.Stopped file end) = finish_at end.stop wanted found file end.count (tool.Stopped file end)
-finish wanted found fault = Err fault
+-- the reader of blocks after the block that is not shown
+abbrev pub left_by : {R : Type 0} → Part ToolFault → Reading R → Reading R
+left_by part.Full r = r
+left_by (part.Frame fault) r = r
+left_by part.Late r = passed r
+left_by part.End r = passed r
+left_by part.TooMany r = passed r
+left_by (part.Refused fault) r = passed r
+
+-- what is held then is that block
+abbrev pub IsLeft : {R : Type 0} → Part ToolFault → Reading R → Type 0
+IsLeft part.Full r = Unit {0}
+IsLeft (part.Frame fault) r = Unit {0}
+IsLeft part.Late r = r.stage ≡ Going → IsBlock r.held
+IsLeft part.End r = r.stage ≡ Going → IsBlock r.held
+IsLeft part.TooMany r = r.stage ≡ Going → IsBlock r.held
+IsLeft (part.Refused fault) r = r.stage ≡ Going → IsBlock r.held
 
 -- What is returned where whether all stocks were found is known: one that was not is a fault.
 abbrev pub IfFound : (Result Bool ToolFault → Type 0) → Result Bool ToolFault → Type 0
@@ -95,41 +111,24 @@ IfFound shows (Ok answer) = (answer ≡ true) × shows (Ok true)
 IfFound shows (Err tool.UnknownStock) = shows (Ok false)
 IfFound shows (Err fault) = shows (Err fault)
 
--- how the next block leaves the reader of blocks
-abbrev pub LeavesNext : {R : Type 0} → Result Bool ToolFault → Reading R → Reading R → Type 0
-LeavesNext (Ok done) old new = LeavesReaderFirst old 1 None new
-LeavesNext (Err (tool.Stopped file end)) old new = LeavesReaderFirst old 0 (Some end.stop) new
-LeavesNext (Err fault) old new = LeavesReaderFirst old 1 None new
-
 module _ {W : Type 0} (contents : W → Option (List ℕ)) (failures : W → Failures) where
   -- a write failed after the first bytes and a beginning of the last ones
   abbrev pub WritesPart : List ℕ → List ℕ → Error → W → W → Type 0
   WritesPart first last error old new =
       (sent : ℕ) × (sent < length last) × Appends (contents old) (contents new) (first ++ take sent last) × (failures new ≡ failed error (failures old))
 
-  -- the line of the message that a payload spells is written, if it is chosen
-  abbrev pub WritesLine : ShowForm → Chosen → ℕ → List ℕ → W → Result (Unit {0}) ToolFault → W → Type 0
-  WritesLine form chosen count payload = WritesText contents failures (chosen_line form chosen (count + 1) (message_of payload))
+  -- the message with this number is shown: a payload spells it, and its line is written, if it is chosen
+  abbrev pub ShowsMessage : ShowForm → ℕ → List ℕ → Chosen → W → Chosen → W → Type 0
+  ShowsMessage form number payload chosen out chosen' out' =
+      IsClean payload × WritesText contents failures (chosen_line form chosen number (message_of payload)) out (Ok tt) out'
+      × (chosen' ≡ chosen_after chosen (message_of payload))
 
-  -- what one payload does after n messages: its message's line is written if it is chosen, or it is late, or it spells none
-  abbrev pub ShowsPayload : ShowForm → Limit → ℕ → List ℕ → Chosen → W → Result Bool ToolFault → Chosen → W → Type 0
-  ShowsPayload form limit count payload chosen out (Ok true) chosen' out' =
-      IsClean payload × IsEarly limit payload × WritesLine form chosen count payload out (Ok tt) out' × (chosen' ≡ chosen_after chosen (message_of payload))
-  ShowsPayload form limit count payload chosen out (Ok false) chosen' out' = (out' ≡ out) × IsLate limit payload × (chosen' ≡ chosen)
-  ShowsPayload form limit count payload chosen out (Err (tool.Stopped file end)) chosen' out' =
-      (file ≡ Only) × (end.count ≡ count) × IsFaultOf payload end.stop × (out' ≡ out) × (chosen' ≡ chosen)
-  ShowsPayload form limit count payload chosen out (Err fault) chosen' out' =
-      IsClean payload × IsEarly limit payload × WritesLine form chosen count payload out (Err fault) out'
-
-  -- what one block does after n messages: its message's line is written if it is chosen, or it is late, or it stops
-  abbrev pub ShowsNext : ShowForm → Limit → ℕ → Option (List ℕ) → Option (List ℕ) → Chosen → W → Result Bool ToolFault → Chosen → W → Type 0
-  ShowsNext form limit count old new chosen out (Ok true) chosen' out' =
-      (payload : List ℕ) × ReadsNext limit count old new payload × WritesLine form chosen count payload out (Ok tt) out' × (chosen' ≡ chosen_after chosen (message_of payload))
-  ShowsNext form limit count old new chosen out (Ok false) chosen' out' = (out' ≡ out) × LateNext limit old new × (chosen' ≡ chosen)
-  ShowsNext form limit count old new chosen out (Err (tool.Stopped file end)) chosen' out' =
-      (file ≡ Only) × (end.count ≡ count) × Withholds count old new end.stop × (out' ≡ out) × (chosen' ≡ chosen)
-  ShowsNext form limit count old new chosen out (Err fault) chosen' out' =
-      (payload : List ℕ) × ReadsNext limit count old new payload × WritesLine form chosen count payload out (Err fault) out'
+  -- it is not: the payload spells none, or its line could not be written
+  abbrev pub WithholdsMessage : ShowForm → ℕ → List ℕ → Chosen → W → ToolFault → W → Type 0
+  WithholdsMessage form number payload chosen out (tool.Stopped file end) out' =
+      (file ≡ Only) × (end.count ≡ number - 1) × IsFaultOf payload end.stop × (out' ≡ out)
+  WithholdsMessage form number payload chosen out fault out' =
+      IsClean payload × WritesText contents failures (chosen_line form chosen number (message_of payload)) out (Err fault) out'
 
   module _ {R : Type 0} (remaining : R → Option (List ℕ)) (failed_reads : R → Failures) (limit : Limit) (form : ShowForm) (chosen : Chosen) where
     -- the lines of the messages that are wanted and chosen are written, and whether all stocks were found in these messages is this

@@ -1,28 +1,26 @@
 //! `show`: the messages of a file as lines of text.
-ghost use Rattle.std.specs.Prelude.{◌≡◌, ◌^◌, ◌<◌, Bool, None, Err};
-ghost use Rattle.itch_frame.specs.Reading.{bytes_left};
+ghost use Rattle.std.specs.Prelude.{◌≡◌, Bool, None, Err};
 ghost use Rattle.itch_commands.specs.Choices.{everything};
 ghost use Rattle.itch_day.specs.Limits.{counted};
-ghost use Rattle.itch_commands.specs.Readings.{CountsRead, FromReader};
-ghost use Rattle.itch_commands.specs.Showing.{Shows, ShowsPart, ShowsNext, ShowsPayload, LeavesNext, finish};
-ghost use Rattle.itch_commands.specs.declared.fault.Source.TheVariants.{Only};
-ghost use Rattle.itch_commands.specs.declared.fault.ToolFault.TheVariants.{Stopped, OutOfMemory};
+ghost use Rattle.itch_commands.specs.Readings.{FromReader};
+ghost use Rattle.itch_commands.specs.Showing.{IsLeft, Shows, ShowsPart, answer_of, left_by};
+ghost use Rattle.itch_commands.specs.declared.fault.ToolFault.TheVariants.{OutOfMemory};
 ghost use Rattle.itch_commands.specs.declared.form.ShowForm.TheVariants.{Text};
 
 mod found;
 mod lines;
 mod recorded;
+mod sink;
 
 use crate::choice::Choice;
 use crate::fault::{Source, ToolFault};
 use crate::form::ShowForm;
 use found::if_found;
-use itch_codec::{MOST_MESSAGES, decode};
-use itch_day::Limit;
+use itch_day::{Limit, Stop as PartStop, read_part};
 use itch_frame::{BlockReader, CountedRead, CountedWrite};
-use itch_market::{ReplayEnd, Stop, next_message};
-use lines::write_chosen;
+use itch_market::Stop;
 pub use recorded::show_snapshot;
+use sink::{ShownLines, stopped};
 use std::alloc::Allocator;
 
 /// Writes a line for each message of a day file or a snapshot file, in the form of [`itch_codec::show`].
@@ -57,100 +55,68 @@ pub fn show_blocks<R: CountedRead, B: Allocator, A: Allocator, W: CountedWrite>(
 ) -> Result<bool, ToolFault>
     ensures { Shows W.contents W.failures R.remaining R.failures limit form choice.entry reader.old reader.new out.old result out.new }
 {
-    let mut choice = choice;
-    let found = show_part(reader, limit, form, &mut choice, out)?;
+    let found = show_part(reader, limit, form, choice, out)?;
     if_found(found)
 }
 
-// The same, which passes the messages to what chooses them. Returns whether each of the stocks that are looked for has come.
+// The same. Returns whether each of the stocks that are looked for has come.
 fn show_part<R: CountedRead, B: Allocator, A: Allocator, W: CountedWrite>(
     reader: &mut BlockReader<R, B>,
     limit: Limit,
     form: ShowForm,
-    choice: &mut Choice<'_, A>,
+    choice: Choice<'_, A>,
     out: &mut W,
 ) -> Result<bool, ToolFault>
-    ensures { ShowsPart W.contents W.failures R.remaining R.failures limit form choice.old reader.old reader.new out.old result out.new }
+    ensures { ShowsPart W.contents W.failures R.remaining R.failures limit form choice.entry reader.old reader.new out.old result out.new }
 {
-    let most = limit.most();
-    for count in 0..most {
-        match show_next(reader, count, limit, form, choice, out) {
-            Ok(true) => {}
-            Ok(false) => return Ok(choice.has_found_all()),
-            Err(fault) => return finished(fault, limit.after, choice.has_found_all()),
+    let mut choice = choice;
+    let mut count = 0;
+    let mut lines = ShownLines {
+        out,
+        form,
+        choice: &mut choice,
+    };
+    let stop = read_part(reader, &mut count, &mut lines, limit);
+    pass_stop(reader, &stop);
+    answer(stop, limit.after, count, lines.has_found_all())
+}
+
+// Passes the block that the part stopped at.
+fn pass_stop<R: CountedRead, B: Allocator>(
+    reader: &mut BlockReader<R, B>,
+    stop: &PartStop<ToolFault>,
+)
+    requires { IsLeft stop.now reader.old }
+    ensures { reader.new ≡ left_by stop.now reader.old }
+{
+    match stop {
+        PartStop::Full | PartStop::Frame(_) => {}
+        PartStop::Late | PartStop::End | PartStop::TooMany | PartStop::Refused(_) => {
+            reader.pass_held();
         }
     }
-    Ok(choice.has_found_all())
 }
 
-// The end of the file is no fault, unless more messages are wanted.
-fn finished(fault: ToolFault, wanted: Option<u64>, found: bool) -> Result<bool, ToolFault>
-    ensures { result ≡ finish wanted found fault }
+// What is returned where a part goes no further. The end of the file is no fault, unless more messages are wanted.
+fn answer(
+    stop: PartStop<ToolFault>,
+    wanted: Option<u64>,
+    count: u64,
+    found: bool,
+) -> Result<bool, ToolFault>
+    ensures { result ≡ answer_of wanted count found stop }
 {
-    match fault {
-        ToolFault::Stopped {
-            file,
-            end: ReplayEnd {
-                count,
-                stop: Stop::End,
-            },
-        } => match wanted {
+    match stop {
+        PartStop::Full | PartStop::Late => Ok(found),
+        PartStop::End => match wanted {
             None => Ok(found),
-            Some(_) => Err(ToolFault::Short { file, count }),
+            Some(_) => Err(ToolFault::Short {
+                file: Source::Only,
+                count,
+            }),
         },
-        _ => Err(fault),
-    }
-}
-
-// Writes the line of the next message, which has the number after `count`, if it is chosen, and returns true; or returns false if
-// that is late.
-fn show_next<R: CountedRead, B: Allocator, A: Allocator, W: CountedWrite>(
-    reader: &mut BlockReader<R, B>,
-    count: u64,
-    limit: Limit,
-    form: ShowForm,
-    choice: &mut Choice<'_, A>,
-    out: &mut W,
-) -> Result<bool, ToolFault>
-    requires { count < 10 ^ 19 }
-    ensures shows { ShowsNext W.contents W.failures form limit count (bytes_left R.remaining reader.old) (bytes_left R.remaining reader.new) choice.old out.old result choice.new out.new }
-    ensures failures { CountsRead result (R.failures reader.old.reader) (R.failures reader.new.reader) }
-    ensures reader { LeavesNext result reader.old reader.new }
-{
-    match next_message(reader, count == MOST_MESSAGES) {
-        Ok(payload) => show_payload(payload, count, limit, form, choice, out),
-        Err(stop) => Err(stopped(count, stop)),
-    }
-}
-
-// Writes the line of the message that a payload spells, if it is chosen, and returns true; or returns false if that is late.
-fn show_payload<A: Allocator, W: CountedWrite>(
-    payload: &[u8],
-    count: u64,
-    limit: Limit,
-    form: ShowForm,
-    choice: &mut Choice<'_, A>,
-    out: &mut W,
-) -> Result<bool, ToolFault>
-    requires { count < 10 ^ 19 }
-    ensures { ShowsPayload W.contents W.failures form limit count payload.now choice.old out.old result choice.new out.new }
-{
-    let message = match decode(payload) {
-        Ok(message) => message,
-        Err(fault) => return Err(stopped(count, Stop::Codec(fault))),
-    };
-    if limit.is_late(&message) {
-        return Ok(false);
-    }
-    write_chosen(form, choice, count + 1, &message, out)?;
-    Ok(true)
-}
-
-fn stopped(count: u64, stop: Stop) -> ToolFault
-    ensures { result ≡ Stopped Only (record { count = count; stop = stop }) }
-{
-    ToolFault::Stopped {
-        file: Source::Only,
-        end: ReplayEnd { count, stop },
+        PartStop::Frame(fault) => Err(stopped(count, Stop::Frame(fault))),
+        PartStop::TooMany => Err(stopped(count, Stop::TooManyMessages)),
+        PartStop::Refused(fault) => Err(fault),
     }
 }
