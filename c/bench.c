@@ -1,16 +1,19 @@
 /* bench.c: how long the calls take on a day file.
  *
- *   bench DAY    three rounds of: the whole file at once, the time of each message, message by message, all blocks in one call,
- *                 look-ups, all price levels, and calls that are refused at once */
+ *   bench DAY          three rounds of: the whole file at once, the time of each message, message by message, all blocks in one call,
+ *                      look-ups, all price levels, each message decoded alone, and calls that are refused at once
+ *   bench DAY FIRST    three rounds of a joiner: it takes the snapshot of so many messages of the file, and then all of the file as the
+ *                      feed, in order, and in windows of 1,000 messages of which the last comes first */
 #define _POSIX_C_SOURCE 199309L
 #include "itchsnap.h"
 
 #include <inttypes.h>
+#include <stdbool.h>
 #include <stdio.h>
 #include <stdlib.h>
 #include <time.h>
 
-enum { REFUSALS = 10000000, LOOKUPS = 2 * 65536 };
+enum { REFUSALS = 10000000, LOOKUPS = 2 * 65536, WINDOW = 1000 };
 
 static double now(void) {
     struct timespec moment;
@@ -22,21 +25,46 @@ static void report(const char *what, double seconds, uint64_t calls) {
     printf("%-28s %12" PRIu64 " calls %10.3f s %10.1f ns each\n", what, calls, seconds, seconds * 1e9 / (double)(calls > 0 ? calls : 1));
 }
 
+/* The payload of the block at a place, and where the next block begins. */
+typedef struct {
+    const uint8_t *payload;
+    size_t size;
+    size_t next;
+} block;
+
+/* Whether a block with a payload is at the place. */
+static bool block_at(const uint8_t *day, size_t len, size_t at, block *found) {
+    if (len - at < 2) {
+        return false;
+    }
+    size_t size = (size_t)day[at] << 8 | day[at + 1];
+    if (size == 0 || len - at - 2 < size) {
+        return false;
+    }
+    *found = (block){day + at + 2, size, at + 2 + size};
+    return true;
+}
+
 static uint64_t apply_all(itchsnap_handle *market, const uint8_t *day, size_t len) {
     uint64_t count = 0;
-    size_t at = 0;
-    while (len - at >= 2) {
-        size_t size = (size_t)day[at] << 8 | day[at + 1];
-        if (size == 0 || len - at - 2 < size) {
-            break;
-        }
-        itchsnap_answer answer = itchsnap_market_apply(market, day + at + 2, size);
+    block it;
+    for (size_t at = 0; block_at(day, len, at, &it); at = it.next) {
+        itchsnap_answer answer = itchsnap_market_apply(market, it.payload, it.size);
         if (answer.code != ITCHSNAP_OK) {
             printf("message %" PRIu64 ": code %" PRIu32 "\n", count + 1, answer.code);
             break;
         }
-        at += 2 + size;
         count++;
+    }
+    return count;
+}
+
+/* How many messages can be decoded. */
+static uint64_t decode_all(const uint8_t *day, size_t len) {
+    uint64_t count = 0;
+    block it;
+    for (size_t at = 0; block_at(day, len, at, &it); at = it.next) {
+        count += itchsnap_decode_fault(it.payload, it.size).code == ITCHSNAP_OK;
     }
     return count;
 }
@@ -85,6 +113,10 @@ static void round_of(const uint8_t *day, size_t len) {
     uint64_t count = apply_all(&market, day, len);
     report("itchsnap_market_apply", now() - begun, count);
 
+    begun = now();
+    uint64_t decoded = decode_all(day, len);
+    report("decode_fault of each", now() - begun, decoded);
+
     uint64_t found = 0;
     begun = now();
     for (uint32_t locate = 0; locate < 65536; locate++) {
@@ -114,10 +146,63 @@ static void round_of(const uint8_t *day, size_t len) {
     itchsnap_free(&market);
 }
 
+/* Fills a handle with a joiner that has taken the snapshot of the file's first messages. */
+static void join(itchsnap_handle *joiner, const uint8_t *day, size_t len, uint64_t first) {
+    size_t room = itchsnap_snap(day, len, first, ITCHSNAP_ALL, NULL, 0).len;
+    uint8_t *snapshot = malloc(room > 0 ? room : 1);
+    if (snapshot == NULL || itchsnap_joiner_new(joiner, WINDOW).code != ITCHSNAP_OK) {
+        exit(1);
+    }
+    itchsnap_snap(day, len, first, ITCHSNAP_ALL, snapshot, room);
+    uint32_t code = ITCHSNAP_MORE;
+    block it;
+    for (size_t at = 0; code == ITCHSNAP_MORE && block_at(snapshot, room, at, &it); at = it.next) {
+        code = itchsnap_joiner_snapshot(joiner, it.payload, it.size).code;
+    }
+    free(snapshot);
+    if (code != ITCHSNAP_JOINED) {
+        fprintf(stderr, "no snapshot of %" PRIu64 " messages: code %" PRIu32 "\n", first, code);
+        exit(1);
+    }
+}
+
+/* Delivers the file as a feed, in windows of so many messages of which the last comes first, and returns how many messages that was. */
+static uint64_t deliver(itchsnap_handle *joiner, const uint8_t *day, size_t len, size_t window) {
+    static block held[WINDOW];
+    uint64_t number = 1;
+    size_t at = 0, count;
+    do {
+        for (count = 0; count < window && block_at(day, len, at, &held[count]); count++) {
+            at = held[count].next;
+        }
+        for (size_t k = count; k > 0; k--) {
+            itchsnap_joiner_live(joiner, number + k - 1, held[k - 1].payload, held[k - 1].size);
+        }
+        number += count;
+    } while (count == window);
+    return number - 1;
+}
+
+static void joins_of(const uint8_t *day, size_t len, uint64_t first) {
+    static const size_t windows[] = {1, WINDOW};
+    static const char *const names[] = {"joiner_live, in order", "joiner_live, reversed"};
+    for (int k = 0; k < 2; k++) {
+        itchsnap_handle joiner = ITCHSNAP_NONE;
+        join(&joiner, day, len, first);
+        double begun = now();
+        uint64_t count = deliver(&joiner, day, len, windows[k]);
+        report(names[k], now() - begun, count);
+        if (itchsnap_joiner_next(&joiner).count != count + 1) {
+            printf("the feed was not taken to its end\n");
+        }
+        itchsnap_free(&joiner);
+    }
+}
+
 int main(int argc, char **argv) {
-    FILE *file = argc == 2 ? fopen(argv[1], "rb") : NULL;
+    FILE *file = argc == 2 || argc == 3 ? fopen(argv[1], "rb") : NULL;
     if (file == NULL || fseek(file, 0, SEEK_END) != 0) {
-        fprintf(stderr, "usage: bench DAY\n");
+        fprintf(stderr, "usage: bench DAY [FIRST]\n");
         return 2;
     }
     size_t len = (size_t)ftell(file);
@@ -128,8 +213,12 @@ int main(int argc, char **argv) {
     }
     fclose(file);
     for (int k = 0; k < 3; k++) {
-        blocks_of(day, len);
-        round_of(day, len);
+        if (argc == 3) {
+            joins_of(day, len, strtoull(argv[2], NULL, 10));
+        } else {
+            blocks_of(day, len);
+            round_of(day, len);
+        }
     }
     free(day);
     return 0;

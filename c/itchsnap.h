@@ -126,7 +126,7 @@ typedef struct {
     bool live;
 } itchsnap_handle;
 
-#define ITCHSNAP_NONE {0}
+#define ITCHSNAP_NONE {NULL, false}
 
 /* Frees what a handle holds, if it holds anything. The handle is then empty, and may be filled again. */
 void itchsnap_free(itchsnap_handle *handle);

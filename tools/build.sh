@@ -1,4 +1,4 @@
-# Proves and builds the program from the sources that are here. For scripts that have read tools/release.sh.
+# Proves and builds the program and the C library from the sources that are here. For scripts that have read tools/release.sh.
 
 # Says on standard error how long proving may take: what it took the last time on this machine, if that is known.
 say_how_long() {
@@ -64,5 +64,14 @@ choose_program() {
     elif ! runs_here; then
         program=$built
         build "the released program does not run on this machine"
+    fi
+}
+
+# Sets `libraries` to the folder of the released C library, or where that is of other sources, of the one that is built.
+choose_libraries() {
+    libraries=$top/release
+    if [ "$(recorded c-sources)" != "$(c_source_hash)" ]; then
+        libraries=$top/c/out
+        "$top/c/build" || exit 1
     fi
 }

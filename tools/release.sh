@@ -35,7 +35,7 @@ source_hash() {
 
 # The same of the C library, which is also made of what links it.
 c_source_hash() {
-    source_hash itchsnap_c c/build c/exports.map
+    source_hash itchsnap_c c/build c/link c/exports.map
 }
 
 hash_of_file() {

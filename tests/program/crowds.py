@@ -116,7 +116,7 @@ def captured(pieces):
 def wireshark_reads_the_packets(program):
     """Wireshark's dissector of SoupBinTCP finds the packets of a client's session: its login, and what it is told."""
     if not (tshark := shutil.which("tshark")):
-        print("there is no tshark on the path: what Wireshark makes of a session is not looked at")
+        print("skipped: what Wireshark makes of a session: no tshark here")
         return
     day, wanted = day_of(50)
     end = threading.Event()

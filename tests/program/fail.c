@@ -1,11 +1,14 @@
 /* For tests, loaded into the program by LD_PRELOAD: one call of one kind fails, as FAIL says: `memory:3` refuses the third
  * allocation, `read:1` fails the first read, `write:2` the second write, `sync:1` the first fsync or fdatasync, `send:1`, `recv:1` and
  * `setsockopt:1` the first such call at a socket. With `write:2+` so does each later write to the same file. Where a call has failed so, the file that FAILED names is made.
+ * With `accept4:while` each such call fails as long as the file that FAILING names is there. Where KILLS is set, the process is killed in place
+ * of a call that fails. calls.c has more kinds.
  * Each read and each recv gives at most as many bytes as PIECE says, and each write and each send takes at most as many. */
 #define _GNU_SOURCE
 #include <dlfcn.h>
 #include <errno.h>
 #include <fcntl.h>
+#include <signal.h>
 #include <stdlib.h>
 #include <string.h>
 #include <sys/socket.h>
@@ -19,6 +22,9 @@ static int fails(const char *kind) {
     size_t len = strlen(kind);
     if (!fail || strncmp(fail, kind, len) != 0 || fail[len] != ':')
         return 0;
+    const char *meanwhile = getenv("FAILING");
+    if (meanwhile)
+        return access(meanwhile, F_OK) == 0;
     if (left < 0)
         left = atol(fail + len + 1);
     if (left == 0 || --left > 0)
@@ -27,6 +33,8 @@ static int fails(const char *kind) {
     int file = path ? open(path, O_CREAT | O_WRONLY, 0600) : -1;
     if (file >= 0)
         close(file);
+    if (getenv("KILLS"))
+        kill(getpid(), SIGKILL);
     return 1;
 }
 

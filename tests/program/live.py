@@ -219,8 +219,12 @@ def each_client_is_told_what_it_asks(program):
             (LOGIN[:-1] + b"0", whole), (b"\0\x01O", b""), (b"\0\x03+up" * 1000 + LOGIN, whole)]
     with Feed(plays(day, wait=end, held=ENDED)) as feed, live(program, feed.port) as server:
         server.said("feed: accepted")
+        fetched = 1
         while number_of(fetch(program, server.port)[1]) < number_of(wanted):
+            fetched += 1
             time.sleep(0.05)
+        # (the line of the last one may come after its snapshot)
+        server.has_lines(fetched)
         before = server.count()
         for data, said in rows:
             yield from differs(f"{data[-60:]!r}", told(server.port, data), said)

@@ -65,9 +65,9 @@ class Feed:
     """A server of a feed: each connection is one of these scripts, called with the socket and the login; the last one goes on for ever.
     `logins` has what was asked, and `closing` is set once it is to end."""
 
-    def __init__(self, *scripts):
+    def __init__(self, *scripts, address="127.0.0.1", port=0):
         self.scripts, self.logins, self.closing = scripts, [], threading.Event()
-        self.listener = socket.create_server(("127.0.0.1", 0))
+        self.listener = socket.create_server((address, port))
         self.port = self.listener.getsockname()[1]
         self.threads = [threading.Thread(target=self.accept)]
         self.threads[0].start()
@@ -125,7 +125,7 @@ class Running:
     def __init__(self, program, *words, listens=True, **environment):
         self.process = subprocess.Popen([program, *map(str, words)], stdout=subprocess.PIPE, stderr=subprocess.PIPE, stdin=subprocess.DEVNULL,
                                         env={**os.environ, **environment})
-        self.lines, self.arrived, self.output = [], threading.Condition(), []
+        self.lines, self.arrived, self.is_silent, self.output = [], threading.Condition(), False, []
         self.readers = [threading.Thread(target=self.read_lines), threading.Thread(target=self.read_output)]
         for reader in self.readers:
             reader.start()
@@ -136,17 +136,20 @@ class Running:
             with self.arrived:
                 self.lines.append(line.decode())
                 self.arrived.notify_all()
+        with self.arrived:
+            self.is_silent = True
+            self.arrived.notify_all()
 
     def read_output(self):
         while piece := self.process.stdout.read1(1 << 16):
             self.output.append(piece)
 
     def said(self, pattern, seconds=PATIENCE):
-        """The line that begins so, once it is there."""
+        """The line that begins so, once it is there; none where the process has ended without it."""
         def found():
             return next((line for line in self.lines if re.match(pattern, line)), None)
         with self.arrived:
-            self.arrived.wait_for(lambda: found() or self.process.poll() is not None, seconds)
+            self.arrived.wait_for(lambda: found() or self.is_silent, seconds)
             return found()
 
     def count(self):
@@ -172,6 +175,10 @@ class Running:
             reader.join()
         self.process.stdout.close()
         self.process.stderr.close()
+
+    def processor_seconds(self):
+        """How much time of a processor the process has taken so far."""
+        return int(Path(f"/proc/{self.process.pid}/schedstat").read_text().split()[0]) / 1e9
 
     def ended(self, seconds=PATIENCE):
         """The status, the output, and the lines of standard error but the one about the port."""

@@ -141,6 +141,7 @@ def a_name_that_is_not_found_is_looked_up_again(program):
     with Feed(plays(day, then=ENDED)) as feed, live(program, at(feed.port), words=("--glimpse", UNKNOWN), **QUICK) as server:
         yield from differs("snapshot", server.said("glimpse: "), f"glimpse: not found ({UNKNOWN})\n")
     if subprocess.run([*ALONE, "true"], stderr=subprocess.DEVNULL).returncode != 0:
+        print("skipped: a name that is found later: no namespaces of its own here")
         return
     end = threading.Event()
     with folder_with(hosts=b"") as folder, Feed(plays(day, wait=end, held=ENDED)) as feed:

@@ -6,23 +6,36 @@ import contextlib
 import os
 import shutil
 import subprocess
+import sys
 import tempfile
-import time
 from concurrent.futures import ThreadPoolExecutor
 from pathlib import Path
 
 TOP = Path(__file__).resolve().parent.parent.parent
 # Where no toolchain is.
 PLAIN = "/usr/bin:/bin"
-NAMES = ("itch_frame itch_codec itch_day itch_table itch_book itch_market itch_snapshot itch_soup itch_join itch_live itch_commands itchsnap_cli "
-         "itchsnap_live itch_tool").split()
+NAMES = ("itch_frame itch_codec itch_day itch_book itch_market itch_snapshot itch_soup itch_join itch_live itch_commands itchsnap_live "
+         "itchsnap_cli itch_tool").split()
 CHANGED = "crates/itch_frame/src/lib.rt"
+# Where ./install puts the program and what belongs to it, in its order.
+PLACES = ["bin/itchsnap", "share/man/man1/itchsnap.1", "share/bash-completion/completions/itchsnap", "share/zsh/site-functions/_itchsnap",
+          "share/fish/vendor_completions.d/itchsnap.fish"]
 OTHER = "itchsnap: the sources are not those of the released program"
 # Builds nothing: the program that it makes prints its words. It takes a moment, and notes what it was called with.
 FAKE_RT = """#!/bin/sh
 [ "$1" != "$FAILS" ] || { echo "rt: not proved"; exit 1; }
 echo "$1" >>"$CALLS"
 [ "$1" != run ] || { mkdir -p out; printf '#!/bin/sh\\necho "$@"\\n' >out/itch_tool; chmod +x out/itch_tool; sleep 0.2; }
+"""
+
+# Runs a command, and writes how much processor time that took into the file that is named first.
+TIMED = """
+import resource, subprocess, sys
+status = subprocess.run(sys.argv[2:]).returncode
+used = resource.getrusage(resource.RUSAGE_CHILDREN)
+with open(sys.argv[1], "w") as taken:
+    taken.write(f"{used.ru_utime + used.ru_stime:.2f}")
+sys.exit(status)
 """
 
 
@@ -67,15 +80,19 @@ def differs(label, got, wanted):
         yield f"{label}: {got}, not {wanted}"
 
 
-def a_fresh_copy_answers_within_a_second_without_the_toolchain(_program):
+def nobody():
+    """The words before a command that is not to be run by root."""
+    return ["setpriv", "--reuid=65534", "--regid=65534", "--clear-groups"] if os.geteuid() == 0 else []
+
+
+def a_fresh_copy_takes_less_than_a_second_without_the_toolchain(_program):
+    """Of processor time, which does not depend on what else the machine does."""
     with checkout() as copy:
-        opening = copy.top / "examples/opening.itch"
-        begin = time.monotonic()
-        got = copy.start("check", opening)
-        took = time.monotonic() - begin
+        opening, taken = copy.top / "examples/opening.itch", copy.folder / "taken"
+        got = copy.start("check", opening, before=[sys.executable, "-c", TIMED, taken])
         yield from differs("the first start", got, (0, "ok 5 messages\n", ""))
-        if took > 1:
-            yield f"the first start took {took:.2f} s"
+        if float(taken.read_text()) > 1:
+            yield f"the first start took {taken.read_text()} s"
         link = copy.folder / "linked"
         link.symlink_to(copy.top / "itchsnap")
         again = copy.folder / "again"
@@ -86,12 +103,11 @@ def a_fresh_copy_answers_within_a_second_without_the_toolchain(_program):
 
 
 def a_checkout_may_be_read_only(_program):
-    nobody = ["setpriv", "--reuid=65534", "--regid=65534", "--clear-groups"] if os.geteuid() == 0 else []
     with checkout() as copy:
         subprocess.run(["chmod", "-R", "a+rX,a-w", copy.top], check=True)
         wanted = (0, "ok 5 messages\n", "")
         try:
-            yield from differs("read-only", copy.start("check", copy.top / "examples/opening.itch", before=nobody), wanted)
+            yield from differs("read-only", copy.start("check", copy.top / "examples/opening.itch", before=nobody()), wanted)
         finally:
             subprocess.run(["chmod", "-R", "u+w", copy.top], check=True)
 
@@ -147,26 +163,65 @@ def the_gate_refuses_a_changed_source(_program):
 def the_program_is_installed_with_its_page(_program):
     with checkout() as copy:
         prefix = copy.folder / "new/prefix"
-        for _ in range(2):
-            yield from differs("install", copy.start(prefix, script="install"), (0, "", ""))
-        placed = sorted(str(it.relative_to(prefix)) for it in prefix.rglob("*") if it.is_file())
-        yield from differs("placed", placed, ["bin/itchsnap", "share/man/man1/itchsnap.1"])
-        if (prefix / "bin/itchsnap").read_bytes() != (TOP / "release/itchsnap").read_bytes():
+        bins = prefix / "bin"
+        put = "".join(f"installed {prefix}/{it}\n" for it in PLACES)
+        off = f'{bins} is not on the PATH: add it with  export PATH="{bins}:$PATH"\n'
+        yield from differs("install", copy.start(prefix, script="install"), (0, put + off, ""))
+        again = copy.start(prefix, script="install", PATH=f"{PLAIN}:{bins}")
+        yield from differs("install again", again, (0, f"{put}{bins} is on the PATH\n", ""))
+        yield from differs("placed", files_below(prefix), sorted(PLACES))
+        if (bins / "itchsnap").read_bytes() != (TOP / "release/itchsnap").read_bytes():
             yield "another program was installed"
-        checked = subprocess.run([prefix / "bin/itchsnap", "check", TOP / "examples/opening.itch"], capture_output=True, timeout=60)
+        checked = subprocess.run([bins / "itchsnap", "check", TOP / "examples/opening.itch"], capture_output=True, timeout=60)
         yield from differs("the installed program", (checked.returncode, checked.stdout), (0, b"ok 5 messages\n"))
 
 
+def what_is_installed_is_removed_and_no_more(_program):
+    with checkout() as copy:
+        prefix = copy.folder / "prefix"
+        copy.start(prefix, script="install")
+        (prefix / "share/man/man1/other.1").touch()
+        gone = "".join(f"removed {prefix}/{it}\n" for it in PLACES)
+        yield from differs("uninstall", copy.start("--uninstall", prefix, script="install"), (0, gone, ""))
+        yield from differs("left", sorted(str(it.relative_to(prefix)) for it in prefix.rglob("*")),
+                           ["share", "share/man", "share/man/man1", "share/man/man1/other.1"])
+        nothing = f"nothing of itchsnap is installed below {prefix}\n"
+        yield from differs("again", copy.start("--uninstall", prefix, script="install"), (0, nothing, ""))
+
+
+def without_a_prefix_the_home_folder_is_taken(_program):
+    with checkout() as copy:
+        home = copy.folder / "home"
+        home.mkdir()
+        home.chmod(0o777)
+        status, _, faults = copy.start(script="install", before=nobody(), HOME=str(home))
+        yield from differs("install", (status, faults), (0, ""))
+        yield from differs("placed", files_below(home / ".local"), sorted(PLACES))
+
+
+def files_below(folder):
+    return sorted(str(it.relative_to(folder)) for it in folder.rglob("*") if it.is_file())
+
+
 def what_cannot_be_installed_is_one_line(_program):
+    usage = "usage: ./install [--library] [--uninstall] [PREFIX]\n"
     with checkout() as copy:
         file = copy.folder / "a file"
         file.touch()
-        for words, wanted in (([file], (1, "", f"install: cannot write {file}/bin/itchsnap\n")), ([], (2, "", "usage: ./install PREFIX\n"))):
+        for words, wanted in (
+            ([file], (1, "", f"install: cannot write {file}/bin/itchsnap\n")),
+            (["--libary"], (2, "", f"install: unknown option --libary\n{usage}")),
+            ([""], (2, "", f"install: PREFIX is empty\n{usage}")),
+            (["a", "b"], (2, "", f"install: more than one PREFIX\n{usage}")),
+        ):
             yield from differs(f"install {words}", copy.start(*words, script="install"), wanted)
+        status, helped, faults = copy.start("--help", script="install")
+        if (status, faults) != (0, "") or not helped.startswith(usage):
+            yield f"--help ended with {status}, {helped!r} and {faults!r}"
 
 
 RUNS = [
-    a_fresh_copy_answers_within_a_second_without_the_toolchain,
+    a_fresh_copy_takes_less_than_a_second_without_the_toolchain,
     a_checkout_may_be_read_only,
     the_released_version_has_the_records_hash,
     a_changed_source_needs_the_toolchain,
@@ -174,5 +229,7 @@ RUNS = [
     of_two_starts_one_builds,
     the_gate_refuses_a_changed_source,
     the_program_is_installed_with_its_page,
+    what_is_installed_is_removed_and_no_more,
+    without_a_prefix_the_home_folder_is_taken,
     what_cannot_be_installed_is_one_line,
 ]

@@ -218,6 +218,31 @@ def completions_have_every_option(program):
             done = subprocess.run([found, "-n"], input=script, capture_output=True, timeout=60)
             if done.returncode or done.stderr:
                 yield f"{shell}: {done}"
+        else:
+            print(f"skipped: how {shell} reads its completions: no {shell} here")
+
+
+def quotes_of_completions_are_closed(program):
+    """In each line: help may have an apostrophe in it."""
+    for shell in ("zsh", "fish"):
+        for line in ended(program, "completions", shell)[1].splitlines():
+            if re.sub(rb"\\.", b"", line).count(b"'") % 2:
+                yield f"{shell}: {line!r}"
+
+
+def zsh_completions_escape_what_ends_a_help_text(program):
+    for line in ended(program, "completions", "zsh")[1].splitlines():
+        for text in re.findall(rb"'--[a-z-]+\[(.*)\](?::[a-z]+:[_a-z]*)?'", line):
+            if re.search(rb"(?<!\\)[][:]", text):
+                yield f"zsh: {line!r}"
+
+
+def paths_are_completed_where_they_are_written(program):
+    """Where a file or a folder is written, as where one is read."""
+    script = ended(program, "completions", "zsh")[1].decode()
+    for option in ("output", "to", "record", "snapshots", "pass-file", "feed-pass-file"):
+        found = re.findall(rf"'--{option}\[.*\](.*)'", script)
+        yield from differs(option, set(found), {":file:_files"})
 
 
 def other_words_are_a_usage_fault(program):
@@ -245,6 +270,9 @@ RUNS = [
     each_command_has_an_example,
     bash_completes_what_is_typed,
     completions_have_every_option,
+    quotes_of_completions_are_closed,
+    zsh_completions_escape_what_ends_a_help_text,
+    paths_are_completed_where_they_are_written,
     other_words_are_a_usage_fault,
     no_words_are_a_usage_fault,
     other_texts_are_no_lists_of_locates,

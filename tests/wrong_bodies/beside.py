@@ -1,25 +1,19 @@
-"""What a run of `rt ci` beside this one has proved so far: its libraries, and what its own wrong bodies begin with."""
+"""What a run of `rt ci` beside this one has proved so far: its libraries."""
 import contextlib
-import glob
 import os
 import re
 import shutil
-import tempfile
 import threading
 from pathlib import Path
 
 from kit import rt
 
 # What rt ci says of a crate that it has proved, now or in an earlier run: its library is there then.
-PROVED = re.compile(r"^rt: (\w+) (proved|is kept: .*)$", re.MULTILINE)
-# What it says once the check is done that the wrong bodies of a crate's folder must-fail begin with.
-TRYING = re.compile(r"^rt: (\w+): trying its must-fail edits", re.MULTILINE)
-# There is no such check for a single wrong body.
-FEWEST = 2
+PROVED = re.compile(r"^rt: (\w+) (?:proved|is kept: .*)$", re.MULTILINE)
 
 
 class Turns:
-    """Lets as many tasks run at once as there are lanes, and half as many while `rt ci` runs, which has as many of its own."""
+    """Lets as many tasks run at once as there are lanes, and a quarter as many while `rt ci` runs, whose largest checks take 10 GB."""
 
     def __init__(self, lanes, proofs):
         self.lanes = lanes
@@ -28,7 +22,7 @@ class Turns:
         self.changing = threading.Condition()
 
     def is_free(self):
-        return self.running < (self.lanes if self.proofs.have_ended else max(1, self.lanes // 2))
+        return self.running < (self.lanes if self.proofs.have_ended else max(1, self.lanes // 4))
 
     @contextlib.contextmanager
     def turn(self):
@@ -56,8 +50,6 @@ class Proofs:
         self.seen = set()
         self.proved = set()
         self.lost = set()
-        self.starts = {}
-        self.unchanged = set()
         self.have_ended = False
         threading.Thread(target=self.follow, daemon=True).start()
 
@@ -74,14 +66,10 @@ class Proofs:
     def look(self):
         """Takes what was made since the last look."""
         said = self.log.read_text(encoding="utf-8", errors="replace")
-        for name, how in PROVED.findall(said):
+        for name in PROVED.findall(said):
             if name not in self.seen:
                 self.seen.add(name)
-                self.unchanged |= {name} if how != "proved" else set()
                 (self.proved if self.take_library(self.crates[name]) else self.lost).add(name)
-        for name in TRYING.findall(said):
-            if name not in self.starts:
-                self.starts[name] = self.start_of(name)
 
     def take_library(self, crate):
         """Has checks use a copy of the library, and returns whether it is that of rt ci, which writes no stamp, as other checks do."""
@@ -102,19 +90,7 @@ class Proofs:
         for it in self.crates.values():
             it.rlib = f"{it.folder}/out/rlib/{it.name}.rlib"
 
-    def start_of(self, name):
-        """Returns a copy of what rt ci keeps of the crate while it tries wrong bodies, or None where there is none to be found."""
-        to = f"{self.room}/starts/{name}"
-        for seed in glob.glob(f"{tempfile.gettempdir()}/rt-edits-*/seed"):
-            with contextlib.suppress(OSError, shutil.Error):
-                # (what another user could have written is no start)
-                if os.stat(seed).st_uid == os.geteuid() and glob.glob(f"{seed}/*/Rattle-{name}-proofs.*"):
-                    rt.linked(seed, to)
-                    return to
-            shutil.rmtree(to, ignore_errors=True)
-        return None
-
     def are_enough_for(self, crate):
-        """Returns whether the libraries below a crate are proved, and what a check of it begins with is here, if rt ci makes any."""
-        makes_start = len(list(Path(crate.folder, "must-fail").glob("*.edit"))) >= FEWEST and crate.name not in self.unchanged
-        return {it.name for it in crate.below()} <= self.proved and (not makes_start or crate.name in self.starts)
+        """Returns whether the libraries below a crate are proved, and its own: a check begins with what that one has proved."""
+        own = {crate.name} if crate.makes_rlib() else set()
+        return {it.name for it in crate.below()} | own <= self.proved

@@ -20,7 +20,7 @@ def load_rt():
     try:
         page = subprocess.run(["rt", "doc"], capture_output=True, text=True, check=True).stdout.strip()
     except (OSError, subprocess.CalledProcessError) as error:
-        sys.exit(f"tests/edits: the toolchain's rt cannot be run: {error}")
+        sys.exit(f"tests/wrong_bodies: the toolchain's rt cannot be run: {error}")
     return load("rt", f"{os.path.dirname(page)}/bin/rt")
 
 

@@ -1,4 +1,4 @@
-"""`tests/edits.record`: at which sources the edits of each crate were last refused."""
+"""`edits.record`: at which sources the edits of each crate were last refused."""
 import hashlib
 import os
 import re
@@ -9,7 +9,7 @@ from kit import rtlib, toolchain_line
 
 HERE = Path(__file__).resolve().parent
 TOP = HERE.parent.parent
-FILE = TOP / "tests/edits.record"
+FILE = HERE / "edits.record"
 WRITING = threading.Lock()
 
 
@@ -35,10 +35,9 @@ def text_that_counts(path):
 
 
 def hash_of(crate):
-    """Hashes all that the refusals rest on: the toolchain, this script, the crate with its edits, and the crates below it."""
+    """Hashes all that the refusals rest on: the toolchain, these scripts, the crate with its edits, and the crates below it."""
     found = hashlib.sha256(toolchain_line().encode())
-    scripts = [TOP / "tests/edits", *files_below(HERE, ["."])]
-    files = [it for it in scripts if it.suffix in ("", ".py")]
+    files = [it for it in files_below(HERE, ["."]) if it.suffix in ("", ".py")]
     files += files_below(crate.folder, [*rtlib.PARTS, "wrong"])
     for below in crate.below():
         files += files_below(below.folder, rtlib.PARTS)

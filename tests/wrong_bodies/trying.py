@@ -65,10 +65,9 @@ def copy_of(seed, name):
 class Tries:
     """The tries of one crate's edits, each over a copy of the seed: what a check of the crate as it stands proved."""
 
-    def __init__(self, crate, checker: Checker, start=None):
+    def __init__(self, crate, checker: Checker):
         self.crate = crate
         self.checker = checker
-        self.start = start
         self.rounds, self.rest = rounds_of(edits_of(crate), crate.folder)
         self.seed = None
         self.files = {}
@@ -88,7 +87,7 @@ class Tries:
     def make_seed(self, jobs):
         """Proves the crate over what was kept of it, if there is any."""
         with tempfile.TemporaryDirectory(prefix="edits-start-") as start:
-            room = rt.seeded(self.crate, ["--jobs", str(jobs)], self.start or best_start(self.crate, start))
+            room = rt.seeded(self.crate, ["--jobs", str(jobs)], best_start(self.crate, start))
         if room:
             self.seed = f"{room}/seed"
             self.files = rt.listing(self.seed)

@@ -5,7 +5,7 @@ use Rattle.std.proofs.lemmas.Bool.Decides.{nat_tests}
 use Rattle.std.proofs.lemmas.Cmp.{nat_eq_equiv}
 use Rattle.std.proofs.lemmas.List.{length-map}
 use Rattle.std.proofs.lemmas.Map.Made.{length-from_same_keys}
-use Rattle.itch_table.specs.Table.{IsCount}
+use Rattle.itch_book.specs.Table.{IsCount}
 use Rattle.itch_book.specs.declared.order.Order.{Order}
 use Rattle.itch_book.specs.Orders.{get, has_reference, IsDistinct}
 use Rattle.itch_book.specs.Queued.{Seen}

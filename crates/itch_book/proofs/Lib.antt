@@ -44,3 +44,8 @@ pub mod TotalLemmas
 pub mod LineLemmas
 pub mod BetweenLemmas
 pub mod NextLemmas
+pub mod PageReads
+pub mod PageLemmas
+pub mod KeyCounts
+pub mod TableLemmas
+pub mod QueuePrices

@@ -13,7 +13,7 @@ use Rattle.std.proofs.lemmas.List.{get_or-map, get_or_past, get_or-set_same, get
 use Rattle.std.proofs.Math.Seq.{map-set_same}
 use Rattle.std.proofs.lemmas.Map.Keys.{sorted_head, sorted_tail}
 use Rattle.itch_codec.specs.declared.orders.Side.{Side}
-use Rattle.itch_table.specs.Table.{or_else}
+use Rattle.itch_book.specs.Table.{or_else}
 use Rattle.itch_book.specs.declared.near.Level.{Level}
 use Rattle.itch_book.specs.Indexed.{Place, place_cmp, queue_at, AreApart}
 use Rattle.itch_book.specs.Near.{lines, line_of, queue_in, places_of, places_from, levels_in, queue_among, IsRising, IsParted}

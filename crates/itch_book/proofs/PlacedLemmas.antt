@@ -9,7 +9,7 @@ use Rattle.std.proofs.lemmas.List.{length-map}
 use Rattle.std.proofs.lemmas.List.Folds.{list_any_at}
 use Rattle.std.proofs.lemmas.List.Sorted.{IsPermutation-map, list_any-IsPermutation, length_permutation}
 use Rattle.std.proofs.lemmas.Map.Keys.{apart_from_distinct, IsDistinct-from_apart, IsDistinct-IsPermutation}
-use Rattle.itch_table.specs.Table.{Links, at}
+use Rattle.itch_book.specs.Table.{Links, at}
 use Rattle.itch_book.specs.declared.arrived.Arrived.{Arrived}
 use Rattle.itch_book.specs.Referred.{reference_of, references_of, IsPlaced, IsKnown, IsReferred}
 use Rattle.itch_book.proofs.Lists.{by_test}

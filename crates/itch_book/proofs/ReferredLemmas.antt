@@ -8,7 +8,7 @@ use Rattle.std.proofs.lemmas.Bool.Decides.{nat_tests}
 use Rattle.std.proofs.lemmas.List.{take_more, take_all, get_or-map, length-map, get_or_append_left, map-append, length-set, length-append}
 use Rattle.std.proofs.lemmas.Option.{slice_get-get_or, get_or_from_slice_get, slice_get_within}
 use Rattle.std.proofs.lemmas.List.Sorted.{IsPermutation-refl, IsPermutation-sym, IsPermutation-cons, IsPermutation-map, IsPermutation-to_front}
-use Rattle.itch_table.specs.Table.{Links, at}
+use Rattle.itch_book.specs.Table.{Links, at}
 use Rattle.itch_book.specs.declared.arrived.Arrived.{Arrived}
 use Rattle.itch_book.specs.Referred.{reference_of, under_references, references_of, IsAt, IsPlaced, IsReferred}
 use Rattle.itch_book.proofs.Lists.{by_test}

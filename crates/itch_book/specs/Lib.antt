@@ -10,3 +10,7 @@ pub mod Indexed
 pub mod Near
 pub mod Settled
 pub mod Referred
+pub mod Credit
+pub mod Pages
+pub mod Table
+pub mod Prices

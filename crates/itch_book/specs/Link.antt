@@ -1,21 +1,21 @@
--- A link to a node, in one word: the node's key, or the greatest number for none.
+-- A link in one word: a place, or the greatest number for none.
 use Rattle.std.specs.Prelude.{◌≡◌, ℕ, Bool, true, false, Option, Some, None, cond, eqb, refl}
 use Rattle.std.proofs.Common.{sym}
 use Rattle.std.proofs.lemmas.Bool.{eqb-true}
 
--- the key that a word stands for
-abbrev pub key_of : ℕ → Option ℕ
-key_of word = cond (eqb word 18446744073709551615) None (Some word)
+-- the place that a word stands for
+abbrev pub place_of : ℕ → Option ℕ
+place_of word = cond (eqb word 4294967295) None (Some word)
 
--- the word that stands for a key
+-- the word that stands for a place
 abbrev pub word_of : Option ℕ → ℕ
-word_of None = 18446744073709551615
-word_of (Some key) = key
+word_of None = 4294967295
+word_of (Some place) = place
 
--- no two words stand for one key
-pub word_of-key_of : (word : ℕ) → word_of (key_of word) ≡ word
-word_of-key_of word = by_test (eqb word 18446744073709551615) refl
+-- no two words stand for one place
+pub word_of-place_of : (word : ℕ) → word_of (place_of word) ≡ word
+word_of-place_of word = by_test (eqb word 4294967295) refl
   where
-    by_test : (b : Bool) → eqb word 18446744073709551615 ≡ b → word_of (cond b None (Some word)) ≡ word
-    by_test true e = sym (eqb-true word 18446744073709551615 e)
+    by_test : (b : Bool) → eqb word 4294967295 ≡ b → word_of (cond b None (Some word)) ≡ word
+    by_test true e = sym (eqb-true word 4294967295 e)
     by_test false e = refl

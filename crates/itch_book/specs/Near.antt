@@ -5,7 +5,7 @@ use Rattle.std.specs.List.Sorted.{IsStrictlySortedBy}
 use Rattle.std.specs.Map.{keys_of}
 use Rattle.std.specs.declared.vec.Vec.{Vec}
 use Rattle.itch_codec.specs.declared.orders.Side.{Side}
-use Rattle.itch_table.specs.Table.{or_else}
+use Rattle.itch_book.specs.Table.{or_else}
 use Rattle.itch_book.specs.declared.near.Level.{Level}
 use Rattle.itch_book.specs.declared.ladder.Ladder.{Ladder}
 use Rattle.itch_book.specs.Orders.{is_better}

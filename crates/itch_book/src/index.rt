@@ -1,7 +1,7 @@
 //! An index of orders: a table of references, and queues under ordered prices.
 ghost use Rattle.std.specs.Prelude.{◌≡◌, ℕ, ◌<◌, ◌≤◌, ◌-◌, List, [], length, Some, None, eqb, true, find, OnOk, OnErr, IfOk, IsSome, IsSomeAnd, IfSome, Option, option_map};
 ghost use Rattle.std.specs.List.{list_any};
-ghost use Rattle.itch_table.specs.Table.{at, Updates, IsSame};
+ghost use Rattle.itch_book.specs.Table.{at, Updates, IsSame};
 ghost use Rattle.itch_codec.specs.declared.orders.Side.{Side};
 ghost use Rattle.itch_codec.specs.declared.orders.Side.TheVariants.{Buy, Sell};
 ghost use Rattle.itch_book.specs.Links.{at_key};
@@ -14,8 +14,8 @@ ghost use Rattle.itch_book.specs.Indexed.{queue_of_side, Place, indexed, IsIndex
 use crate::order::{Order, Placed, Taken, order_of};
 use crate::prices::Prices;
 use crate::queues::Queues;
+use crate::table::Table;
 use itch_codec::Side;
-use itch_table::Table;
 use std::alloc::{AllocError, Allocator, Global};
 use std::marker::Model;
 
@@ -30,7 +30,7 @@ pub(crate) struct Index<A: Allocator = Global> {
 
 impl<A: Allocator> Model for Index<A> {
     ghost use Rattle.std.specs.Prelude.{List};
-    ghost use Rattle.itch_table.specs.Table.{at};
+    ghost use Rattle.itch_book.specs.Table.{at};
     ghost use Rattle.itch_book.specs.declared.order.Order.{Order};
     ghost use Rattle.itch_book.specs.Queued.{seen};
     ghost use Rattle.itch_book.specs.Indexed.{indexed, IsWhole};
@@ -274,6 +274,7 @@ fn refer<A: Allocator + Copy>(
 ) -> Result<(), AllocError>
     requires { at references.old reference ≡ None }
     ensures ok { OnOk result (Updates references.old references.new reference (Some node)) }
+    ensures few { OnOk result (node < 4294967295) }
     ensures err { OnErr result (IsSame references.old references.new) }
 {
     if node >= u32::MAX as usize {
@@ -358,6 +359,7 @@ fn head_of<A: Allocator>(queues: &Queues<A>, queue: usize) -> Option<Placed<'_>>
 fn put_last<A: Allocator + Copy>(queues: &mut Queues<A>, queue: usize, order: Order)
     requires there { IsSome (keys_at queues.old queue) }
     requires room { 0 < queues.old.node_room }
+    requires few { queues.old.next_key < 4294967295 }
     requires some_shares { 0 < order.shares }
     ensures index { (references references' : ℕ → Option ℕ) → (bids asks : List (Place × ℕ)) → IsIndexed references bids asks (seen queues.old) → queue_of_side order.side bids asks order.locate order.price ≡ Some queue → get (indexed (seen queues.old) bids asks) order.reference ≡ None → ((r : ℕ) → references' r ≡ at_key order.reference (Some queues.old.next_key) references r) → IsIndexed references' bids asks (seen queues.new) }
     ensures view { (references : ℕ → Option ℕ) → (bids asks : List (Place × ℕ)) → IsIndexed references bids asks (seen queues.old) → queue_of_side order.side bids asks order.locate order.price ≡ Some queue → get (indexed (seen queues.old) bids asks) order.reference ≡ None → indexed (seen queues.new) bids asks ≡ lay (added order (indexed (seen queues.old) bids asks)) }

@@ -3,7 +3,8 @@
 //! An [`OrderBook`] adds, takes, deletes and replaces orders, and gives the best of a side, the next price and the total of a
 //! price level. Its contracts speak only of the list of live orders, so every book meets the same ones: [`ListBook`]
 //! is that list, [`IndexedBook`] is the one to use, and [`SettledBook`] serves where only the last state is looked at. Only adding
-//! and replacing allocate; if that fails, the book is left as it was. `laws` states what holds of every book.
+//! and replacing allocate; if that fails, the book is left as it was. `laws` states what holds of every book, and `table` has the map
+//! in which the last two find an order by its reference.
 //!
 //! ```
 //! let mut book = IndexedBook::new(alloc);
@@ -31,6 +32,7 @@ mod priority;
 mod queues;
 mod references;
 mod settled_book;
+pub mod table;
 mod tree;
 
 pub use book::OrderBook;

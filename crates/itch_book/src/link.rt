@@ -1,49 +1,59 @@
-//! Links between nodes, of one word each.
+//! Links to places of a vector or a slab, of half a word each.
 ghost use Rattle.std.specs.Prelude.{◌≡◌, ℕ, ◌<◌, Option, Some, None};
-ghost use Rattle.itch_book.specs.Link.{key_of, word_of, word_of-key_of};
+ghost use Rattle.itch_book.specs.Link.{place_of, word_of, word_of-place_of};
 
 use std::marker::Model;
 
-/// The key of a node, or none.
+/// A place, or none.
 #[derive(Clone, Copy)]
 pub(crate) struct Link {
-    // The greatest number stands for none: every key is below it.
-    word: usize,
+    // The greatest number stands for none: every place is below it.
+    word: u32,
 }
 
 impl Model for Link {
     ghost Value = { Option ℕ };
 
-    ghost view = { λ link. key_of link.word };
+    ghost view = { λ link. place_of link.word };
 
-    ghost inverse = { λ key. record { word = word_of key } };
+    ghost inverse = { λ place. record { word = word_of place } };
 
-    ghost inverse_ok = { λ link h i. record { word = word_of-key_of link.word i } };
+    ghost inverse_ok = { λ link h i. record { word = word_of-place_of link.word i } };
 }
 
 impl Link {
-    /// A link to no node.
+    /// A link to no place.
     pub(crate) fn none() -> Link
         ensures { result ≡ None }
     {
-        Link { word: usize::MAX }
+        Link { word: u32::MAX }
     }
 
-    /// A link to the node of a key.
-    pub(crate) fn to(key: usize) -> Link
-        requires { key < 18446744073709551615 }
-        ensures { result ≡ Some key }
+    /// A link to a place.
+    pub(crate) fn to(place: u32) -> Link
+        requires { place < 4294967295 }
+        ensures { result ≡ Some place }
     {
-        Link { word: key }
+        Link { word: place }
     }
 
-    /// The key of the node.
-    pub(crate) fn key(self) -> Option<usize>
+    /// The place.
+    pub(crate) fn place(self) -> Option<u32>
         ensures { result ≡ self }
     {
-        if self.word == usize::MAX {
+        if self.word == u32::MAX {
             return None;
         }
         Some(self.word)
+    }
+
+    /// The place, as the key of a slab.
+    pub(crate) fn key(self) -> Option<usize>
+        ensures { result ≡ self }
+    {
+        match self.place() {
+            Some(place) => Some(place as usize),
+            None => None,
+        }
     }
 }

@@ -25,7 +25,7 @@ pub(crate) struct Node {
 }
 
 // With the slab's own word a node takes less than a cache line of 64 bytes.
-const _: () = prove!(size_of::<Node>() == 48);
+const _: () = prove!(size_of::<Node>() == 40);
 
 // The ends of a queue, and its totals.
 #[derive(Clone, Copy, Drop)]
@@ -127,6 +127,7 @@ impl<A: Allocator> Queues<A> {
     pub(crate) fn push_last(&mut self, queue: usize, order: Order) -> usize
         requires there { IsSome (keys_at self.old queue) }
         requires room { 0 < self.old.node_room }
+        requires few { self.old.next_key < 4294967295 }
         ensures key { result ≡ self.old.next_key }
         ensures vacant { order_at self.old result ≡ None }
         ensures orders { (k : ℕ) → order_at self.new k ≡ at_key result (Some order) (order_at self.old) k }
@@ -138,9 +139,9 @@ impl<A: Allocator> Queues<A> {
         let last = self.heads[queue].last;
         let node = last_node(order, queue, last);
         let key = self.nodes.insert_reserved(node);
-        // Keys are below the capacity, so they fit a link, and no queue has more nodes.
+        // No queue has more nodes than the capacity.
         let _most = self.nodes.capacity();
-        let link = Link::to(key);
+        let link = Link::to(key as u32);
         link_after(&mut self.nodes, last, link);
         let head = head_with(self.heads[queue], link, last, shares);
         set_head(&mut self.heads, queue, head);

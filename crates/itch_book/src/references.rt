@@ -7,13 +7,13 @@ ghost use Rattle.itch_book.specs.StableLists.{in_order};
 ghost use Rattle.itch_book.specs.Orders.{level_total};
 ghost use Rattle.itch_book.specs.Settled.{comes_before, its_order, settled, wants, line_if, IsApart};
 ghost use Rattle.itch_book.specs.Referred.{references_of, IsAt, IsKnown, IsPlaced};
-ghost use Rattle.itch_table.specs.Table.{at};
+ghost use Rattle.itch_book.specs.Table.{at};
 
 use crate::arrived::{Arrived, Wanted, comes_before, sooner, wants};
 use crate::line::{stands_at, total_in};
 use crate::order::Placed;
+use crate::table::Table;
 use itch_codec::Side;
-use itch_table::Table;
 use std::alloc::{AllocError, Allocator, Global};
 use std::cmp::Ordering;
 use std::marker::Model;

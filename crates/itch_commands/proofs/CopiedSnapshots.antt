@@ -20,7 +20,7 @@ use Rattle.itch_snapshot.specs.TakenMessages.{Load, begun}
 use Rattle.itch_snapshot.specs.Reads.{ReadsNext, ReadsAll, ReadsEnd, CountsFault}
 use Rattle.itch_snapshot.specs.Snapshot.{snap}
 use Rattle.itch_snapshot.specs.declared.reader.Stage.TheVariants.{Taking}
-use Rattle.itch_snapshot.proofs.ReadSteps.{message_read, fault_read, first_fault, later_fault, no_fault}
+use Rattle.itch_commands.proofs.SnapshotSteps.{message_read, fault_read, first_fault, later_fault, no_fault}
 use Rattle.itch_snapshot.proofs.KnownFiles.{closes_here, reads_market, reads_fault}
 use Rattle.itch_snapshot.proofs.WrittenFiles.{written_alone}
 use Rattle.itch_commands.specs.Canons.{CountsRefusal, CopiesNext, CopiesAll, EndsFile, ChecksSnap}
@@ -29,7 +29,7 @@ use Rattle.itch_commands.specs.Readings.{ReadsSnap}
 use Rattle.itch_commands.specs.declared.fault.Source.TheVariants.{Only}
 use Rattle.itch_commands.specs.declared.fault.ToolFault.{ToolFault}
 use Rattle.itch_commands.specs.declared.fault.ToolFault.TheVariants as tool
-use Rattle.itch_commands.proofs.Snapshots.{taken_short}
+use Rattle.itch_snapshot.proofs.DaySnapshots.{taken_short}
 
 -- messages were taken, and the copy has the bytes that came off the front
 pub record CopiedSoFar (old new : Option (List ℕ)) (load : Load) (count : ℕ) (copy : List ℕ) : Type 0 where
@@ -83,14 +83,10 @@ module _ (old mid new : Option (List ℕ)) (load : Load) (count : ℕ) (copy : L
       inl (going.payloads, n, going.takes, omega (arith, going.counted), subst (λ c. c ≤ 10 ^ 19 - 1) (sym going.counted) going.few)
   copied_refused tool.OutOfMemory n more (Some next, step) = inr (next, n, end_read empty old mid new load.taken load.market n next so_far.going step)
   copied_refused (tool.Open file error) n more h = absurd h
-  copied_refused tool.BadUser n more h = absurd h
-  copied_refused tool.BadPassword n more h = absurd h
   copied_refused (tool.Unmet unmet) n more h = absurd h
   copied_refused (tool.Misfit misfit) n more h = absurd h
   copied_refused tool.BadLocates n more h = absurd h
   copied_refused tool.TooMany n more h = absurd h
-  copied_refused (tool.Soup fault) n more h = absurd h
-  copied_refused (tool.Socket error) n more h = absurd h
 
 -- the copy is the file, where its input is at its end
 known_alone : (a b : Option (List ℕ)) (copy closed : List ℕ) (canonical : Bool) → Consumes a b copy → IsAtEnd b → ((canonical ≡ true) ↔ (copy ≡ closed)) → IfSome a (λ bytes. (canonical ≡ true) ↔ (bytes ≡ closed))
@@ -137,14 +133,10 @@ module _ {R : Type 0} (remaining : R → Option (List ℕ)) (failures : R → Fa
   refused_before new (tool.Write error) n copy h counts = absurd h
   refused_before new tool.OutOfMemory n copy room counts = (room, counts)
   refused_before new (tool.Open file error) n copy h counts = absurd h
-  refused_before new tool.BadUser n copy h counts = absurd h
-  refused_before new tool.BadPassword n copy h counts = absurd h
   refused_before new (tool.Unmet unmet) n copy h counts = absurd h
   refused_before new (tool.Misfit misfit) n copy h counts = absurd h
   refused_before new tool.BadLocates n copy h counts = absurd h
   refused_before new tool.TooMany n copy h counts = absurd h
-  refused_before new (tool.Soup fault) n copy h counts = absurd h
-  refused_before new (tool.Socket error) n copy h counts = absurd h
 
   module _ (mid new : Reading R) (n : Content) (next : ℕ) (copy : List ℕ) (reads : CopiesAll (bytes_left remaining old) (bytes_left remaining mid) (Ok next) n copy)
       (uncounted : failures mid.reader ≡ failures old.reader) where
@@ -161,14 +153,10 @@ module _ {R : Type 0} (remaining : R → Option (List ℕ)) (failures : R → Fa
     refused_after (tool.Write error) h counts = absurd h
     refused_after tool.OutOfMemory h counts = absurd h
     refused_after (tool.Open file error) h counts = absurd h
-    refused_after tool.BadUser h counts = absurd h
-    refused_after tool.BadPassword h counts = absurd h
     refused_after (tool.Unmet unmet) h counts = absurd h
     refused_after (tool.Misfit misfit) h counts = absurd h
     refused_after tool.BadLocates h counts = absurd h
     refused_after tool.TooMany h counts = absurd h
-    refused_after (tool.Soup fault) h counts = absurd h
-    refused_after (tool.Socket error) h counts = absurd h
 
     -- or it was read
     file_read : ReadsEnd (bytes_left remaining mid) (bytes_left remaining new) (Ok tt) → failures new.reader ≡ failures mid.reader → ReadsSnap remaining failures Only old new (Ok (n, next))

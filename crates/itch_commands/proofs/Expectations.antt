@@ -6,7 +6,7 @@ use Rattle.itch_market.specs.Runs.{run}
 use Rattle.itch_commands.specs.Expectations.{unmet, unmet_of}
 use Rattle.itch_commands.specs.declared.expected.Expected.{Expected}
 use Rattle.itch_day.specs.declared.limit.Limit.{Limit}
-use Rattle.itch_commands.proofs.DayReadings.{Applied}
+use Rattle.itch_market.proofs.DayMessages.{Applied}
 
 -- what the number of the messages and the last event differ in, the messages differ in
 pub same_unmet : (expected : Expected) (limit : Limit) (bytes new : Option (List ℕ)) (count : ℕ) (n : Content) (applied : Applied limit bytes new count n) (event : Option ℕ)

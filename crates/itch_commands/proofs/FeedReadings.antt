@@ -16,23 +16,25 @@ use Rattle.itch_day.specs.Parts.{Counts as CountsPart, Leaves, StopsAt, Takes, U
 use Rattle.itch_market.specs.Content.{Content, laid}
 use Rattle.itch_market.specs.GoodMarkets.{IsGood}
 use Rattle.itch_market.specs.Replays.{Counts, CountsFirst, LeavesReaderFirst, IsDecided, Refuses}
-use Rattle.itch_market.specs.Takings.{left_by, reason_of}
+use Rattle.itch_day.specs.Passing.{left_by}
+use Rattle.itch_market.specs.Takings.{reason_of}
 use Rattle.itch_market.specs.Wanted.{has}
 use Rattle.itch_market.specs.declared.refused.Refused.{Refused}
 use Rattle.itch_market.specs.declared.refused.Refused.TheVariants as refused
 use Rattle.itch_market.specs.declared.stop.Stop.{Stop}
 use Rattle.itch_market.specs.declared.stop.Stop.TheVariants as stop
 use Rattle.itch_market.proofs.Causes.{halts-laid, refuses-laid}
-use Rattle.itch_market.proofs.PassedBlocks.{ends_here, passed_off}
+use Rattle.itch_day.proofs.PassedBlocks.{ends_here, passed_off}
 use Rattle.itch_market.proofs.LeftReaders.{late_left, stop_counts, stop_left}
 use Rattle.itch_join.specs.Positions.{Position}
 use Rattle.itch_join.specs.States.{Joining}
 use Rattle.itch_join.specs.Takings.{IsJoined, MayTake, RefusesNumbered, TakesNumbered, position_of}
-use Rattle.itch_commands.specs.AsRead.{as_read}
+use Rattle.itch_snapshot.specs.AsRead.{as_read}
 use Rattle.itch_commands.specs.FeedParts.{beyond, misfit_of, number_after, of_day, part_of}
 use Rattle.itch_commands.specs.Joiners.{FeedsJoiner, IsAfter, IsStart, ended_feed, start_of, uncounted}
 use Rattle.itch_commands.specs.Joining.{EndsFeed, HaltsFeed, IsOfMessage, LateFeed, ReadsFeed, Start, StopsFeed, TakesFeed, TakesWanted, joined_market}
-use Rattle.itch_commands.specs.Readings.{IsPart, LeavesDay, stopped}
+use Rattle.itch_commands.specs.Readings.{LeavesDay, stopped}
+use Rattle.itch_market.specs.DayMessages.{IsPart}
 use Rattle.itch_commands.specs.declared.fault.Source.TheVariants.{Only}
 use Rattle.itch_commands.specs.declared.fault.ToolFault.{ToolFault}
 use Rattle.itch_commands.specs.declared.fault.ToolFault.TheVariants as tool
@@ -40,7 +42,7 @@ use Rattle.itch_commands.specs.declared.feed_part.FeedPart.{FeedPart}
 use Rattle.itch_commands.specs.declared.feed_part.Misfit.{Misfit}
 use Rattle.itch_commands.specs.declared.feed_part.Misfit.TheVariants.{Gap, Beyond, Late}
 use Rattle.itch_day.specs.declared.limit.Limit.{Limit}
-use Rattle.itch_commands.proofs.DayReadings.{is_part}
+use Rattle.itch_market.proofs.DayMessages.{is_part}
 use Rattle.itch_commands.proofs.FeedsTaken.{AreFed, are_fed, near}
 use Rattle.itch_commands.proofs.FeedStops.{feed_decided}
 use Rattle.itch_commands.proofs.JoinerSteps.{faulty_as, denied_as}

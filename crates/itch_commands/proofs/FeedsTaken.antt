@@ -17,7 +17,7 @@ use Rattle.itch_join.specs.Positions.{Position}
 use Rattle.itch_join.specs.Rules.{rules_of}
 use Rattle.itch_join.specs.States.{Joining}
 use Rattle.itch_join.specs.Takings.{position_of, Passes, TakesNumbered}
-use Rattle.itch_commands.specs.AsRead.{as_read}
+use Rattle.itch_snapshot.specs.AsRead.{as_read}
 use Rattle.itch_commands.specs.FeedParts.{beyond, misfit_of}
 use Rattle.itch_commands.specs.Joining.{Start, from_number, joined_market, joined_next}
 use Rattle.itch_commands.specs.declared.feed_part.FeedPart.{FeedPart}

@@ -1,43 +1,52 @@
--- Where two files stand after some messages of each, and one step more.
-use Rattle.std.proofs.Common.{◌≡◌, ℕ, zero, suc, Result, ◌+◌, ◌-◌, ◌^◌, ◌≤◌, ◌<◌, ◌==◌, ◌⊎◌, Bool, true, false, List, [], ◌∷◌, ◌++◌, map, take, length, Option, None, Some, IfSome, Ok, Err, inl, inr, refl, sym, ap, subst, ◌∙◌, ◌↔◌, arith}
+-- Where two files stand after some messages of each, and one more.
+use Rattle.std.proofs.Common.{◌≡◌, ℕ, zero, suc, Result, ◌+◌, ◌-◌, ◌^◌, ◌≤◌, ◌<◌, ◌⊎◌, Bool, true, false, List, [], ◌∷◌, ◌++◌, map, take, length, Option, None, Some, IfSome, Ok, Err, inl, inr, refl, sym, ap, subst, ◌∙◌, ◌↔◌, arith, length-append}
 use Rattle.std.specs.List.{AllByRecursion}
-use Rattle.std.proofs.KnownBytes.{Consumes-nil}
+use Rattle.std.specs.Io.KnownBytes.{Consumes}
+use Rattle.std.proofs.KnownBytes.{Consumes-nil, Consumes-trans}
 use Rattle.std.proofs.lemmas.Bool.{cases_lt}
 use Rattle.std.proofs.lemmas.List.{take_all, take-append-le}
 use Rattle.itch_codec.specs.Messages.{message_of}
-use Rattle.itch_codec.specs.Widths.{IsMessage}
 use Rattle.itch_codec.specs.declared.message.Message.{Message}
+use Rattle.itch_frame.specs.Blocks.{blocks, IsFull}
 use Rattle.itch_frame.specs.Reading.{Reading, bytes_left}
+use Rattle.itch_frame.specs.declared.fault.FrameFault.TheVariants.{Read, Truncated, Write, TooLong}
 use Rattle.itch_frame.specs.declared.tally.Failures.{Failures}
+use Rattle.itch_frame.proofs.BlockLemmas.{blocks-append, each-append}
+use Rattle.itch_day.specs.Limits.{IsBefore, IsNotLate, IsWithin, most_of}
+use Rattle.itch_day.specs.Parts.{Counts, Leaves, ReadsPart, StopsAt}
+use Rattle.itch_day.specs.Sinks.{TakesAll}
+use Rattle.itch_day.specs.declared.limit.Limit.{Limit}
+use Rattle.itch_day.specs.declared.stop.Stop.{Stop as Part}
+use Rattle.itch_day.specs.declared.stop.Stop.TheVariants as part
+use Rattle.itch_day.proofs.Joined.{leaves_both, takes_both}
 use Rattle.itch_market.specs.Content.{Content, empty, laid}
-use Rattle.itch_market.specs.Effects.{effect}
+use Rattle.itch_market.specs.DayParts.{TakesEarly}
 use Rattle.itch_market.specs.GoodMarkets.{IsGood}
-use Rattle.itch_market.specs.Plain.{plain}
+use Rattle.itch_market.specs.Plain.{nothing}
 use Rattle.itch_market.specs.Reasons.{reason}
-use Rattle.itch_market.specs.Replays.{Fits, Counts, LeavesReaderFirst}
+use Rattle.itch_market.specs.Replays.{Fits}
 use Rattle.itch_market.specs.Runs.{run}
 use Rattle.itch_market.specs.SameMarkets.{Same}
+use Rattle.itch_day.specs.Passing.{left_by}
+use Rattle.itch_market.specs.Takings.{RefusesMessage, TakesMessage, reason_of}
+use Rattle.itch_market.specs.declared.refused.Refused.{Refused}
+use Rattle.itch_market.specs.declared.refused.Refused.TheVariants as refused
 use Rattle.itch_market.specs.declared.stop.Stop.{Stop}
 use Rattle.itch_market.specs.declared.stop.Stop.TheVariants.{End, Frame, Codec, Rule, TooManyMessages}
-use Rattle.itch_market.proofs.Causes.{no_reason}
-use Rattle.itch_market.proofs.GoodMarkets.{empty_good, effect_good, laid_good}
-use Rattle.itch_market.proofs.PlainMessages.{plain_effect, plain_same}
-use Rattle.itch_market.proofs.ReplayReaders.{Standing, standing_first, standing_on, standing_stops, standing_short}
-use Rattle.itch_market.proofs.SameMarkets.{laid_is_same, same_back, same_chain}
+use Rattle.itch_market.proofs.GoodMarkets.{laid_good}
 use Rattle.itch_snapshot.specs.Snapshot.{snap}
-use Rattle.itch_join.proofs.Premises.{laid_empty}
-use Rattle.itch_commands.specs.FirstDifferences.{IsChange, IsSameAt, IsWithin, limited_to, count_of, ReadsUpTo, IsRefusedAfter, AppliesNext, AreAlike, Steps, FindsFirst}
-use Rattle.itch_day.specs.Limits.{IsBefore, most_of}
-use Rattle.itch_market.specs.DayParts.{TakesEarly, IsEnough}
-use Rattle.itch_commands.specs.Readings.{AreTaken, LeavesDay, ReadsDay, ReadsMarket, CountsRead, stopped}
+use Rattle.itch_market.specs.DayMessages.{AreTaken}
+use Rattle.itch_commands.specs.FirstDifferences.{IsSameAt, limited_to, count_of, over, ReadsUpTo, IsRefusedAfter, FindsFirst}
+use Rattle.itch_commands.specs.Readings.{ReadsDay, stopped}
 use Rattle.itch_commands.specs.declared.fault.Source.{Source}
 use Rattle.itch_commands.specs.declared.fault.Source.TheVariants.{First, Second}
 use Rattle.itch_commands.specs.declared.fault.ToolFault.{ToolFault}
 use Rattle.itch_commands.specs.declared.fault.ToolFault.TheVariants as tool
-use Rattle.itch_day.specs.declared.limit.Limit.{Limit}
-use Rattle.itch_commands.proofs.Comparisons.{taken_good, taken_few}
-use Rattle.itch_commands.proofs.DayReadings.{is_part, day_fails}
-use Rattle.itch_commands.proofs.PartReadings.{SoFar, all_wanted, taken_more, stops_there, stopped_so, stopped_counts, stopped_leaves, late_given, late_leaves, all_leaves}
+use Rattle.itch_snapshot.proofs.DaySnapshots.{taken_few}
+use Rattle.itch_market.proofs.DayMessages.{taken_good}
+use Rattle.itch_commands.proofs.PartReadings.{all_wanted}
+use Rattle.itch_commands.proofs.ReadParts.{all_by, applied_by, kept_at, kept_by, refused_by, taken_by, whole_by}
+use Rattle.itch_commands.proofs.TrackedMarkets.{Changed, Denies, Tracks, alike_same, laid_alike, market_part, one_changed, same_self}
 
 count_by : (f fault : ToolFault) (count : ℕ) → count_of f ≡ Some count → ◌≡◌ {A = Result ℕ ToolFault} (Err f) (Err fault) → count_of fault ≡ Some count
 count_by f fault count counted is = let same : f ≡ fault = cc in subst (λ g. count_of g ≡ Some count) same counted
@@ -75,6 +84,146 @@ pub record AreApplied (limit : Limit) (p : List (List ℕ)) (n : Content) : Type
   pub fits : AllByRecursion Fits p
   pub left : n ≡ laid (run (map message_of p))
 
+-- what ends the comparison where a file stops
+over_ends : (why : Option Stop) (limit : Limit) (file : Source) (count : ℕ) → over why limit file count ≡ Ok tt → (why ≡ None) ⊎ ((why ≡ Some End) × (limit.after ≡ None))
+over_ends None limit file count is = inl refl
+over_ends (Some stop) limit file count is = by_stop (stopped stop limit.after file count) refl where
+  by_stop : (result : Result ℕ ToolFault) → stopped stop limit.after file count ≡ result → (Some stop ≡ None) ⊎ ((Some stop ≡ Some End) × (limit.after ≡ None))
+  by_stop (Ok some) returns = let (at, whole) = stopped_end stop limit.after file count some returns in inr (ap Some at, whole)
+  by_stop (Err fault) returns = absurd (cc)
+
+over_fails : (why : Option Stop) (limit : Limit) (file : Source) (count : ℕ) (fault : ToolFault) → over why limit file count ≡ Err fault
+    → (stop : Stop) × (why ≡ Some stop) × (stopped stop limit.after file count ≡ Err fault)
+over_fails None limit file count fault is = absurd (cc)
+over_fails (Some stop) limit file count fault is = by_stop (stopped stop limit.after file count) refl where
+  by_stop : (result : Result ℕ ToolFault) → stopped stop limit.after file count ≡ result → (why : Stop) × (Some stop ≡ Some why) × (stopped why limit.after file count ≡ Err fault)
+  by_stop (Ok some) returns = absurd (cc)
+  by_stop (Err other) returns = let same : other ≡ fault = cc in (stop, refl, returns ∙ ap Err same)
+
+module _ {R : Type 0} (remaining : R → Option (List ℕ)) (failures : R → Failures) where
+  -- a part of a file that was read up to this stop: these are its payloads
+  pub record IsRead (limit : Limit) (old new : Reading R) (count : ℕ) (p : List (List ℕ)) (stop : Part Refused) (n : Content) : Type 0 where
+    pub reads : ReadsPart remaining failures TakesMessage RefusesMessage limit old new 0 count empty stop n
+    pub these : reads.payloads ≡ p
+    pub few : count ≤ 10 ^ 19 - 1
+
+module _ {R : Type 0} (remaining : R → Option (List ℕ)) (failures : R → Failures) (limit : Limit) where
+  -- as many messages were applied, and nothing after them was read
+  abbrev pub Goes : Reading R → Reading R → ℕ → List (List ℕ) → Content → Type 0
+  Goes old new count p n = IsRead remaining failures (limited_to count limit) old new count p part.Full n
+
+  goes_first : (r : Reading R) (n : Content) → n ≡ empty → Goes r r 0 [] n
+  goes_first r n first = subst (λ x. Goes r r 0 [] x) (sym first) record {
+    reads = record {
+      payloads = [];
+      last = empty;
+      taken = record { bytes = Consumes-nil (bytes_left remaining r); full = tt; early = tt; wanted = λ some. absurd (omega arith); taken = refl; counted = refl };
+      stops = (refl, (0, refl, omega arith));
+      leaves = record { unread = λ _. refl; given = λ some. absurd (omega arith) };
+      counts = refl;
+    };
+    these = refl;
+    few = omega arith;
+  }
+
+  -- one step more: at most one message
+  module _ (old mid new : Reading R) (count total : ℕ) (p : List (List ℕ)) (m n : Content) (stop : Part Refused) (goes : Goes old mid count p m)
+      (step : ReadsPart remaining failures TakesMessage RefusesMessage (limited_to (count + 1) limit) mid new count total m stop n) (few : total ≤ 10 ^ 19 - 1) where
+    abbrev both : List (List ℕ)
+    both = p ++ step.payloads
+
+    number : length p ≡ count
+    number = let one : length goes.reads.payloads ≡ count = omega (arith, goes.reads.taken.counted) in subst (λ q. length q ≡ count) goes.these one
+
+    within : (qs : List (List ℕ)) → (0 < length qs → total ≤ count + 1) → total ≡ count + length qs → total ≤ count + 1
+    within [] wanted is = omega (arith, is)
+    within (q ∷ qs) wanted is = wanted (omega arith)
+
+    further : IsRead remaining failures (limited_to (count + 1) limit) old new total both stop n
+    further =
+        let g = goes.reads in
+        let ps = g.payloads in
+        let qs = step.payloads in
+        record {
+          reads = record {
+            payloads = ps ++ qs;
+            last = step.last;
+            taken = record {
+              bytes = subst (Consumes (bytes_left remaining old) (bytes_left remaining new)) (sym (blocks-append ps qs))
+                  (Consumes-trans (bytes_left remaining old) (bytes_left remaining mid) (bytes_left remaining new) (blocks ps) (blocks qs) g.taken.bytes step.taken.bytes);
+              full = each-append IsFull ps qs g.taken.full step.taken.full;
+              early = each-append (IsNotLate (limited_to (count + 1) limit)) ps qs g.taken.early step.taken.early;
+              wanted = λ some. within qs step.taken.wanted step.taken.counted;
+              taken = takes_both TakesMessage empty g.last step.last 0 count ps qs g.taken.taken g.taken.counted
+                  (subst (λ x. TakesAll TakesMessage x count qs step.last) g.stops.0 step.taken.taken);
+              counted = omega (arith, g.taken.counted, step.taken.counted, length-append ps qs);
+            };
+            stops = step.stops;
+            leaves = subst (λ c. Leaves old c stop new) (sym (length-append ps qs)) (leaves_both old mid new part.Full (length ps) (length qs) tt g.leaves stop (λ full. inr refl) step.leaves);
+            counts = subst (λ f. Counts stop f (failures new.reader)) g.counts step.counts;
+          };
+          these = ap (λ x. x ++ qs) goes.these;
+          few = few;
+        }
+
+    front_kept : (k : ℕ) → k ≤ count → take k both ≡ take k p
+    front_kept k some = take-append-le k p step.payloads (omega (arith, some, number))
+
+    -- where nothing stopped it, it was one
+    one_more : stop ≡ part.Full → total ≡ count + 1
+    one_more full = by_stop (subst (λ s. StopsAt remaining RefusesMessage (limited_to (count + 1) limit) total new step.last s n) full step.stops) where
+      by_stop : StopsAt remaining RefusesMessage (limited_to (count + 1) limit) total new step.last part.Full n → total ≡ count + 1
+      by_stop (same, (most, is, all)) =
+          let more : most ≡ count + 1 = cc in
+          let few : total ≤ count + 1 = within step.payloads step.taken.wanted step.taken.counted in omega (arith, all, more, few)
+
+    -- otherwise none was
+    before_more : (stop : Part Refused) → (stop ≡ part.Full → ⊥) → StopsAt remaining RefusesMessage (limited_to (count + 1) limit) total new step.last stop n → total < count + 1
+    before_more part.Full not_full stops = absurd (not_full refl)
+    before_more part.Late not_full (same, before, late) = before
+    before_more part.End not_full (same, before, end) = before
+    before_more (part.Frame (Truncated held)) not_full (same, before, cut, is_held, open_end) = before
+    before_more (part.Frame (Read error)) not_full (same, before, going) = before
+    before_more (part.Frame (Write sent error)) not_full never = absurd never
+    before_more (part.Frame TooLong) not_full never = absurd never
+    before_more part.TooMany not_full (same, before, many) = before
+    before_more (part.Refused why) not_full (before, refuses) = before
+
+    none_more : (stop ≡ part.Full → ⊥) → total ≡ count
+    none_more not_full = let less = before_more stop not_full step.stops in omega (arith, less, step.taken.counted)
+
+    -- and then it is what reading the part that is wanted does
+    widened_stop : (last : Content) (stop : Part Refused) → (stop ≡ part.Full → ⊥) → IsBefore limit total → StopsAt remaining RefusesMessage (limited_to (count + 1) limit) total new last stop n
+        → StopsAt remaining RefusesMessage limit total new last stop n
+    widened_stop last part.Full not_full before stops = absurd (not_full refl)
+    widened_stop last part.Late not_full before (same, less, late) = (same, before, late)
+    widened_stop last part.End not_full before (same, less, end) = (same, before, end)
+    widened_stop last (part.Frame (Truncated held)) not_full before (same, less, cut, is_held, open_end) = (same, before, cut, is_held, open_end)
+    widened_stop last (part.Frame (Read error)) not_full before (same, less, going) = (same, before, going)
+    widened_stop last (part.Frame (Write sent error)) not_full before never = absurd never
+    widened_stop last (part.Frame TooLong) not_full before never = absurd never
+    widened_stop last part.TooMany not_full before (same, less, many) = (same, before, many)
+    widened_stop last (part.Refused why) not_full before (less, refuses) = (before, refuses)
+
+    module _ (not_full : stop ≡ part.Full → ⊥) (before : IsBefore limit count) where
+      widened : IsRead remaining failures limit old new total both stop n
+      widened =
+          let is : count ≡ total = sym (none_more not_full) in
+          let early : IsBefore limit total = subst (λ k. IsBefore limit k) is before in
+          let f = further.reads in
+          record {
+            reads = record {
+              payloads = f.payloads;
+              last = f.last;
+              taken = record { bytes = f.taken.bytes; full = f.taken.full; early = f.taken.early; wanted = λ some. within_so_far limit.after total early; taken = f.taken.taken; counted = f.taken.counted };
+              stops = widened_stop f.last stop not_full early f.stops;
+              leaves = f.leaves;
+              counts = f.counts;
+            };
+            these = further.these;
+            few = few;
+          }
+
 applied : (limit : Limit) (old new : Option (List ℕ)) (count : ℕ) (p : List (List ℕ)) (n : Content) → TakesEarly limit empty old new count p n → AreApplied limit p n
 applied limit old new count p n (takes, counted, few, early) = record {
   taken = record { full = takes.full; taken = takes.none; few = omega (arith, counted, few); early = early };
@@ -82,166 +231,198 @@ applied limit old new count p n (takes, counted, few, early) = record {
   left = takes.left;
 }
 
-module _ {R : Type 0} (remaining : R → Option (List ℕ)) (failures : R → Failures) (file : Source) where
-  -- the part that is wanted was read
-  pub day_of : (limit : Limit) (old new : Reading R) (mid : Option (List ℕ)) (count : ℕ) (p : List (List ℕ)) (n : Content) → TakesEarly limit empty (bytes_left remaining old) mid count p n
-      → IsEnough limit count mid (bytes_left remaining new) → failures new.reader ≡ failures old.reader → LeavesDay (Ok count) limit old new
+module _ {R : Type 0} (remaining : R → Option (List ℕ)) (failures : R → Failures) (file : Source) (limit : Limit) where
+  goes_taken : (old new : Reading R) (count : ℕ) (p : List (List ℕ)) (n : Content) → Goes remaining failures limit old new count p n
+      → TakesEarly limit empty (bytes_left remaining old) (bytes_left remaining new) count p n
+  goes_taken old new count p n goes =
+      subst (λ q. TakesEarly limit empty (bytes_left remaining old) (bytes_left remaining new) count q n) goes.these
+      (taken_by remaining failures file (limited_to count limit) old new count n goes.few part.Full goes.reads)
+
+  -- all that is wanted was applied, which is fewer
+  pub record IsOver (old new : Reading R) (count : ℕ) (p : List (List ℕ)) (n : Content) : Type 0 where
+    pub fewer : length p < count
+    pub read : ReadsDay remaining failures file limit old new (Ok p)
+    pub fits : AllByRecursion Fits p
+    pub left : n ≡ laid (run (map message_of p))
+
+  -- where a file stands after so many messages of each
+  abbrev pub Stands : Bool → Reading R → Reading R → ℕ → List (List ℕ) → Content → Type 0
+  Stands true old new count p n = Goes remaining failures limit old new count p n
+  Stands false old new count p n = IsOver old new count p n
+
+  pub stands_applied : (goes : Bool) (old new : Reading R) (count : ℕ) (p : List (List ℕ)) (n : Content) → Stands goes old new count p n → AreApplied limit p n
+  stands_applied true old new count p n stands = applied limit (bytes_left remaining old) (bytes_left remaining new) count p n (goes_taken old new count p n stands)
+  stands_applied false old new count p n stands = record { taken = stands.read.0; fits = stands.fits; left = stands.left }
+
+  pub stands_within : (goes : Bool) (old new : Reading R) (count : ℕ) (p : List (List ℕ)) (n : Content) → Stands goes old new count p n → length p ≤ count
+  stands_within true old new count p n stands = let takes = goes_taken old new count p n stands in omega (arith, takes.1)
+  stands_within false old new count p n stands = omega (arith, stands.fewer)
+
+  pub stands_few : (goes : Bool) (old new : Reading R) (count : ℕ) (p : List (List ℕ)) (n : Content) → Stands goes old new count p n → goes ≡ true → count ≤ 10 ^ 19 - 1
+  stands_few true old new count p n stands is = stands.few
+  stands_few false old new count p n stands is = absurd (cc)
+
+  -- as many messages of a part were read as were to be
+  front_read : (old new : Reading R) (count : ℕ) (p : List (List ℕ)) (n : Content) → Goes remaining failures limit old new count p n
+      → ReadsDay remaining failures file (limited_to count limit) old new (Ok p)
+  front_read old new count p n goes =
+      subst (λ q. ReadsDay remaining failures file (limited_to count limit) old new (Ok q)) goes.these
+      (all_by remaining failures file (limited_to count limit) old new count n goes.few part.Full goes.reads refl)
+
+  -- what was read so far
+  pub up_to : (goes : Bool) (old new : Reading R) (count : ℕ) (p : List (List ℕ)) (n : Content) → IsWithin limit count → Stands goes old new count p n
+      → ReadsUpTo remaining failures file limit count old new p
+  up_to true old new count p n within stands = let takes = goes_taken old new count p n stands in inl (takes.1, within, front_read old new count p n stands)
+  up_to false old new count p n within stands = inr (stands.fewer, stands.read)
+
+  same_limit : (count : ℕ) → limit.after ≡ Some count → limited_to count limit ≡ limit
+  same_limit count all = let part : Option ℕ → Limit = λ after. record { after = after; until = limit.until } in ap part (sym all)
+
+  -- after as many messages as may come the part that is wanted was read
+  pub whole_part : (goes : Bool) (old new : Reading R) (count : ℕ) (p : List (List ℕ)) (n : Content) → count ≡ most_of limit.after → Stands goes old new count p n
       → ReadsDay remaining failures file limit old new (Ok p)
-  day_of limit old new mid count p n takes enough uncounted leaves =
-      let ends : IsEnough limit (length p) mid (bytes_left remaining new) = subst (λ k. IsEnough limit k mid (bytes_left remaining new)) (sym takes.1) enough in (
-        (applied limit (bytes_left remaining old) mid count p n takes).taken,
-        is_part limit (bytes_left remaining old) mid (bytes_left remaining new) p takes.0.bytes ends,
-        (mid, takes.0.bytes, ends),
-        uncounted,
-        subst (λ k. LeavesDay (Ok k) limit old new) (sym takes.1) leaves,
-      )
+  whole_part true old new count p n most stands =
+      subst (λ l. ReadsDay remaining failures file l old new (Ok p)) (same_limit count (all_wanted limit.after count most stands.few)) (front_read old new count p n stands)
+  whole_part false old new count p n most stands = stands.read
 
-  module _ (limit : Limit) where
-    -- as many messages were applied, and nothing after them was read
-    pub record Goes (old new : Reading R) (count : ℕ) (p : List (List ℕ)) (n : Content) : Type 0 where
-      pub takes : TakesEarly limit empty (bytes_left remaining old) (bytes_left remaining new) count p n
-      pub good : IsGood (run (map message_of p))
-      pub uncounted : failures new.reader ≡ failures old.reader
-      pub standing : Standing old count new
+  -- where a file stands after one step more
+  pub record StandsOn (goes : Bool) (old new : Reading R) (count : ℕ) (p : List (List ℕ)) (n : Content) : Type 0 where
+    pub payloads : List (List ℕ)
+    pub stands : Stands goes old new (count + 1) payloads n
+    pub front : (k : ℕ) → k ≤ count → take k payloads ≡ take k p
 
-    -- all that is wanted was applied, which is fewer
-    pub record IsOver (old new : Reading R) (count : ℕ) (p : List (List ℕ)) (n : Content) : Type 0 where
-      pub fewer : length p < count
-      pub read : ReadsDay remaining failures file limit old new (Ok p)
-      pub fits : AllByRecursion Fits p
-      pub left : n ≡ laid (run (map message_of p))
+  -- nothing more of it is wanted
+  pub stays_over : (goes : Bool) (old new : Reading R) (count : ℕ) (p : List (List ℕ)) (n : Content) → goes ≡ false → Stands goes old new count p n → StandsOn goes old new count p n
+  stays_over true old new count p n is stands = absurd (cc)
+  stays_over false old new count p n is stands = record {
+    payloads = p;
+    stands = record { fewer = omega (arith, stands.fewer); read = stands.read; fits = stands.fits; left = stands.left };
+    front = λ k within. refl;
+  }
 
-    -- where a file stands after so many messages of each
-    abbrev pub Stands : Bool → Reading R → Reading R → ℕ → List (List ℕ) → Content → Type 0
-    Stands true old new count p n = Goes old new count p n
-    Stands false old new count p n = IsOver old new count p n
+  -- the part that is wanted is over where this stops it
+  read_over : (old new : Reading R) (count : ℕ) (n : Content) (few : count ≤ 10 ^ 19 - 1) (stop : Part Refused)
+      (reads : ReadsPart remaining failures TakesMessage RefusesMessage limit old new 0 count empty stop n) → (reason_of stop ≡ None) ⊎ ((reason_of stop ≡ Some End) × (limit.after ≡ None))
+      → ReadsDay remaining failures file limit old (left_by stop new) (Ok reads.payloads)
+  read_over old new count n few stop reads (inl none) = all_by remaining failures file limit old new count n few stop reads none
+  read_over old new count n few part.End reads (inr (at, whole)) = whole_by remaining failures file limit old new count n few reads whole
+  read_over old new count n few part.Full reads (inr (at, whole)) = absurd (cc)
+  read_over old new count n few part.Late reads (inr (at, whole)) = absurd (cc)
+  read_over old new count n few (part.Frame f) reads (inr (at, whole)) = absurd (cc)
+  read_over old new count n few part.TooMany reads (inr (at, whole)) = absurd (cc)
+  read_over old new count n few (part.Refused (refused.Codec f)) reads (inr (at, whole)) = absurd (cc)
+  read_over old new count n few (part.Refused (refused.Rule reason)) reads (inr (at, whole)) = absurd (cc)
 
-    pub goes_first : (r : Reading R) (n : Content) → n ≡ empty → Goes r r 0 [] n
-    goes_first r n first = record {
-      takes = (
-        record { bytes = Consumes-nil (bytes_left remaining r); full = tt; none = λ k within. absurd (omega arith); fits = tt; left = first ∙ sym laid_empty },
-        refl,
-        omega arith,
-        tt,
-      );
-      good = empty_good;
-      uncounted = refl;
-      standing = standing_first r;
+  module _ (goes : Bool) (old mid new : Reading R) (count total : ℕ) (p : List (List ℕ)) (m n : Content) (stop : Part Refused) (on : goes ≡ true) (stands : Stands goes old mid count p m)
+      (step : ReadsPart remaining failures TakesMessage RefusesMessage (limited_to (count + 1) limit) mid new count total m stop n) (few : total ≤ 10 ^ 19 - 1) where
+    going : Goes remaining failures limit old mid count p m
+    going = subst (λ b. Stands b old mid count p m) on stands
+
+    all_number : length (p ++ step.payloads) ≡ total
+    all_number =
+        let r = further remaining failures limit old mid new count total p m n stop going step few in
+        let one : length r.reads.payloads ≡ total = omega (arith, r.reads.taken.counted) in subst (λ q. length q ≡ total) r.these one
+
+    -- the next message is applied
+    pub goes_on : stop ≡ part.Full → StandsOn true old new count p n
+    goes_on full = record {
+      payloads = p ++ step.payloads;
+      stands =
+          subst (λ s. IsRead remaining failures (limited_to (count + 1) limit) old new (count + 1) (p ++ step.payloads) s n) full
+          (subst (λ k. IsRead remaining failures (limited_to (count + 1) limit) old new k (p ++ step.payloads) stop n) (one_more remaining failures limit old mid new count total p m n stop going step few full)
+          (further remaining failures limit old mid new count total p m n stop going step few));
+      front = front_kept remaining failures limit old mid new count total p m n stop going step few;
     }
 
-    pub stands_applied : (goes : Bool) (old new : Reading R) (count : ℕ) (p : List (List ℕ)) (n : Content) → Stands goes old new count p n → AreApplied limit p n
-    stands_applied true old new count p n stands = applied limit (bytes_left remaining old) (bytes_left remaining new) count p n stands.takes
-    stands_applied false old new count p n stands = record { taken = stands.read.0; fits = stands.fits; left = stands.left }
+    module _ (not_full : stop ≡ part.Full → ⊥) (before : IsBefore limit count) where
+      none : total ≡ count
+      none = none_more remaining failures limit old mid new count total p m n stop going step few not_full
 
-    pub stands_within : (goes : Bool) (old new : Reading R) (count : ℕ) (p : List (List ℕ)) (n : Content) → Stands goes old new count p n → length p ≤ count
-    stands_within true old new count p n stands = omega (arith, stands.takes.1)
-    stands_within false old new count p n stands = omega (arith, stands.fewer)
+      wide : IsRead remaining failures limit old new total (p ++ step.payloads) stop n
+      wide = widened remaining failures limit old mid new count total p m n stop going step few not_full before
 
-    -- what was read so far
-    pub up_to : (goes : Bool) (old new : Reading R) (count : ℕ) (p : List (List ℕ)) (n : Content) → IsWithin limit count → Stands goes old new count p n
-        → ReadsUpTo remaining failures file limit count old new p
-    up_to true old new count p n within stands = inl (
-      stands.takes.1,
-      within,
-      day_of (limited_to count limit) old new (bytes_left remaining new) count p n stands.takes (inl (refl, refl)) stands.uncounted (inl (refl, standing_short old count new stands.standing)),
-    )
-    up_to false old new count p n within stands = inr (stands.fewer, stands.read)
+      -- no message was
+      pub still_there : n ≡ m
+      still_there = kept_at remaining (limited_to (count + 1) limit) total new step.last n stop step.stops ∙ last_is step.payloads step.taken.taken (omega (arith, none, step.taken.counted)) where
+        last_is : (qs : List (List ℕ)) → TakesAll TakesMessage m count qs step.last → length qs ≡ 0 → step.last ≡ m
+        last_is [] same is = same
+        last_is (q ∷ qs) takes is = absurd (omega arith)
 
-    -- after as many messages as may come the part that is wanted was read
-    pub whole_part : (goes : Bool) (old new : Reading R) (count : ℕ) (p : List (List ℕ)) (n : Content) → count ≡ most_of limit.after → Stands goes old new count p n
-        → ReadsDay remaining failures file limit old new (Ok p)
-    whole_part true old new count p n most stands =
-        let all : limit.after ≡ Some count = all_wanted limit.after count most stands.takes.2 in
-        day_of limit old new (bytes_left remaining new) count p n stands.takes (inl (all, refl)) stands.uncounted (all_leaves file limit count old new new stands.standing all)
-    whole_part false old new count p n most stands = stands.read
-
-    -- where a file stands after one step more
-    pub record StandsOn (goes : Bool) (old new : Reading R) (count : ℕ) (p : List (List ℕ)) (n : Content) : Type 0 where
-      pub payloads : List (List ℕ)
-      pub stands : Stands goes old new (count + 1) payloads n
-      pub front : (k : ℕ) → k ≤ count → take k payloads ≡ take k p
-
-    module _ (old mid new : Reading R) (count : ℕ) (p : List (List ℕ)) (m n : Content) where
-      so_far : Goes old mid count p m → SoFar limit empty (bytes_left remaining old) (bytes_left remaining mid) count m
-      so_far stands = record { payloads = p; takes = stands.takes; good = stands.good }
-
-      goes_on : (change : Option Message) → Goes old mid count p m → AppliesNext limit (count == 10 ^ 19 - 1) m (bytes_left remaining mid) (bytes_left remaining new) change n
-          → failures new.reader ≡ failures mid.reader → LeavesReaderFirst mid 1 None new → StandsOn true old new count p n
-      goes_on change stands (x, off, room, step, plainest) uncounted leaves =
-          let next = taken_more limit empty (bytes_left remaining old) (bytes_left remaining mid) (bytes_left remaining new) count m n p x stands.takes stands.good off room step in
+      -- or there is none
+      pub ends_there : over (reason_of stop) limit file count ≡ Ok tt → StandsOn false old (left_by stop new) count p n
+      ends_there returns =
+          let w = wide in
+          let applied = applied_by remaining failures file limit old new total n few stop w.reads in
           record {
-            payloads = p ++ x ∷ [];
-            stands = record { takes = next.0; good = next.1; uncounted = uncounted ∙ stands.uncounted; standing = standing_on old mid new count stands.standing leaves };
-            front = λ k within. take-append-le k p (x ∷ []) (omega (arith, within, stands.takes.1));
+            payloads = p ++ step.payloads;
+            stands = record {
+              fewer = omega (arith, all_number, none);
+              read = subst (λ q. ReadsDay remaining failures file limit old (left_by stop new) (Ok q)) w.these (read_over old new total n few stop w.reads (over_ends (reason_of stop) limit file count returns));
+              fits = subst (λ q. AllByRecursion Fits q) w.these applied.fits;
+              left = subst (λ q. n ≡ laid (run (map message_of q))) w.these (kept_by remaining failures file limit old new total n few stop w.reads ∙ applied.left);
+            };
+            front = front_kept remaining failures limit old mid new count total p m n stop going step few;
           }
 
-      over : Goes old mid count p m → n ≡ m → IsEnough limit count (bytes_left remaining mid) (bytes_left remaining new) → failures new.reader ≡ failures mid.reader
-          → LeavesDay (Ok count) limit old new → StandsOn false old new count p n
-      over stands same enough uncounted leaves = record {
-        payloads = p;
-        stands = record {
-          fewer = omega (arith, stands.takes.1);
-          read = day_of limit old new (bytes_left remaining mid) count p m stands.takes enough (uncounted ∙ stands.uncounted) leaves;
-          fits = stands.takes.0.fits;
-          left = same ∙ stands.takes.0.left;
-        };
-        front = λ k within. refl;
-      }
-
-      -- the next message is applied, or there is none
-      pub stands_on : (goes went : Bool) (change : Option Message) → IsBefore limit count → Stands goes old mid count p m
-          → Steps remaining failures file limit count goes m mid new (Ok went) change n → StandsOn went old new count p n
-      stands_on false true change before stands (is, none, same, unread) = absurd (cc)
-      stands_on false false change before stands (is, none, same, unread) = record {
-        payloads = p;
-        stands = record {
-          fewer = omega (arith, stands.fewer);
-          read = subst (λ r. ReadsDay remaining failures file limit old r (Ok p)) (sym unread) stands.read;
-          fits = stands.fits;
-          left = same ∙ stands.left;
-        };
-        front = λ k within. refl;
-      }
-      stands_on true true change before stands (step, uncounted, leaves) = goes_on change stands step uncounted leaves
-      stands_on true false change before stands (none, inl ((same, late), uncounted, leaves)) =
-          over stands same (inr (inl (before, late))) uncounted
-          (late_leaves file limit count old mid new stands.standing (late_given limit.until (message_of late.0) late.2.1) leaves)
-      stands_on true false change before stands (none, inr (whole, ((same, ends), uncounted, leaves))) =
-          over stands same (inr (inr (whole, ends))) uncounted (inr (inr (whole, standing_stops old mid new count End stands.standing leaves)))
-
       -- or it is refused
-      pub refused_there : (goes : Bool) (fault : ToolFault) (change : Option Message) → IsBefore limit count → Stands goes old mid count p m
-          → Steps remaining failures file limit count goes m mid new (Err fault) change n → (goes ≡ true) × (length p ≡ count) × IsRefusedAfter remaining failures file limit old new fault p
-      refused_there false fault change before stands (is, none, same, unread) = absurd (cc)
-      refused_there true fault change before stands (stop, is, (step, counts, leaves)) =
-          let from = bytes_left remaining old in
-          let to = bytes_left remaining new in
-          let halts = stops_there limit empty from (bytes_left remaining mid) to count m n (so_far stands) stop before step in
-          let reads : ReadsMarket file limit empty from to (Err fault) n = subst (λ r. ReadsMarket file limit empty from to r n) is (stopped_so file limit empty from to count n stop halts) in
-          let counted : CountsRead {X = ℕ} (Err fault) (failures old.reader) (failures new.reader) = subst (λ r. CountsRead r (failures old.reader) (failures new.reader)) is
-          (stopped_counts file limit empty from to count n stop (failures old.reader) (failures new.reader)
-          (subst (λ f. Counts stop f (failures new.reader)) stands.uncounted counts)) in
-          let left : LeavesDay (Err fault) limit old new = subst (λ r. LeavesDay r limit old new) is (stopped_leaves file limit count old mid new stands.standing stop leaves) in (
-            refl,
-            stands.takes.1,
+      pub refused_there : (fault : ToolFault) → over (reason_of stop) limit file count ≡ Err fault
+          → (length p ≡ count) × IsRefusedAfter remaining failures file limit old (left_by stop new) fault p
+      refused_there fault returns =
+          let (why, is, fails) = over_fails (reason_of stop) limit file count fault returns in
+          let takes = goes_taken old mid count p m going in
+          let counted : length p ≡ count = takes.1 in
+          let at : stopped why limit.after file total ≡ Err fault = subst (λ k. stopped why limit.after file k ≡ Err fault) (sym none) fails in (
+            counted,
             record {
-              refused = day_fails remaining failures file limit old new fault empty n refl reads counted left;
-              counted = stopped_count stop limit.after file count fault is ∙ ap Some (sym stands.takes.1);
-              taken = (applied limit from (bytes_left remaining mid) count p m stands.takes).taken;
-              front = (bytes_left remaining mid, stands.takes.0.bytes);
+              refused = refused_by remaining failures file limit old new total n few stop wide.reads why fault is at;
+              counted = stopped_count why limit.after file count fault fails ∙ ap Some (sym counted);
+              taken = (stands_applied true old mid count p m going).taken;
+              front = (bytes_left remaining mid, takes.0.bytes);
             },
           )
 
-same_self : (m : Content) → Same m m
-same_self m = record { event = refl; securities = refl; queues = λ locate side. refl }
+-- a file whose market is tracked, after one step more
+module _ {R T : Type 0} (remaining : R → Option (List ℕ)) (failures : R → Failures) (file : Source) (limit : Limit) (market : T → Content) (change : T → Message)
+    (goes : Bool) (old mid new : Reading R) (count total : ℕ) (p : List (List ℕ)) (s t : T) (stop : Part Refused) (on : goes ≡ true)
+    (stands : Stands remaining failures file limit goes old mid count p (market s))
+    (reads : ReadsPart remaining failures (Tracks market change) (Denies market change) (limited_to (count + 1) limit) mid new count total s stop t) (few : total ≤ 10 ^ 19 - 1) where
+  step : ReadsPart remaining failures TakesMessage RefusesMessage (limited_to (count + 1) limit) mid new count total (market s) stop (market t)
+  step = market_part market change remaining failures (limited_to (count + 1) limit) mid new count total s t stop reads
 
--- markets with their orders in snapshot order are the same if and only if they are
-laid_alike : (a b m n : Content) → IsGood a → IsGood b → m ≡ laid a → n ≡ laid b → Same m n ↔ Same a b
-laid_alike a b m n good fine left right = (
-  λ same. same_chain a (laid a) b (same_back (laid a) a (laid_is_same a good))
-      (same_chain (laid a) (laid b) b (subst (λ y. Same (laid a) y) right (subst (λ x. Same x n) left same)) (laid_is_same b fine)),
-  λ same. subst (λ y. Same m y) (sym right) (subst (λ x. Same x (laid b)) (sym left)
-      (same_chain (laid a) a (laid b) (laid_is_same a good) (same_chain a b (laid b) same (same_back (laid b) b (laid_is_same b fine))))),
+  pub took_one : stop ≡ part.Full → StandsOn remaining failures file limit true old new count p (market t) × Changed (market s) (change t) (market t)
+  took_one full = (
+    goes_on remaining failures file limit goes old mid new count total p (market s) (market t) stop on stands step few full,
+    one_changed market change remaining failures limit mid new count total s t
+        (subst (λ x. ReadsPart remaining failures (Tracks market change) (Denies market change) (limited_to (count + 1) limit) mid new count total s x t) full reads),
+  )
+
+  pub took_none : (stop ≡ part.Full → ⊥) → IsBefore limit count → over (reason_of stop) limit file count ≡ Ok tt → (then : Message) → then ≡ nothing
+      → StandsOn remaining failures file limit false old (left_by stop new) count p (market t) × Changed (market s) then (market t)
+  took_none not_full before returns then is = (
+    ends_there remaining failures file limit goes old mid new count total p (market s) (market t) stop on stands step few not_full before returns,
+    inl (is, still_there remaining failures file limit goes old mid new count total p (market s) (market t) stop on stands step few not_full before),
+  )
+
+  pub was_refused : (stop ≡ part.Full → ⊥) → IsBefore limit count → (fault : ToolFault) → over (reason_of stop) limit file count ≡ Err fault
+      → (length p ≡ count) × IsRefusedAfter remaining failures file limit old (left_by stop new) fault p
+  was_refused not_full before fault returns =
+      refused_there remaining failures file limit goes old mid new count total p (market s) (market t) stop on stands step few not_full before fault returns
+
+-- or nothing more of it is wanted
+pub was_over : {R T : Type 0} (remaining : R → Option (List ℕ)) (failures : R → Failures) (file : Source) (limit : Limit) (market : T → Content) (change : T → Message) (goes : Bool) (old new : Reading R) (count : ℕ)
+    (p : List (List ℕ)) (s : T) → goes ≡ false → Stands remaining failures file limit goes old new count p (market s) → change s ≡ nothing
+    → StandsOn remaining failures file limit goes old new count p (market s) × Changed (market s) (change s) (market s)
+was_over remaining failures file limit market change goes old new count p s over stands none =
+    (stays_over remaining failures file limit goes old new count p (market s) over stands, inl (none, refl))
+
+-- the same of what is equal
+pub along : {R T : Type 0} (remaining : R → Option (List ℕ)) (failures : R → Failures) (file : Source) (limit : Limit) (market : T → Content) (change : T → Message) (old new to : Reading R) (count : ℕ) (p : List (List ℕ))
+    (m : Content) (goes went : Bool) (t u : T) → went ≡ goes → to ≡ new → u ≡ t → StandsOn remaining failures file limit goes old new count p (market t) × Changed m (change t) (market t)
+    → StandsOn remaining failures file limit went old to count p (market u) × Changed m (change u) (market u)
+along remaining failures file limit market change old new to count p m goes went t u goes_is to_is is (on, changed) = (
+  subst (λ b. StandsOn remaining failures file limit b old to count p (market u)) (sym goes_is)
+      (subst (λ r. StandsOn remaining failures file limit goes old r count p (market u)) (sym to_is) (subst (λ x. StandsOn remaining failures file limit goes old new count p (market x)) (sym is) on)),
+  subst (λ x. Changed m (change x) (market x)) (sym is) changed,
 )
 
 -- the markets of all payloads that were applied are those after any number that is no smaller
@@ -262,52 +443,6 @@ same_later p q count k short brief later same =
     subst (λ x. Same (run (map message_of x)) (run (map message_of (take k q)))) one
     (subst (λ y. Same (run (map message_of (take count p))) (run (map message_of y))) other same)
 
--- what a step changed: nothing but the order in which orders are laid, or what a message does, which is not refused
-abbrev Changed : Content → Option Message → Content → Type 0
-Changed m None n = (n ≡ m) ⊎ (n ≡ laid m)
-Changed m (Some change) n = (message : Message) × IsMessage message × (reason m message ≡ None) × (change ≡ plain m message) × (n ≡ laid (effect m message))
-
--- what a message that was applied changed
-changed_by : (m n : Content) (message : Message) (change : Option Message) → IsMessage message → reason m message ≡ None → n ≡ laid (effect m message) → IsChange m message change
-    → Changed m change n
-changed_by m n message None fits clean next nothing = inr (next ∙ ap laid (nothing m))
-changed_by m n message (Some change) fits clean next plainest = (message, fits, clean, plainest, next)
-
--- what none changed
-unchanged : (m n : Content) (change : Option Message) → change ≡ None → n ≡ m → Changed m change n
-unchanged m n change none same = subst (λ c. Changed m c n) (sym none) (inl same)
-
-changed_so : {R : Type 0} (remaining : R → Option (List ℕ)) (failures : R → Failures) (file : Source) (limit : Limit) (count : ℕ) (goes : Bool) (m n : Content) (old new : Reading R)
-    (went : Bool) (change : Option Message) → Steps remaining failures file limit count goes m old new (Ok went) change n → Changed m change n
-changed_so remaining failures file limit count false m n old new went change (is, none, same, unread) = unchanged m n change none same
-changed_so remaining failures file limit count true m n old new true change ((payload, off, room, (early, (clean, fits, next)), plainest), uncounted, leaves) =
-    changed_by m n (message_of payload) change fits (no_reason m payload clean) next plainest
-changed_so remaining failures file limit count true m n old new false change (none, inl ((same, late), uncounted, leaves)) = unchanged m n change none same
-changed_so remaining failures file limit count true m n old new false change (none, inr (whole, ((same, ends), uncounted, leaves))) = unchanged m n change none same
-
--- a market in which nothing was changed is the same
-still : (m n : Content) → IsGood m → Changed m None n → Same m n
-still m n good (inl same) = subst (Same m) (sym same) (same_self m)
-still m n good (inr same) = subst (Same m) (sym same) (same_back (laid m) m (laid_is_same m good))
-
--- a message with a plainest one that changes nothing leaves the market as it was
-none_changed : (m n : Content) (change : Message) → IsGood m → Changed m (Some change) n → ((k : Content) → effect k change ≡ k) → n ≡ laid m
-none_changed m n change good (message, fits, clean, plainest, next) none =
-    next ∙ ap laid (sym (plain_effect m message good) ∙ ap (effect m) (sym plainest) ∙ none m)
-
--- where nothing was changed in either, markets stay the same
-both_still : (m n x y : Content) → IsGood m → IsGood n → Same m n → Changed m None x → Changed n None y → Same x y
-both_still m n x y good fine same one other = same_chain x m y (same_back m x (still m x good one)) (same_chain m n y same (still n y fine other))
-
--- so changes that are alike leave markets the same that were so
-alike_same : (m n x y : Content) (change also : Option Message) → IsGood m → IsGood n → Same m n → Changed m change x → Changed n also y → AreAlike change also → Same x y
-alike_same m n x y None None good fine same one other alike = both_still m n x y good fine same one other
-alike_same m n x y (Some change) None good fine same one other none = both_still m n x y good fine same (inr (none_changed m x change good one none)) other
-alike_same m n x y None (Some also) good fine same one other none = both_still m n x y good fine same one (inr (none_changed n y also fine other none))
-alike_same m n x y (Some change) (Some also) good fine same (message, fits, clean, plainest, next) (another, fit, free, plainer, following) alike =
-    (laid_alike (effect m message) (effect n another) x y (effect_good m message good fits clean) (effect_good n another fine fit free) next following).1
-    (plain_same m n message another good fine same fits clean (sym plainest ∙ alike ∙ plainer))
-
 module _ {R S : Type 0} (remaining : R → Option (List ℕ)) (failures : R → Failures) (remaining_then : S → Option (List ℕ)) (failed_then : S → Failures) (limit : Limit)
     (a : Reading R) (c : Reading S) where
   -- both files after so many messages of each, of which the last may have made a difference
@@ -323,8 +458,8 @@ module _ {R S : Type 0} (remaining : R → Option (List ℕ)) (failures : R → 
   paired_first m n first second = record {
     p = [];
     q = [];
-    one = goes_first remaining failures First limit a m first;
-    other = goes_first remaining_then failed_then Second limit c n second;
+    one = goes_first remaining failures limit a m first;
+    other = goes_first remaining_then failed_then limit c n second;
     same = λ k within. at_first k;
   } where
     at_first : (k : ℕ) → IsSameAt [] [] k
@@ -333,65 +468,53 @@ module _ {R S : Type 0} (remaining : R → Option (List ℕ)) (failures : R → 
 
   module _ (b : Reading R) (d : Reading S) (count : ℕ) (goes too : Bool) (m n : Content) (before : IsBefore limit count) (paired : Paired b d count count goes too m n) where
     -- the first file is refused
-    pub first_refused : (to : Reading R) (change : Option Message) (x : Content) (fault : ToolFault) → Steps remaining failures First limit count goes m b to (Err fault) change x
+    pub first_refused : (to : Reading R) (fault : ToolFault) → (length paired.p ≡ count) × IsRefusedAfter remaining failures First limit a to fault paired.p
         → FindsFirst remaining failures remaining_then failed_then limit a to c d (Err fault)
-    first_refused to change x fault steps =
-        let refused = refused_there remaining failures First limit a b to count paired.p m x goes fault change before paired.one steps in
-        inl (
-          paired.p,
-          paired.q,
-          refused.2,
-          subst (λ k. ReadsUpTo remaining_then failed_then Second limit k c d paired.q) (sym refused.1)
-              (up_to remaining_then failed_then Second limit too c d count paired.q n (within_so_far limit.after count before) paired.other),
-          λ k within. paired.same k (omega (arith, refused.1, within)),
-        )
+    first_refused to fault (counted, refused) = inl (
+      paired.p,
+      paired.q,
+      refused,
+      subst (λ k. ReadsUpTo remaining_then failed_then Second limit k c d paired.q) (sym counted)
+          (up_to remaining_then failed_then Second limit too c d count paired.q n (within_so_far limit.after count before) paired.other),
+      λ k within. paired.same k (omega (arith, counted, within)),
+    )
 
-    module _ (to : Reading R) (went : Bool) (change : Option Message) (x : Content) (steps : Steps remaining failures First limit count goes m b to (Ok went) change x) where
-      first_on : StandsOn remaining failures First limit went a to count paired.p x
-      first_on = stands_on remaining failures First limit a b to count paired.p m x goes went change before paired.one steps
-
+    module _ (to : Reading R) (went : Bool) (x : Content) (first_on : StandsOn remaining failures First limit went a to count paired.p x) where
       -- the second file is
-      pub second_refused : (up : Reading S) (also : Option Message) (y : Content) (fault : ToolFault) → Steps remaining_then failed_then Second limit count too n d up (Err fault) also y
+      pub second_refused : (up : Reading S) (fault : ToolFault) → (length paired.q ≡ count) × IsRefusedAfter remaining_then failed_then Second limit c up fault paired.q
           → FindsFirst remaining failures remaining_then failed_then limit a to c up (Err fault)
-      second_refused up also y fault next =
-          let refused = refused_there remaining_then failed_then Second limit c d up count paired.q n y too fault also before paired.other next in
-          inr (
-            first_on.payloads,
-            paired.q,
-            subst (λ k. ReadsUpTo remaining failures First limit (k + 1) a to first_on.payloads) (sym refused.1)
-                (up_to remaining failures First limit went a to (count + 1) first_on.payloads x (within_more limit.after count before) first_on.stands),
-            refused.2,
-            λ k within. along k (omega (arith, refused.1, within)),
-          ) where
-            along : (k : ℕ) → k ≤ count → IsSameAt first_on.payloads paired.q k
-            along k within = subst (λ z. Same (run (map message_of z)) (run (map message_of (take k paired.q)))) (sym (first_on.front k within)) (paired.same k within)
+      second_refused up fault (counted, refused) = inr (
+        first_on.payloads,
+        paired.q,
+        subst (λ k. ReadsUpTo remaining failures First limit (k + 1) a to first_on.payloads) (sym counted)
+            (up_to remaining failures First limit went a to (count + 1) first_on.payloads x (within_more limit.after count before) first_on.stands),
+        refused,
+        λ k within. along k (omega (arith, counted, within)),
+      ) where
+        along : (k : ℕ) → k ≤ count → IsSameAt first_on.payloads paired.q k
+        along k within = subst (λ z. Same (run (map message_of z)) (run (map message_of (take k paired.q)))) (sym (first_on.front k within)) (paired.same k within)
 
-      -- neither is
-      pub both_on : (up : Reading S) (follows : Bool) (also : Option Message) (y : Content) → Steps remaining_then failed_then Second limit count too n d up (Ok follows) also y
-          → Paired to up (count + 1) count went follows x y
-      both_on up follows also y next =
-          let second_on = stands_on remaining_then failed_then Second limit c d up count paired.q n y too follows also before paired.other next in
-          record {
-            p = first_on.payloads;
-            q = second_on.payloads;
-            one = first_on.stands;
-            other = second_on.stands;
-            same = λ k within. subst (λ w. Same (run (map message_of w)) (run (map message_of (take k second_on.payloads)))) (sym (first_on.front k within))
-                (subst (λ z. Same (run (map message_of (take k paired.p))) (run (map message_of z))) (sym (second_on.front k within)) (paired.same k within));
-          }
+      module _ (up : Reading S) (follows : Bool) (y : Content) (second_on : StandsOn remaining_then failed_then Second limit follows c up count paired.q y) where
+        -- neither is
+        pub both_on : Paired to up (count + 1) count went follows x y
+        both_on = record {
+          p = first_on.payloads;
+          q = second_on.payloads;
+          one = first_on.stands;
+          other = second_on.stands;
+          same = λ k within. subst (λ w. Same (run (map message_of w)) (run (map message_of (take k second_on.payloads)))) (sym (first_on.front k within))
+              (subst (λ z. Same (run (map message_of (take k paired.p))) (run (map message_of z))) (sym (second_on.front k within)) (paired.same k within));
+        }
 
-      -- and changes that are alike leave the markets the same
-      pub alike_on : (up : Reading S) (follows : Bool) (also : Option Message) (y : Content) → Steps remaining_then failed_then Second limit count too n d up (Ok follows) also y
-          → AreAlike change also → Same x y
-      alike_on up follows also y next alike =
-          let one = stands_applied remaining failures First limit goes a b count paired.p m paired.one in
-          let other = stands_applied remaining_then failed_then Second limit too c d count paired.q n paired.other in
-          let same : Same m n = (same_there limit paired.p paired.q m n count one other
-          (stands_within remaining failures First limit goes a b count paired.p m paired.one)
-          (stands_within remaining_then failed_then Second limit too c d count paired.q n paired.other)).1 (paired.same count (omega arith)) in
-          alike_same m n x y change also (applied_good limit paired.p m one) (applied_good limit paired.q n other) same
-          (changed_so remaining failures First limit count goes m x b to went change steps)
-          (changed_so remaining_then failed_then Second limit count too n y d up follows also next) alike
+    -- and changes that are alike leave the markets the same
+    pub alike_on : (x y : Content) (change also : Message) → Changed m change x → Changed n also y → change ≡ also → Same x y
+    alike_on x y change also changed changed_too alike =
+        let one = stands_applied remaining failures First limit goes a b count paired.p m paired.one in
+        let other = stands_applied remaining_then failed_then Second limit too c d count paired.q n paired.other in
+        let same : Same m n = (same_there limit paired.p paired.q m n count one other
+        (stands_within remaining failures First limit goes a b count paired.p m paired.one)
+        (stands_within remaining_then failed_then Second limit too c d count paired.q n paired.other)).1 (paired.same count (omega arith)) in
+        alike_same m n x y change also (applied_good limit paired.p m one) (applied_good limit paired.q n other) same changed changed_too alike
 
   module _ (b : Reading R) (d : Reading S) (count last : ℕ) (goes too : Bool) (m n : Content) (paired : Paired b d count last goes too m n) where
     one_applied : AreApplied limit paired.p m

@@ -18,14 +18,10 @@ found_fails shows (tool.Short file count) never is = is
 found_fails shows (tool.Write error) never is = is
 found_fails shows tool.OutOfMemory never is = is
 found_fails shows (tool.Open file error) never is = is
-found_fails shows tool.BadUser never is = is
-found_fails shows tool.BadPassword never is = is
 found_fails shows (tool.Unmet unmet) never is = is
 found_fails shows (tool.Misfit misfit) never is = is
 found_fails shows tool.BadLocates never is = is
 found_fails shows tool.TooMany never is = is
-found_fails shows (tool.Soup f) never is = is
-found_fails shows (tool.Socket error) never is = is
 found_fails shows (tool.Snap file f) never is = is
 found_fails shows tool.UnknownLocate never is = is
 

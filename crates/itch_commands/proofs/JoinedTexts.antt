@@ -24,14 +24,10 @@ module _ {W : Type 0} (contents : W → Option (List ℕ)) (failures : W → Fai
   text_fails xs ys old new tool.UnknownStock h = absurd h
   text_fails xs ys old new tool.OutOfMemory h = absurd h
   text_fails xs ys old new (tool.Open file error) h = absurd h
-  text_fails xs ys old new tool.BadUser h = absurd h
-  text_fails xs ys old new tool.BadPassword h = absurd h
   text_fails xs ys old new (tool.Unmet unmet) h = absurd h
   text_fails xs ys old new (tool.Misfit misfit) h = absurd h
   text_fails xs ys old new tool.BadLocates h = absurd h
   text_fails xs ys old new tool.TooMany h = absurd h
-  text_fails xs ys old new (tool.Soup f) h = absurd h
-  text_fails xs ys old new (tool.Socket error) h = absurd h
 
   -- one text, and then another
   pub text_then : (xs ys : List ℕ) (old mid new : W) (result : Result (Unit {0}) ToolFault) → WritesText contents failures xs old (Ok tt) mid → WritesText contents failures ys mid result new
@@ -52,11 +48,7 @@ module _ {W : Type 0} (contents : W → Option (List ℕ)) (failures : W → Fai
   text_then xs ys old mid new (Err tool.UnknownStock) first h = absurd h
   text_then xs ys old mid new (Err tool.OutOfMemory) first h = absurd h
   text_then xs ys old mid new (Err (tool.Open file error)) first h = absurd h
-  text_then xs ys old mid new (Err tool.BadUser) first h = absurd h
-  text_then xs ys old mid new (Err tool.BadPassword) first h = absurd h
   text_then xs ys old mid new (Err (tool.Unmet unmet)) first h = absurd h
   text_then xs ys old mid new (Err (tool.Misfit misfit)) first h = absurd h
   text_then xs ys old mid new (Err tool.BadLocates) first h = absurd h
   text_then xs ys old mid new (Err tool.TooMany) first h = absurd h
-  text_then xs ys old mid new (Err (tool.Soup f)) first h = absurd h
-  text_then xs ys old mid new (Err (tool.Socket error)) first h = absurd h

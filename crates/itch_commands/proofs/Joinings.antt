@@ -12,7 +12,7 @@ use Rattle.itch_join.specs.States.{State}
 use Rattle.itch_commands.specs.declared.fault.ToolFault.{ToolFault}
 use Rattle.itch_commands.specs.declared.fault.ToolFault.TheVariants as tool
 use Rattle.itch_commands.specs.declared.feed_part.FeedPart.{FeedPart}
-use Rattle.itch_commands.specs.AsRead.{as_read}
+use Rattle.itch_snapshot.specs.AsRead.{as_read}
 use Rattle.itch_join.specs.Takings.{position_of}
 use Rattle.itch_commands.specs.Joiners.{IsAfter, WritesRoom}
 use Rattle.itch_commands.specs.Joining.{Start, ReadsFeed, joined_market, joined, HasRoom}

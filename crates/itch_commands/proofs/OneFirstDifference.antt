@@ -11,7 +11,7 @@ use Rattle.itch_market.specs.Runs.{run}
 use Rattle.itch_market.specs.SameMarkets.{Same}
 use Rattle.itch_commands.specs.FirstDifferences.{IsSameAt, IsFront, IsPlaceIn, IsSameIn}
 use Rattle.itch_day.specs.Limits.{IsEarly, is_late}
-use Rattle.itch_commands.specs.Readings.{AreTaken, IsPart, IsCut}
+use Rattle.itch_market.specs.DayMessages.{AreTaken, IsPart, IsCut}
 use Rattle.itch_day.specs.declared.limit.Limit.{Limit}
 use Rattle.itch_commands.proofs.FirstDifferences.{within_so_far}
 

@@ -8,7 +8,6 @@ use Rattle.itch_codec.specs.Widths.{IsMessage}
 use Rattle.itch_codec.specs.declared.message.Message.{Message}
 use Rattle.itch_frame.specs.Reading.{Reading, bytes_left}
 use Rattle.itch_frame.specs.declared.tally.Failures.{Failures}
-use Rattle.itch_frame.specs.declared.fault.FrameFault.TheVariants.{Read, Truncated, Write, TooLong}
 use Rattle.itch_day.specs.Limits.{counted}
 use Rattle.itch_day.specs.Marks.{IsMark, RefusesMarked, TakesMarked, first_mark}
 use Rattle.itch_day.specs.Parts.{GoesOn, GoesOnTo, Leaves, ReadsPart, StopsAt}
@@ -25,7 +24,8 @@ use Rattle.itch_market.specs.Effects.{effect}
 use Rattle.itch_market.specs.GoodMarkets.{IsGood}
 use Rattle.itch_market.specs.Reasons.{reason}
 use Rattle.itch_market.specs.Replays.{CountsFirst}
-use Rattle.itch_market.specs.Takings.{RefusesMessage, TakesMessage, left_by, reason_of}
+use Rattle.itch_day.specs.Passing.{left_by}
+use Rattle.itch_market.specs.Takings.{RefusesMessage, TakesMessage, reason_of}
 use Rattle.itch_market.specs.Wanted.{Wanted}
 use Rattle.itch_market.specs.declared.refused.Refused.{Refused}
 use Rattle.itch_market.specs.declared.refused.Refused.TheVariants as refused
@@ -36,7 +36,7 @@ use Rattle.itch_market.proofs.Causes.{no_reason, none_clean}
 use Rattle.itch_market.proofs.DayParts.{full_count, part_left, takes_early, is_part}
 use Rattle.itch_market.proofs.LeftReaders.{stop_counts}
 use Rattle.itch_market.proofs.GoodMarkets.{effect_good, empty_good}
-use Rattle.itch_market.proofs.PassedBlocks.{ends_here, passed_off}
+use Rattle.itch_day.proofs.PassedBlocks.{ends_here, passed_off}
 use Rattle.itch_market.proofs.ReplayProgress.{taken_on}
 use Rattle.itch_snapshot.specs.Bytes.{canon, closing}
 use Rattle.itch_snapshot.specs.Cursor.{cut_to}
@@ -52,9 +52,11 @@ use Rattle.itch_commands.specs.declared.fault.Source.{Source}
 use Rattle.itch_commands.specs.declared.fault.Source.TheVariants.{Only}
 use Rattle.itch_commands.specs.declared.fault.ToolFault.{ToolFault}
 use Rattle.itch_commands.specs.declared.fault.ToolFault.TheVariants as tool
-use Rattle.itch_commands.proofs.DayReadings.{Applied, day_fails}
-use Rattle.itch_commands.proofs.FirstDifferences.{day_of, stopped_end}
+use Rattle.itch_commands.proofs.DayReadings.{day_fails}
+use Rattle.itch_market.proofs.DayMessages.{Applied}
+use Rattle.itch_commands.proofs.FirstDifferences.{stopped_end}
 use Rattle.itch_commands.proofs.Outputs.{read_writes}
+use Rattle.itch_commands.proofs.ReadParts.{day_of, kept_at}
 use Rattle.itch_commands.proofs.PartReadings.{part_leaves, stop_leaves, stopped_counts, stopped_so}
 use Rattle.itch_commands.proofs.Snapshots.{cut_snapshot}
 
@@ -84,19 +86,6 @@ at_end (part.Frame f) is = absurd (cc)
 at_end part.TooMany is = absurd (cc)
 at_end (part.Refused (refused.Codec f)) same = absurd (cc)
 at_end (part.Refused (refused.Rule why)) same = absurd (cc)
-
--- what stops a part leaves the market as it was
-kept_at : {R : Type 0} (remaining : R → Option (List ℕ)) (limit : Limit) (count : ℕ) (r : Reading R) (old new : Content) (stop : Part Refused) → StopsAt remaining RefusesMessage limit count r old stop new → new ≡ old
-kept_at remaining limit count r old new part.Full (same, all) = same
-kept_at remaining limit count r old new part.Late (same, before, late) = same
-kept_at remaining limit count r old new part.End (same, before, end) = same
-kept_at remaining limit count r old new (part.Frame (Truncated held)) (same, before, cut, is_held, open_end) = same
-kept_at remaining limit count r old new (part.Frame (Read error)) (same, before, going) = same
-kept_at remaining limit count r old new (part.Frame (Write sent error)) never = absurd never
-kept_at remaining limit count r old new (part.Frame TooLong) never = absurd never
-kept_at remaining limit count r old new part.TooMany (same, before, many) = same
-kept_at remaining limit count r old new (part.Refused (refused.Codec f)) (before, (p, next, full, room, early, (same, faulty))) = same
-kept_at remaining limit count r old new (part.Refused (refused.Rule why)) (before, (p, next, full, room, early, (same, refuses))) = same
 
 -- a message makes the snapshot list longer by one at most
 snap_past : (m n : Content) (x : Message) → IsGood m → IsMessage x → reason m x ≡ None → n ≡ laid (effect m x) → length (snap n) ≤ length (snap m) + 1
@@ -202,9 +191,9 @@ module _ {R : Type 0} (remaining : R → Option (List ℕ)) (failures : R → Fa
           (stop_leaves Only limit count first (left_by stop now) why (subst (λ r. LeavesPartOf limit first count r (left_by stop now)) is left)))
 
     -- the whole file was read
-    pub whole_on : Stands remaining failures limit first now marked part.End → limit.after ≡ None → IsRead remaining failures limit first (left_by part.End now) marked.sink marked.mark
+    pub whole_on : Stands remaining failures limit first now marked part.End → limit.after ≡ None → IsRead remaining failures limit first (left_by {F = Refused} part.End now) marked.sink marked.mark
     whole_on stands whole = by_end (stops part.End stands) where
-      by_end : StopsAt remaining RefusesMessage limit marked.mark.count now stands.last.sink part.End marked.sink → IsRead remaining failures limit first (left_by part.End now) marked.sink marked.mark
+      by_end : StopsAt remaining RefusesMessage limit marked.mark.count now stands.last.sink part.End marked.sink → IsRead remaining failures limit first (left_by {F = Refused} part.End now) marked.sink marked.mark
       by_end (same, before, end) =
           read part.End stands (inr (inr (whole, ends_here now remaining end))) (counts part.End stands) (inr (inr (whole, left part.End stands)))
 
@@ -218,11 +207,11 @@ module _ {R : Type 0} (remaining : R → Option (List ℕ)) (failures : R → Fa
           (tt, read part.Full stands (inl (wanted ∙ ap Some (sym is), refl)) (counts part.Full stands) (part_leaves limit first marked.mark.count now (left part.Full stands)))
     all_on part.Late stands none = by_late (stops part.Late stands) where
       by_late : StopsAt remaining RefusesMessage limit marked.mark.count now stands.last.sink part.Late marked.sink
-          → GoesOn {F = Refused} part.Late × IsRead remaining failures limit first (left_by part.Late now) marked.sink marked.mark
+          → GoesOn {F = Refused} part.Late × IsRead remaining failures limit first (left_by {F = Refused} part.Late now) marked.sink marked.mark
       by_late (same, before, (p, next, full, room, late)) = (
         tt,
         read part.Late stands (inr (inl (before, (p, (full, passed_off now remaining p next), late)))) (counts part.Late stands)
-            (part_leaves limit first marked.mark.count (left_by part.Late now) (left part.Late stands)),
+            (part_leaves limit first marked.mark.count (left_by {F = Refused} part.Late now) (left part.Late stands)),
       )
     all_on part.End stands is = absurd (cc)
     all_on (part.Frame f) stands is = absurd (cc)

@@ -33,11 +33,12 @@ use Rattle.itch_join.specs.declared.fault.Cause.{Cause}
 use Rattle.itch_join.specs.declared.fault.Cause.TheVariants as cause
 use Rattle.itch_join.specs.Rules as rules
 use Rattle.itch_join.specs.Rules.{Rules, first_bad, refused_by, market_rules, rules_of}
-use Rattle.itch_join.proofs.SkippedMessages.{faultless_skips, refused_here, effect_here, memory_here, refused_skipped, effect_skipped}
+use Rattle.itch_snapshot.proofs.SkippedMessages.{faultless_skips}
+use Rattle.itch_join.proofs.SkippedMessages.{refused_here, effect_here, memory_here, refused_skipped, effect_skipped}
 use Rattle.itch_join.proofs.SetSnapshots.{same_only}
-use Rattle.itch_commands.specs.AsRead.{idle, as_read}
+use Rattle.itch_snapshot.specs.AsRead.{idle, as_read}
 use Rattle.itch_commands.specs.Joining.{from_number}
-use Rattle.itch_commands.proofs.AsRead.{idle_clean, idle_read, read_skipped, read_stays}
+use Rattle.itch_snapshot.proofs.AsRead.{idle_clean, idle_read, read_skipped, read_stays}
 
 module _ (wanted : ℕ → Bool) where
   abbrev R : Rules

@@ -19,6 +19,7 @@ use Rattle.itch_frame.proofs.BlockLemmas.{consumed_more, each-push}
 use Rattle.itch_frame.proofs.Writes.{Appends-more}
 use Rattle.itch_day.specs.Limits.{IsBefore, IsEarly, IsNotLate, is_late}
 use Rattle.itch_day.specs.Parts.{Counts as CountsPart, IsNext, Leaves, ReadsPart, StopsAt, Takes}
+use Rattle.itch_day.specs.Passing.{left_by}
 use Rattle.itch_day.specs.Sinks.{TakesAll}
 use Rattle.itch_day.specs.declared.limit.Limit.{Limit}
 use Rattle.itch_day.specs.declared.stop.Stop.{Stop as Part}
@@ -33,11 +34,11 @@ use Rattle.itch_market.specs.declared.stop.Stop.{Stop}
 use Rattle.itch_market.specs.declared.stop.Stop.TheVariants as stop
 use Rattle.itch_market.proofs.DayParts.{full_count}
 use Rattle.itch_market.proofs.LeftReaders.{late_left, stop_left}
-use Rattle.itch_market.proofs.PassedBlocks.{cut_not_going, ends_here, is_not_going, never_next, passed_going, passed_off, passed_reader}
+use Rattle.itch_day.proofs.PassedBlocks.{cut_not_going, ends_here, is_not_going, never_next, passed_going, passed_off, passed_reader}
 use Rattle.itch_commands.specs.Choices.{Chosen, chosen_after, chosen_past, chosen_line, chosen_lines}
 use Rattle.itch_commands.specs.Outputs.{Wrote}
 use Rattle.itch_commands.specs.Readings.{LeavesDay}
-use Rattle.itch_commands.specs.Showing.{IsClean, IsFaultOf, IsLeft, IsNoRule, ReadsOff, ShowsMessage, ShowsPart, ShowsUntil, WithholdsMessage, answer_of, ended_show, left_by, line_after, lines_from}
+use Rattle.itch_commands.specs.Showing.{IsClean, IsFaultOf, IsNoRule, ReadsOff, ShowsMessage, ShowsPart, ShowsUntil, WithholdsMessage, answer_of, ended_show, line_after, lines_from}
 use Rattle.itch_commands.specs.Sought.{are_found}
 use Rattle.itch_commands.specs.declared.fault.Source.{Source}
 use Rattle.itch_commands.specs.declared.fault.Source.TheVariants.{Only}
@@ -105,17 +106,6 @@ is_early limit p clean not_late = by_test (is_late limit.until (message_of p)) r
 are_early : (limit : Limit) (ps : List (List ℕ)) → AllByRecursion IsClean ps → AllByRecursion (IsNotLate limit) ps → AllByRecursion (IsEarly limit) ps
 are_early limit [] clean early = tt
 are_early limit (p ∷ ps) clean early = (is_early limit p clean.0 early.0, are_early limit ps clean.1 early.1)
-
-module _ {R T : Type 0} (remaining : R → Option (List ℕ)) (refuses : T → ℕ → List ℕ → ToolFault → T → Type 0) (limit : Limit) (new : Reading R) (count : ℕ) (last t : T) where
-  -- what is held where it stops is the block that is not shown
-  pub shown_held : (why : Part ToolFault) → StopsAt remaining refuses limit count new last why t → IsLeft why new
-  shown_held part.Full stops = tt
-  shown_held part.Late (same, before, (p, next, some, few, late)) = λ going. (p, next.0)
-  shown_held part.End (same, before, inl (ended, none, at_end)) = λ going. absurd (is_not_going (sym ended ∙ going))
-  shown_held part.End (same, before, inr next) = λ going. ([], next.0)
-  shown_held (part.Frame fault) stops = tt
-  shown_held part.TooMany (same, before, (p, next, some, many)) = λ going. (p, next.0)
-  shown_held (part.Refused why) (before, (p, next, some, few, not_late, withheld)) = λ going. (p, next.0)
 
 module _ {W T N M : Type 0} (contents : W → Option (List ℕ)) (failures : W → Failures) (at : T → W) (name : T → N) (choice_name : T → M) (form : T → ShowForm) (choice : T → Chosen) where
   -- a sink that writes to what it lends
@@ -349,14 +339,10 @@ module _ {W T N M : Type 0} (contents : W → Option (List ℕ)) (failures : W �
       at_refused (tool.Short file k) (named, choice_named, (clean, never)) = absurd never
       at_refused tool.OutOfMemory (named, choice_named, (clean, never)) = absurd never
       at_refused (tool.Open file error) (named, choice_named, (clean, never)) = absurd never
-      at_refused tool.BadUser (named, choice_named, (clean, never)) = absurd never
-      at_refused tool.BadPassword (named, choice_named, (clean, never)) = absurd never
       at_refused (tool.Unmet unmet) (named, choice_named, (clean, never)) = absurd never
       at_refused (tool.Misfit misfit) (named, choice_named, (clean, never)) = absurd never
       at_refused tool.BadLocates (named, choice_named, (clean, never)) = absurd never
       at_refused tool.TooMany (named, choice_named, (clean, never)) = absurd never
-      at_refused (tool.Soup f) (named, choice_named, (clean, never)) = absurd never
-      at_refused (tool.Socket error) (named, choice_named, (clean, never)) = absurd never
       at_refused (tool.Snap file f) (named, choice_named, (clean, never)) = absurd never
       at_refused tool.UnknownLocate (named, choice_named, (clean, never)) = absurd never
       at_refused tool.UnknownStock (named, choice_named, (clean, never)) = absurd never

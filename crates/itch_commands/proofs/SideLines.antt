@@ -8,12 +8,13 @@ use Rattle.std.proofs.lemmas.Grind.{flat_map-append}
 use Rattle.itch_codec.specs.declared.orders.Side.{Side}
 use Rattle.itch_book.specs.declared.order.Order.{Order}
 use Rattle.itch_book.specs.Orders.{next_price, level_total, queue, is_worse, IsBook}
+use Rattle.itch_book.specs.Prices.{prices}
 use Rattle.itch_frame.specs.declared.tally.Failures.{Failures}
 use Rattle.itch_commands.specs.declared.fault.ToolFault.{ToolFault}
-use Rattle.itch_commands.specs.Books.{first_of, next_wanted, prices, price_line, side_lines}
+use Rattle.itch_commands.specs.Books.{first_of, next_wanted, price_line, side_lines}
 use Rattle.itch_commands.specs.Outputs.{WritesText}
 use Rattle.itch_commands.proofs.JoinedTexts.{text_then, text_fails}
-use Rattle.itch_commands.proofs.QueuePrices.{DonePrices, none_done, next_parts, one_done, none_left, level_is}
+use Rattle.itch_book.proofs.QueuePrices.{DonePrices, none_done, next_parts, one_done, none_left, level_is}
 
 -- the line of the totals that a book gives is that of the price
 total_line : (line : Side → ℕ → ℕ → ℕ → List ℕ) (orders : List Order) (l : ℕ) (s : Side) (price : ℕ) (total : ℕ × ℕ) → total ≡ level_total orders l s price

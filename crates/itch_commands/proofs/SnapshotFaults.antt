@@ -15,8 +15,8 @@ use Rattle.itch_snapshot.specs.Files.{IsFaultOf}
 use Rattle.itch_snapshot.specs.TakenMessages.{TakesNext}
 use Rattle.itch_snapshot.specs.Reads.{ReadsNext, IsDecidedFault}
 use Rattle.itch_snapshot.proofs.KnownFiles.{reads_fault, ends_here}
-use Rattle.itch_commands.specs.AsRead.{as_read, TakesAs, ReadsNextAs, ReadsAs, IsFaultAs}
-use Rattle.itch_commands.proofs.AsRead.{read_full, all_full}
+use Rattle.itch_snapshot.specs.AsRead.{as_read, TakesAs, ReadsNextAs, ReadsAs, IsFaultAs}
+use Rattle.itch_snapshot.proofs.AsRead.{read_full, all_full}
 
 module _ (wanted : ℕ → Bool) (b c : List ℕ) (ps : List (List ℕ)) (n : Content) (takes : TakesAs (as_read wanted) (Some b) (Some c) ps n) (few : length ps ≤ 10 ^ 19 - 1) where
   abbrev read : List ℕ → List ℕ

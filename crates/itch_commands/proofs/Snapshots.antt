@@ -1,46 +1,33 @@
 -- The snapshot of what a file's messages leave.
 use Rattle.std.proofs.Common.{◌≡◌, ℕ, ◌+◌, ◌<◌, ◌≤◌, ◌^◌, List, ◌++◌, map, length, Bool, true, not, Option, None, Some, Ok, refl, sym, ap, subst, ◌∙◌, arith}
-use Rattle.std.specs.List.{AllByRecursion}
 use Rattle.std.specs.Option.{option_copied}
-use Rattle.std.proofs.lemmas.List.{length-map}
 use Rattle.std.proofs.lemmas.List.Filters.{length-filter_both}
 use Rattle.itch_book.proofs.Lists.{All-map_rec}
 use Rattle.itch_codec.specs.Messages.{message_of, spelling}
 use Rattle.itch_codec.specs.declared.message.Message.{Message}
 use Rattle.itch_frame.specs.Blocks.{blocks}
 use Rattle.itch_codec.specs.Widths.{IsMessage}
-use Rattle.itch_market.specs.Content.{Content, empty, laid}
+use Rattle.itch_market.specs.Content.{Content, empty}
 use Rattle.itch_market.specs.GoodMarkets.{IsGood}
 use Rattle.itch_market.specs.Partial.{skips, kept, only}
 use Rattle.itch_market.specs.Runs.{AreMessages, run, Follows}
 use Rattle.itch_market.specs.Wanted.{Wanted, has}
-use Rattle.itch_market.specs.Replays.{Fits, NoCause}
 use Rattle.itch_market.proofs.Causes.{none_follows}
 use Rattle.itch_market.proofs.GoodMarkets.{run_good}
-use Rattle.itch_market.proofs.SameMarkets.{laid_is_same}
 use denote.Ref.{Bor}
 use Rattle.itch_snapshot.specs.Bytes.{canon, closing}
 use Rattle.itch_snapshot.specs.Cursor.{cut_to}
 use Rattle.itch_snapshot.specs.Snapshot.{snap}
 use Rattle.itch_snapshot.specs.Reads.{ReadsSnapshot}
 use Rattle.itch_snapshot.proofs.PartialSnapshots.{snap_only}
-use Rattle.itch_snapshot.proofs.OneSnapshot.{snap_same, snap-laid}
-use Rattle.itch_snapshot.proofs.Sizes.{short_snap}
+use Rattle.itch_snapshot.proofs.OneSnapshot.{snap-laid}
 use Rattle.itch_snapshot.proofs.CanonicalBytes.{canon-laid}
+use Rattle.itch_snapshot.proofs.DaySnapshots.{taken_short}
 use Rattle.itch_commands.specs.Outputs.{snapshot_of, snapshot_in, directory_after, stocks_snapshot}
 use Rattle.itch_commands.specs.Stocks.{are_known, has_one_of, only_stocks, IsStockFault}
 use Rattle.itch_commands.specs.declared.fault.ToolFault.{ToolFault}
 use Rattle.itch_day.specs.declared.limit.Limit.{Limit}
-use Rattle.itch_commands.proofs.DayReadings.{Applied}
-
--- what was taken from the empty market has no more messages than were taken
-pub taken_short : (ps : List (List ℕ)) (n : Content) → AllByRecursion Fits ps → NoCause empty ps → n ≡ laid (run (map message_of ps)) → length (snap n) ≤ length ps
-taken_short ps n fits none left =
-    let ms = map message_of ps in
-    let fit : AreMessages ms = All-map_rec IsMessage message_of ps fits in
-    let follow : Follows ms = none_follows empty ps none in
-    let same : snap n ≡ snap (run ms) = ap snap left ∙ snap_same (laid (run ms)) (run ms) (laid_is_same (run ms) (run_good ms fit follow)) in
-    omega (arith, ap length same, short_snap ms fit follow, length-map ps message_of)
+use Rattle.itch_market.proofs.DayMessages.{Applied}
 
 -- what a snapshot file was read as can be written
 pub read_short : (old new : Option (List ℕ)) (done : Content × ℕ) → ReadsSnapshot old new (Ok done) → length (snap done.0) < 10 ^ 19

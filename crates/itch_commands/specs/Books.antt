@@ -1,5 +1,5 @@
 -- The lines of the books of locates.
-use Rattle.std.specs.Prelude.{◌≡◌, ℕ, zero, suc, ◌<◌, ◌==◌, ◌⊎◌, ⊤, Bool, true, not, List, [], ◌∷◌, ◌++◌, length, take, Option, None, Some, IsSome, Result, Ok, Err}
+use Rattle.std.specs.Prelude.{◌≡◌, ℕ, zero, suc, ◌<◌, ◌⊎◌, ⊤, Bool, true, List, [], ◌++◌, length, take, Option, None, Some, IsSome, Result, Ok, Err}
 use Rattle.std.specs.List.{filter, sum_by, flat_map}
 use Rattle.std.specs.FinMap as finite
 use Rattle.itch_codec.specs.Text.{before_spaces}
@@ -7,17 +7,13 @@ use Rattle.itch_codec.specs.declared.orders.Side.{Side}
 use Rattle.itch_codec.specs.declared.orders.Side.TheVariants.{Buy, Sell}
 use Rattle.itch_book.specs.declared.order.Order.{Order}
 use Rattle.itch_book.specs.Orders.{queue, is_at_price}
+use Rattle.itch_book.specs.Prices.{prices}
 use Rattle.itch_market.specs.Content.{Content, Listing, Securities}
 use Rattle.itch_market.specs.Wanted.{Wanted, has}
 use Rattle.itch_commands.specs.Forms.{head, title, row}
 use Rattle.itch_commands.specs.declared.fault.ToolFault.{ToolFault}
 use Rattle.itch_commands.specs.declared.fault.ToolFault.TheVariants as tool
 use Rattle.itch_commands.specs.declared.form.BookForm.{BookForm}
-
--- the prices of these orders, each once, in the order in which they first come
-abbrev pub prices : List Order → List ℕ
-prices [] = []
-prices (x ∷ xs) = x.price ∷ filter (λ price. not (price == x.price)) (prices xs)
 
 -- the line of a price: of the shares of all orders at it, and of the number of these orders
 abbrev pub price_line : (Side → ℕ → ℕ → ℕ → List ℕ) → Side → List Order → ℕ → List ℕ

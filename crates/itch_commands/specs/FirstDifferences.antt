@@ -1,26 +1,22 @@
 -- The least number of messages after which the markets of two day files differ.
-use Rattle.std.specs.Prelude.{◌≡◌, ℕ, ◌+◌, ◌<◌, ◌≤◌, Bool, true, false, ◌-◌, ◌^◌, ◌==◌, ◌⊎◌, List, ◌++◌, map, take, length, codes, decimal, Option, None, Some, IfSome, Result, Ok, Err, ⊤}
+use Rattle.std.specs.Prelude.{◌≡◌, ℕ, ◌+◌, ◌<◌, ◌≤◌, ◌⊎◌, List, ◌++◌, map, take, length, codes, decimal, Option, None, Some, Result, Ok, Err}
 use Rattle.std.specs.Io.KnownBytes.{Consumes}
 use Rattle.itch_codec.specs.Messages.{message_of}
-use Rattle.itch_codec.specs.declared.message.Message.{Message}
 use Rattle.itch_frame.specs.Blocks.{blocks}
 use Rattle.itch_frame.specs.Reading.{Reading, bytes_left}
 use Rattle.itch_frame.specs.declared.tally.Failures.{Failures}
-use Rattle.itch_market.specs.Content.{Content}
-use Rattle.itch_market.specs.Effects.{effect}
-use Rattle.itch_market.specs.Plain.{plain}
-use Rattle.itch_market.specs.Replays.{Counts, LeavesReaderFirst, TakesOff}
 use Rattle.itch_market.specs.Runs.{run}
 use Rattle.itch_market.specs.SameMarkets.{Same}
 use Rattle.itch_market.specs.declared.stop.Stop.{Stop}
-use Rattle.itch_market.specs.declared.stop.Stop.TheVariants.{End}
-use Rattle.itch_commands.specs.Readings.{AreTaken, IsPart, ReadsDay, TakesNext, TakesPayload, stopped}
+use Rattle.itch_commands.specs.Readings.{ReadsDay, stopped}
+use Rattle.itch_market.specs.DayMessages.{AreTaken, IsPart}
 use Rattle.itch_commands.specs.declared.fault.Source.{Source}
 use Rattle.itch_commands.specs.declared.fault.Source.TheVariants.{First, Second}
 use Rattle.itch_commands.specs.declared.fault.ToolFault.{ToolFault}
 use Rattle.itch_commands.specs.declared.fault.ToolFault.TheVariants as tool
 use Rattle.itch_commands.specs.declared.form.Form.{Form}
 use Rattle.itch_commands.specs.declared.form.Form.TheVariants as form
+use Rattle.itch_day.specs.Limits.{IsWithin}
 use Rattle.itch_day.specs.declared.limit.Limit.{Limit}
 
 -- the markets after k messages of each are the same; of fewer payloads all count
@@ -35,10 +31,6 @@ pub record IsFirstDifference (p q : List (List ℕ)) (n : ℕ) : Type 0 where
 -- the same part of a file, but with this many messages
 abbrev pub limited_to : ℕ → Limit → Limit
 limited_to count limit = record { after = Some count; until = limit.until }
-
--- no fewer messages than this are wanted, where a number is
-abbrev pub IsWithin : Limit → ℕ → Type 0
-IsWithin limit count = IfSome limit.after (λ most. count ≤ most)
 
 -- the first messages of the part of a file that is wanted, as many as this; or all of them, if there are fewer
 abbrev pub IsFront : Limit → ℕ → List ℕ → List (List ℕ) → Type 0
@@ -61,47 +53,14 @@ count_of (tool.Stopped at end) = Some end.count
 count_of (tool.Short at count) = Some count
 count_of fault = None
 
--- what a message changes: what the plainest one with its effect does, or nothing in any market
-abbrev pub IsChange : Content → Message → Option Message → Type 0
-IsChange m message (Some change) = change ≡ plain m message
-IsChange m message None = (k : Content) → effect k message ≡ k
-
--- a message of a payload is applied, and what it changes is known; or it is late, or the reading stops
-abbrev pub TakesChange : Limit → Content → List ℕ → Result Bool Stop → Option Message → Content → Type 0
-TakesChange limit m payload (Ok true) change n = TakesPayload limit m payload (Ok true) n × IsChange m (message_of payload) change
-TakesChange limit m payload (Ok false) change n = TakesPayload limit m payload (Ok false) n × (change ≡ None)
-TakesChange limit m payload (Err stop) change n = TakesPayload limit m payload (Err stop) n
-
--- the next message is applied, and this is what it changes
-abbrev pub AppliesNext : Limit → Bool → Content → Option (List ℕ) → Option (List ℕ) → Option Message → Content → Type 0
-AppliesNext limit full m old new change n =
-    (payload : List ℕ) × TakesOff old new payload × (full ≡ false) × TakesPayload limit m payload (Ok true) n × IsChange m (message_of payload) change
-
--- what one block does
-abbrev pub ReadsChange : Limit → Bool → Content → Option (List ℕ) → Option (List ℕ) → Result Bool Stop → Option Message → Content → Type 0
-ReadsChange limit full m old new (Ok true) change n = AppliesNext limit full m old new change n
-ReadsChange limit full m old new (Ok false) change n = TakesNext limit full m old new (Ok false) n × (change ≡ None)
-ReadsChange limit full m old new (Err stop) change n = TakesNext limit full m old new (Err stop) n
-
--- what a step returns where a file stops after this many messages: there is none, unless more are wanted
-abbrev pub over : Stop → Limit → Source → ℕ → Result Bool ToolFault
-over stop limit file count = none_of (stopped stop limit.after file count)
+-- what ends the comparison where a file stops after this many messages: nothing, unless more are wanted
+abbrev pub over : Option Stop → Limit → Source → ℕ → Result (Unit {0}) ToolFault
+over None limit file count = Ok tt
+over (Some stop) limit file count = done (stopped stop limit.after file count)
   where
-    none_of : Result ℕ ToolFault → Result Bool ToolFault
-    none_of (Ok count) = Ok false
-    none_of (Err fault) = Err fault
-
--- where the reader of blocks is left: after the message, whether it is applied or late, or where the reading stopped
-abbrev pub LeavesChange : {R : Type 0} → Result Bool Stop → Reading R → Reading R → Type 0
-LeavesChange (Ok goes) old new = LeavesReaderFirst old 1 None new
-LeavesChange (Err stop) old new = LeavesReaderFirst old 0 (Some stop) new
-
--- Changes of two markets that are the same leave the same: the same plainest messages do, and one that changes nothing beside no change.
-abbrev pub AreAlike : Option Message → Option Message → Type 0
-AreAlike None None = ⊤
-AreAlike (Some one) (Some other) = one ≡ other
-AreAlike (Some one) None = (m : Content) → effect m one ≡ m
-AreAlike None (Some other) = (m : Content) → effect m other ≡ m
+    done : Result ℕ ToolFault → Result (Unit {0}) ToolFault
+    done (Ok count) = Ok tt
+    done (Err fault) = Err fault
 
 module _ {R : Type 0} (remaining : R → Option (List ℕ)) (failures : R → Failures) where
   -- What was read of a file after this many messages of each: as many, and nothing after them; or all that is wanted, if that is fewer.
@@ -116,27 +75,6 @@ module _ {R : Type 0} (remaining : R → Option (List ℕ)) (failures : R → Fa
     pub counted : count_of fault ≡ Some (length payloads)
     pub taken : AreTaken limit payloads
     pub front : (mid : Option (List ℕ)) × Consumes (bytes_left remaining old) mid (blocks payloads)
-
-  -- the next message is not applied, and no other one is
-  abbrev pub StopsAt : Limit → ℕ → Content → Reading R → Reading R → Stop → Content → Type 0
-  StopsAt limit count m old new stop n =
-      TakesNext limit (count == 10 ^ 19 - 1) m (bytes_left remaining old) (bytes_left remaining new) (Err stop) n
-      × Counts stop (failures old.reader) (failures new.reader) × LeavesReaderFirst old 0 (Some stop) new
-
-  -- What a step of a file does after this many messages: nothing if no more of it is wanted; otherwise it applies the next one, and
-  -- gives what that changes, or finds that there is none.
-  abbrev pub Steps : Source → Limit → ℕ → Bool → Content → Reading R → Reading R → Result Bool ToolFault → Option Message → Content → Type 0
-  Steps file limit count false m old new result change n = (result ≡ Ok false) × (change ≡ None) × (n ≡ m) × (new ≡ old)
-  Steps file limit count true m old new (Ok true) change n =
-      AppliesNext limit (count == 10 ^ 19 - 1) m (bytes_left remaining old) (bytes_left remaining new) change n
-      × (failures new.reader ≡ failures old.reader) × LeavesReaderFirst old 1 None new
-  Steps file limit count true m old new (Ok false) change n =
-      (change ≡ None)
-      × ((TakesNext limit (count == 10 ^ 19 - 1) m (bytes_left remaining old) (bytes_left remaining new) (Ok false) n
-      × (failures new.reader ≡ failures old.reader) × LeavesReaderFirst old 1 None new)
-      ⊎ ((limit.after ≡ None) × StopsAt limit count m old new End n))
-  Steps file limit count true m old new (Err fault) change n =
-      (stop : Stop) × (stopped stop limit.after file count ≡ Err fault) × StopsAt limit count m old new stop n
 
 module _ {R S : Type 0} (remaining : R → Option (List ℕ)) (failures : R → Failures) (remaining_then : S → Option (List ℕ)) (failed_then : S → Failures) where
   -- the first file is refused, and the markets before that were the same

@@ -21,11 +21,12 @@ use Rattle.itch_commands.specs.declared.feed_part.FeedPart.{FeedPart}
 use Rattle.itch_commands.specs.declared.feed_part.Misfit.TheVariants.{Late}
 use Rattle.itch_day.specs.declared.limit.Limit.{Limit}
 use Rattle.itch_commands.specs.declared.fault.Source.TheVariants.{Only, Snapshot}
-use Rattle.itch_commands.specs.AsRead.{ReadsAs, IsFaultAs, HaltsAs}
+use Rattle.itch_snapshot.specs.AsRead.{ReadsAs, IsFaultAs, HaltsAs}
 use Rattle.itch_commands.specs.FeedParts.{number_after, misfit_of, part_of}
 use Rattle.itch_day.specs.Limits.{IsBefore, IsNotLate}
 use Rattle.itch_market.specs.DayParts.{LateNext}
-use Rattle.itch_commands.specs.Readings.{IsPart, LeavesDay}
+use Rattle.itch_commands.specs.Readings.{LeavesDay}
+use Rattle.itch_market.specs.DayMessages.{IsPart}
 
 -- the market that a snapshot leaves, and the number of the first message of the feed that is not in it
 abbrev pub Start : Type 0

@@ -7,6 +7,7 @@ pub mod Files
 pub mod Outputs
 pub mod Canons
 pub mod Causes
+pub mod Changes
 pub mod Choices
 pub mod Showing
 pub mod Sought
@@ -14,7 +15,6 @@ pub mod Comparing
 pub mod FirstDifferences
 pub mod Forms
 pub mod Books
-pub mod AsRead
 pub mod FeedParts
 pub mod Marks
 pub mod Joining
@@ -25,4 +25,3 @@ pub mod Runs
 pub mod Stocks
 pub mod Requests
 pub mod Expectations
-pub mod Endings

@@ -15,7 +15,8 @@ use Rattle.itch_day.specs.declared.stop.Stop.TheVariants.{End}
 use Rattle.itch_market.specs.Content.{Content, empty, laid}
 use Rattle.itch_market.specs.Replays.{Fits}
 use Rattle.itch_market.specs.Runs.{run}
-use Rattle.itch_market.specs.Takings.{RefusesMessage, TakesMessage, left_by}
+use Rattle.itch_day.specs.Passing.{left_by}
+use Rattle.itch_market.specs.Takings.{RefusesMessage, TakesMessage}
 use Rattle.itch_market.specs.declared.refused.Refused.{Refused}
 use Rattle.itch_commands.specs.Readings.{ReadsDay}
 use Rattle.itch_commands.specs.declared.fault.Source.{Source}
@@ -59,6 +60,6 @@ module _ {R : Type 0} (remaining : R → Option (List ℕ)) (failures : R → Fa
       (stop : Stop Refused) × GoesOn stop × Stands (counted (Some most)) first now marked stop
       × IsRead (counted (Some most)) first (left_by stop now) marked.sink marked.mark
   ReadsMore most first now (Ok false) marked =
-      (marked.mark.count < most) × Stands (counted None) first now marked End × IsRead (counted None) first (left_by End now) marked.sink marked.mark
+      (marked.mark.count < most) × Stands (counted None) first now marked End × IsRead (counted None) first (left_by {F = Refused} End now) marked.sink marked.mark
   ReadsMore most first now (Err fault) marked =
       (stop : Stop Refused) × ReadsDay remaining failures Only (counted (Some most)) first (left_by stop now) (Err fault)

@@ -1,65 +1,21 @@
 -- How a command reads the messages of a day file into a new market.
-use Rattle.std.specs.Prelude.{◌≡◌, ◌≢◌, ℕ, ◌+◌, ◌-◌, ◌^◌, ◌≤◌, Bool, true, false, List, [], ◌++◌, length, ◌⊎◌, Option, Some, None, IsSome, IfSome, Result, Ok, Err}
-use Rattle.std.specs.List.{AllByRecursion}
-use Rattle.std.specs.Io.KnownBytes.{Consumes}
-use Rattle.itch_frame.specs.Blocks.{block, blocks, Ends, IsFull, Day}
+use Rattle.std.specs.Prelude.{◌≡◌, ◌≢◌, ℕ, ◌+◌, List, [], length, ◌⊎◌, Option, Some, None, IsSome, IfSome, Result, Ok, Err}
 use Rattle.itch_frame.specs.Reading.{Reading, bytes_left}
 use Rattle.itch_frame.specs.declared.reader.Stage.TheVariants.{Going}
 use Rattle.itch_frame.specs.declared.tally.Failures.{Failures}
 use Rattle.itch_market.specs.Content.{Content, empty}
-use Rattle.itch_market.specs.DayParts.{HaltsEarly, HaltsPart, IsEnough, LateNext, TakesPart}
+use Rattle.itch_market.specs.DayMessages.{AreTaken, IsPart, IsShort, LeavesPart}
+use Rattle.itch_market.specs.DayParts.{HaltsPart, TakesPart}
 use Rattle.itch_market.specs.declared.stop.Stop.{Stop}
-use Rattle.itch_market.specs.declared.stop.Stop.TheVariants.{End, Rule}
-use Rattle.itch_market.specs.Replays.{NoCause, TakesOff, TakesOne, Counts, LeavesReaderFirst, IsDecided}
+use Rattle.itch_market.specs.declared.stop.Stop.TheVariants.{End}
+use Rattle.itch_market.specs.Replays.{Counts, LeavesReaderFirst, IsDecided}
 use Rattle.itch_market.specs.Stops.{Stops}
 use Rattle.itch_snapshot.specs.Files.{IsFaultOf, IsMarketOf}
 use Rattle.itch_snapshot.specs.Reads.{ReadsSnapshot, CountsFault, IsDecidedFault}
-use Rattle.itch_day.specs.Limits.{IsEarly, IsLate, IsBefore}
 use Rattle.itch_commands.specs.declared.fault.ToolFault.{ToolFault}
 use Rattle.itch_commands.specs.declared.fault.ToolFault.TheVariants as tool
 use Rattle.itch_commands.specs.declared.fault.Source.{Source}
 use Rattle.itch_day.specs.declared.limit.Limit.{Limit}
-
--- these payloads were taken in order, from the empty market: none is empty, faulty, refused or late
-pub record AreTaken (limit : Limit) (payloads : List (List ℕ)) : Type 0 where
-  pub full : AllByRecursion IsFull payloads
-  pub taken : NoCause empty payloads
-  pub few : length payloads ≤ 10 ^ 19 - 1
-  pub early : AllByRecursion (IsEarly limit) payloads
-
--- a file whose payloads are these, and which then ends
-abbrev pub IsWhole : List ℕ → List (List ℕ) → Type 0
-IsWhole bytes payloads = (rest : List ℕ) × Day bytes payloads rest × Ends rest
-
--- the bytes begin with the block of a message that is late
-abbrev pub StartsLate : Limit → List ℕ → Type 0
-StartsLate limit bytes = (payload : List ℕ) × (rest : List ℕ) × (bytes ≡ block payload ++ rest) × IsFull payload × IsLate limit payload
-
--- no message is wanted after this many: no more are, or the next one is late, or the file ends
-abbrev pub IsCut : Limit → ℕ → List ℕ → Type 0
-IsCut limit count rest = (limit.after ≡ Some count) ⊎ (IsBefore limit count × StartsLate limit rest) ⊎ ((limit.after ≡ None) × Ends rest)
-
--- the payloads of the part of a file that is wanted, with their blocks one after the other
-abbrev pub IsPart : Limit → List ℕ → List (List ℕ) → Type 0
-IsPart limit bytes payloads = (rest : List ℕ) × (bytes ≡ blocks payloads ++ rest) × IsCut limit (length payloads) rest
-
--- fewer messages than are wanted
-abbrev pub IsShort : Limit → ℕ → Type 0
-IsShort limit count = IsSome limit.after × IsBefore limit count
-
--- what a message of a payload does: it is applied, or it is late, or the reading stops
-abbrev pub TakesPayload : Limit → Content → List ℕ → Result Bool Stop → Content → Type 0
-TakesPayload limit m payload (Ok true) n = IsEarly limit payload × TakesOne m payload (Ok tt) n
-TakesPayload limit m payload (Ok false) n = (n ≡ m) × IsLate limit payload
-TakesPayload limit m payload (Err (Rule why)) n = TakesOne m payload (Err (Rule why)) n × IsEarly limit payload
-TakesPayload limit m payload (Err stop) n = TakesOne m payload (Err stop) n
-
--- what one block does
-abbrev pub TakesNext : Limit → Bool → Content → Option (List ℕ) → Option (List ℕ) → Result Bool Stop → Content → Type 0
-TakesNext limit full m old new (Ok true) n =
-    (payload : List ℕ) × TakesOff old new payload × (full ≡ false) × IsEarly limit payload × TakesOne m payload (Ok tt) n
-TakesNext limit full m old new (Ok false) n = (n ≡ m) × LateNext limit old new
-TakesNext limit full m old new (Err stop) n = (n ≡ m) × HaltsEarly limit full m old new stop
 
 -- what an end of the file returns after this many messages: none is missing where no number is wanted
 abbrev pub ended : Option ℕ → Source → ℕ → Result ℕ ToolFault
@@ -82,10 +38,6 @@ ReadsMarket file limit m old new (Err fault) n = ⊥
 abbrev pub CountsRead : {X : Type 0} → Result X ToolFault → Failures → Failures → Type 0
 CountsRead (Err (tool.Stopped at end)) old new = Counts end.stop old new
 CountsRead result old new = new ≡ old
-
--- the payloads came off the front, and no more is wanted
-abbrev pub LeavesPart : Limit → Option (List ℕ) → Option (List ℕ) → List (List ℕ) → Type 0
-LeavesPart limit old new payloads = (mid : Option (List ℕ)) × Consumes old mid (blocks payloads) × IsEnough limit (length payloads) mid new
 
 -- where the reader of blocks is left: after the messages that were wanted, or after the one that is late, or at the end of the file
 abbrev pub LeavesDay : {R : Type 0} → Result ℕ ToolFault → Limit → Reading R → Reading R → Type 0

@@ -5,10 +5,9 @@ use Rattle.std.specs.Io.KnownBytes.{Consumes, Appends}
 use Rattle.std.specs.declared.io.Error.{Error}
 use Rattle.itch_codec.specs.Messages.{fault, message_of}
 use Rattle.itch_codec.specs.declared.message.Message.TheVariants as is
-use Rattle.itch_frame.specs.Blocks.{blocks, IsBlock, IsFull}
+use Rattle.itch_frame.specs.Blocks.{blocks, IsFull}
 use Rattle.itch_frame.specs.Counting.{failed}
-use Rattle.itch_frame.specs.Reading.{Reading, bytes_left, passed}
-use Rattle.itch_frame.specs.declared.reader.Stage.TheVariants.{Going}
+use Rattle.itch_frame.specs.Reading.{Reading, bytes_left}
 use Rattle.itch_frame.specs.declared.tally.Failures.{Failures}
 use Rattle.itch_market.specs.Content.{Content, empty}
 use Rattle.itch_market.specs.Replays.{Halts, Counts, LeavesReaderFirst}
@@ -19,7 +18,8 @@ use Rattle.itch_commands.specs.Choices.{Chosen, chosen_after, chosen_past, chose
 use Rattle.itch_day.specs.Limits.{IsEarly, IsBefore}
 use Rattle.itch_commands.specs.Outputs.{Wrote, WritesText}
 use Rattle.itch_market.specs.DayParts.{IsEnough}
-use Rattle.itch_commands.specs.Readings.{IsShort, LeavesDay}
+use Rattle.itch_commands.specs.Readings.{LeavesDay}
+use Rattle.itch_market.specs.DayMessages.{IsShort}
 use Rattle.itch_commands.specs.declared.fault.Source.TheVariants.{Only}
 use Rattle.itch_commands.specs.declared.fault.ToolFault.{ToolFault}
 use Rattle.itch_commands.specs.declared.fault.ToolFault.TheVariants as tool
@@ -86,24 +86,6 @@ answer_of wanted count found part.End = ended_show wanted count found
 answer_of wanted count found (part.Frame fault) = Err (tool.Stopped Only (record { count = count; stop = stop.Frame fault }))
 answer_of wanted count found part.TooMany = Err (tool.Stopped Only (record { count = count; stop = stop.TooManyMessages }))
 answer_of wanted count found (part.Refused fault) = Err fault
-
--- the reader of blocks after the block that is not shown
-abbrev pub left_by : {R : Type 0} → Part ToolFault → Reading R → Reading R
-left_by part.Full r = r
-left_by (part.Frame fault) r = r
-left_by part.Late r = passed r
-left_by part.End r = passed r
-left_by part.TooMany r = passed r
-left_by (part.Refused fault) r = passed r
-
--- what is held then is that block
-abbrev pub IsLeft : {R : Type 0} → Part ToolFault → Reading R → Type 0
-IsLeft part.Full r = Unit {0}
-IsLeft (part.Frame fault) r = Unit {0}
-IsLeft part.Late r = r.stage ≡ Going → IsBlock r.held
-IsLeft part.End r = r.stage ≡ Going → IsBlock r.held
-IsLeft part.TooMany r = r.stage ≡ Going → IsBlock r.held
-IsLeft (part.Refused fault) r = r.stage ≡ Going → IsBlock r.held
 
 -- What is returned where whether all stocks were found is known: one that was not is a fault.
 abbrev pub IfFound : (Result Bool ToolFault → Type 0) → Result Bool ToolFault → Type 0

@@ -18,7 +18,6 @@ use crate::book::rows::Rows;
 use crate::fault::{Source, ToolFault};
 use crate::form::BookForm;
 use crate::kind::{FileKind, file_market};
-use crate::order_book::Book;
 use crate::writing::write_text;
 use itch_book::OrderBook;
 use itch_codec::{Seq, Side};
@@ -33,22 +32,7 @@ pub use stocks::book_stocks;
 /// each side at most if that is given. The reader is left where the reading ended.
 ///
 /// `UnknownLocate` if the directory lacks a locate of the set: then nothing is written.
-pub fn book_blocks<R: CountedRead, B: Allocator, A: Allocator + Copy, W: CountedWrite>(
-    alloc: A,
-    only: Option<&LocateSet<A>>,
-    depth: Option<u64>,
-    reader: &mut BlockReader<R, B>,
-    kind: FileKind,
-    form: BookForm,
-    out: &mut W,
-) -> Result<bool, ToolFault>
-    ensures { ListsBooks R.remaining R.failures W.contents W.failures form (option_copied only.entry) depth kind (FromBlocks reader.old reader.new) out.old result out.new }
-{
-    book_over::<R, B, Book<A>, W>(alloc, only, depth, reader, kind, form, out)
-}
-
-// The same with any book of orders.
-fn book_over<R: CountedRead, A: Allocator, B: OrderBook, W: CountedWrite>(
+pub fn book_blocks<R: CountedRead, A: Allocator, B: OrderBook, W: CountedWrite>(
     alloc: B::Alloc,
     only: Option<&LocateSet<B::Alloc>>,
     depth: Option<u64>,

@@ -37,13 +37,13 @@ pub fn canon<R: CountedRead + Drop, A: Allocator + Copy, W: CountedWrite>(
     ensures checks { check ≡ true → ChecksCanon R.remaining R.failures W.contents W.failures (FromReader reader) out.old result out.new }
 {
     let mut reader = BlockReader::new(alloc, reader)?;
-    canon_blocks(alloc, &mut reader, check, out)
+    canon_blocks::<_, _, Book<A>, _>(alloc, &mut reader, check, out)
 }
 
 /// The same over a reader of blocks, which is left where the reading ended.
-pub fn canon_blocks<R: CountedRead, B: Allocator, A: Allocator + Copy, W: CountedWrite>(
-    alloc: A,
-    reader: &mut BlockReader<R, B>,
+pub fn canon_blocks<R: CountedRead, A: Allocator, B: OrderBook, W: CountedWrite>(
+    alloc: B::Alloc,
+    reader: &mut BlockReader<R, A>,
     check: bool,
     out: &mut W,
 ) -> Result<bool, ToolFault>
@@ -51,9 +51,9 @@ pub fn canon_blocks<R: CountedRead, B: Allocator, A: Allocator + Copy, W: Counte
     ensures checks { check ≡ true → ChecksCanon R.remaining R.failures W.contents W.failures (FromBlocks reader.old reader.new) out.old result out.new }
 {
     if check {
-        return check_canon::<R, B, Book<A>, W>(alloc, reader, out);
+        return check_canon::<R, A, B, W>(alloc, reader, out);
     }
-    write_canon::<R, B, Book<A>, W>(alloc, reader, out)
+    write_canon::<R, A, B, W>(alloc, reader, out)
 }
 
 fn write_canon<R: CountedRead, A: Allocator, B: OrderBook, W: CountedWrite>(

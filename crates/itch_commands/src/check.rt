@@ -30,7 +30,7 @@ pub fn check<R: CountedRead + Drop, A: Allocator + Copy, W: CountedWrite>(
     ensures { Checks R.remaining R.failures W.contents W.failures Text (counted None) nothing (FromReader reader) out.old result out.new }
 {
     let mut reader = BlockReader::new(alloc, reader)?;
-    check_blocks(
+    check_blocks::<_, _, Book<A>, _>(
         alloc,
         &mut reader,
         Limit::whole(),
@@ -43,21 +43,7 @@ pub fn check<R: CountedRead + Drop, A: Allocator + Copy, W: CountedWrite>(
 /// The same over a reader of blocks, for any part of the file, and in any form. The reader is left where the reading ended.
 ///
 /// What was read has to be as expected too: otherwise `Short` or `Unmet`, and nothing is written.
-pub fn check_blocks<R: CountedRead, B: Allocator, A: Allocator + Copy, W: CountedWrite>(
-    alloc: A,
-    reader: &mut BlockReader<R, B>,
-    limit: Limit,
-    expected: Expected,
-    form: Form,
-    out: &mut W,
-) -> Result<bool, ToolFault>
-    ensures { Checks R.remaining R.failures W.contents W.failures form limit expected (FromBlocks reader.old reader.new) out.old result out.new }
-{
-    check_over::<R, B, Book<A>, W>(alloc, reader, limit, expected, form, out)
-}
-
-// The same with any book of orders.
-fn check_over<R: CountedRead, A: Allocator, B: OrderBook, W: CountedWrite>(
+pub fn check_blocks<R: CountedRead, A: Allocator, B: OrderBook, W: CountedWrite>(
     alloc: B::Alloc,
     reader: &mut BlockReader<R, A>,
     limit: Limit,

@@ -10,6 +10,7 @@ ghost use Rattle.itch_commands.specs.declared.form.Form.TheVariants.{Text, Json}
 ghost use Rattle.itch_commands.specs.declared.kind.FileKind.TheVariants.{Day};
 
 mod first;
+mod tracked;
 
 use crate::fault::{Source, ToolFault};
 use crate::form::Form;
@@ -41,7 +42,7 @@ pub fn compare<R: CountedRead + Drop, S: CountedRead + Drop, A: Allocator + Copy
 {
     let mut first = BlockReader::new(alloc, first)?;
     let mut second = BlockReader::new(alloc, second)?;
-    compare_blocks(
+    compare_blocks::<_, _, _, _, Book<A>, _>(
         alloc,
         &mut first,
         &mut second,
@@ -54,28 +55,6 @@ pub fn compare<R: CountedRead + Drop, S: CountedRead + Drop, A: Allocator + Copy
 /// The same over readers of blocks, for two snapshot files or the same part of two day files, and in any form. The readers are left
 /// where the reading ended. If the first file is refused, nothing is read of the second.
 pub fn compare_blocks<
-    R: CountedRead,
-    S: CountedRead,
-    B: Allocator,
-    C: Allocator,
-    A: Allocator + Copy,
-    W: CountedWrite,
->(
-    alloc: A,
-    first: &mut BlockReader<R, B>,
-    second: &mut BlockReader<S, C>,
-    kind: FileKind,
-    form: Form,
-    out: &mut W,
-) -> Result<bool, ToolFault>
-    ensures { Compares R.remaining R.failures S.remaining S.failures W.contents W.failures form kind (FromBlocks first.old first.new) (FromBlocks second.old second.new)
-        out.old result out.new }
-{
-    compare_over::<R, S, B, C, Book<A>, W>(alloc, first, second, kind, form, out)
-}
-
-// The same with any book of orders.
-fn compare_over<
     R: CountedRead,
     S: CountedRead,
     A: Allocator,

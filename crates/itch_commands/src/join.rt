@@ -4,7 +4,7 @@ ghost use Rattle.itch_codec.specs.Widths.{IsSequence};
 ghost use Rattle.itch_market.specs.Wanted.{has};
 ghost use Rattle.itch_join.specs.Positions.{Position};
 ghost use Rattle.itch_join.specs.States.{new as fresh};
-ghost use Rattle.itch_commands.specs.AsRead.{as_read, read_by};
+ghost use Rattle.itch_snapshot.specs.AsRead.{as_read, read_by};
 ghost use Rattle.itch_commands.specs.Commands.{Joins};
 ghost use Rattle.itch_commands.specs.FeedParts.{whole};
 ghost use Rattle.itch_join.specs.Takings.{IsJoined, position_of};
@@ -56,7 +56,7 @@ pub fn join<R: CountedRead + Drop, S: CountedRead + Drop, A: Allocator + Copy, W
 {
     let mut snapshot = BlockReader::new(alloc, snapshot)?;
     let mut feed = BlockReader::new(alloc, feed)?;
-    join_blocks(
+    join_blocks::<_, _, _, _, Book<A>, _>(
         alloc,
         &mut snapshot,
         &mut feed,
@@ -80,22 +80,22 @@ pub fn join<R: CountedRead + Drop, S: CountedRead + Drop, A: Allocator + Copy, W
 pub fn join_blocks<
     R: CountedRead,
     S: CountedRead,
-    B: Allocator,
+    A: Allocator,
     C: Allocator,
-    A: Allocator + Copy,
+    B: OrderBook,
     W: CountedWrite,
 >(
-    alloc: A,
-    snapshot: &mut BlockReader<R, B>,
+    alloc: B::Alloc,
+    snapshot: &mut BlockReader<R, A>,
     feed: &mut BlockReader<S, C>,
     part: FeedPart,
-    only: Option<LocateSet<A>>,
+    only: Option<LocateSet<B::Alloc>>,
     out: &mut W,
 ) -> Result<bool, ToolFault>
     ensures { Joins R.remaining R.failures S.remaining S.failures W.contents W.failures (read_by only) part (FromBlocks snapshot.old snapshot.new) (FromBlocks feed.old feed.new)
         out.old result out.new }
 {
-    let mut joiner: Joiner<Book<A>> = new_joiner(alloc, only);
+    let mut joiner: Joiner<B> = new_joiner(alloc, only);
     join_with(&mut joiner, snapshot, feed, part, out)
 }
 

@@ -14,7 +14,7 @@ ghost use Rattle.itch_market.specs.Runs.{AreMessages, Follows, run};
 ghost use Rattle.itch_market.specs.SameMarkets.{Same};
 ghost use Rattle.itch_snapshot.specs.TakenMessages.{closing_number};
 ghost use Rattle.itch_join.specs.Rules.{Rules, market_rules, rules_of, bad, run as run_by};
-ghost use Rattle.itch_commands.specs.AsRead.{as_read};
+ghost use Rattle.itch_snapshot.specs.AsRead.{as_read};
 ghost use Rattle.itch_commands.specs.Choices.{Chosen, everything, chosen_past, are_found_in, chosen_lines, lines_of};
 ghost use Rattle.itch_commands.specs.FirstDifferences.{IsPlaceIn, IsSameIn};
 ghost use Rattle.itch_commands.specs.Sought.{sought, found_at, has_name, is_of_one, stock_past};

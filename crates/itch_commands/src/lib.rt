@@ -1,9 +1,10 @@
 //! The commands over files: each is a public function over readers and a writer.
 //!
 //! A command has a module of its own, with two functions. One takes a reader of bytes and makes the reader of their blocks, which
-//! allocates memory; the other, with `_blocks` in its name, takes the readers of blocks. Both return true, except that `compare`
-//! and `compare_first` return false for two markets that differ, and `canon` for a file that is not canonical. A [`ToolFault`] says
-//! why a command failed; it has the line for standard error and the program's status.
+//! allocates memory; the other, with `_blocks` in its name, takes the readers of blocks, and works over any book of orders. Both return
+//! true, except that `compare` and `compare_first` return false for two markets that differ, and `canon` for a file that is not canonical.
+//! [`perform`] and [`perform_pair`] do what a [`Command`] says. A [`ToolFault`] says why a command failed; it has the line for standard
+//! error and the program's status.
 //!
 //! ```
 //! let file = b"\0\x0cS\0\0\0\0\0\0\0\0\0\0O";
@@ -15,10 +16,8 @@
 
 pub mod book;
 pub mod canon;
-mod cause;
 pub mod check;
 mod choice;
-mod closed_pipe;
 pub mod compare;
 mod expected;
 mod fault;
@@ -43,11 +42,9 @@ mod stock_names;
 mod stocks;
 mod writing;
 
-pub use cause::{Cause, Device};
 pub use choice::Choice;
-pub use closed_pipe::{ends_by_closed_pipe, final_status};
 pub use expected::{Expected, Unmet};
-pub use fault::{Source, ToolFault, status, stop_status, system_fault};
+pub use fault::{Source, ToolFault, status, system_fault};
 pub use feed_part::{FeedPart, Misfit};
 pub use filters::Filters;
 pub use form::{BookForm, Form, ShowForm};
@@ -55,9 +52,9 @@ pub use itch_day::Limit;
 pub use kind::{FileKind, file_market};
 pub use locates::{insert_locates, list_file, read_locates};
 pub use order_book::Book;
-pub use performing::perform;
+pub use performing::{perform, perform_pair};
 pub use reading::read_market;
-pub use request::{Request, path_of};
+pub use request::{Command, PairCommand, Request, path_of};
 pub use runs::write_locates;
 pub use selection::Selection;
 pub use stocks::stock_locates;

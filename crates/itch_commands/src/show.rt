@@ -3,7 +3,7 @@ ghost use Rattle.std.specs.Prelude.{◌≡◌, Bool, None, Err};
 ghost use Rattle.itch_commands.specs.Choices.{everything};
 ghost use Rattle.itch_day.specs.Limits.{counted};
 ghost use Rattle.itch_commands.specs.Readings.{FromReader};
-ghost use Rattle.itch_commands.specs.Showing.{IsLeft, Shows, ShowsPart, answer_of, left_by};
+ghost use Rattle.itch_commands.specs.Showing.{Shows, ShowsPart, answer_of};
 ghost use Rattle.itch_commands.specs.declared.fault.ToolFault.TheVariants.{OutOfMemory};
 ghost use Rattle.itch_commands.specs.declared.form.ShowForm.TheVariants.{Text};
 
@@ -16,7 +16,7 @@ use crate::choice::Choice;
 use crate::fault::{Source, ToolFault};
 use crate::form::ShowForm;
 use found::if_found;
-use itch_day::{Limit, Stop as PartStop, read_part};
+use itch_day::{Limit, Stop as PartStop, pass_stop, read_part};
 use itch_frame::{BlockReader, CountedRead, CountedWrite};
 use itch_market::Stop;
 pub use recorded::show_snapshot;
@@ -79,22 +79,6 @@ fn show_part<R: CountedRead, B: Allocator, A: Allocator, W: CountedWrite>(
     let stop = read_part(reader, &mut count, &mut lines, limit);
     pass_stop(reader, &stop);
     answer(stop, limit.after, count, lines.has_found_all())
-}
-
-// Passes the block that the part stopped at.
-fn pass_stop<R: CountedRead, B: Allocator>(
-    reader: &mut BlockReader<R, B>,
-    stop: &PartStop<ToolFault>,
-)
-    requires { IsLeft stop.now reader.old }
-    ensures { reader.new ≡ left_by stop.now reader.old }
-{
-    match stop {
-        PartStop::Full | PartStop::Frame(_) => {}
-        PartStop::Late | PartStop::End | PartStop::TooMany | PartStop::Refused(_) => {
-            reader.pass_held();
-        }
-    }
 }
 
 // What is returned where a part goes no further. The end of the file is no fault, unless more messages are wanted.

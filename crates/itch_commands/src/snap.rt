@@ -45,24 +45,11 @@ pub fn snap<R: CountedRead + Drop, A: Allocator + Copy, W: CountedWrite>(
     ensures { Snaps R.remaining R.failures W.contents W.failures (counted after) (option_copied only.entry) (FromReader reader) out.old result out.new }
 {
     let mut reader = BlockReader::new(alloc, reader)?;
-    snap_blocks(alloc, &mut reader, Limit::counted(after), only, out)
+    snap_blocks::<_, _, Book<A>, _>(alloc, &mut reader, Limit::counted(after), only, out)
 }
 
 /// The same over a reader of blocks, and for any part of the file. The reader is left where the reading ended.
-pub fn snap_blocks<R: CountedRead, B: Allocator, A: Allocator + Copy, W: CountedWrite>(
-    alloc: A,
-    reader: &mut BlockReader<R, B>,
-    limit: Limit,
-    only: Option<&LocateSet<A>>,
-    out: &mut W,
-) -> Result<bool, ToolFault>
-    ensures { Snaps R.remaining R.failures W.contents W.failures limit (option_copied only.entry) (FromBlocks reader.old reader.new) out.old result out.new }
-{
-    snap_over::<R, B, Book<A>, W>(alloc, reader, limit, only, out)
-}
-
-// The same with any book of orders.
-fn snap_over<R: CountedRead, A: Allocator, B: OrderBook, W: CountedWrite>(
+pub fn snap_blocks<R: CountedRead, A: Allocator, B: OrderBook, W: CountedWrite>(
     alloc: B::Alloc,
     reader: &mut BlockReader<R, A>,
     limit: Limit,

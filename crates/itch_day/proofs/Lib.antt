@@ -1,3 +1,4 @@
 pub mod Marks
+pub mod PassedBlocks
 pub mod Progress
 pub mod Joined

@@ -2,3 +2,4 @@ pub mod Limits
 pub mod Marks
 pub mod Sinks
 pub mod Parts
+pub mod Passing

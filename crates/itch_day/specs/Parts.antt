@@ -1,5 +1,5 @@
 -- What one reading of a part of a day does.
-use Rattle.std.specs.Prelude.{◌≡◌, ◌≢◌, ℕ, ◌+◌, ◌-◌, ◌<◌, ◌≤◌, ◌^◌, ◌⊎◌, List, [], length, ⊤, Option, Some, IfSome, Result, Ok, Err}
+use Rattle.std.specs.Prelude.{◌≡◌, ◌≢◌, ℕ, ◌+◌, ◌-◌, ◌<◌, ◌≤◌, ◌^◌, ◌⊎◌, List, [], length, ⊤, Bool, true, false, Option, Some, IfSome, Result, Ok, Err}
 use Rattle.std.specs.List.{AllByRecursion}
 use Rattle.std.specs.Io.KnownBytes.{Keeps, Consumes, IsAtEnd}
 use Rattle.itch_frame.specs.Blocks.{block, blocks, IsBlockOf, IsFull, Open}
@@ -9,6 +9,8 @@ use Rattle.itch_frame.specs.declared.reader.Stage.TheVariants.{Going, Given, End
 use Rattle.itch_frame.specs.declared.tally.Failures.{Failures}
 use Rattle.itch_frame.specs.declared.fault.FrameFault.TheVariants.{Read, Truncated, Write, TooLong}
 use Rattle.itch_day.specs.declared.limit.Limit.{Limit}
+use Rattle.itch_day.specs.declared.not_taken.NotTaken.{NotTaken}
+use Rattle.itch_day.specs.declared.not_taken.NotTaken.TheVariants as untaken
 use Rattle.itch_day.specs.declared.stop.Stop.{Stop}
 use Rattle.itch_day.specs.declared.stop.Stop.TheVariants.{Full, Late, End, Frame, TooMany, Refused}
 use Rattle.itch_day.specs.Limits.{IsBefore, IsLate, IsNoEarlier, IsNotLate, IsWithin}
@@ -72,18 +74,32 @@ module _ {R T F : Type 0} (remaining : R → Option (List ℕ)) (refuses : T →
       IsBefore limit count
       × ((payload : List ℕ) × IsNext r payload × IsFull payload × (count < 10 ^ 19 - 1) × IsNotLate limit payload × refuses old (count + 1) payload why new)
 
+-- why a part goes no further where a message is not taken
+abbrev pub stop_of : {F : Type 0} → NotTaken F → Stop F
+stop_of untaken.Ended = End
+stop_of untaken.Late = Late
+stop_of untaken.TooMany = TooMany
+stop_of (untaken.Refused why) = Refused why
+
 module _ {T F : Type 0} (takes : T → ℕ → List ℕ → T → Type 0) (refuses : T → ℕ → List ℕ → F → T → Type 0) (limit : Limit) where
   -- what one payload does that is not empty: it is taken, or it is late, or it is refused
-  abbrev pub TakesPayload : List ℕ → ℕ → ℕ → T → Result (Unit {0}) (Stop F) → T → Type 0
+  abbrev pub TakesPayload : List ℕ → ℕ → ℕ → T → Result (Unit {0}) (NotTaken F) → T → Type 0
   TakesPayload payload before count t (Ok done) u =
       (before < 10 ^ 19 - 1) × IsNotLate limit payload × takes t (before + 1) payload u × (count ≡ before + 1)
-  TakesPayload payload before count t (Err Late) u = (count ≡ before) × (u ≡ t) × (before < 10 ^ 19 - 1) × IsLate limit payload
-  TakesPayload payload before count t (Err TooMany) u = (count ≡ before) × (u ≡ t) × (before ≡ 10 ^ 19 - 1)
-  TakesPayload payload before count t (Err (Refused why)) u =
+  TakesPayload payload before count t (Err untaken.Late) u = (count ≡ before) × (u ≡ t) × (before < 10 ^ 19 - 1) × IsLate limit payload
+  TakesPayload payload before count t (Err untaken.TooMany) u = (count ≡ before) × (u ≡ t) × (before ≡ 10 ^ 19 - 1)
+  TakesPayload payload before count t (Err (untaken.Refused why)) u =
       (count ≡ before) × (before < 10 ^ 19 - 1) × IsNotLate limit payload × refuses t (before + 1) payload why u
-  TakesPayload payload before count t (Err Full) u = ⊥
-  TakesPayload payload before count t (Err End) u = ⊥
-  TakesPayload payload before count t (Err (Frame fault)) u = ⊥
+  TakesPayload payload before count t (Err untaken.Ended) u = ⊥
+
+  -- what the block that is held does: its payload is taken, and the block passed; or it stays the next one
+  abbrev pub TakesHeld : {R : Type 0} → Reading R → Reading R → ℕ → ℕ → T → Result (Unit {0}) (NotTaken F) → T → Type 0
+  TakesHeld old new before count t (Ok done) u =
+      (new ≡ record { reader = old.reader; held = []; stage = Given })
+      × ((payload : List ℕ) × IsBlockOf payload old.held × IsFull payload × TakesPayload payload before count t (Ok done) u)
+  TakesHeld old new before count t (Err untaken.Ended) u = (new ≡ old) × (count ≡ before) × (u ≡ t) × IsBlockOf [] old.held
+  TakesHeld old new before count t (Err why) u =
+      (new ≡ old) × ((payload : List ℕ) × IsBlockOf payload old.held × IsFull payload × TakesPayload payload before count t (Err why) u)
 
 module _ {R T : Type 0} (remaining : R → Option (List ℕ)) (takes : T → ℕ → List ℕ → T → Type 0) (limit : Limit) where
   -- these payloads came off the front and were taken in order: none is empty or late, and no more are than are wanted
@@ -100,11 +116,17 @@ module _ {R T F : Type 0} (remaining : R → Option (List ℕ)) (failures : R �
   abbrev pub Steps : Reading R → Reading R → ℕ → ℕ → T → Result (Unit {0}) (Stop F) → T → Type 0
   Steps old new before count t (Ok done) u =
       (payload : List ℕ) × Consumes (bytes_left remaining old) (bytes_left remaining new) (block payload) × IsFull payload
-      × TakesPayload takes refuses limit payload before count t (Ok done) u
+      × TakesPayload {F = F} takes refuses limit payload before count t (Ok done) u
       × (new.held ≡ []) × (new.stage ≡ Given) × (old.stage ≢ Ended) × (old.stage ≢ Cut) × (failures new.reader ≡ failures old.reader)
   Steps old new before count t (Err stop) u =
       (count ≡ before) × Keeps (bytes_left remaining old) (bytes_left remaining new) × StopsAt remaining refuses limit before new t stop u
       × StaysAsEnded old new × Counts stop (failures old.reader) (failures new.reader)
+
+  -- the same of a block that lies at hand; where none does, nothing changes
+  abbrev pub StepsAtHand : Reading R → Reading R → ℕ → ℕ → T → Result Bool (NotTaken F) → T → Type 0
+  StepsAtHand old new before count t (Ok true) u = Steps old new before count t (Ok tt) u
+  StepsAtHand old new before count t (Ok false) u = (new ≡ old) × (count ≡ before) × (u ≡ t)
+  StepsAtHand old new before count t (Err why) u = Steps old new before count t (Err (stop_of why)) u
 
   -- The longest beginning of the messages is taken, and then this stops it: the next message, where there is one, is left.
   pub record ReadsPart (old new : Reading R) (before count : ℕ) (t : T) (stop : Stop F) (u : T) : Type 0 where

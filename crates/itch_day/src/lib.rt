@@ -8,6 +8,8 @@
 mod limit;
 mod mark;
 mod marked;
+mod not_taken;
+mod passing;
 mod reading;
 mod sink;
 mod stop;
@@ -15,6 +17,7 @@ mod stop;
 pub use limit::Limit;
 pub use mark::Mark;
 pub use marked::Marked;
+pub use passing::pass_stop;
 pub use reading::{read_further, read_part};
 pub use sink::Sink;
 pub use stop::Stop;

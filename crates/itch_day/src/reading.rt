@@ -1,17 +1,19 @@
 //! One reading of a part of a day.
-ghost use Rattle.std.specs.Prelude.{◌≡◌, ℕ, ◌+◌, ◌<◌, ◌≤◌, ◌-◌, ◌^◌, List, length, true, false, OnOk};
-ghost use Rattle.itch_frame.specs.Reading.{Loads, Reading, StaysAsEnded};
+ghost use Rattle.std.specs.Prelude.{◌≡◌, ℕ, ◌+◌, ◌<◌, ◌≤◌, ◌-◌, ◌^◌, List, true, false, OnOk};
+ghost use Rattle.itch_frame.specs.Blocks.{IsBlock};
+ghost use Rattle.itch_frame.specs.Reading.{Reading};
 ghost use Rattle.itch_day.specs.Limits.{IsLate, IsNotLate, IsBefore};
-ghost use Rattle.itch_day.specs.Parts.{GoesOnTo, ReadsPart, Steps, TakesPayload, UnlessRefused};
+ghost use Rattle.itch_day.specs.Parts.{GoesOnTo, ReadsPart, Steps, StepsAtHand, TakesHeld, TakesPayload, UnlessRefused};
 ghost use Rattle.itch_day.specs.Sinks.{Decodes};
 ghost use Rattle.itch_day.specs.declared.limit.Limit.{Limit as AnyLimit};
 ghost use Rattle.itch_day.specs.declared.stop.Stop.{Stop as AnyStop};
 
 use crate::limit::Limit;
+use crate::not_taken::{NotTaken, stop_of};
 use crate::sink::Sink;
 use crate::stop::Stop;
 use itch_codec::{CodecFault, MOST_MESSAGES, Message, decode};
-use itch_frame::{BlockReader, CountedRead, FrameFault};
+use itch_frame::{BlockReader, CountedRead};
 use std::alloc::Allocator;
 
 // A sink is told so often what comes next.
@@ -21,6 +23,7 @@ const AHEAD: u64 = 16;
 ///
 /// The reader stands after so many messages, which goes on with it. The message that is not taken, and all that follow, are left
 /// for the next call: several points of a day are a call for each, over one reader. Nothing after that message was read.
+#[inline(always)]
 pub fn read_part<R: CountedRead, A: Allocator, T: Sink>(
     reader: &mut BlockReader<R, A>,
     count: &mut u64,
@@ -35,9 +38,13 @@ pub fn read_part<R: CountedRead, A: Allocator, T: Sink>(
 {
     for at in *count..limit.most() {
         look_ahead(reader, sink, at);
-        match step(reader, count, sink, limit) {
-            Ok(()) => {}
-            Err(stop) => return stop,
+        match take_at_hand(reader, count, sink, limit) {
+            Ok(true) => {}
+            Ok(false) => match take_from_input(reader, count, sink, limit) {
+                Ok(()) => {}
+                Err(stop) => return stop,
+            },
+            Err(why) => return stop_of(why),
         }
     }
     Stop::Full
@@ -78,9 +85,34 @@ fn look_ahead<R: CountedRead, A: Allocator, T: Sink>(
     }
 }
 
-// Takes the next message, or returns why it is not taken.
+// Takes the next message if its block lies at hand (true), or returns why it is not taken. Where none lies at hand, nothing changes.
 #[inline(always)]
-fn step<R: CountedRead, A: Allocator, T: Sink>(
+fn take_at_hand<R: CountedRead, A: Allocator, T: Sink>(
+    reader: &mut BlockReader<R, A>,
+    count: &mut u64,
+    sink: &mut T,
+    limit: Limit,
+) -> Result<bool, NotTaken<T::Fault>>
+    requires ready { T.is_ready sink.old (count.old + 1) }
+    requires few { count.old ≤ 10 ^ 19 - 1 }
+    requires before { IsBefore limit count.old }
+    ensures steps { StepsAtHand R.remaining R.failures T.takes T.refuses limit reader.old reader.new count.old count.new sink.old result sink.new }
+    ensures ready { OnOk result (T.is_ready sink.new (count.new + 1)) }
+{
+    if !reader.load_at_hand() {
+        return Ok(false);
+    }
+    match take_held(reader, count, sink, limit) {
+        Ok(()) => Ok(true),
+        Err(why) => Err(why),
+    }
+}
+
+// Takes the next message, whose block may have to be read, or returns why it is not taken. A function of its own keeps what few
+// messages need out of the loop.
+#[cold]
+#[inline(never)]
+fn take_from_input<R: CountedRead, A: Allocator, T: Sink>(
     reader: &mut BlockReader<R, A>,
     count: &mut u64,
     sink: &mut T,
@@ -92,21 +124,41 @@ fn step<R: CountedRead, A: Allocator, T: Sink>(
     ensures steps { Steps R.remaining R.failures T.takes T.refuses limit reader.old reader.new count.old count.new sink.old result sink.new }
     ensures ready { OnOk result (T.is_ready sink.new (count.new + 1)) }
 {
-    match load(reader) {
+    match reader.load() {
         Ok(true) => {}
         Ok(false) => return Err(Stop::End),
         Err(fault) => return Err(Stop::Frame(fault)),
     }
+    match take_held(reader, count, sink, limit) {
+        Ok(()) => Ok(()),
+        Err(why) => Err(stop_of(why)),
+    }
+}
+
+// Takes the message of the block that is held, and passes the block; or returns why the message is not taken.
+#[inline(always)]
+fn take_held<R: CountedRead, A: Allocator, T: Sink>(
+    reader: &mut BlockReader<R, A>,
+    count: &mut u64,
+    sink: &mut T,
+    limit: Limit,
+) -> Result<(), NotTaken<T::Fault>>
+    requires held { IsBlock reader.old.held }
+    requires ready { T.is_ready sink.old (count.old + 1) }
+    requires few { count.old ≤ 10 ^ 19 - 1 }
+    ensures takes { TakesHeld T.takes T.refuses limit reader.old reader.new count.old count.new sink.old result sink.new }
+    ensures ready { OnOk result (T.is_ready sink.new (count.new + 1)) }
+{
     let payload = reader.payload();
     if payload.is_empty() {
-        return Err(Stop::End);
+        return Err(NotTaken::Ended);
     }
     match take(count, sink, payload, limit) {
         Ok(()) => {
             reader.pass();
             Ok(())
         }
-        Err(stop) => Err(stop),
+        Err(why) => Err(why),
     }
 }
 
@@ -117,49 +169,26 @@ fn take<T: Sink>(
     sink: &mut T,
     payload: &[u8],
     limit: Limit,
-) -> Result<(), Stop<T::Fault>>
+) -> Result<(), NotTaken<T::Fault>>
     requires ready { T.is_ready sink.old (count.old + 1) }
     requires few { count.old ≤ 10 ^ 19 - 1 }
     ensures takes { TakesPayload T.takes T.refuses limit payload.now count.old count.new sink.old result sink.new }
     ensures ready { OnOk result (T.is_ready sink.new (count.new + 1)) }
 {
     if *count == MOST_MESSAGES {
-        return Err(Stop::TooMany);
+        return Err(NotTaken::TooMany);
     }
     let message = decode(payload);
     if is_late(limit, &message) {
-        return Err(Stop::Late);
+        return Err(NotTaken::Late);
     }
     match sink.take(*count + 1, payload, &message) {
         Ok(()) => {
             *count += 1;
             Ok(())
         }
-        Err(why) => Err(Stop::Refused(why)),
+        Err(why) => Err(NotTaken::Refused(why)),
     }
-}
-
-// Holds the next block.
-#[inline(always)]
-fn load<R: CountedRead, A: Allocator>(reader: &mut BlockReader<R, A>) -> Result<bool, FrameFault>
-    ensures loads { Loads R.remaining R.failures reader.old result reader.new }
-    ensures again { StaysAsEnded reader.old reader.new }
-{
-    if reader.load_at_hand() {
-        return Ok(true);
-    }
-    load_from_input(reader)
-}
-
-// The same of a block that may have to be read.
-#[inline(never)]
-fn load_from_input<R: CountedRead, A: Allocator>(
-    reader: &mut BlockReader<R, A>,
-) -> Result<bool, FrameFault>
-    ensures loads { Loads R.remaining R.failures reader.old result reader.new }
-    ensures again { StaysAsEnded reader.old reader.new }
-{
-    reader.load()
 }
 
 // Whether a payload that was decoded spells a message that is late.

@@ -5,3 +5,4 @@ pub mod Days
 pub mod Filling
 pub mod SplitterLemmas
 pub mod Writes
+pub mod PassedMessages

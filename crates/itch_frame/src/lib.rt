@@ -9,7 +9,7 @@
 //!
 //! Readers and writers count their failures ([`CountedRead`], [`CountedWrite`]), so no call can report a failed read or write that
 //! did not happen.
-//! `laws` states what holds of every stream, and `testing` has a reader and a writer that fail when a test asks them to.
+//! `laws` states what holds of every stream.
 //!
 //! ```
 //! write_block(&mut out, b"hi")?;
@@ -25,10 +25,11 @@ mod counted;
 mod fault;
 mod first;
 pub mod laws;
+mod passing;
 mod reader;
 mod splitter;
+mod status;
 pub mod tally;
-pub mod testing;
 mod writer;
 
 pub use counted::{Buffered, Counted, CountedRead, CountedWrite};

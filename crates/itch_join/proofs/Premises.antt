@@ -39,7 +39,8 @@ use Rattle.itch_join.specs.Deliveries.{IsOfFeed}
 use Rattle.itch_join.specs.Premise.{half_next, half_after, half_of_snapshot}
 use Rattle.itch_join.proofs.Feeds.{first_fine, none_there, good}
 use Rattle.itch_join.proofs.LawfulRules.{only_lawful, faultless, reasonless}
-use Rattle.itch_join.proofs.SkippedMessages.{skipped_faultless, faultless_skips, skipped_number, refused_here, effect_here, refused_skipped, effect_skipped, all_rules}
+use Rattle.itch_snapshot.proofs.SkippedMessages.{skipped_faultless, faultless_skips, skipped_number}
+use Rattle.itch_join.proofs.SkippedMessages.{refused_here, effect_here, refused_skipped, effect_skipped, all_rules}
 use Rattle.itch_snapshot.proofs.FileLemmas.{unrefused_number}
 
 pub take_short : (k : ℕ) (F : List (List ℕ)) → length (map message_of (take k F)) ≤ k

@@ -18,7 +18,8 @@ use Rattle.itch_join.specs.declared.fault.Cause.{Cause}
 use Rattle.itch_join.specs.Rules.{Rules, run, after, first_bad, bad, refused_by, market_rules, rules_of}
 use Rattle.itch_join.proofs.Feeds.{positive, first_fine, none_there}
 use Rattle.itch_join.proofs.LawfulRules.{faultless, reasonless}
-use Rattle.itch_join.proofs.SkippedMessages.{faultless_skips, refused_here, effect_here, refused_skipped, effect_skipped}
+use Rattle.itch_snapshot.proofs.SkippedMessages.{faultless_skips}
+use Rattle.itch_join.proofs.SkippedMessages.{refused_here, effect_here, refused_skipped, effect_skipped}
 
 -- one more payload that is not refused
 one_further : (R : Rules) (m : Content) (q : List ℕ) (F : List (List ℕ)) (k : ℕ) → R.refused m q ≡ None → k + 1 ≤ first_bad R (R.effect m q) F → suc k + 1 ≤ first_bad R m (q ∷ F)

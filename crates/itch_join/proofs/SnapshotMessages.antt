@@ -26,7 +26,8 @@ use Rattle.itch_join.specs.declared.outcome.Snap.{Snap}
 use Rattle.itch_join.specs.declared.outcome.Snap.TheVariants as snap
 use Rattle.itch_join.specs.Positions.{Position}
 use Rattle.itch_join.specs.Rules.{Rules, refused_by, rules_of}
-use Rattle.itch_join.proofs.SkippedMessages.{faulty_stays, skipped_number, refused_here, effect_here, memory_here, refused_skipped, effect_skipped}
+use Rattle.itch_snapshot.proofs.SkippedMessages.{faulty_stays, skipped_number}
+use Rattle.itch_join.proofs.SkippedMessages.{refused_here, effect_here, memory_here, refused_skipped, effect_skipped}
 use Rattle.itch_join.specs.States.{HalfRead, Reading, Broken, State}
 use Rattle.itch_join.specs.Steps.{SnapshotCase, SnapTakes, SnapFails, SnapBroken, payload_case, half_case, unjoined_case, unhalted_case, snapshot_case, SnapshotBy}
 use Rattle.itch_join.specs.HalfReads.{Breaks, broken_by, join_fault_of, half_at, half_of, IsOpenAt, IsOpen}

@@ -1,5 +1,6 @@
 -- A reader of snapshots as the half-read snapshot of a joiner.
-use Rattle.std.specs.Prelude.{◌≢◌, ◌^◌, false}
+use Rattle.std.specs.Prelude.{◌≡◌, ◌≢◌, ℕ, ◌^◌, false, Some, Result, Ok, Err}
+use Rattle.itch_market.specs.Content.{Content}
 use Rattle.itch_market.specs.declared.refusal.Refusal.TheVariants as why
 use Rattle.itch_snapshot.specs.declared.fault.SnapFault.{SnapFault}
 use Rattle.itch_snapshot.specs.declared.fault.SnapFault.TheVariants.{NoEnd, Frame, Codec, Rule, AfterEnd, TooManyMessages}
@@ -9,7 +10,7 @@ use Rattle.itch_snapshot.specs.TakenMessages.{Load}
 use Rattle.itch_join.specs.declared.fault.Cause.TheVariants as cause
 use Rattle.itch_join.specs.declared.fault.JoinFault.{JoinFault}
 use Rattle.itch_join.specs.declared.fault.JoinFault.TheVariants as fault
-use Rattle.itch_join.specs.States.{HalfRead, Reading, Broken, unread}
+use Rattle.itch_join.specs.States.{HalfRead, Reading, Broken, State, new, unread}
 
 -- a message of a snapshot may have this fault
 abbrev pub IsOfMessage : SnapFault → Type 0
@@ -65,3 +66,8 @@ IsOpenAt (stage.Closed next) = ⊥
 -- the reader has taken no End of Snapshot, and only a message has broken it
 abbrev pub IsOpen : Load → Type 0
 IsOpen load = IsOpenAt load.stage
+
+-- a joiner that has taken nothing joins where the snapshot ends that was read, or it is as it was
+abbrev pub JoinsAt : (Result (Content × ℕ) SnapFault → Type 0) → Result (Unit {0}) SnapFault → State → Type 0
+JoinsAt Reads (Ok done) now = (start : Content × ℕ) × Reads (Ok start) × (now ≡ record new { joined = Some (record { next = start.1; market = start.0 }) })
+JoinsAt Reads (Err fault) now = Reads (Err fault) × (now ≡ new)

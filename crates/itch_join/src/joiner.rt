@@ -1,14 +1,17 @@
 //! A snapshot and the live feed, joined.
-ghost use Rattle.std.specs.Prelude.{◌≡◌, ℕ, ◌<◌, ◌^◌, List, true, Some, None, option_map};
+ghost use Rattle.std.specs.Prelude.{◌≡◌, ℕ, ◌<◌, ◌^◌, List, true, Some, None, MatchResult, option_map};
 ghost use Rattle.std.specs.Option.{option_copied};
 ghost use Rattle.std.specs.FinMap as map;
+ghost use Rattle.itch_frame.specs.Reading.{bytes_left};
 ghost use Rattle.itch_day.specs.Sinks.{Decodes};
 ghost use Rattle.itch_market.specs.Wanted.{has};
+ghost use Rattle.itch_snapshot.specs.AsRead.{ReadsMarket, as_read};
+ghost use Rattle.itch_snapshot.specs.Reads.{CountsFault};
 ghost use Rattle.itch_join.specs.Rules.{rules_of};
 ghost use Rattle.itch_join.specs.States.{new, unread};
 ghost use Rattle.itch_join.specs.Applying.{CatchesUp, at_hand, halt_of, fault_of};
 ghost use Rattle.itch_join.specs.Steps.{Step, CallLive, CallSnapshot, CallRestart, CallResume, live_case, Stores, started, NextBy};
-ghost use Rattle.itch_join.specs.HalfReads.{IsOfMessage, join_fault_of};
+ghost use Rattle.itch_join.specs.HalfReads.{IsOfMessage, JoinsAt, join_fault_of};
 ghost use Rattle.itch_join.specs.Takings.{MayTake};
 
 use crate::fault::{Cause, JoinFault};
@@ -18,8 +21,10 @@ use crate::state::{Halt, LiveCase, Stopped};
 use crate::waiting::Waiting;
 use itch_book::OrderBook;
 use itch_codec::{CodecFault, GREATEST_SEQ, MOST_MESSAGES, Message, decode};
+use itch_frame::{BlockReader, CountedRead};
 use itch_market::{LocateSet, Market, Refusal};
-use itch_snapshot::{SnapFault, SnapshotReader};
+use itch_snapshot::{SnapFault, SnapshotReader, read_messages};
+use std::alloc::Allocator;
 use std::marker::Model;
 use std::mem::replace;
 
@@ -359,6 +364,33 @@ impl<B: OrderBook> Joiner<B> {
                 self.start(next.value(), market)
             }
             Err(fault) => Err(join_fault_of(fault)),
+        }
+    }
+
+    /// Reads a snapshot file, up to its End of Snapshot, and joins there: it has the market and the next number then that it would have
+    /// after taking the file's messages one by one. What follows in the file is left.
+    ///
+    /// It is for a joiner that has taken nothing yet, which a fault leaves as it was.
+    pub fn read_snapshot<R: CountedRead, A: Allocator>(
+        &mut self,
+        reader: &mut BlockReader<R, A>,
+    ) -> Result<(), SnapFault>
+        requires { self.old.state ≡ new }
+        ensures joins { JoinsAt (ReadsMarket (as_read (has self.old.set)) (bytes_left R.remaining reader.old) (bytes_left R.remaining reader.new)) result self.new.state }
+        ensures cap { self.new.cap ≡ self.old.cap }
+        ensures set { self.new.set ≡ self.old.set }
+        ensures failures { MatchResult result (λ _. R.failures reader.new.reader ≡ R.failures reader.old.reader)
+            (λ fault. CountsFault fault (R.failures reader.old.reader) (R.failures reader.new.reader)) }
+    {
+        match read_messages(self.alloc, reader, Some(&self.set)) {
+            Ok((market, next)) => {
+                self.joined = Some(Position {
+                    next: next.value(),
+                    market,
+                });
+                Ok(())
+            }
+            Err(fault) => Err(fault),
         }
     }
 

@@ -1,27 +1,23 @@
 //! A follower and its clients.
-ghost use Rattle.std.specs.Prelude.{◌≡◌, ℕ, ◌≤◌, ◌-◌, ◌^◌, Some, None, IfOk, OnOk, OnErr, true, length, min, option_map, replicate, slice_set};
+ghost use Rattle.std.specs.Prelude.{◌≡◌, ℕ, ◌≤◌, ◌-◌, ◌^◌, None, IfOk, OnOk, OnErr, true, length, min, option_map, replicate, slice_set};
 ghost use Rattle.std.specs.Option.{option_copied};
 ghost use Rattle.std.specs.List.{list_any};
-ghost use Rattle.itch_soup.specs.Connections.{tick_answer};
-ghost use Rattle.itch_soup.specs.Clients.{login_of};
-ghost use Rattle.itch_soup.specs.Packets.{packet_spelling};
-ghost use Rattle.itch_live.specs.Guests as guests;
+ghost use Rattle.std.specs.Borrow.{Lends, sem};
+ghost use Rattle.itch_live.specs.contracts.desk.Desk.{the_row};
+ghost use Rattle.itch_live.specs.contracts.follower.Follower.{the_row as follower_row};
 ghost use Rattle.itch_live.specs.Seats as places;
-ghost use Rattle.itch_live.specs.Follows as follows;
 ghost use Rattle.itch_live.specs.Kept as kept;
 ghost use Rattle.itch_live.specs.Desks as desks;
 
 use crate::follower::Follower;
 use crate::guest::Guest;
 use crate::kept::{has_room, kept_shot, snapshot_bytes};
-use crate::news::News;
 use crate::seats::{Seat, any_waits, free_place, guest_at, hand_in, hear_at, tick_all, took_at};
 use crate::shot::{Shot, shoot};
 use itch_book::OrderBook;
-use itch_codec::{Alpha, Seq};
-use itch_frame::CountedWrite;
+use itch_codec::Seq;
 use itch_market::Market;
-use itch_soup::{Packet, ServerConfig, Tick};
+use itch_soup::ServerConfig;
 use std::alloc::{AllocError, Allocator};
 use std::marker::Model;
 use std::rc::Rc;
@@ -69,62 +65,19 @@ impl<B: OrderBook> Desk<B> {
         })
     }
 
-    /// Begins a connection to the feed, or to a server of snapshots, as [`Follower::connect`] does.
-    pub fn connect(&mut self, now_ms: u64) -> [u8; 47]
-        ensures after { self.new ≡ record self.old { following = follows.connected self.old.following now_ms } }
-        ensures login { result ≡ packet_spelling (Packet.LoginRequest (login_of self.new.following.session)) }
+    /// What follows the feed.
+    pub fn follower(&self) -> &Follower<B>
+        ensures { result.now ≡ self.now.following }
     {
-        self.follower.connect(now_ms)
+        &self.follower
     }
 
-    /// Takes bytes of the feed, as [`Follower::hear`] does.
-    pub fn hear_feed<W: CountedWrite>(
-        &mut self,
-        piece: &[u8],
-        now_ms: u64,
-        record: &mut W,
-    ) -> (usize, News)
-        ensures heard { follows.HearsFeed W.contents W.failures self.old.following piece.now now_ms record.old result record.new self.new.following }
-        ensures rest { self.new ≡ record self.old { following = self.new.following } }
+    /// What follows the feed, to connect it, and to hand it what the feed sends.
+    pub fn follower_mut(&mut self) -> &mut Follower<B>
+        ensures* writes_back { sem 𝓛 (Lends (the_row B.row B.Alloc.row B.OrderBook B.Alloc.Allocator) (follower_row B.row B.Alloc.row B.OrderBook B.Alloc.Allocator) self.entry result (λ w. record self.old { following = w })) }
+        ensures value { result.now ≡ self.old.following }
     {
-        self.follower.hear(piece, now_ms, record)
-    }
-
-    /// What is to be sent to the feed, or done about it, at this moment.
-    pub fn tick_feed(&mut self, now_ms: u64) -> Tick
-        ensures answer { result ≡ tick_answer self.old.following.session.connection now_ms }
-        ensures after { self.new ≡ record self.old { following = follows.ticked self.old.following now_ms } }
-    {
-        self.follower.tick(now_ms)
-    }
-
-    /// The feed's session, once it is known.
-    pub fn session(&self) -> Option<Alpha<10>>
-        ensures { result ≡ self.now.following.sessions.feed }
-    {
-        self.follower.session()
-    }
-
-    /// Gives the follower back and drops the clients, whose connections the caller closes. Another desk can go on with it in the
-    /// same connection to the feed, under another configuration.
-    pub fn into_follower(self) -> Follower<B>
-        ensures { result ≡ self.following }
-    {
-        self.follower
-    }
-
-    /// The number of the feed's next message, once there is a market.
-    pub fn next(&self) -> Option<u64>
-        ensures { result ≡ option_map (λ j. j.next) self.now.following.joining.state.joined }
-    {
-        self.follower.next()
-    }
-
-    /// The market of the feed's messages before the next one, once there is one.
-    pub fn market(&self) -> Option<&Market<B>>
-        ensures { option_copied result ≡ option_map (λ j. j.market) self.now.following.joining.state.joined }
-    {
-        self.follower.market()
+        &mut self.follower
     }
 
     /// Gives a client that has connected a free place, and returns its number; `None` where there is none.

@@ -6,7 +6,7 @@ ghost use Rattle.itch_live.specs.Guests as guests;
 
 use crate::gone::Gone;
 use crate::login::Login;
-use crate::note::Note;
+use crate::pending_packet::PendingPacket;
 use crate::shot::Shot;
 use crate::told::Told;
 use itch_frame::Splitter;
@@ -35,7 +35,7 @@ pub struct Guest<A: Allocator> {
     splitter: Splitter<A>,
     session: ServerSession,
     login: Login,
-    note: Note,
+    note: PendingPacket,
     told: Told<A>,
     taken: usize,
     gone: Option<Gone>,
@@ -64,7 +64,7 @@ impl<A: Allocator> Guest<A> {
             splitter: Splitter::new(alloc)?,
             session: ServerSession::new(config, 0, now_ms),
             login: Login::Awaited,
-            note: Note::none(),
+            note: PendingPacket::none(),
             told: Told::Nothing,
             taken: 0,
             gone: None,
@@ -135,7 +135,7 @@ impl<A: Allocator> Guest<A> {
         requires open { self.old.rejection ≡ None }
         ensures { self.new ≡ record self.old { notes = block packet.now; sent = now_ms } }
     {
-        self.note = Note::of(packet);
+        self.note = PendingPacket::of(packet);
         self.sent = now_ms;
     }
 

@@ -15,12 +15,13 @@ use Rattle.itch_day.specs.declared.stop.Stop.{Stop as Part}
 use Rattle.itch_day.specs.declared.stop.Stop.TheVariants as part
 use Rattle.itch_day.specs.Limits.{IsBefore, IsEarly, IsNotLate, IsWithin, counted as wanted, is_late}
 use Rattle.itch_day.specs.Parts.{Leaves, ReadsPart, StopsAt}
+use Rattle.itch_day.specs.Passing.{left_by}
 use Rattle.itch_market.specs.Content.{Content, laid}
 use Rattle.itch_market.specs.DayParts.{HaltsEarly, HaltsPart, IsEnough, LeavesPartOf, PartOf, TakesEarly}
 use Rattle.itch_market.specs.GoodMarkets.{IsGood}
 use Rattle.itch_market.specs.Runs.{after}
 use Rattle.itch_market.specs.Replays.{CountsFirst, Halts, LeavesReaderFirst, Refuses, ReplaysFirst, Takes}
-use Rattle.itch_market.specs.Takings.{RefusesMessage, TakesMessage, left_by, reason_of}
+use Rattle.itch_market.specs.Takings.{RefusesMessage, TakesMessage, reason_of}
 use Rattle.itch_market.specs.declared.refused.Refused.{Refused}
 use Rattle.itch_market.specs.declared.refused.Refused.TheVariants as is
 use Rattle.itch_market.specs.declared.stop.Stop.{Stop}
@@ -28,7 +29,7 @@ use Rattle.itch_market.specs.declared.stop.Stop.TheVariants as stop
 use Rattle.itch_market.proofs.Causes.{none_clean, refuses-laid}
 use Rattle.itch_market.proofs.AppliedMessages.{AreApplied, are_applied}
 use Rattle.itch_market.proofs.LeftReaders.{late_left, stop_counts, stop_left}
-use Rattle.itch_market.proofs.PassedBlocks.{ends_here, passed_off}
+use Rattle.itch_day.proofs.PassedBlocks.{ends_here, passed_off}
 
 -- a message that is not late is early
 is_early : (limit : Limit) (p : List ℕ) → fault p ≡ None → IsNotLate limit p → IsEarly limit p

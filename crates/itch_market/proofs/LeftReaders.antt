@@ -9,24 +9,14 @@ use Rattle.itch_frame.specs.declared.fault.FrameFault.TheVariants.{Read, Truncat
 use Rattle.itch_day.specs.declared.limit.Limit.{Limit}
 use Rattle.itch_day.specs.declared.stop.Stop.{Stop as Part}
 use Rattle.itch_day.specs.declared.stop.Stop.TheVariants as part
+use Rattle.itch_day.specs.Passing.{left_by}
 use Rattle.itch_day.specs.Parts.{Counts as CountsPart, IsNext, Leaves, StopsAt}
 use Rattle.itch_market.specs.Replays.{CountsFirst, LeavesReaderFirst}
-use Rattle.itch_market.specs.Takings.{IsLeft, left_by, reason_of}
+use Rattle.itch_market.specs.Takings.{reason_of}
 use Rattle.itch_market.specs.declared.refused.Refused.{Refused}
 use Rattle.itch_market.specs.declared.refused.Refused.TheVariants as is
 use Rattle.itch_market.specs.declared.stop.Stop.TheVariants as stop
-use Rattle.itch_market.proofs.PassedBlocks.{cut_not_ended, cut_not_going, is_not_going, never_next, passed_ended, passed_going, passed_reader}
-
-module _ {R T : Type 0} (remaining : R → Option (List ℕ)) (refuses : T → ℕ → List ℕ → Refused → T → Type 0) (limit : Limit) (new : Reading R) (count : ℕ) (last u : T) where
-  -- what is held where it stops is the block that was not taken
-  pub stop_held : (why : Part Refused) → StopsAt remaining refuses limit count new last why u → IsLeft why new
-  stop_held part.Full stops = tt
-  stop_held part.Late (same, before, (p, next, some, few, late)) = λ going. (p, next.0)
-  stop_held part.End (same, before, inl (ended, none, at_end)) = λ going. absurd (is_not_going (sym ended ∙ going))
-  stop_held part.End (same, before, inr next) = λ going. ([], next.0)
-  stop_held (part.Frame fault) stops = tt
-  stop_held part.TooMany (same, before, (p, next, some, many)) = λ going. (p, next.0)
-  stop_held (part.Refused why) (before, (p, next, some, few, not_late, denies)) = λ going. (p, next.0)
+use Rattle.itch_day.proofs.PassedBlocks.{cut_not_ended, cut_not_going, is_not_going, never_next, passed_ended, passed_going, passed_reader}
 
 module _ {R T : Type 0} (remaining : R → Option (List ℕ)) (failures : R → Failures) (refuses : T → ℕ → List ℕ → Refused → T → Type 0) (limit : Limit) (old new : Reading R) (count n : ℕ) (last u : T) where
   abbrev Stops : Part Refused → Type 0

@@ -19,8 +19,8 @@ pub mod Runs
 pub mod SameMarkets
 pub mod ReplayReaders
 pub mod AppliedMessages
-pub mod PassedBlocks
 pub mod LeftReaders
 pub mod DayParts
+pub mod DayMessages
 pub mod Partials
 pub mod PlainMessages

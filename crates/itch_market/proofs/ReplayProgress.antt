@@ -6,15 +6,13 @@ use Rattle.itch_codec.specs.Messages.{message_of}
 use Rattle.itch_frame.specs.Blocks.{IsFull}
 use Rattle.itch_frame.specs.declared.tally.Failures.{Failures}
 use Rattle.itch_frame.proofs.BlockLemmas.{consumed_more, each-push}
-use Rattle.itch_market.specs.declared.not_taken.NotTaken.{NotTaken}
-use Rattle.itch_market.specs.declared.not_taken.NotTaken.TheVariants.{Ended, Undecoded, Refused}
 use Rattle.itch_market.specs.declared.stop.Stop.{Stop}
 use Rattle.itch_market.specs.Content.{Content, laid}
 use Rattle.itch_market.specs.Effects.{effect}
 use Rattle.itch_market.specs.GoodMarkets.{IsGood}
 use Rattle.itch_market.specs.Runs.{after}
 use Rattle.itch_market.specs.Stops.{cause}
-use Rattle.itch_market.specs.Replays.{Fits, Halts, Step, Takes, Replays, ReplaysFirst, Counts, stop_of}
+use Rattle.itch_market.specs.Replays.{Fits, Step, Takes}
 use Rattle.itch_market.proofs.GoodMarkets.{effect_good}
 use Rattle.itch_market.proofs.LaidMarkets.{effect-laid}
 use Rattle.itch_market.proofs.Causes.{cause-laid, halts-laid, no_reason, none_more, after_more}
@@ -70,26 +68,3 @@ going_on m old mid new count n k going (p, off, room, (clean, fits, next)) =
       counted = length-append ps (p ∷ []) ∙ ap (λ c. c + 1) going.counted;
       few = omega (arith, not_full count going.few room);
     }
-
--- and there it stops
-pub going_halts : (m : Content) (old mid new : Option (List ℕ)) (count : ℕ) (n k : Content) (stop : Stop)
-    → Going m old mid count n → Step (count == 10 ^ 19 - 1) n mid new (Err stop) k → Replays m old new count stop k
-going_halts m old mid new count n k stop going (same, halts) =
-    let so_far = after m (map message_of going.payloads) in (
-      going.payloads,
-      mid,
-      subst (Takes m old mid going.payloads) (sym same) going.takes,
-      going.counted,
-      going.few,
-      halts-laid (count == 10 ^ 19 - 1) so_far mid new stop going.good (subst (λ x. Halts (count == 10 ^ 19 - 1) x mid new stop) going.takes.left halts),
-    )
-
--- or it was to take no more
-pub going_short : (m : Content) (old new : Option (List ℕ)) (count : ℕ) (n : Content) → Going m old new count n → ReplaysFirst count m old new count None n
-going_short m old new count n going = (refl, going.few, going.payloads, going.takes, going.counted)
-
--- a message that lies at hand fails no read
-pub nothing_failed : (why : NotTaken) (old new : Failures) → new ≡ old → Counts (stop_of why) old new
-nothing_failed Ended old new same = same
-nothing_failed (Undecoded fault) old new same = same
-nothing_failed (Refused why) old new same = same

@@ -7,10 +7,12 @@ pub mod GoodMarkets
 pub mod Runs
 pub mod SameMarkets
 pub mod FirstPlaces
+pub mod Statuses
 pub mod Stops
 pub mod Replays
 pub mod Takings
 pub mod DayParts
+pub mod DayMessages
 pub mod Partial
 pub mod Wanted
 pub mod Plain

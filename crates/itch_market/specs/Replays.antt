@@ -1,7 +1,6 @@
 -- What a replay does to its reader and its market, step by step.
 use Rattle.std.specs.Prelude.{◌≡◌, ◌≢◌, ℕ, ◌-◌, ◌<◌, ◌≤◌, ◌^◌, ◌==◌, ◌⊎◌, Bool, true, false, IsTrue, List, [], map, length, ⊤, Option, Some, None, Result, Ok, Err}
 use Rattle.std.specs.List.{AllByRecursion}
-use Rattle.std.specs.Borrow.{Bor}
 use Rattle.std.specs.Io.KnownBytes.{Consumes}
 use Rattle.itch_codec.specs.Messages.{fault, message_of}
 use Rattle.itch_codec.specs.Widths.{IsMessage}
@@ -15,8 +14,6 @@ use Rattle.itch_market.specs.declared.refusal.Refusal.{Refusal}
 use Rattle.itch_market.specs.declared.refusal.Refusal.TheVariants.{UnknownLocate, StockMismatch, ZeroShares, DuplicateRef, UnknownRef, LocateMismatch, TooManyShares, UnexpectedEnd, OutOfMemory}
 use Rattle.itch_market.specs.declared.stop.Stop.{Stop}
 use Rattle.itch_market.specs.declared.stop.Stop.TheVariants.{End, Frame, Codec, Rule, TooManyMessages}
-use Rattle.itch_market.specs.declared.not_taken.NotTaken.{NotTaken}
-use Rattle.itch_market.specs.declared.not_taken.NotTaken.TheVariants.{Ended as NoMore, Undecoded, Refused}
 use Rattle.itch_market.specs.Content.{Content, laid}
 use Rattle.itch_market.specs.Reasons.{reason}
 use Rattle.itch_market.specs.Effects.{effect, takes_memory}
@@ -52,21 +49,13 @@ TakesOne m payload (Err TooManyMessages) n = ⊥
 abbrev pub TakesOff : Option (List ℕ) → Option (List ℕ) → List ℕ → Type 0
 TakesOff old new payload = IsFull payload × Consumes old new (block payload)
 
--- why no further message is taken, apart from what it says; `full` says that there are as many as there may be
-abbrev pub StopsHere : Bool → Option (List ℕ) → Option (List ℕ) → Stop → Type 0
-StopsHere full old new End = EndsHere old new
-StopsHere full old new (Frame fault) = FailsHere fault old new
-StopsHere full old new TooManyMessages = (payload : List ℕ) × TakesOff old new payload × (full ≡ true)
-StopsHere full old new (Codec f) = ⊥
-StopsHere full old new (Rule why) = ⊥
-
 -- why no further message is applied to this market; `full` says that as many were applied as there may be
 abbrev pub Halts : Bool → Content → Option (List ℕ) → Option (List ℕ) → Stop → Type 0
 Halts full m old new (Codec f) = (payload : List ℕ) × TakesOff old new payload × (full ≡ false) × (fault payload ≡ Some f)
 Halts full m old new (Rule why) = (payload : List ℕ) × TakesOff old new payload × (full ≡ false) × Refuses m payload why
-Halts full m old new End = StopsHere full old new End
-Halts full m old new (Frame fault) = StopsHere full old new (Frame fault)
-Halts full m old new TooManyMessages = StopsHere full old new TooManyMessages
+Halts full m old new End = EndsHere old new
+Halts full m old new (Frame fault) = FailsHere fault old new
+Halts full m old new TooManyMessages = (payload : List ℕ) × TakesOff old new payload × (full ≡ true)
 
 -- a failed read is counted with its error, and nothing else is
 abbrev pub Counts : Stop → Failures → Failures → Type 0
@@ -106,17 +95,6 @@ LeavesReaderFirst old count None new =
     (count ≡ 0 → new ≡ old) × (0 < count → (new.held ≡ []) × (new.stage ≡ Given) × (old.stage ≢ Ended) × (old.stage ≢ Cut))
 LeavesReaderFirst old count (Some stop) new = LeavesReader stop new × StopsAgain old count stop new
 
-module _ {R : Type 0} (remaining : R → Option (List ℕ)) (failures : R → Failures) where
-  -- what a call that asks for the payload of the next message may return, and leave; `full` says that the caller has as many as there may be
-  abbrev pub NextPayload : Bool → Reading R → Result (Bor (List ℕ)) Stop → Reading R → Type 0
-  -- its block came off the front
-  NextPayload full old (Ok p) new =
-      TakesOff (bytes_left remaining old) (bytes_left remaining new) p.now × (full ≡ false) × (failures new.reader ≡ failures old.reader)
-      × LeavesReaderFirst old 1 None new
-  NextPayload full old (Err stop) new =
-      StopsHere full (bytes_left remaining old) (bytes_left remaining new) stop × Counts stop (failures old.reader) (failures new.reader)
-      × LeavesReaderFirst old 0 (Some stop) new
-
 -- what one block does: its message is applied, or the replay stops
 abbrev pub Step : Bool → Content → Option (List ℕ) → Option (List ℕ) → Result (Unit {0}) Stop → Content → Type 0
 Step full m old new (Ok done) n = (payload : List ℕ) × TakesOff old new payload × (full ≡ false) × TakesOne m payload (Ok done) n
@@ -129,16 +107,6 @@ pub record Takes (m : Content) (old new : Option (List ℕ)) (payloads : List (L
   pub none : NoCause m payloads
   pub fits : AllByRecursion Fits payloads
   pub left : n ≡ laid (after m (map message_of payloads))
-
--- why a message that lies at hand is not taken, as a stop
-abbrev pub stop_of : NotTaken → Stop
-stop_of NoMore = End
-stop_of (Undecoded f) = Codec f
-stop_of (Refused why) = Rule why
-
-abbrev pub step_of : {X : Type 0} → Result X NotTaken → Result X Stop
-step_of (Ok done) = Ok done
-step_of (Err why) = Err (stop_of why)
 
 -- some messages are applied, and then the replay stops
 abbrev pub Replays : Content → Option (List ℕ) → Option (List ℕ) → ℕ → Stop → Content → Type 0

@@ -1,30 +1,11 @@
 //! Orders that are looked at before the messages about them come.
-ghost use Rattle.std.specs.Prelude.{◌≡◌, ◌≤◌, length};
-
-use crate::market::Market;
-use itch_book::OrderBook;
-use itch_frame::{BlockReader, CountedRead};
-use std::alloc::Allocator;
+ghost use Rattle.std.specs.Prelude.{◌≤◌, length};
 
 // So many messages are looked at ahead at once.
 const AHEAD: usize = 16;
 
 // Where a block has the reference of its message's order, if it is about one: after the length, and 11 bytes of the message.
 const REFERENCE: usize = 13;
-
-/// Has the market look ahead at the messages that lie at hand, before each sixteenth. Nothing changes.
-#[inline(always)]
-pub fn look_ahead<R: CountedRead, A: Allocator, B: OrderBook>(
-    reader: &BlockReader<R, A>,
-    market: &mut Market<B>,
-    count: u64,
-)
-    ensures { market.new ≡ market.old }
-{
-    if count % AHEAD as u64 == 0 {
-        market.look_ahead(reader.at_hand());
-    }
-}
 
 /// The references that the first blocks have, where messages about orders have them; of other messages some number.
 pub(crate) fn references_in(blocks: &[u8]) -> [u64; AHEAD] {

@@ -6,17 +6,16 @@ ghost use Rattle.itch_frame.specs.Reading.{bytes_left};
 ghost use Rattle.itch_market.specs.Content.{laid};
 ghost use Rattle.itch_market.specs.Runs.{after};
 ghost use Rattle.itch_market.specs.Stops.{Stops};
-ghost use Rattle.itch_market.specs.Replays.{Counts, CountsFirst, LeavesReader, LeavesReaderFirst, StopsAgain, stop_of, Replays, ReplaysFirst, IsDecided};
+ghost use Rattle.itch_market.specs.Replays.{Counts, CountsFirst, LeavesReader, LeavesReaderFirst, StopsAgain, Replays, ReplaysFirst, IsDecided};
 ghost use Rattle.itch_market.specs.DayParts.{LeavesPartOf, PartOf};
-ghost use Rattle.itch_market.specs.Takings.{IsLeft, left_by, reason_of};
+ghost use Rattle.itch_market.specs.Takings.{reason_of};
 ghost use Rattle.itch_day.specs.declared.stop.Stop.TheVariants as part;
 
 use crate::market::Market;
-use crate::not_taken::NotTaken;
 use crate::refused::Refused;
 use crate::stop::{ReplayEnd, Stop};
 use itch_book::OrderBook;
-use itch_day::{Limit, Stop as PartStop, read_part};
+use itch_day::{Limit, Stop as PartStop, pass_stop, read_part};
 use itch_frame::{BlockReader, CountedRead};
 use std::alloc::Allocator;
 
@@ -80,22 +79,6 @@ pub fn replay_part<R: CountedRead, A: Allocator, B: OrderBook>(
     (count, reason_of(stop))
 }
 
-/// Passes the block that a part of a day stopped at.
-pub fn pass_stop<R: CountedRead, A: Allocator>(
-    reader: &mut BlockReader<R, A>,
-    stop: &PartStop<Refused>,
-)
-    requires { IsLeft stop.now reader.old }
-    ensures { reader.new ≡ left_by stop.now reader.old }
-{
-    match stop {
-        PartStop::Full | PartStop::Frame(_) => {}
-        PartStop::Late | PartStop::End | PartStop::TooMany | PartStop::Refused(_) => {
-            reader.pass_held();
-        }
-    }
-}
-
 /// Why a replay stops where a part of a day goes no further, or `None` where it has all messages that are wanted.
 pub fn reason_of(stop: PartStop<Refused>) -> Option<Stop>
     ensures { result ≡ reason_of stop }
@@ -116,18 +99,6 @@ impl From<Refused> for Stop {
         match why {
             Refused::Codec(fault) => Stop::Codec(fault),
             Refused::Rule(why) => Stop::Rule(why),
-        }
-    }
-}
-
-impl From<NotTaken> for Stop {
-    ghost from_gives = { λ why stop. stop ≡ stop_of why };
-
-    fn from(why: NotTaken) -> Stop {
-        match why {
-            NotTaken::Ended => Stop::End,
-            NotTaken::Undecoded(fault) => Stop::Codec(fault),
-            NotTaken::Refused(why) => Stop::Rule(why),
         }
     }
 }

@@ -19,8 +19,12 @@ pub mod LengthLemmas
 pub mod Partings
 pub mod TakenMessages
 pub mod WrittenBlocks
+pub mod SkippedMessages
+pub mod AsRead
 pub mod ReadSteps
 pub mod FileLemmas
 pub mod OneFile
 pub mod KnownFiles
 pub mod SomeFile
+pub mod DaySnapshots
+pub mod FailedWrites

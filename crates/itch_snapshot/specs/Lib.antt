@@ -8,4 +8,8 @@ pub mod Writes
 pub mod Stages
 pub mod TakenMessages
 pub mod Reads
+pub mod AsRead
+pub mod SnapshotSinks
 pub mod Files
+pub mod PartPlaces
+pub mod Statuses

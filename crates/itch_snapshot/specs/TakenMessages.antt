@@ -6,7 +6,6 @@ use Rattle.itch_codec.specs.declared.message.Message.TheVariants as is
 use Rattle.itch_codec.specs.Messages.{fault, message_of}
 use Rattle.itch_market.specs.declared.refusal.Refusal.TheVariants.{OutOfMemory}
 use Rattle.itch_market.specs.declared.stop.Stop.TheVariants as stop
-use Rattle.itch_codec.specs.Widths.{IsMessage}
 use Rattle.itch_market.specs.Content.{Content, empty}
 use Rattle.itch_market.specs.Replays.{TakesOne}
 use Rattle.itch_market.specs.Partial.{skips}
@@ -33,16 +32,6 @@ closing_number payload = number_by (fault payload) payload
 -- as many messages were taken as a snapshot may have
 abbrev pub is_full : ℕ → Bool
 is_full taken = taken == 10 ^ 19 - 1
-
--- the message that a payload spells after `taken` others: End of Snapshot, or one for which there is room
-abbrev pub IsNext : ℕ → List ℕ → Result Message SnapFault → Type 0
-IsNext taken payload (Ok x) = (fault payload ≡ None) × IsMessage x × (x ≡ message_of payload) × (number_in x ≡ None → is_full taken ≡ false)
-IsNext taken payload (Err (Codec place f)) = (is_full taken ≡ false) × (place ≡ taken + 1) × (fault payload ≡ Some f)
-IsNext taken payload (Err TooManyMessages) = (is_full taken ≡ true) × (closing_number payload ≡ None)
-IsNext taken payload (Err (Rule place why)) = ⊥
-IsNext taken payload (Err NoEnd) = ⊥
-IsNext taken payload (Err (Frame f)) = ⊥
-IsNext taken payload (Err AfterEnd) = ⊥
 
 -- the message of a payload is applied after `taken` others, or it is End of Snapshot, or neither
 abbrev pub TakesNext : ℕ → Content → List ℕ → Result (Option ℕ) SnapFault → Content → Type 0
@@ -79,11 +68,6 @@ TakesNextOnly wanted taken m payload (Err TooManyMessages) n = TakesNext taken m
 TakesNextOnly wanted taken m payload (Err NoEnd) n = ⊥
 TakesNextOnly wanted taken m payload (Err (Frame f)) n = ⊥
 TakesNextOnly wanted taken m payload (Err AfterEnd) n = ⊥
-
--- a message is skipped: without a set of locates none is
-abbrev pub skips_for : Option (Bor Wanted) → Message → Bool
-skips_for None x = false
-skips_for (Some set) x = skips (has set.now) x
 
 -- what the next message does, where without a set none is skipped
 abbrev pub TakesFor : Option (Bor Wanted) → ℕ → Content → List ℕ → Result (Option ℕ) SnapFault → Content → Type 0

@@ -6,7 +6,8 @@
 //!
 //! - [`SnapshotIter`] gives the messages, of the whole market or of some locates; [`write_snapshot`], [`write_partial`], and
 //!   [`write_snapshot_of`] for either, write them, closed by End of Snapshot (GLIMPSE 5.0).
-//! - [`read_snapshot`] reads a snapshot file in any order, and [`SnapshotReader`] message by message.
+//! - [`read_snapshot`] reads a snapshot file in any order, [`read_messages`] one up to its End of Snapshot, of the whole market or of some
+//!   locates, and [`SnapshotReader`] takes one message by message.
 //! - [`same_market`] and [`part_place`] compare markets.
 //!
 //! ```
@@ -27,13 +28,15 @@ mod messages;
 mod named_order;
 mod read;
 mod reader;
+mod sink;
 mod states;
+mod status;
 mod write;
 
 pub use compare::{part_place, same_market};
 pub use fault::SnapFault;
 pub use iter::SnapshotIter;
 pub use length::snapshot_len;
-pub use read::read_snapshot;
+pub use read::{read_messages, read_snapshot};
 pub use reader::SnapshotReader;
 pub use write::{write_partial, write_snapshot, write_snapshot_of};

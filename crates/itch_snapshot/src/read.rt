@@ -1,18 +1,25 @@
 //! Snapshots from a reader.
-ghost use Rattle.std.specs.Prelude.{◌≡◌, ℕ, ◌≤◌, ◌-◌, ◌^◌, List, IfSome, IfOk, IfErr, MatchResult};
+ghost use Rattle.std.specs.Prelude.{◌≡◌, ℕ, ◌-◌, ◌^◌, List, [], IfSome, IfOk, IfErr, MatchResult};
+ghost use Rattle.std.specs.Option.{option_copied};
 ghost use Rattle.itch_codec.specs.declared.message.Message.{Message};
+ghost use Rattle.itch_frame.specs.Blocks.{IsBlock, IsBlockOf};
 ghost use Rattle.itch_frame.specs.Reading.{bytes_left};
-ghost use Rattle.itch_market.specs.Content.{laid};
+ghost use Rattle.itch_frame.specs.declared.reader.Stage.TheVariants.{Given};
+ghost use Rattle.itch_market.specs.Content.{empty, laid};
 ghost use Rattle.itch_market.specs.Runs.{run};
 ghost use Rattle.itch_snapshot.specs.Files.{IsSnapshotFile, IsMarketOf, IsFaultOf};
-ghost use Rattle.itch_snapshot.specs.Reads.{ReadsNext, ReadsEnd, ReadsAll, ReadsSnapshot, CountsFault, IsDecidedFault};
+ghost use Rattle.itch_snapshot.specs.AsRead.{ReadsAs, ReadsMarket, read_by};
+ghost use Rattle.itch_snapshot.specs.Reads.{ReadsEnd, ReadsSnapshot, CountsFault, IsDecidedFault};
+ghost use Rattle.itch_snapshot.specs.SnapshotSinks.{end_of, last_of};
+ghost use Rattle.itch_snapshot.specs.TakenMessages.{TakesFor};
 
 use crate::fault::SnapFault;
-use crate::reader::take;
+use crate::sink::{SnapshotEnd, SnapshotSink};
 use itch_book::OrderBook;
-use itch_codec::Seq;
+use itch_codec::{MOST_MESSAGES, Seq, decode};
+use itch_day::{Limit, Stop, pass_stop, read_part};
 use itch_frame::{BlockReader, CountedRead};
-use itch_market::Market;
+use itch_market::{LocateSet, Market};
 use std::alloc::Allocator;
 
 /// Reads a snapshot file (GLIMPSE 5.0) into a market of its own, with the number of the first message that it does not
@@ -35,44 +42,76 @@ pub fn read_snapshot<R: CountedRead, A: Allocator, B: OrderBook>(
     ensures failures { MatchResult result (λ _. R.failures reader.new.reader ≡ R.failures reader.old.reader)
         (λ fault. CountsFault fault (R.failures reader.old.reader) (R.failures reader.new.reader)) }
 {
-    let mut market = Market::new(alloc);
-    let next = read_messages(reader, &mut market)?;
+    let read = read_messages(alloc, reader, None)?;
     read_end(reader)?;
-    Ok((market, next))
+    Ok(read)
 }
 
-// Applies the messages of a snapshot, up to its End of Snapshot.
-fn read_messages<R: CountedRead, A: Allocator, B: OrderBook>(
+/// Reads the messages of a snapshot file into a market of its own, up to its End of Snapshot, with the number of the first message that
+/// it does not contain. With a set of locates, messages at other locates change nothing. What follows the End of Snapshot is left.
+///
+/// The faults are those of [`read_snapshot`], but for `AfterEnd`.
+pub fn read_messages<'a, R: CountedRead, A: Allocator, B: OrderBook>(
+    alloc: B::Alloc,
+    reader: &'a mut BlockReader<R, A>,
+    set: Option<&'a LocateSet<B::Alloc>>,
+) -> Result<(Market<B>, Seq), SnapFault>
+    ensures steps { ReadsMarket (read_by (option_copied set.entry)) (bytes_left R.remaining reader.old) (bytes_left R.remaining reader.new) result }
+    ensures failures { MatchResult result (λ _. R.failures reader.new.reader ≡ R.failures reader.old.reader)
+        (λ fault. CountsFault fault (R.failures reader.old.reader) (R.failures reader.new.reader)) }
+{
+    let market = Market::new(alloc);
+    let mut sink = SnapshotSink { market, set };
+    let next = read_all(reader, &mut sink)?;
+    Ok((sink.market, next))
+}
+
+// Applies the messages of a file to an empty market.
+fn read_all<R: CountedRead, A: Allocator, B: OrderBook>(
     reader: &mut BlockReader<R, A>,
-    market: &mut Market<B>,
+    sink: &mut SnapshotSink<'_, B>,
 ) -> Result<Seq, SnapFault>
-    ensures steps { ReadsAll market.old (bytes_left R.remaining reader.old) (bytes_left R.remaining reader.new) result market.new }
+    requires { sink.old.market ≡ empty }
+    ensures steps { ReadsAs (read_by (option_copied sink.old.set)) (bytes_left R.remaining reader.old) (bytes_left R.remaining reader.new) result sink.new.market }
     ensures failures { MatchResult result (λ _. R.failures reader.new.reader ≡ R.failures reader.old.reader)
         (λ fault. CountsFault fault (R.failures reader.old.reader) (R.failures reader.new.reader)) }
 {
-    market.recall_invariant();
-    for taken in 0..u64::MAX {
-        if let Some(next) = read_message(reader, market, taken)? {
-            return Ok(next);
-        }
+    let mut count = 0;
+    let stop = read_part(reader, &mut count, sink, Limit::whole());
+    if let Stop::TooMany = stop {
+        return read_last(reader, sink);
     }
-    unreachable!()
+    pass_stop(reader, &stop);
+    end_of(&stop)
 }
 
-// Applies the next message, after `taken` others.
-fn read_message<R: CountedRead, A: Allocator, B: OrderBook>(
+// Takes the message after as many others as a snapshot may have: an End of Snapshot, or one message too many.
+fn read_last<R: CountedRead, A: Allocator, B: OrderBook>(
     reader: &mut BlockReader<R, A>,
-    market: &mut Market<B>,
-    taken: u64,
-) -> Result<Option<Seq>, SnapFault>
-    requires { taken ≤ 10 ^ 19 - 1 }
-    ensures step { ReadsNext taken market.old (bytes_left R.remaining reader.old) (bytes_left R.remaining reader.new) result market.new }
-    ensures failures { MatchResult result (λ _. R.failures reader.new.reader ≡ R.failures reader.old.reader)
-        (λ fault. CountsFault fault (R.failures reader.old.reader) (R.failures reader.new.reader)) }
+    sink: &mut SnapshotSink<'_, B>,
+) -> Result<Seq, SnapFault>
+    requires { IsBlock reader.old.held }
+    ensures reader { reader.new ≡ record { reader = reader.old.reader; held = []; stage = Given } }
+    ensures takes { (payload : List ℕ) → IsBlockOf payload reader.old.held → TakesFor sink.old.set (10 ^ 19 - 1) sink.old.market payload (last_of result) sink.new.market }
 {
-    match reader.next_message()? {
-        Some(payload) => take(market, None, payload, taken),
-        None => Err(SnapFault::NoEnd),
+    let last = sink.apply(&decode(reader.payload()), MOST_MESSAGES);
+    reader.pass();
+    match last? {
+        Some(next) => Ok(next),
+        None => unreachable!(),
+    }
+}
+
+// What is returned where the reading of the file goes no further.
+fn end_of(stop: &Stop<SnapshotEnd>) -> Result<Seq, SnapFault>
+    ensures { result ≡ end_of stop.now }
+{
+    match stop {
+        Stop::Full | Stop::Late | Stop::End => Err(SnapFault::NoEnd),
+        Stop::Frame(fault) => Err(SnapFault::Frame(*fault)),
+        Stop::TooMany => Err(SnapFault::TooManyMessages),
+        Stop::Refused(SnapshotEnd::Closed(next)) => Ok(*next),
+        Stop::Refused(SnapshotEnd::Broken(fault)) => Err(*fault),
     }
 }
 

@@ -1,11 +1,13 @@
 //! Snapshots message by message.
-ghost use Rattle.std.specs.Prelude.{◌≡◌, ◌<◌, ◌≤◌, ◌-◌, ◌^◌, IfOk, IfNone};
-ghost use Rattle.itch_snapshot.specs.TakenMessages.{IsNext, TakesFor, skips_for};
+ghost use Rattle.std.specs.Prelude.{◌≡◌, ℕ, ◌<◌, ◌≤◌, ◌-◌, ◌^◌, List, IfOk, IfNone};
+ghost use Rattle.itch_day.specs.Sinks.{Decodes};
+ghost use Rattle.itch_market.specs.Wanted.{has};
+ghost use Rattle.itch_snapshot.specs.TakenMessages.{TakesNext, TakesNextOnly, is_skipped};
 ghost use Rattle.itch_snapshot.specs.Stages.{opened};
 
 use crate::fault::SnapFault;
 use itch_book::OrderBook;
-use itch_codec::{MOST_MESSAGES, Message, Seq, decode};
+use itch_codec::{CodecFault, MOST_MESSAGES, Message, Seq, decode};
 use itch_market::{LocateSet, Market, Refusal};
 use std::alloc::Allocator;
 use std::marker::Model;
@@ -58,7 +60,6 @@ impl<B: OrderBook> Model for SnapshotReader<B> {
 }
 
 impl<B: OrderBook> SnapshotReader<B> {
-    ghost use Rattle.itch_market.specs.Wanted.{has};
     ghost use Rattle.itch_snapshot.specs.declared.reader.Stage.TheVariants.{Taking};
     ghost use Rattle.itch_snapshot.specs.TakenMessages.{begun, taken_after, stage_after, Loads, LoadsOnly, Finishes};
 
@@ -83,7 +84,7 @@ impl<B: OrderBook> SnapshotReader<B> {
     {
         let stage = self.stage;
         stage.open()?;
-        let taken = take(&mut self.market, None, payload, self.taken);
+        let taken = take(&mut self.market, &decode(payload), self.taken);
         self.settle(taken)
     }
 
@@ -98,7 +99,7 @@ impl<B: OrderBook> SnapshotReader<B> {
     {
         let stage = self.stage;
         stage.open()?;
-        let taken = take(&mut self.market, Some(set), payload, self.taken);
+        let taken = take_only(&mut self.market, set, &decode(payload), self.taken);
         self.settle(taken)
     }
 
@@ -158,55 +159,59 @@ impl<B: OrderBook> SnapshotReader<B> {
     }
 }
 
-// The message of a payload, after `taken` others: one for which there is room, or the End of Snapshot.
-fn message_of(payload: &[u8], taken: u64) -> Result<Message<'_>, SnapFault>
-    requires { taken ≤ 10 ^ 19 - 1 }
-    ensures { IsNext taken payload.entry.now result }
-{
-    let decoded = decode(payload);
-    if taken == MOST_MESSAGES && !matches!(&decoded, Ok(Message::End { .. })) {
-        return Err(SnapFault::TooManyMessages);
-    }
-    let place = taken + 1;
-    match decoded {
-        Ok(message) => Ok(message),
-        Err(fault) => Err(SnapFault::Codec { place, fault }),
-    }
-}
-
-// Whether the message is at a locate that is not wanted. Without a set all are.
-fn is_skipped<A: Allocator>(set: Option<&LocateSet<A>>, message: &Message<'_>) -> bool
-    ensures { result ≡ skips_for set.entry message.now }
-{
-    match set {
-        Some(set) => set.skips(message),
-        None => false,
-    }
-}
-
-// Takes the message of a payload, after `taken` others. With a set, a message at a locate that the set does not contain
-// changes nothing.
-pub(crate) fn take<'a, B: OrderBook>(
-    market: &'a mut Market<B>,
-    set: Option<&'a LocateSet<B::Alloc>>,
-    payload: &[u8],
+// Takes the message that was decoded of a payload, after `taken` others.
+pub(crate) fn take<B: OrderBook>(
+    market: &mut Market<B>,
+    message: &Result<Message<'_>, CodecFault>,
     taken: u64,
 ) -> Result<Option<Seq>, SnapFault>
     requires { taken ≤ 10 ^ 19 - 1 }
-    ensures { TakesFor set.entry taken market.old payload.now result market.new }
+    ensures { (payload : List ℕ) → Decodes payload message.now → TakesNext taken market.old payload result market.new }
 {
-    let message = message_of(payload, taken)?;
-    if let Message::End { next } = &message {
+    if let Ok(Message::End { next }) = message {
         return Ok(Some(*next));
     }
-    if is_skipped(set, &message) {
+    if taken == MOST_MESSAGES {
+        return Err(SnapFault::TooManyMessages);
+    }
+    let place = taken + 1;
+    match message {
+        Err(fault) => Err(SnapFault::Codec {
+            place,
+            fault: *fault,
+        }),
+        Ok(message) => match market.apply(message) {
+            Ok(()) => Ok(None),
+            Err(reason) => Err(SnapFault::Rule { place, reason }),
+        },
+    }
+}
+
+// The same, but a message at a locate that the set does not contain changes nothing.
+pub(crate) fn take_only<B: OrderBook>(
+    market: &mut Market<B>,
+    set: &LocateSet<B::Alloc>,
+    message: &Result<Message<'_>, CodecFault>,
+    taken: u64,
+) -> Result<Option<Seq>, SnapFault>
+    requires { taken ≤ 10 ^ 19 - 1 }
+    ensures { (payload : List ℕ) → Decodes payload message.now → TakesNextOnly (has set.now) taken market.old payload result market.new }
+{
+    if taken == MOST_MESSAGES {
+        return take(market, message, taken);
+    }
+    if is_skipped(set, message) {
         return Ok(None);
     }
-    match market.apply(&message) {
-        Ok(()) => Ok(None),
-        Err(reason) => Err(SnapFault::Rule {
-            place: taken + 1,
-            reason,
-        }),
+    take(market, message, taken)
+}
+
+// Whether a message was decoded that is at a locate that the set does not contain.
+fn is_skipped<A: Allocator>(set: &LocateSet<A>, message: &Result<Message<'_>, CodecFault>) -> bool
+    ensures { (payload : List ℕ) → Decodes payload message.now → result ≡ is_skipped (has set.now) payload }
+{
+    match message {
+        Ok(message) => set.skips(message),
+        Err(_fault) => false,
     }
 }

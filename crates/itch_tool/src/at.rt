@@ -4,9 +4,9 @@ use crate::checkpoints::{Checkpoint, EMPTY_SNAPSHOT, nearest, path_of};
 use crate::failure::Failure;
 use crate::feed::{FeedFault, open_after};
 use crate::opened::open;
-use crate::run::join_over;
+use crate::run::perform_pair_over;
 use itch_commands::snap::{Unfit, has_each};
-use itch_commands::{FeedPart, Limit, Selection, Source, ToolFault, read_locates};
+use itch_commands::{FeedPart, Limit, PairCommand, Selection, Source, ToolFault, read_locates};
 use itch_frame::CountedWrite;
 use itch_market::LocateSet;
 use itchsnap_cli::input::Progress;
@@ -38,18 +38,28 @@ pub fn join_at<R: Files + Input + Eprint + AllocGlobal + Clock, W: CountedWrite>
         before: checkpoint.mark.count,
         limit: point,
     };
+    let join = PairCommand::Join { part, selection };
     if checkpoint.mark.count == 0 {
-        return Ok(join_over(alloc, EMPTY_SNAPSHOT, feed, part, selection, only, out)?);
+        return Ok(perform_pair_over(alloc, join, only, EMPTY_SNAPSHOT, feed, out)?);
     }
     let path = path_of(alloc, folder, &checkpoint)?;
     let joined = match open(rt, Some(path.as_str()), Source::Snapshot, progress) {
-        Ok(snapshot) => join_over(alloc, snapshot, feed, part, selection, only, out),
+        Ok(snapshot) => perform_pair_over(alloc, join, only, snapshot, feed, out),
         Err(fault) => Err(fault),
     };
     match joined {
         Ok(answer) => Ok(answer),
-        Err(fault) => Err(Failure::at(alloc, fault, Source::Snapshot, path.as_str())),
+        Err(fault) => Err(in_checkpoint(fault, path)),
     }
+}
+
+// The failure of a fault that may be in the checkpoint's file.
+fn in_checkpoint(fault: ToolFault, path: String) -> Failure {
+    let checkpoint = match fault.source() {
+        Some(Source::Snapshot) => Some(path),
+        _ => None,
+    };
+    Failure::Command { fault, checkpoint }
 }
 
 // Whether the snapshot of a checkpoint has each locate that is wanted. What has a stock may be at any locate.

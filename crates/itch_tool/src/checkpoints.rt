@@ -3,7 +3,7 @@
 use crate::failure::Failure;
 use crate::lines::Lines;
 use itch_commands::snap::{Fingerprint, Latest, Mark};
-use itch_commands::{Limit, Source, ToolFault};
+use itch_commands::{Limit, ToolFault};
 use serde_json::Value;
 use std::alloc::{AllocError, Global};
 use std::fs;
@@ -33,7 +33,7 @@ pub fn nearest<R: Files + AllocGlobal>(
     let path = format!(in alloc; "{folder}/index.jsonl")?;
     let index = match fs::open(rt, path.as_str()) {
         Ok(index) => index,
-        Err(error) => return Err(Failure::open(alloc, Source::Snapshot, path.as_str(), error)),
+        Err(error) => return Err(Failure::open(alloc, path.as_str(), error)),
     };
     let Ok(buffered) = BufReader::new(alloc, index) else {
         return Err(Failure::from(ToolFault::OutOfMemory));
@@ -48,7 +48,7 @@ pub fn nearest<R: Files + AllocGlobal>(
         let line = match lines.next() {
             Ok(Some(line)) => line,
             Ok(None) => break,
-            Err(error) => return Err(Failure::open(alloc, Source::Snapshot, path.as_str(), error)),
+            Err(error) => return Err(Failure::open(alloc, path.as_str(), error)),
         };
         if let Some(checkpoint) = read_checkpoint(alloc, line, point)? {
             if checkpoint.mark.is_nearer(&nearest.mark, point) {

@@ -1,52 +1,28 @@
 //! What is said on standard error, and the status that goes with it.
 
-use crate::failed::DeviceName;
-use crate::failure::{Failure, NamedFile};
-use crate::packed::{packed_feed, packed_file};
+use crate::failure::Failure;
+use crate::final_status::{ends_by_closed_pipe, final_status};
+use crate::names::{CommandFiles, JobNames, Name, SessionNames, Subject};
+use crate::packed::packed_file;
 use clap::Error;
 use clap::error::ErrorKind;
 use itch_commands::snap::Unfit;
-use itch_commands::{Cause, Device, ToolFault, ends_by_closed_pipe, final_status, system_fault};
+use itch_commands::{Source, ToolFault, system_fault};
 use itch_soup::SoupFault;
-use itchsnap_cli::words::Job;
-use itchsnap_live::{LiveFault, Names};
+use itchsnap_live::{LiveFault, Names, SessionCause, SessionDevice, SessionFault};
 use std::io;
 use std::rt::Files;
 
-/// The status of a checkpoint that does not fit.
-const UNFIT: u8 = 1;
-
-/// Says a failure on standard error, and returns the status.
+/// Says a failure on standard error, and returns the status. Of a closed pipe nothing is said.
 pub fn finish<R: Files + Eprint>(
     rt: &R,
-    job: Option<&Job<'_>>,
+    names: &JobNames<'_>,
     outcome: Result<bool, Failure>,
 ) -> u8 {
-    match outcome {
-        Ok(answer) => final_status(&Ok(answer)),
-        Err(Failure::Tool { fault, file }) => finish_fault(rt, job, fault, file.as_ref()),
-        Err(Failure::Said { status }) => status,
-        Err(Failure::Checkpoint { why, detail }) => {
-            match say_unfit(rt, job, why, detail.as_str()) {
-                Ok(()) => UNFIT,
-                Err(error) => final_status(&Err(ToolFault::Write(error))),
-            }
-        }
-    }
-}
-
-// Says a fault, and returns its status. Of a closed pipe nothing is said.
-fn finish_fault<R: Files + Eprint>(
-    rt: &R,
-    job: Option<&Job<'_>>,
-    fault: ToolFault,
-    file: Option<&NamedFile>,
-) -> u8 {
-    let outcome = Err(fault);
     match &outcome {
-        Err(fault) if !ends_by_closed_pipe(&outcome) => match say(rt, job, fault, file) {
+        Err(failure) if !ends_by_closed_pipe(&outcome) => match say(rt, names, failure) {
             Ok(()) => final_status(&outcome),
-            Err(error) => final_status(&Err(ToolFault::Write(error))),
+            Err(error) => final_status(&Err(Failure::from(ToolFault::Write(error)))),
         },
         _ => final_status(&outcome),
     }
@@ -60,7 +36,7 @@ pub fn said<R: Eprint>(
 ) -> Result<bool, Failure> {
     match outcome {
         Ok(answer) => Ok(answer),
-        Err(LiveFault::Tool(fault)) => Err(Failure::from(fault)),
+        Err(LiveFault::Session(fault)) => Err(Failure::from(fault)),
         Err(fault) => {
             // Where standard error takes nothing, the status still tells.
             let _ = say_live(rt, &fault, names);
@@ -82,38 +58,88 @@ fn say_live<R: Eprint>(rt: &R, fault: &LiveFault, names: Names<'_>) -> io::Resul
 /// Prints what help or a usage fault has to say, and returns the status.
 pub fn explain<R: Files + Print + Eprint>(rt: &R, error: Error) -> u8 {
     if matches!(error.kind(), ErrorKind::OutOfMemory) {
-        return finish(rt, None, Err(Failure::from(ToolFault::OutOfMemory)));
+        return finish(
+            rt,
+            &JobNames::none(),
+            Err(Failure::from(ToolFault::OutOfMemory)),
+        );
     }
     match error.print(rt) {
         Ok(()) => error.exit_code() as u8,
         Err(failed) => finish(
             rt,
-            None,
+            &JobNames::none(),
             Err(Failure::from(system_fault(failed, ToolFault::Write(failed)))),
         ),
     }
 }
 
-// Writes the line of a fault, and a second one where there is more to say: which device failed and what the system says, how a
-// peer broke the rules of a session, or what a file is that is no day file.
-fn say<R: Files + Eprint>(
-    rt: &R,
-    job: Option<&Job<'_>>,
+// Writes the line of a failure, and a second one where there is more to say. What follows a feed has said it.
+fn say<R: Files + Eprint>(rt: &R, names: &JobNames<'_>, failure: &Failure) -> io::Result<()> {
+    match failure {
+        Failure::Command { fault, checkpoint } => {
+            say_command(rt, fault, subject_of(&names.files, fault, checkpoint))
+        }
+        Failure::Session(fault) => say_session(rt, fault, &names.session),
+        Failure::Open { name, error } => {
+            rt.eprintln("itchsnap: cannot open")?;
+            eprintln!(rt; "  {name}: {error}")
+        }
+        Failure::Checkpoint { why, detail } => {
+            say_unfit(rt, *why, detail.as_str(), names.files.subject(Source::Only))
+        }
+        Failure::Said { .. } => Ok(()),
+    }
+}
+
+// What the fault of a command is about, if it is about a file.
+fn subject_of<'a>(
+    files: &CommandFiles<'a>,
     fault: &ToolFault,
-    file: Option<&NamedFile>,
+    checkpoint: &'a Option<String>,
+) -> Option<Subject<'a>> {
+    match checkpoint {
+        Some(path) => Some(Subject::Checkpoint(path.as_str())),
+        None => Some(files.subject(fault.source()?)),
+    }
+}
+
+// Of a command: which file failed and what the system says, or what a file is that is no day file.
+fn say_command<R: Files + Eprint>(
+    rt: &R,
+    fault: &ToolFault,
+    subject: Option<Subject<'_>>,
 ) -> io::Result<()> {
     rt.eprintln(fault)?;
+    let Some(subject) = subject else {
+        return Ok(());
+    };
+    if let Some(error) = fault.io_error() {
+        let name = subject.name();
+        return eprintln!(rt; "  {name}: {error}");
+    }
+    if !matches!(fault, ToolFault::Stopped { .. } | ToolFault::Snap { .. }) {
+        return Ok(());
+    }
+    match packed_file(rt, subject) {
+        Some(packed) => eprintln!(rt; "  {packed}"),
+        None => Ok(()),
+    }
+}
+
+// Of a session: which device failed and what the system says, or how its peer broke the rules.
+fn say_session<R: Eprint>(
+    rt: &R,
+    fault: &SessionFault,
+    names: &SessionNames<'_>,
+) -> io::Result<()> {
+    rt.eprintln(fault)?;
+    let name = names.name(fault);
     if let Some(cause) = fault.cause() {
-        return say_cause(rt, job, cause, file);
+        return say_cause(rt, cause, name);
     }
-    if let Some(peer) = fault.peer_fault() {
-        return say_peer(rt, job, &peer);
-    }
-    match job {
-        Some(job) => match packed_file(rt, job, fault) {
-            Some(packed) => eprintln!(rt; "  {packed}"),
-            None => Ok(()),
-        },
+    match fault.peer_fault() {
+        Some(peer) => say_peer(rt, &peer, name),
         None => Ok(()),
     }
 }
@@ -121,14 +147,14 @@ fn say<R: Files + Eprint>(
 // Writes why a checkpoint does not fit. A feed may have other bytes there since it is compressed.
 fn say_unfit<R: Files + Eprint>(
     rt: &R,
-    job: Option<&Job<'_>>,
     why: Unfit,
     detail: &str,
+    feed: Subject<'_>,
 ) -> io::Result<()> {
     eprintln!(rt; "itchsnap: {why}")?;
-    let packed = match (why, job) {
-        (Unfit::Beyond | Unfit::OtherDay, Some(job)) => packed_feed(rt, job),
-        _ => None,
+    let packed = match why {
+        Unfit::Beyond | Unfit::OtherDay => packed_file(rt, feed),
+        Unfit::Partial => None,
     };
     match packed {
         Some(packed) => eprintln!(rt; "  {packed}"),
@@ -136,25 +162,18 @@ fn say_unfit<R: Files + Eprint>(
     }
 }
 
-fn say_cause(
-    rt: &impl Eprint,
-    job: Option<&Job<'_>>,
-    cause: Cause,
-    file: Option<&NamedFile>,
-) -> io::Result<()> {
-    let Cause { device, error } = cause;
-    let name = DeviceName::of(job, device, file);
+fn say_cause(rt: &impl Eprint, cause: SessionCause, name: Name<'_>) -> io::Result<()> {
+    let SessionCause { device, error } = cause;
     match (device, error.kind()) {
         // A read from a socket ends so if it has waited for as long as `--timeout` says.
-        (Device::Socket, io::ErrorKind::WouldBlock) => {
+        (SessionDevice::Socket, io::ErrorKind::WouldBlock) => {
             eprintln!(rt; "  {name}: no answer in time")
         }
         _ => eprintln!(rt; "  {name}: {error}"),
     }
 }
 
-fn say_peer(rt: &impl Eprint, job: Option<&Job<'_>>, fault: &SoupFault) -> io::Result<()> {
-    let name = DeviceName::of(job, Device::Socket, None);
+fn say_peer(rt: &impl Eprint, fault: &SoupFault, name: Name<'_>) -> io::Result<()> {
     if is_packet_fault(fault) {
         return eprintln!(rt; "  {name}: no SoupBinTCP packet of a server: {fault}");
     }

@@ -1,17 +1,27 @@
-//! Why a job failed.
+//! Why a job failed: what commands, sessions and the files of either can get, with the status that it ends with.
+ghost use Rattle.std.specs.Prelude.{◌≡◌};
+ghost use Rattle.itch_tool.specs.Endings.{failure_status};
 
+use itch_commands::ToolFault;
 use itch_commands::snap::Unfit;
-use itch_commands::{Source, ToolFault, system_fault};
+use itchsnap_live::SessionFault;
 use std::alloc::{AllocError, Global};
-use std::io;
+use std::io::{self, ErrorKind};
 
 /// Why a job failed.
 #[derive(Drop)]
 pub enum Failure {
-    /// A command failed, and one of its files has this path, where no word of the command line is that.
-    Tool {
+    /// A command failed, in the checkpoint of this path where no word of the command line is that.
+    Command {
         fault: ToolFault,
-        file: Option<NamedFile>,
+        checkpoint: Option<String>,
+    },
+    /// A session over sockets, a live server or what follows a feed failed.
+    Session(SessionFault),
+    /// The file or the folder of this path cannot be opened or written, or a server of this name is not found.
+    Open {
+        name: String,
+        error: io::Error,
     },
     /// The checkpoint that is nearest to a point of the day does not fit.
     Checkpoint {
@@ -24,41 +34,53 @@ pub enum Failure {
     },
 }
 
-/// A file of a command that has no word of its own.
-#[derive(Drop)]
-pub struct NamedFile {
-    pub source: Source,
-    pub path: String,
-}
-
 impl Failure {
-    /// The failure of a command, one of whose files has this path.
-    pub fn at(alloc: Global, fault: ToolFault, source: Source, path: &str) -> Failure {
-        match String::from_str(alloc, path) {
-            Ok(path) => Failure::Tool {
-                fault,
-                file: Some(NamedFile { source, path }),
-            },
-            Err(_) => Failure::from(ToolFault::OutOfMemory),
+    /// The failure of what has this name and cannot be opened: out of memory, if the system had none for it.
+    pub fn open(alloc: Global, name: &str, error: io::Error) -> Failure {
+        if matches!(error.kind(), ErrorKind::OutOfMemory) {
+            return Failure::from(ToolFault::OutOfMemory);
+        }
+        match String::from_str(alloc, name) {
+            Ok(name) => Failure::Open { name, error },
+            Err(error) => Failure::from(error),
         }
     }
 
-    /// The same where that file cannot be opened.
-    pub fn open(alloc: Global, source: Source, path: &str, error: io::Error) -> Failure {
-        let fault = system_fault(
-            error,
-            ToolFault::Open {
-                file: source,
-                error,
-            },
-        );
-        Failure::at(alloc, fault, source, path)
+    /// The status that the program ends with: 1 refused, 2 usage, 3 read, write, file or socket, 4 memory.
+    pub fn status(&self) -> u8
+        ensures { result ≡ failure_status self.now }
+    {
+        match self {
+            Failure::Command { fault, .. } => fault.status(),
+            Failure::Session(fault) => fault.status(),
+            Failure::Open { .. } => 3,
+            Failure::Checkpoint { .. } => 1,
+            Failure::Said { status } => *status,
+        }
     }
 }
 
 impl From<ToolFault> for Failure {
+    ghost use Rattle.std.specs.Prelude.{None};
+    ghost use Rattle.itch_tool.specs.declared.failure.Failure.TheVariants.{Command};
+
+    ghost from_gives = { λ fault failure. failure ≡ Command fault None };
+
     fn from(fault: ToolFault) -> Failure {
-        Failure::Tool { fault, file: None }
+        Failure::Command {
+            fault,
+            checkpoint: None,
+        }
+    }
+}
+
+impl From<SessionFault> for Failure {
+    ghost use Rattle.itch_tool.specs.declared.failure.Failure.TheVariants.{Session};
+
+    ghost from_gives = { λ fault failure. failure ≡ Session fault };
+
+    fn from(fault: SessionFault) -> Failure {
+        Failure::Session(fault)
     }
 }
 

@@ -5,7 +5,7 @@ use crate::opened::{read_fault, size};
 use itch_commands::snap::{Fingerprint, MOST_FIRST, MOST_LAST, Passed, Unfit, why_unfit};
 use itch_commands::{Source, ToolFault, system_fault};
 use itchsnap_cli::input::{Opened, Progress, Watched};
-use itchsnap_cli::sessions::PIECE;
+use itchsnap_live::sessions::PIECE;
 use std::alloc::{AllocError, Global};
 use std::fs;
 use std::io::{self, ErrorKind, Read, Seek, SeekFrom};

@@ -1,15 +1,15 @@
 //! A live server, what follows a feed, and a feed that is played, over files and sockets.
 
+use crate::explaining::said;
+use crate::failure::Failure;
 use crate::sockets::read_login;
-use itch_commands::{Source, ToolFault, system_fault};
 use itch_frame::Counted;
 use itch_live::Sessions;
-use itchsnap_cli::sessions::{PIECE, Sending};
-use itchsnap_cli::words::{
-    FeedWords, FollowWords, LiveWords, Place, current_session, session_of_file,
-};
+use itchsnap_cli::words::{FeedWords, FollowWords, LiveWords, session_of_file};
+use itchsnap_live::sessions::{PIECE, Sending, current_session};
 use itchsnap_live::{
-    Following, LiveFault, Names, Playing, Servers, Serving, follow_feed, play_feed, serve_live,
+    Following, Names, Place, Playing, Servers, Serving, SessionFault, follow_feed, play_feed,
+    serve_live,
 };
 use std::fs::File;
 use std::io::{self, BufWriter};
@@ -17,12 +17,12 @@ use std::net::{Net, ToSocketAddrs};
 use std::rt::{Clock, Files};
 
 /// Follows a feed, and serves the snapshot of its present market. The line of each client is written once it is gone.
-pub fn run_live<R>(rt: &R, words: &LiveWords<'_>) -> Result<bool, LiveFault>
+pub fn run_live<R>(rt: &R, words: &LiveWords<'_>) -> Result<bool, Failure>
 where
     R: Net + Clock + Files<File = File> + Print + Eprint + AllocGlobal,
 {
-    let login = read_login(rt, &words.login, Source::PasswordFile)?;
-    let own = read_login(rt, &words.feed_login, Source::Second)?;
+    let login = read_login(rt, &words.login)?;
+    let own = read_login(rt, &words.feed_login)?;
     let servers = Servers {
         feeds: words.feeds,
         glimpse: words.glimpse,
@@ -45,7 +45,11 @@ where
         stay: words.stay,
     };
     let mut out = Counted::new(io::writer(rt));
-    serve_live(rt, servers, &serving, &mut out)
+    said(
+        rt,
+        live_names(words),
+        serve_live(rt, servers, &serving, &mut out),
+    )
 }
 
 fn places(count: u64) -> usize {
@@ -53,13 +57,13 @@ fn places(count: u64) -> usize {
 }
 
 /// Fetches a snapshot, joins a feed to it, and writes the messages of the feed from there on.
-pub fn run_follow<R>(rt: &R, words: &FollowWords<'_>) -> Result<bool, LiveFault>
+pub fn run_follow<R>(rt: &R, words: &FollowWords<'_>) -> Result<bool, Failure>
 where
     R: Net + Clock + Files<File = File> + Print + Eprint + AllocGlobal,
 {
-    let login = read_login(rt, &words.login, Source::PasswordFile)?;
-    look_up(rt, words.feeds.first, Source::First)?;
-    look_up(rt, words.glimpse, Source::Only)?;
+    let login = read_login(rt, &words.login)?;
+    look_up(rt, words.feeds.first)?;
+    look_up(rt, words.glimpse)?;
     let servers = Servers {
         feeds: words.feeds,
         glimpse: Some(words.glimpse),
@@ -73,17 +77,18 @@ where
         form: words.form,
     };
     let Ok(buffered) = BufWriter::with_capacity(rt.alloc(), PIECE, io::writer(rt)) else {
-        return Err(LiveFault::Tool(ToolFault::OutOfMemory));
+        return Err(Failure::Session(SessionFault::OutOfMemory));
     };
-    follow_feed(rt, servers, &following, &mut Sending::new(buffered))
+    let followed = follow_feed(rt, servers, &following, &mut Sending::new(buffered));
+    said(rt, follow_names(words), followed)
 }
 
 /// Plays a day file as a live feed. The line of each client is written once it is gone.
-pub fn run_feed<R>(rt: &R, words: &FeedWords<'_>) -> Result<bool, ToolFault>
+pub fn run_feed<R>(rt: &R, words: &FeedWords<'_>) -> Result<bool, Failure>
 where
     R: Net + Clock + Files<File = File> + Print + Eprint + AllocGlobal,
 {
-    let login = read_login(rt, &words.login, Source::PasswordFile)?;
+    let login = read_login(rt, &words.login)?;
     let playing = Playing {
         path: words.file,
         address: words.address,
@@ -93,25 +98,19 @@ where
         stay: words.stay,
     };
     let mut out = Counted::new(io::writer(rt));
-    play_feed(rt, &playing, &mut out)
+    Ok(play_feed(rt, &playing, &mut out)?)
 }
 
-// Looks up the name of a server: one that cannot be found at the start ends what follows a feed. `source` says in a fault which one it is.
-fn look_up<R: Net>(rt: &R, place: Place<'_>, source: Source) -> Result<(), ToolFault> {
+// Looks up the name of a server: one that cannot be found at the start ends what follows a feed.
+fn look_up<R: Net + AllocGlobal>(rt: &R, place: Place<'_>) -> Result<(), Failure> {
     match (place.host, place.port).to_socket_addrs(rt) {
         Ok(_) => Ok(()),
-        Err(error) => Err(system_fault(
-            error,
-            ToolFault::Open {
-                file: source,
-                error,
-            },
-        )),
+        Err(error) => Err(Failure::open(rt.alloc(), place.words, error)),
     }
 }
 
-/// The names of what a live server works on.
-pub fn live_names<'a>(words: &LiveWords<'a>) -> Names<'a> {
+// The names of what a live server works on.
+fn live_names<'a>(words: &LiveWords<'a>) -> Names<'a> {
     Names {
         record: match words.record {
             Some(record) => record.path,
@@ -125,8 +124,8 @@ pub fn live_names<'a>(words: &LiveWords<'a>) -> Names<'a> {
     }
 }
 
-/// The same of what follows a feed, which has no file.
-pub fn follow_names<'a>(words: &FollowWords<'a>) -> Names<'a> {
+// The same of what follows a feed, which has no file.
+fn follow_names<'a>(words: &FollowWords<'a>) -> Names<'a> {
     Names {
         record: "",
         snapshots: "",

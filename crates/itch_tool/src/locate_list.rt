@@ -1,6 +1,7 @@
 //! The list of `--only`: words, or a file that has it.
 
-use itch_commands::{Source, ToolFault, insert_locates, list_file, read_locates, system_fault};
+use crate::failure::Failure;
+use itch_commands::{ToolFault, insert_locates, list_file, read_locates};
 use itch_market::LocateSet;
 use std::alloc::Global;
 use std::io::{BufReader, Read};
@@ -12,43 +13,37 @@ const MOST_BYTES: usize = 1 << 16;
 
 /// The locates of a list, or of the file whose path comes after an at sign. In a file a line break may stand in place of a comma.
 ///
-/// An error is `BadLocates`, `Open` of the file, or `OutOfMemory`.
+/// An error is `BadLocates`, that the file cannot be opened or read, or `OutOfMemory`.
 pub fn read_only<R: Files + AllocGlobal>(
     rt: &R,
     words: &str,
-) -> Result<LocateSet<Global>, ToolFault> {
+) -> Result<LocateSet<Global>, Failure> {
     let Some(path) = list_file(words) else {
-        return read_locates(rt.alloc(), words);
+        return Ok(read_locates(rt.alloc(), words)?);
     };
     match fs::open(rt, path) {
-        Ok(file) => read_file(rt.alloc(), file),
-        Err(error) => Err(open_fault(error)),
+        Ok(file) => read_file(rt.alloc(), path, file),
+        Err(error) => Err(Failure::open(rt.alloc(), path, error)),
     }
 }
 
-fn open_fault(error: std::io::Error) -> ToolFault {
-    system_fault(
-        error,
-        ToolFault::Open {
-            file: Source::Locates,
-            error,
-        },
-    )
-}
-
 // The list of a file, whatever its size.
-fn read_file<F: Read + Drop>(alloc: Global, file: F) -> Result<LocateSet<Global>, ToolFault> {
+fn read_file<F: Read + Drop>(
+    alloc: Global,
+    path: &str,
+    file: F,
+) -> Result<LocateSet<Global>, Failure> {
     let Ok(buffered) = BufReader::new(alloc, file) else {
-        return Err(ToolFault::OutOfMemory);
+        return Err(Failure::from(ToolFault::OutOfMemory));
     };
     let mut list = List::new(alloc);
     for byte in buffered.bytes() {
         match byte {
             Ok(byte) => list.pass(byte)?,
-            Err(error) => return Err(open_fault(error)),
+            Err(error) => return Err(Failure::open(alloc, path, error)),
         }
     }
-    list.end()
+    Ok(list.end()?)
 }
 
 // A list that is read byte by byte.

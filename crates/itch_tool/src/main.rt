@@ -1,19 +1,20 @@
 //! `itchsnap`: market snapshots from day files of TotalView-ITCH 5.0 messages.
 //!
 //! `itchsnap_cli::words` reads the command line. The commands over files are those of `itch_commands`; `run` opens files and standard
-//! streams for them. `serve` and `fetch` are those of `itchsnap_cli::sessions`, over sockets; `live`,
+//! streams for them. `serve` and `fetch` are those of `itchsnap_live::sessions`, over sockets; `live`,
 //! `follow` and `feed` those of `itchsnap_live`.
 #![tactic(auto)]
 
 mod at;
 mod checkpoints;
 mod explaining;
-mod failed;
 mod failure;
 mod feed;
+mod final_status;
 mod lines;
 mod live;
 mod locate_list;
+mod names;
 mod noted;
 mod opened;
 mod output;
@@ -21,9 +22,11 @@ mod packed;
 mod password;
 mod points;
 mod run;
+mod serving;
 mod sockets;
 
 use crate::explaining::{explain, finish};
+use crate::names::JobNames;
 use crate::password::password_of_environment;
 use crate::run::run;
 use clap::Error;
@@ -55,7 +58,7 @@ fn perform(rt: &HostRuntime, words: &Words) -> u8 {
     };
     let terminal = rt.stdout().is_terminal();
     match read_job(rt.alloc(), words.line.as_slice(), terminal, password) {
-        Ok(job) => finish(rt, Some(&job), run(rt, &job)),
+        Ok(job) => finish(rt, &JobNames::of(&job), run(rt, &job)),
         Err(error) => explain(rt, error),
     }
 }

@@ -1,7 +1,6 @@
 //! The file that a snapshot is written to: it gets its name once it is whole.
 
 use crate::failure::Failure;
-use itch_commands::Source;
 use std::fs;
 use std::rt::Files;
 
@@ -34,7 +33,7 @@ impl<'a> Output<'a> {
                 // Where the file beside is there, it is what is in the way.
                 let is_in_the_way = fs::metadata(rt, written).is_ok();
                 let named = if is_in_the_way { written } else { path };
-                Err(Failure::open(rt.alloc(), Source::Output, named, error))
+                Err(Failure::open(rt.alloc(), named, error))
             }
         }
     }
@@ -51,7 +50,7 @@ impl<'a> Output<'a> {
         let named = match outcome {
             Ok(answer) => match fs::rename(rt, part.as_str(), self.path) {
                 Ok(()) => return Ok(answer),
-                Err(error) => Failure::open(rt.alloc(), Source::Output, self.path, error),
+                Err(error) => Failure::open(rt.alloc(), self.path, error),
             },
             Err(failure) => failure,
         };

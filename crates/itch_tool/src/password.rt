@@ -1,8 +1,8 @@
 //! The password of a login: a word, the first line of a file, or a variable of the environment.
 
-use itch_commands::{Source, ToolFault, system_fault};
-use itchsnap_cli::sessions::first_line;
+use crate::failure::Failure;
 use itchsnap_cli::words::Password;
+use itchsnap_live::sessions::first_line;
 use std::alloc::AllocError;
 use std::env::{self, Env, VarError};
 use std::fs;
@@ -21,25 +21,16 @@ pub fn password_of_environment<R: Env + AllocGlobal>(rt: &R) -> Result<Option<St
     }
 }
 
-/// The password that is a word, or the first line of a file. `source` says in a fault which file it is.
+/// The password that is a word, or the first line of a file.
 pub fn read_password<R: Files + AllocGlobal>(
     rt: &R,
     password: Password<'_>,
-    source: Source,
-) -> Result<String, ToolFault> {
+) -> Result<String, Failure> {
     match password {
         Password::Word(word) => Ok(String::from_str(rt.alloc(), word)?),
         Password::File(path) => match read_beginning(rt, path) {
             Ok(text) => Ok(String::from_str(rt.alloc(), first_line(text.as_str()))?),
-            Err(error) => {
-                Err(system_fault(
-                    error,
-                    ToolFault::Open {
-                        file: source,
-                        error,
-                    },
-                ))
-            }
+            Err(error) => Err(Failure::open(rt.alloc(), path, error)),
         },
     }
 }

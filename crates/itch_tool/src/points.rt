@@ -11,8 +11,8 @@ use itch_commands::{Book, Limit, Source, ToolFault, write_locates};
 use itch_frame::{BlockReader, Counted, CountedRead};
 use itch_market::LocateSet;
 use itchsnap_cli::input::Progress;
-use itchsnap_cli::sessions::PIECE;
 use itchsnap_cli::words::{PointWords, Points};
+use itchsnap_live::sessions::PIECE;
 use std::alloc::{Allocator, Global};
 use std::fs;
 use std::io::{BufWriter, Write};
@@ -48,12 +48,9 @@ fn save_points<R: Files + AllocGlobal, S: CountedRead + Drop, A: Allocator>(
 ) -> Result<bool, Failure> {
     let mut folder = Folder::create(rt, words.folder, only, notes)?;
     let mut pass = Pass::new(rt.alloc(), reader);
-    match words.points {
-        Points::Every(count) => save_every(&mut folder, &mut pass, count),
-        Points::After(list) | Points::Until(list) => {
-            save_each(&mut folder, &mut pass, words.points, list)
-        }
-        Points::End => save_at(&mut folder, &mut pass, Limit::whole()),
+    match &words.points {
+        Points::At(limits) => save_each(&mut folder, &mut pass, limits),
+        Points::Every(count) => save_every(&mut folder, &mut pass, *count),
     }
 }
 
@@ -94,7 +91,7 @@ impl<'a, R: Files + AllocGlobal> Folder<'a, R> {
                 notes,
                 last: None,
             }),
-            Err(error) => Err(Failure::open(rt.alloc(), Source::Output, path, error)),
+            Err(error) => Err(Failure::open(rt.alloc(), path, error)),
         }
     }
 
@@ -141,27 +138,15 @@ fn write_file<S: CountedRead, A: Allocator, W: Write + Drop>(
     }
 }
 
-fn save_at<R: Files + AllocGlobal, S: CountedRead, A: Allocator>(
-    folder: &mut Folder<'_, R>,
-    pass: &mut Pass<S, A, Book<Global>>,
-    limit: Limit,
-) -> Result<bool, Failure> {
-    pass.read_to(limit)?;
-    folder.save(pass)?;
-    Ok(true)
-}
-
-// The snapshots at each number or time of a list.
+// The snapshots where each of these parts of the file ends.
 fn save_each<R: Files + AllocGlobal, S: CountedRead, A: Allocator>(
     folder: &mut Folder<'_, R>,
     pass: &mut Pass<S, A, Book<Global>>,
-    points: Points<'_>,
-    list: &str,
+    limits: &[Limit],
 ) -> Result<bool, Failure> {
-    for text in list.split(',') {
-        if let Some(limit) = points.limit(text) {
-            save_at(folder, pass, limit)?;
-        }
+    for limit in limits {
+        pass.read_to(*limit)?;
+        folder.save(pass)?;
     }
     Ok(true)
 }

@@ -1,25 +1,21 @@
 //! The commands over files and standard streams.
-ghost use Rattle.itch_commands.specs.Requests.{IsOverOne};
 
 use crate::at::join_at;
-use crate::explaining::said;
 use crate::failure::Failure;
-use crate::live::{follow_names, live_names, run_feed, run_follow, run_live};
+use crate::live::{run_feed, run_follow, run_live};
 use crate::locate_list::read_only;
 use crate::opened::open;
 use crate::output::Output;
 use crate::points::run_points;
 use crate::sockets::{run_fetch, run_serve};
-use itch_commands::compare::{compare_blocks, compare_first_blocks};
-use itch_commands::join::{join_blocks, join_stocks};
 use itch_commands::{
-    FeedPart, FileKind, Form, Limit, Request, Selection, Source, ToolFault, perform, system_fault,
+    Book, Command, PairCommand, Request, Source, ToolFault, perform, perform_pair, system_fault,
 };
 use itch_frame::{BlockReader, Buffered, Counted, CountedWrite};
 use itch_market::LocateSet;
 use itchsnap_cli::input::Progress;
-use itchsnap_cli::sessions::{PIECE, default_session};
 use itchsnap_cli::words::{Completions, Job, Shell};
+use itchsnap_live::sessions::{PIECE, default_session};
 use std::alloc::{Allocator, Global};
 use std::fs::File;
 use std::io::{self, BufReader, BufWriter, Read, Write};
@@ -37,8 +33,8 @@ where
             request,
             progress,
             output,
-        } => Ok(run_request(rt, *request, *progress, *output)?),
-        Job::Points(words) => Ok(run_points(rt, words)?),
+        } => run_request(rt, *request, *progress, *output),
+        Job::Points(words) => run_points(rt, words),
         Job::Serve {
             file,
             kind,
@@ -49,9 +45,9 @@ where
             progress,
         } => {
             let session = session.unwrap_or(default_session());
-            Ok(run_serve(
+            run_serve(
                 rt, *file, *kind, *address, login, session, *count, *progress,
-            )?)
+            )
         }
         Job::Fetch {
             server,
@@ -59,9 +55,9 @@ where
             from,
             output,
         } => run_fetch(rt, server, login, *from, *output),
-        Job::Live(words) => said(rt, live_names(words), run_live(rt, words)),
-        Job::Follow(words) => said(rt, follow_names(words), run_follow(rt, words)),
-        Job::Feed(words) => Ok(run_feed(rt, words)?),
+        Job::Live(words) => run_live(rt, words),
+        Job::Follow(words) => run_follow(rt, words),
+        Job::Feed(words) => run_feed(rt, words),
         Job::Completions(shell) => Ok(print_completions(rt, *shell)?),
     }
 }
@@ -122,35 +118,19 @@ fn answer<R: Files + Input + Eprint + AllocGlobal + Clock, W: CountedWrite>(
 ) -> Result<bool, Failure> {
     let alloc = rt.alloc();
     match request {
-        Request::Compare {
+        Request::One { file, command } => {
+            let file = open(rt, file, Source::Only, progress)?;
+            Ok(perform_over(alloc, command, only.as_ref(), file, out)?)
+        }
+        Request::Two {
             first,
             second,
-            kind,
-            form,
+            command,
         } => {
-            let first = open(rt, first, Source::First, progress)?;
-            let second = open(rt, second, Source::Second, progress)?;
-            Ok(compare_over(alloc, first, second, kind, form, out)?)
-        }
-        Request::CompareFirst {
-            first,
-            second,
-            limit,
-            form,
-        } => {
-            let first = open(rt, first, Source::First, progress)?;
-            let second = open(rt, second, Source::Second, progress)?;
-            Ok(compare_first_over(alloc, first, second, limit, form, out)?)
-        }
-        Request::Join {
-            snapshot,
-            feed,
-            part,
-            selection,
-        } => {
-            let snapshot = open(rt, snapshot, Source::Snapshot, progress)?;
-            let feed = open(rt, feed, Source::Only, progress)?;
-            Ok(join_over(alloc, snapshot, feed, part, selection, only, out)?)
+            let (first_source, second_source) = sources(&command);
+            let first = open(rt, first, first_source, progress)?;
+            let second = open(rt, second, second_source, progress)?;
+            Ok(perform_pair_over(alloc, command, only, first, second, out)?)
         }
         Request::At {
             folder,
@@ -158,57 +138,43 @@ fn answer<R: Files + Input + Eprint + AllocGlobal + Clock, W: CountedWrite>(
             point,
             selection,
         } => join_at(rt, folder, feed, point, selection, progress, only, out),
-        _ => {
-            let file = open(rt, request.file(Source::Only), Source::Only, progress)?;
-            Ok(perform_over(alloc, request, only.as_ref(), file, out)?)
+    }
+}
+
+// Which files the two of a command are in its faults.
+fn sources(command: &PairCommand<'_>) -> (Source, Source) {
+    match command {
+        PairCommand::Compare { .. } | PairCommand::CompareFirst { .. } => {
+            (Source::First, Source::Second)
         }
+        PairCommand::Join { .. } => (Source::Snapshot, Source::Only),
     }
 }
 
-// Compares two files.
-fn compare_over<A: Allocator + Copy, R: Read + Drop, W: CountedWrite>(
+// Performs a command over the bytes of its file.
+fn perform_over<A: Allocator + Copy, R: Read + Drop, W: CountedWrite>(
     alloc: A,
-    first: R,
-    second: R,
-    kind: FileKind,
-    form: Form,
+    command: Command<'_>,
+    only: Option<&LocateSet<A>>,
+    file: R,
     out: &mut W,
 ) -> Result<bool, ToolFault> {
-    let mut first = blocks(alloc, first)?;
-    let mut second = blocks(alloc, second)?;
-    compare_blocks(alloc, &mut first, &mut second, kind, form, out)
+    let mut reader = blocks(alloc, file)?;
+    perform::<_, _, Book<A>, _>(alloc, command, only, &mut reader, out)
 }
 
-// Finds where two files first differ.
-fn compare_first_over<A: Allocator + Copy, R: Read + Drop, W: CountedWrite>(
+/// Performs a command over the bytes of its two files.
+pub fn perform_pair_over<A: Allocator + Copy, R: Read + Drop, S: Read + Drop, W: CountedWrite>(
     alloc: A,
-    first: R,
-    second: R,
-    limit: Limit,
-    form: Form,
-    out: &mut W,
-) -> Result<bool, ToolFault> {
-    let mut first = blocks(alloc, first)?;
-    let mut second = blocks(alloc, second)?;
-    compare_first_blocks(alloc, &mut first, &mut second, limit, form, out)
-}
-
-/// Joins a feed to a snapshot.
-pub fn join_over<A: Allocator + Copy, R: Read + Drop, S: Read + Drop, W: CountedWrite>(
-    alloc: A,
-    snapshot: R,
-    feed: S,
-    part: FeedPart,
-    selection: Selection<'_>,
+    command: PairCommand<'_>,
     only: Option<LocateSet<A>>,
+    first: R,
+    second: S,
     out: &mut W,
 ) -> Result<bool, ToolFault> {
-    let mut snapshot = blocks(alloc, snapshot)?;
-    let mut feed = blocks(alloc, feed)?;
-    match selection {
-        Selection::Stocks(names) => join_stocks(alloc, &mut snapshot, &mut feed, part, names, out),
-        _ => join_blocks(alloc, &mut snapshot, &mut feed, part, only, out),
-    }
+    let mut first = blocks(alloc, first)?;
+    let mut second = blocks(alloc, second)?;
+    perform_pair::<_, _, _, _, Book<A>, _>(alloc, command, only, &mut first, &mut second, out)
 }
 
 /// A reader of the blocks of a file.
@@ -220,18 +186,4 @@ pub fn blocks<A: Allocator + Copy, R: Read + Drop>(
         Ok(buffered) => Ok(BlockReader::new(alloc, Buffered::new(buffered))?),
         Err(_) => Err(ToolFault::OutOfMemory),
     }
-}
-
-// Performs a request over the bytes of its file.
-fn perform_over<A: Allocator + Copy, R: Read + Drop, W: CountedWrite>(
-    alloc: A,
-    request: Request<'_>,
-    only: Option<&LocateSet<A>>,
-    reader: R,
-    out: &mut W,
-) -> Result<bool, ToolFault>
-    requires { IsOverOne request }
-{
-    let mut reader = blocks(alloc, reader)?;
-    perform(alloc, request, only, &mut reader, out)
 }

@@ -4,12 +4,16 @@ use crate::failure::Failure;
 use crate::opened::open;
 use crate::output::Output;
 use crate::password::read_password;
+use crate::run::blocks;
+use crate::serving::serve_file;
 use itch_codec::{Alpha, Seq};
-use itch_commands::{FileKind, Source, ToolFault, system_fault};
+use itch_commands::{Book, FileKind, Source};
 use itch_frame::{BlockReader, Buffered, Counted};
 use itchsnap_cli::input::Progress;
-use itchsnap_cli::sessions::{Login, PIECE, fetch, fetch_rest, serve_blocks};
 use itchsnap_cli::words::{LoginWords, Server};
+use itchsnap_live::SessionFault;
+use itchsnap_live::sessions::{Login, PIECE, fetch, fetch_rest};
+use std::alloc::Global;
 use std::io::{self, BufReader, BufWriter, Write};
 use std::net::{Net, SocketAddr, TcpListener, TcpStream, ToSocketAddrs};
 use std::rt::{Clock, Files};
@@ -26,25 +30,25 @@ pub fn run_serve<R>(
     session: Alpha<10>,
     count: u64,
     progress: bool,
-) -> Result<bool, ToolFault>
+) -> Result<bool, Failure>
 where
     R: Files + Input + Print + Eprint + AllocGlobal + Clock,
     R: Net<Listener = TcpListener, Stream = TcpStream>,
 {
-    let login = read_login(rt, login, Source::PasswordFile)?;
+    let login = read_login(rt, login)?;
     let progress = if progress { Progress::begin(rt) } else { None };
     let file = open(rt, file, Source::Only, progress.as_ref())?;
-    let Ok(buffered) = BufReader::with_capacity(rt.alloc(), PIECE, file) else {
-        return Err(ToolFault::OutOfMemory);
-    };
-    let mut reader = BlockReader::new(rt.alloc(), Buffered::new(buffered))?;
+    let alloc = rt.alloc();
+    let mut reader = blocks(alloc, file)?;
     let mut out = Counted::new(io::writer(rt));
-    serve_blocks(
+    let config = login.config(session);
+    serve_file::<R, _, _, Book<Global>, _>(
         rt,
+        alloc,
         &mut reader,
         kind,
         address,
-        &login.config(session),
+        &config,
         count,
         &mut out,
     )
@@ -62,14 +66,14 @@ pub fn run_fetch<R>(
 where
     R: Files + Print + AllocGlobal + Net<Stream = TcpStream>,
 {
-    let login = read_login(rt, login, Source::PasswordFile)?;
+    let login = read_login(rt, login)?;
     let Some(path) = output else {
         return Ok(fetch_to(rt, server, &login, from, io::writer(rt))?);
     };
     let (output, file) = Output::create(rt, path)?;
     let outcome = match fetch_to(rt, server, &login, from, file) {
         Ok(answer) => Ok(answer),
-        Err(fault) => Err(Failure::from(fault)),
+        Err(fault) => Err(Failure::Session(fault)),
     };
     output.finish(rt, outcome)
 }
@@ -80,17 +84,17 @@ fn fetch_to<R, W: Write + Drop>(
     login: &Login,
     from: Option<Seq>,
     writer: W,
-) -> Result<bool, ToolFault>
+) -> Result<bool, SessionFault>
 where
     R: Files + AllocGlobal + Net<Stream = TcpStream>,
 {
     let stream = connect(rt, server)?;
     let Ok(buffered) = BufReader::with_capacity(rt.alloc(), PIECE, &stream) else {
-        return Err(ToolFault::OutOfMemory);
+        return Err(SessionFault::OutOfMemory);
     };
     let mut reader = BlockReader::new(rt.alloc(), Buffered::new(buffered))?;
     let Ok(buffered) = BufWriter::with_capacity(rt.alloc(), PIECE, writer) else {
-        return Err(ToolFault::OutOfMemory);
+        return Err(SessionFault::OutOfMemory);
     };
     let mut out = Counted::new(buffered);
     let mut writer = Counted::new(&stream);
@@ -109,27 +113,26 @@ where
     };
     match out.into_inner().flush() {
         Ok(()) => Ok(answer),
-        Err(error) => Err(ToolFault::Write(error)),
+        Err(error) => Err(SessionFault::Write(error)),
     }
 }
 
-/// The login of the command line. `source` says in a fault which password file it is.
+/// The login of the command line.
 pub fn read_login<R: Files + AllocGlobal>(
     rt: &R,
     login: &LoginWords<'_>,
-    source: Source,
-) -> Result<Login, ToolFault> {
-    let password = read_password(rt, login.password, source)?;
-    Login::new(login.user, password.as_str())
+) -> Result<Login, Failure> {
+    let password = read_password(rt, login.password)?;
+    Ok(Login::new(login.user, password.as_str())?)
 }
 
 fn connect<N: Net<Stream = TcpStream>>(
     net: &N,
     server: &Server<'_>,
-) -> Result<TcpStream, ToolFault> {
+) -> Result<TcpStream, SessionFault> {
     match connect_as_told(net, server) {
         Ok(stream) => Ok(stream),
-        Err(error) => Err(system_fault(error, ToolFault::Socket(error))),
+        Err(error) => Err(SessionFault::of_system(error, SessionFault::Socket(error))),
     }
 }
 

@@ -1,6 +1,6 @@
 -- What was read of a day file, written as a snapshot and compared.
 use mathlib.Core.Path.{fun_ext}
-use Rattle.std.proofs.Common.{◌≡◌, ◌≢◌, ℕ, ◌+◌, ◌≤◌, ◌⊎◌, inl, inr, Bool, not, List, ◌++◌, map, length, Option, None, Some, IfSome, IfOk, IfErr, Result, Ok, Err, sym, ap, ◌∙◌, subst, refl, arith}
+use Rattle.std.proofs.Common.{◌≡◌, ◌≢◌, ℕ, ◌+◌, ◌≤◌, ◌⊎◌, inl, inr, Bool, not, List, ◌++◌, map, length, Option, None, Some, IsSome, IfSome, IfOk, IfErr, Result, Ok, Err, sym, ap, ◌∙◌, subst, refl, arith}
 use Rattle.std.specs.List.{AllByRecursion}
 use Rattle.std.proofs.lemmas.List.Filters.{length-filter_both}
 use Rattle.std.specs.declared.alloc.Global.{Global}
@@ -36,14 +36,11 @@ use Rattle.itch_snapshot.proofs.OneSnapshot.{snap-laid}
 use Rattle.itch_snapshot.proofs.CanonicalBytes.{canon-laid}
 use Rattle.itch_day.specs.declared.limit.Limit.{Limit}
 use Rattle.itch_market.specs.DayParts.{HaltsPart}
-use Rattle.itch_commands.specs.Readings.{AreTaken, ReadsMarket, CountsRead}
-use Rattle.itch_commands.proofs.PartReadings.{halts_replays}
-use Rattle.itch_commands.specs.declared.fault.Source.TheVariants.{Only}
-use Rattle.itch_commands.specs.declared.fault.ToolFault.{ToolFault}
-use Rattle.itch_commands.specs.declared.fault.ToolFault.TheVariants as tool
-use Rattle.itch_commands.proofs.Comparisons.{taken_good, taken_few}
+use Rattle.itch_market.specs.DayMessages.{AreTaken}
+use Rattle.itch_market.proofs.DayMessages.{halts_replays, taken_good}
+use Rattle.itch_snapshot.proofs.DaySnapshots.{taken_few}
 use Rattle.itchsnap_c.specs.declared.answers.Written.{Written}
-use Rattle.itchsnap_c.specs.Files.{market_of, outcome, RefusesDay, refused_day}
+use Rattle.itchsnap_c.specs.Files.{market_of, outcome, RefusesDay}
 use Rattle.itchsnap_c.specs.Blocks.{IsOfBlocks}
 use Rattle.itchsnap_c.specs.Codes.{stop_answer}
 use Rattle.itchsnap_c.specs.Snapshots.{is_listed, Writes, Puts, Closes, Spells}
@@ -95,28 +92,18 @@ refused_at_stop limit n day new count stop going halts (inr memory) = inr (inr (
   inr (new, n, subst (λ s. HaltsPart limit empty (Some day) new count s n) memory halts),
 ))
 
--- why a day file is refused
-pub day_refused : (limit : Limit) (m n : Content) (day : List ℕ) (bytes new : Option (List ℕ)) (fault : ToolFault) → m ≡ empty → bytes ≡ Some day
-    → ReadsMarket Only limit m bytes new (Err fault) n → CountsRead {X = ℕ} (Err fault) no_failures no_failures → RefusesDay day limit (refused_day fault)
-day_refused limit m n day bytes new (tool.Stopped at end) first known (same, going, halts) counts =
-    refused_at_stop limit n day new end.count end.stop going (halts_first limit m n day bytes new end.count end.stop first known halts) (stop_decided end.stop counts)
-day_refused limit m n day bytes new (tool.Short at count) first known (same, some, halts) counts =
+-- a day file, or its part, is refused for what stopped the replay of it
+pub day_stopped : (limit : Limit) (m n : Content) (day : List ℕ) (bytes new : Option (List ℕ)) (count : ℕ) (stop : Stop) → m ≡ empty → bytes ≡ Some day → stop ≢ End
+    → HaltsPart limit m bytes new count stop n → Counts stop no_failures no_failures → RefusesDay day limit (outcome count 0 (stop_answer stop).detail (stop_answer stop).code)
+day_stopped limit m n day bytes new count stop first known going halts counts =
+    refused_at_stop limit n day new count stop going (halts_first limit m n day bytes new count stop first known halts) (stop_decided stop counts)
+
+-- or it has fewer messages than are wanted
+pub day_short : (limit : Limit) (m n : Content) (day : List ℕ) (bytes new : Option (List ℕ)) (count : ℕ) → m ≡ empty → bytes ≡ Some day → IsSome limit.after
+    → HaltsPart limit m bytes new count End n → RefusesDay day limit (outcome count 0 0 37)
+day_short limit m n day bytes new count first known wanted halts =
     let from_empty = halts_first limit m n day bytes new count End first known halts in
-    inr (inl (count, refl, (some, halts.0), halts_at limit n day new count End from_empty tt, (new, n, from_empty)))
-day_refused limit m n day bytes new (tool.Snap at fault) first known reads counts = absurd reads
-day_refused limit m n day bytes new tool.UnknownLocate first known reads counts = absurd reads
-day_refused limit m n day bytes new tool.UnknownStock first known reads counts = absurd reads
-day_refused limit m n day bytes new (tool.Write error) first known reads counts = absurd reads
-day_refused limit m n day bytes new tool.OutOfMemory first known reads counts = absurd reads
-day_refused limit m n day bytes new (tool.Open file error) first known reads counts = absurd reads
-day_refused limit m n day bytes new tool.BadUser first known reads counts = absurd reads
-day_refused limit m n day bytes new tool.BadPassword first known reads counts = absurd reads
-day_refused limit m n day bytes new (tool.Unmet unmet) first known reads counts = absurd reads
-day_refused limit m n day bytes new (tool.Misfit misfit) first known reads counts = absurd reads
-day_refused limit m n day bytes new tool.BadLocates first known reads counts = absurd reads
-day_refused limit m n day bytes new tool.TooMany first known reads counts = absurd reads
-day_refused limit m n day bytes new (tool.Soup fault) first known reads counts = absurd reads
-day_refused limit m n day bytes new (tool.Socket error) first known reads counts = absurd reads
+    inr (inl (count, refl, (wanted, halts.0), halts_at limit n day new count End from_empty tt, (new, n, from_empty)))
 
 -- a market cut down has no more messages
 module _ (wanted : ℕ → Bool) (m : Content) where

@@ -6,7 +6,7 @@ use Rattle.itch_codec.specs.declared.orders.Side.{Side}
 use Rattle.itch_book.specs.declared.order.Order.{Order}
 use Rattle.itch_book.specs.Orders.{IsBook, get, after, from_order, is_in, level_total, next_price, queue}
 use Rattle.itch_book.proofs.Walks.{first_left, next_left, first_live, after_live}
-use Rattle.itch_commands.proofs.QueuePrices.{DonePrices, none_done, one_done, none_left, level_is}
+use Rattle.itch_book.proofs.QueuePrices.{DonePrices, none_done, one_done, none_left, level_is}
 use Rattle.itchsnap_c.specs.declared.answers.BookOrder.{BookOrder}
 use Rattle.itchsnap_c.specs.declared.answers.PriceLevel.{PriceLevel}
 use Rattle.itchsnap_c.specs.Listings.{level_of, level_row, levels_of, order_row, orders_of}

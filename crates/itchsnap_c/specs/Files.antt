@@ -2,13 +2,11 @@
 use Rattle.std.specs.Prelude.{◌≡◌, ◌≢◌, ◌⊎◌, ◌==◌, ◌-◌, ◌+◌, ◌^◌, ℕ, List, ◌++◌, map, length, Option, Some, None, if◌then◌else◌}
 use Rattle.std.specs.List.{AllByRecursion}
 use Rattle.itch_codec.specs.Messages.{message_of}
-use Rattle.itch_commands.specs.declared.fault.ToolFault.{ToolFault}
-use Rattle.itch_commands.specs.declared.fault.ToolFault.TheVariants as tool
-use Rattle.itch_commands.specs.Comparing.{IsPartPlace}
+use Rattle.itch_snapshot.specs.PartPlaces.{IsPartPlace}
 use Rattle.itch_day.specs.Limits.{counted}
 use Rattle.itch_day.specs.declared.limit.Limit.{Limit}
 use Rattle.itch_market.specs.DayParts.{HaltsPart}
-use Rattle.itch_commands.specs.Readings.{AreTaken, IsPart, IsShort}
+use Rattle.itch_market.specs.DayMessages.{AreTaken, IsPart, IsShort}
 use Rattle.itch_market.specs.Content.{Content, empty, laid}
 use Rattle.itch_market.specs.Replays.{Fits}
 use Rattle.itch_market.specs.Runs.{run}
@@ -33,12 +31,6 @@ part_of after until = record { after = wanted after; until = wanted until }
 
 abbrev pub outcome : ℕ → ℕ → ℕ → ℕ → Outcome
 outcome count len detail code = record { count = count; len = len; detail = detail; code = code }
-
--- how a call over a day file ends that is refused for this fault; no other comes of reading one
-abbrev pub refused_day : ToolFault → Outcome
-refused_day (tool.Stopped at end) = outcome end.count 0 (stop_answer end.stop).detail (stop_answer end.stop).code
-refused_day (tool.Short at count) = outcome count 0 0 37
-refused_day fault = outcome 0 0 0 34
 
 -- a day file, or the part of it that is wanted, has been read: these are its messages, which leave this market
 abbrev pub Reads : List ℕ → Limit → List (List ℕ) → Type 0

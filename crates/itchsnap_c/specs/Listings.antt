@@ -7,7 +7,7 @@ use Rattle.std.specs.declared.vec.Vec.{Vec}
 use Rattle.itch_codec.specs.declared.orders.Side.{Side}
 use Rattle.itch_book.specs.declared.order.Order.{Order}
 use Rattle.itch_book.specs.Orders.{queue, sides, is_at_price}
-use Rattle.itch_commands.specs.Books.{prices}
+use Rattle.itch_book.specs.Prices.{prices}
 use Rattle.itch_market.specs.Content.{Content, Listing}
 use Rattle.itchsnap_c.specs.declared.answers.BookOrder.{BookOrder}
 use Rattle.itchsnap_c.specs.declared.answers.PriceLevel.{PriceLevel}

@@ -3,7 +3,7 @@ use Rattle.std.specs.Prelude.{◌≡◌, ◌⊎◌, ℕ, List, ◌++◌, length,
 use Rattle.std.specs.List.{AllByRecursion}
 use Rattle.itch_frame.specs.Blocks.{blocks, Ends, IsFull, Open}
 use Rattle.itch_day.specs.Limits.{IsLate}
-use Rattle.itch_commands.specs.Readings.{StartsLate}
+use Rattle.itch_market.specs.DayMessages.{StartsLate}
 use Rattle.itch_day.specs.declared.limit.Limit.{Limit}
 use Rattle.itchsnap_c.specs.Codes.{counted, no_count}
 use Rattle.itchsnap_c.specs.declared.answers.Count.{Count}

@@ -1,16 +1,18 @@
 //! Whole files in C's memory.
 ghost use Rattle.std.specs.Prelude.{◌≡◌, IfOk, IfErr};
-ghost use Rattle.itchsnap_c.specs.Files.{part_of, wanted, Checks, Snaps, Compares, ReadsDay, RefusesDay, refused_day, parted, refused_in};
+ghost use Rattle.itchsnap_c.specs.Codes.{stop_answer};
+ghost use Rattle.itchsnap_c.specs.Files.{outcome, part_of, wanted, Checks, Snaps, Compares, ReadsDay, RefusesDay, parted, refused_in};
 ghost use Rattle.itchsnap_c.specs.Snapshots.{is_listed};
 ghost use Rattle.itch_market.specs.Partial.{only};
 
 use crate::answers::{Comparison, Outcome, Written};
-use crate::codes::{OUT_OF_MEMORY, UNREAD, stop_answer};
+use crate::codes::{OUT_OF_MEMORY, stop_answer};
 use crate::slice::SliceReader;
 use crate::snapshots::{put_partial, put_whole};
-use itch_commands::{Book, Limit, Source, ToolFault, read_market};
+use itch_book::SettledBook;
+use itch_day::Limit;
 use itch_frame::BlockReader;
-use itch_market::Market;
+use itch_market::{Market, Stop, replay_part};
 use itch_snapshot::part_place;
 use std::alloc::Global;
 
@@ -18,7 +20,7 @@ use std::alloc::Global;
 const SHORT: u32 = 37;
 
 /// The market of a day file, which is looked at once all messages are read.
-type DayMarket = Market<Book<Global>>;
+type DayMarket = Market<SettledBook<Global>>;
 
 /// The number of messages, and the time, that mean all messages of a file.
 const ALL: u64 = u64::MAX;
@@ -113,37 +115,23 @@ fn read_messages(alloc: Global, day: &[u8], limit: Limit) -> Result<(DayMarket, 
         return Err(outcome(0, 0, 0, OUT_OF_MEMORY));
     };
     let mut market = Market::new(alloc);
-    match read_market(&mut reader, &mut market, limit, Source::Only) {
-        Ok(count) => Ok((market, count)),
-        Err(fault) => Err(refused_day(&fault)),
+    let (count, stop) = replay_part(&mut reader, &mut market, limit);
+    let Some(stop) = stop else {
+        return Ok((market, count));
+    };
+    match (stop, limit.after) {
+        (Stop::End, None) => Ok((market, count)),
+        (Stop::End, Some(_)) => Err(outcome(count, 0, 0, SHORT)),
+        _ => Err(stopped(count, &stop)),
     }
 }
 
-// How a call over a day file ends that is refused. No other faults come of reading one.
-fn refused_day(fault: &ToolFault) -> Outcome
-    ensures { result ≡ refused_day fault.now }
+// How a call over a day file ends that this stopped, after so many messages.
+fn stopped(count: u64, stop: &Stop) -> Outcome
+    ensures { result ≡ outcome count 0 (stop_answer stop.now).detail (stop_answer stop.now).code }
 {
-    match fault {
-        ToolFault::Stopped { end, .. } => {
-            let answer = stop_answer(&end.stop);
-            outcome(end.count, 0, answer.detail, answer.code)
-        }
-        ToolFault::Short { count, .. } => outcome(*count, 0, 0, SHORT),
-        ToolFault::Snap { .. }
-        | ToolFault::Unmet(_)
-        | ToolFault::Misfit(_)
-        | ToolFault::UnknownLocate
-        | ToolFault::UnknownStock
-        | ToolFault::Write(_)
-        | ToolFault::OutOfMemory
-        | ToolFault::Open { .. }
-        | ToolFault::BadUser
-        | ToolFault::BadPassword
-        | ToolFault::BadLocates
-        | ToolFault::TooMany
-        | ToolFault::Soup(_)
-        | ToolFault::Socket(_) => outcome(0, 0, 0, UNREAD),
-    }
+    let answer = stop_answer(stop);
+    outcome(count, 0, answer.detail, answer.code)
 }
 
 // The part of a file that is wanted.

@@ -1,4 +1,1 @@
-pub mod Endings
-pub mod Fetched
-pub mod Lines
 pub mod Tallying

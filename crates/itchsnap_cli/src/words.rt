@@ -6,9 +6,10 @@
 //! ```
 //! // of `itchsnap check day.itch`
 //! let job = read_job(alloc, words.as_slice(), false, None)?;
-//! let expected = Expected::nothing();
-//! let request = Request::Check { file: Some("day.itch"), limit: Limit::whole(), expected, form: Form::Text };
-//! assert_eq!(job, Job::Files { request, progress: false, output: None });
+//! let Job::Files { request, .. } = job else { return Err(..) };
+//! let (expected, form) = (Expected::nothing(), Form::Text);
+//! let command = Command::Check { limit: Limit::whole(), expected, form };
+//! assert_eq!(request, Request::One { file: Some("day.itch"), command });
 //! ```
 
 mod arguments;
@@ -23,12 +24,9 @@ mod session;
 mod size;
 mod time;
 
-pub use commands::{VERSION, usage_fault};
+pub use commands::usage_fault;
 pub use completions::{Completions, Shell};
 pub use job::{Job, read_job};
-pub use live::{
-    FeedWords, FollowForm, FollowWords, LiveWords, Pace, RecordWords, SnapshotWords, SyncTime,
-};
-pub use places::{Feeds, MOST_FEEDS, Place};
+pub use live::{FeedWords, FollowWords, LiveWords};
 pub use points::{PointWords, Points};
-pub use session::{LoginWords, Password, Server, current_session, session_of_file};
+pub use session::{LoginWords, Password, Server, session_of_file};

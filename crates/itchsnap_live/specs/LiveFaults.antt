@@ -1,8 +1,9 @@
 -- The status that a live server ends with.
 use Rattle.std.specs.Prelude.{ℕ}
-use Rattle.itch_commands.specs.Statuses.{status_of, stop_status}
+use Rattle.itch_market.specs.Statuses.{stop_status}
+use Rattle.itchsnap_live.specs.SessionFaults.{session_status}
 use Rattle.itchsnap_live.specs.declared.fault.LiveFault.{LiveFault}
-use Rattle.itchsnap_live.specs.declared.fault.LiveFault.TheVariants.{Tool, Record, InUse, OtherSession, Refused, GlimpseSession}
+use Rattle.itchsnap_live.specs.declared.fault.LiveFault.TheVariants.{Session, Record, InUse, OtherSession, Refused, GlimpseSession}
 use Rattle.itchsnap_live.specs.declared.fault.RecordFault.{RecordFault}
 use Rattle.itchsnap_live.specs.declared.fault.RecordFault.TheVariants as «record»
 
@@ -17,9 +18,9 @@ record_status («record».Changed change) = 3
 
 -- that of a fault
 abbrev pub live_status : LiveFault → ℕ
-live_status (Tool fault) = status_of fault
+live_status (Session fault) = session_status fault
 live_status (Record fault) = record_status fault
 live_status (InUse owned) = 3
-live_status (Refused fault session server) = status_of fault
+live_status (Refused fault session server) = session_status fault
 live_status (OtherSession server named wanted) = 1
 live_status (GlimpseSession snapshot feed) = 1

@@ -1,8 +1,8 @@
 -- When a message of a day file that is played is due.
 use Rattle.std.specs.Prelude.{ℕ, ◌*◌, nat_le, nat_lt, Bool, true, List, length, if◌then◌else◌}
 use Rattle.itch_codec.specs.Numbers.{number_at}
-use Rattle.itchsnap_cli.specs.declared.words.live.Pace.{Pace}
-use Rattle.itchsnap_cli.specs.declared.words.live.Pace.TheVariants.{Free, Rate, Clock}
+use Rattle.itchsnap_live.specs.declared.pace.Pace.{Pace}
+use Rattle.itchsnap_live.specs.declared.pace.Pace.TheVariants.{Free, Rate, Clock}
 
 -- Whether a message is due so many milliseconds after the login was accepted, where so many messages come before it, and its timestamp is
 -- so many nanoseconds later than that of the first. At a rate of N a second, message k after the first is due k / N seconds after it; at

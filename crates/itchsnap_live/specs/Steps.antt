@@ -12,9 +12,8 @@ use Rattle.itch_join.specs.declared.fault.JoinFault.{JoinFault}
 use Rattle.itch_join.specs.declared.fault.JoinFault.TheVariants as join
 use Rattle.itch_live.specs.declared.news.News.{News}
 use Rattle.itch_live.specs.declared.news.News.TheVariants as news
-use Rattle.itch_commands.specs.declared.fault.ToolFault.{ToolFault}
-use Rattle.itch_commands.specs.declared.fault.ToolFault.TheVariants as tool
-use Rattle.itch_commands.specs.declared.fault.Source.TheVariants.{Only, Snapshot}
+use Rattle.itchsnap_live.specs.declared.session_fault.SessionFault.{SessionFault}
+use Rattle.itchsnap_live.specs.declared.session_fault.SessionFault.TheVariants as session_fault
 use Rattle.itchsnap_live.specs.declared.step.Step.{Step}
 use Rattle.itchsnap_live.specs.declared.step.Step.TheVariants.{On, Accepted, Joined, Taken, Ended, Rejected, OtherSession, NoMemory, Lost}
 
@@ -31,11 +30,11 @@ snapshot_fault_of place (cause.Rule refusal) = snap.Rule place refusal
 snapshot_fault_of place cause.TooMany = snap.TooManyMessages
 
 -- what could not be recorded
-abbrev pub unrecorded : FrameFault → ToolFault
-unrecorded (frame.Write sent error) = tool.Write error
-unrecorded (frame.Read error) = tool.Stopped Only (record { count = 0; stop = stop.Frame (frame.Read error) })
-unrecorded (frame.Truncated held) = tool.Stopped Only (record { count = 0; stop = stop.Frame (frame.Truncated held) })
-unrecorded frame.TooLong = tool.Stopped Only (record { count = 0; stop = stop.Frame frame.TooLong })
+abbrev pub unrecorded : FrameFault → SessionFault
+unrecorded (frame.Write sent error) = session_fault.Write error
+unrecorded (frame.Read error) = session_fault.Stopped (record { count = 0; stop = stop.Frame (frame.Read error) })
+unrecorded (frame.Truncated held) = session_fault.Stopped (record { count = 0; stop = stop.Frame (frame.Truncated held) })
+unrecorded frame.TooLong = session_fault.Stopped (record { count = 0; stop = stop.Frame frame.TooLong })
 
 -- how many messages come before the last one, where the next one has this number
 abbrev pub before_last : Option ℕ → ℕ
@@ -43,16 +42,16 @@ before_last None = 0
 before_last (Some next) = next - 2
 
 -- a record that could not be written is the fault of the last message that was taken
-abbrev pub record_fault : ToolFault → Option ℕ → ToolFault
-record_fault (tool.Write error) next = tool.Stopped Only (record { count = before_last next; stop = stop.Frame (frame.Write 0 error) })
+abbrev pub record_fault : SessionFault → Option ℕ → SessionFault
+record_fault (session_fault.Write error) next = session_fault.Stopped (record { count = before_last next; stop = stop.Frame (frame.Write 0 error) })
 record_fault fault next = fault
 
 -- a message that is none, or breaks an order rule, ends the follower; so does one that was applied and could not be recorded. A new
 -- connection mends the rest.
-abbrev pub refusal_of : JoinFault → Result Step ToolFault
-refusal_of (join.Halted number cause) = Err (tool.Stopped Only (record { count = number - 1; stop = stop_of cause }))
-refusal_of (join.BadSnapshot place cause) = Err (tool.Snap Snapshot (snapshot_fault_of place cause))
-refusal_of (join.OutOfMemory true) = Err tool.OutOfMemory
+abbrev pub refusal_of : JoinFault → Result Step SessionFault
+refusal_of (join.Halted number cause) = Err (session_fault.Stopped (record { count = number - 1; stop = stop_of cause }))
+refusal_of (join.BadSnapshot place cause) = Err (session_fault.Snapshot (snapshot_fault_of place cause))
+refusal_of (join.OutOfMemory true) = Err session_fault.OutOfMemory
 refusal_of (join.OutOfMemory false) = Ok NoMemory
 refusal_of (join.Full cap) = Ok Lost
 refusal_of (join.Conflict number) = Ok Lost
@@ -60,7 +59,7 @@ refusal_of join.BadNumber = Ok Lost
 refusal_of join.Joined = Ok Lost
 
 -- what a follower does about a piece of news, or the fault that ends it
-abbrev pub step_of : News → Result Step ToolFault
+abbrev pub step_of : News → Result Step SessionFault
 step_of news.Nothing = Ok On
 step_of (news.Accepted next) = Ok (Accepted next)
 step_of (news.Joined next) = Ok (Joined next)

@@ -1,6 +1,6 @@
 //! Clients that call.
 
-use itchsnap_cli::sessions::Listening;
+use crate::sessions::Listening;
 use mio::net::{TcpListener, TcpStream};
 use mio::{Interest, Registry, Token};
 use std::io::{self, ErrorKind};

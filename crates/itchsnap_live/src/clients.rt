@@ -5,10 +5,10 @@ use crate::departure::Departure;
 use crate::reception::{Arrival, Reception};
 use crate::room::SnapshotRoom;
 use crate::seated::Seated;
+use crate::sessions::PIECE;
 use itch_book::OrderBook;
 use itch_live::{Desk, longest_snapshot};
 use itch_snapshot::snapshot_len;
-use itchsnap_cli::sessions::PIECE;
 use mio::Registry;
 use mio::event::Event;
 use std::alloc::{AllocError, Global};
@@ -165,7 +165,8 @@ impl Clients {
     /// Answers those who wait with the snapshot of the present market. Where it has no room beside the others, or its memory is refused, they
     /// go on waiting.
     pub(crate) fn answer<B: OrderBook>(&mut self, desk: &mut Desk<B>, now_ms: u64) {
-        let (Some(next), Some(market)) = (desk.next(), desk.market()) else {
+        let follower = desk.follower();
+        let (Some(next), Some(market)) = (follower.next(), follower.market()) else {
             return;
         };
         let messages = u64::try_from(snapshot_len(market)).unwrap_or(u64::MAX);

@@ -1,12 +1,13 @@
 //! How a client's connection ended, and its line.
 ghost use Rattle.std.specs.Prelude.{◌≡◌, ◌≤◌, ◌++◌, length, codes, decimal};
 ghost use Rattle.arrayvec.specs.ArrayVec.{array_vec_len};
-ghost use Rattle.itch_commands.specs.Outputs.{WritesText};
+ghost use Rattle.itchsnap_live.specs.Outputs.{WritesText};
 ghost use Rattle.itchsnap_live.specs.Departures.{departure_line, departure_of, departure_words};
 
 use crate::line::{push, push_number};
+use crate::session_fault::SessionFault;
+use crate::sessions::write_text;
 use arrayvec::ArrayVec;
-use itch_commands::{ToolFault, write_text};
 use itch_frame::CountedWrite;
 use itch_live::Gone;
 
@@ -60,7 +61,7 @@ pub fn write_departure<W: CountedWrite>(
     out: &mut W,
     number: u64,
     departure: Departure,
-) -> Result<(), ToolFault>
+) -> Result<(), SessionFault>
     ensures { WritesText W.contents W.failures (departure_line number departure) out.old result out.new }
 {
     write_text(&line(number, departure), out)

@@ -2,12 +2,12 @@
 ghost use Rattle.std.specs.Prelude.{◌≡◌};
 ghost use Rattle.itchsnap_live.specs.LiveFaults.{live_status, record_status};
 
+use crate::places::Feeds;
+use crate::session_fault::SessionFault;
 use crate::watch::Change;
 use itch_codec::Alpha;
-use itch_commands::{ToolFault, stop_status};
 use itch_live::Source;
 use itch_market::ReplayEnd;
-use itchsnap_cli::words::Feeds;
 use std::alloc::AllocError;
 use std::error::Error;
 use std::fmt::{self, Display, Formatter};
@@ -18,8 +18,8 @@ use std::io;
 /// `Display` gives the first line for standard error, without its line feed; [`LiveFault::detail`] the second one.
 #[derive(Debug, Drop)]
 pub enum LiveFault {
-    /// A fault that other commands have too.
-    Tool(ToolFault),
+    /// A fault that other sessions have too.
+    Session(SessionFault),
     /// The record cannot be continued.
     Record(RecordFault),
     /// Another process uses a file of the server.
@@ -32,7 +32,7 @@ pub enum LiveFault {
     },
     /// A message of the feed was refused: the market would no longer be the feed's.
     Refused {
-        fault: ToolFault,
+        fault: SessionFault,
         session: Alpha<10>,
         /// The place of the server that sent it.
         server: usize,
@@ -89,7 +89,7 @@ impl LiveFault {
         ensures { result ≡ live_status self.now }
     {
         match self {
-            LiveFault::Tool(fault) | LiveFault::Refused { fault, .. } => fault.status(),
+            LiveFault::Session(fault) | LiveFault::Refused { fault, .. } => fault.status(),
             LiveFault::Record(fault) => record_status(fault),
             LiveFault::InUse(_) => 3,
             LiveFault::OtherSession { .. } | LiveFault::GlimpseSession { .. } => 1,
@@ -104,7 +104,7 @@ impl LiveFault {
             feeds,
         } = names;
         match self {
-            LiveFault::Tool(_) => None,
+            LiveFault::Session(_) => None,
             LiveFault::Record(RecordFault::UnknownSession) => Some(Detail::NoSessionFile(record)),
             LiveFault::Record(RecordFault::BadSession) => Some(Detail::SessionFile(record)),
             LiveFault::Record(_) => Some(Detail::Path(record)),
@@ -146,7 +146,7 @@ impl LiveFault {
     /// The system's error, where a write failed.
     pub(crate) fn write_error(&self) -> Option<io::Error> {
         match self {
-            LiveFault::Tool(ToolFault::Write(error)) => Some(*error),
+            LiveFault::Session(SessionFault::Write(error)) => Some(*error),
             _ => None,
         }
     }
@@ -157,7 +157,7 @@ impl LiveFault {
             return self;
         };
         match self {
-            LiveFault::Tool(fault) => of_tool(fault, session, server),
+            LiveFault::Session(fault) => of_session(fault, session, server),
             _ => self,
         }
     }
@@ -179,14 +179,14 @@ impl LiveFault {
     }
 }
 
-fn of_tool(fault: ToolFault, session: Alpha<10>, server: usize) -> LiveFault {
+fn of_session(fault: SessionFault, session: Alpha<10>, server: usize) -> LiveFault {
     match &fault {
-        ToolFault::Stopped { .. } => LiveFault::Refused {
+        SessionFault::Stopped(_) => LiveFault::Refused {
             fault,
             session,
             server,
         },
-        _ => LiveFault::Tool(fault),
+        _ => LiveFault::Session(fault),
     }
 }
 
@@ -194,7 +194,7 @@ fn record_status(fault: &RecordFault) -> u8
     ensures { result ≡ record_status fault.now }
 {
     match fault {
-        RecordFault::Refused(end) => stop_status(&end.stop),
+        RecordFault::Refused(end) => end.stop.status(),
         RecordFault::Changed(_) => 3,
         _ => 1,
     }
@@ -203,7 +203,7 @@ fn record_status(fault: &RecordFault) -> u8
 impl Display for LiveFault {
     fn fmt<W: fmt::Write>(&self, f: &mut Formatter<W>) -> fmt::Result {
         match self {
-            LiveFault::Tool(fault) | LiveFault::Refused { fault, .. } => write!(f, "{fault}"),
+            LiveFault::Session(fault) | LiveFault::Refused { fault, .. } => write!(f, "{fault}"),
             LiveFault::Record(fault) => write!(f, "itchsnap: record: {fault}"),
             LiveFault::InUse(_) => f.write_str("itchsnap: cannot open"),
             LiveFault::OtherSession {
@@ -262,24 +262,24 @@ impl Display for RecordFault {
 
 impl Error for LiveFault {}
 
-impl From<ToolFault> for LiveFault {
-    ghost use Rattle.itchsnap_live.specs.declared.fault.LiveFault.TheVariants.{Tool};
+impl From<SessionFault> for LiveFault {
+    ghost use Rattle.itchsnap_live.specs.declared.fault.LiveFault.TheVariants.{Session};
 
-    ghost from_gives = { λ fault live. live ≡ Tool fault };
+    ghost from_gives = { λ fault live. live ≡ Session fault };
 
-    fn from(fault: ToolFault) -> LiveFault {
-        LiveFault::Tool(fault)
+    fn from(fault: SessionFault) -> LiveFault {
+        LiveFault::Session(fault)
     }
 }
 
 impl From<AllocError> for LiveFault {
-    ghost use Rattle.itch_commands.specs.declared.fault.ToolFault.TheVariants.{OutOfMemory};
-    ghost use Rattle.itchsnap_live.specs.declared.fault.LiveFault.TheVariants.{Tool};
+    ghost use Rattle.itchsnap_live.specs.declared.session_fault.SessionFault.TheVariants.{OutOfMemory};
+    ghost use Rattle.itchsnap_live.specs.declared.fault.LiveFault.TheVariants.{Session};
 
-    ghost from_gives = { λ _ live. live ≡ Tool OutOfMemory };
+    ghost from_gives = { λ _ live. live ≡ Session OutOfMemory };
 
     fn from(_error: AllocError) -> LiveFault {
-        LiveFault::Tool(ToolFault::OutOfMemory)
+        LiveFault::Session(SessionFault::OutOfMemory)
     }
 }
 

@@ -3,19 +3,18 @@
 use crate::fault::LiveFault;
 use crate::feed_line::{FeedLine, Named, Trouble};
 use crate::log::Log;
-use crate::outbox::Outbox;
 use crate::piece::Piece;
+use crate::places::MOST_FEEDS;
 use crate::route::{Route, Servers};
+use crate::session_fault::SessionFault;
 use crate::socket::{Got, Socket};
 use crate::step::{Step, rejection_ends, step_of};
 use crate::turns::Turns;
 use itch_book::OrderBook;
 use itch_codec::Alpha;
-use itch_commands::ToolFault;
 use itch_frame::CountedWrite;
-use itch_live::{Desk, Source};
-use itch_soup::{SoupFault, Tick};
-use itchsnap_cli::words::MOST_FEEDS;
+use itch_live::{Follower, PendingPacket, Source};
+use itch_soup::{ClientSession, SoupFault, Tick};
 use mio::Registry;
 use mio::event::Event;
 use mio::net::TcpStream;
@@ -31,22 +30,22 @@ pub(crate) const SHARE: usize = 1 << 18;
 #[derive(Drop)]
 struct Connection {
     socket: Socket,
-    outbox: Outbox,
+    packet: PendingPacket,
 }
 
 impl Connection {
     // Sends what is pending, and a heartbeat where one is due.
     fn send(&mut self, heartbeat: bool) -> io::Result<()> {
-        if heartbeat {
-            self.outbox.put_heartbeat();
+        if heartbeat && self.packet.is_empty() {
+            self.packet = PendingPacket::of(&ClientSession::heartbeat());
         }
-        let count = self.socket.write(self.outbox.pending())?;
-        self.outbox.took(count);
+        let count = self.socket.write(self.packet.bytes())?;
+        self.packet.took(count);
         Ok(())
     }
 }
 
-/// The connection of a desk's follower, which is made again where it was lost.
+/// The connection of a follower, which is made again where it was lost.
 #[derive(Drop)]
 pub(crate) struct FeedSide<'a> {
     route: Route<'a>,
@@ -118,14 +117,14 @@ impl<'a> FeedSide<'a> {
         &mut self,
         log: &mut Log<'_, R>,
         turns: &Turns<'_, R>,
-        desk: &mut Desk<B>,
+        follower: &mut Follower<B>,
         now_ms: u64,
     ) {
         self.share = SHARE;
         if !self.is_due(now_ms) {
             return;
         }
-        let live = desk.next().is_some();
+        let live = follower.next().is_some();
         self.address = self.route.next(log.runtime(), live);
         // To look up a name may take long.
         let now_ms = turns.now().unwrap_or(now_ms);
@@ -135,11 +134,11 @@ impl<'a> FeedSide<'a> {
             } else {
                 Trouble::GlimpseUnknown
             };
-            return self.lose(log, desk, Some(why), now_ms);
+            return self.lose(log, follower, Some(why), now_ms);
         };
-        match self.connect(log.runtime(), turns.registry(), address, desk, now_ms) {
+        match self.connect(log.runtime(), turns.registry(), address, follower, now_ms) {
             Ok(connection) => self.connection = Some(connection),
-            Err(_) => self.lose(log, desk, None, now_ms),
+            Err(_) => self.lose(log, follower, None, now_ms),
         }
     }
 
@@ -149,16 +148,16 @@ impl<'a> FeedSide<'a> {
         net: &N,
         registry: &Registry,
         address: SocketAddr,
-        desk: &mut Desk<B>,
+        follower: &mut Follower<B>,
         now_ms: u64,
     ) -> io::Result<Connection> {
-        let login = desk.connect(now_ms);
+        let login = follower.connect(now_ms);
         let stream = TcpStream::connect(net, address)?;
         // A login or a heartbeat is not to wait for what follows it.
         let _ = stream.set_nodelay(true);
         Ok(Connection {
             socket: Socket::register(registry, stream, self.token, false)?,
-            outbox: Outbox::login(&login),
+            packet: PendingPacket::of(&login),
         })
     }
 
@@ -166,16 +165,16 @@ impl<'a> FeedSide<'a> {
     pub(crate) fn end_turn<R: Eprint, B: OrderBook>(
         &mut self,
         log: &mut Log<'_, R>,
-        desk: &mut Desk<B>,
+        follower: &mut Follower<B>,
         now_ms: u64,
     ) {
         let Some(connection) = &mut self.connection else {
             return;
         };
-        let tick = desk.tick_feed(now_ms);
+        let tick = follower.tick(now_ms);
         let sent = connection.send(matches!(tick, Tick::Heartbeat));
         if matches!(tick, Tick::Lost) || sent.is_err() {
-            self.lose(log, desk, None, now_ms);
+            self.lose(log, follower, None, now_ms);
         }
     }
 
@@ -184,11 +183,11 @@ impl<'a> FeedSide<'a> {
     fn lose<R: Eprint, B: OrderBook>(
         &mut self,
         log: &mut Log<'_, R>,
-        desk: &Desk<B>,
+        follower: &Follower<B>,
         why: Option<Trouble>,
         now_ms: u64,
     ) {
-        let next = desk.next();
+        let next = follower.next();
         let server = self.route.server();
         let name = self.name(next.is_some(), why.is_some_and(|it| it.is_of_a_name()));
         let wait = self.route.lose(next.is_some(), now_ms);
@@ -237,7 +236,7 @@ impl<'a> FeedSide<'a> {
     pub(crate) fn step<R: Eprint, B: OrderBook, W: CountedWrite>(
         &mut self,
         log: &mut Log<'_, R>,
-        desk: &mut Desk<B>,
+        follower: &mut Follower<B>,
         now_ms: u64,
         record: &mut W,
     ) -> Result<Option<Step>, LiveFault> {
@@ -246,15 +245,15 @@ impl<'a> FeedSide<'a> {
                 Ok(Got::Bytes(_)) => {}
                 Ok(Got::Nothing) => return Ok(None),
                 Ok(Got::Ended) | Err(_) => {
-                    self.lose(log, desk, None, now_ms);
+                    self.lose(log, follower, None, now_ms);
                     return Ok(None);
                 }
             }
         }
-        let (count, news) = desk.hear_feed(self.piece.bytes(), now_ms, record);
+        let (count, news) = follower.hear(self.piece.bytes(), now_ms, record);
         self.piece.passed(count);
         let step = step_of(news)?;
-        self.follow(log, desk, &step, now_ms)?;
+        self.follow(log, follower, &step, now_ms)?;
         Ok(Some(step))
     }
 
@@ -317,27 +316,27 @@ impl<'a> FeedSide<'a> {
     fn follow<R: Eprint, B: OrderBook>(
         &mut self,
         log: &mut Log<'_, R>,
-        desk: &Desk<B>,
+        follower: &Follower<B>,
         step: &Step,
         now_ms: u64,
     ) -> Result<(), LiveFault> {
         match *step {
             Step::On | Step::Taken(_) => {}
-            Step::Accepted(begins) => self.accept(log, desk, begins, now_ms),
+            Step::Accepted(begins) => self.accept(log, follower, begins, now_ms),
             Step::Joined(next) => {
                 self.drop_connection(now_ms);
                 self.route.begin();
                 self.was_accepted = false;
                 log.say(&FeedLine::Joined(next));
             }
-            Step::Ended => self.end(log, desk, now_ms),
-            Step::Rejected(code) => self.reject(log, desk, code, now_ms)?,
-            Step::OtherSession(named) => self.refuse(log, desk, named, now_ms)?,
+            Step::Ended => self.end(log, follower, now_ms),
+            Step::Rejected(code) => self.reject(log, follower, code, now_ms)?,
+            Step::OtherSession(named) => self.refuse(log, follower, named, now_ms)?,
             Step::NoMemory => {
-                let line = desk.next().map(Trouble::NoMemory);
-                self.lose(log, desk, line, now_ms);
+                let line = follower.next().map(Trouble::NoMemory);
+                self.lose(log, follower, line, now_ms);
             }
-            Step::Lost => self.lose(log, desk, None, now_ms),
+            Step::Lost => self.lose(log, follower, None, now_ms),
         }
         Ok(())
     }
@@ -346,13 +345,13 @@ impl<'a> FeedSide<'a> {
     fn accept<R: Eprint, B: OrderBook>(
         &mut self,
         log: &mut Log<'_, R>,
-        desk: &Desk<B>,
+        follower: &Follower<B>,
         begins: u64,
         now_ms: u64,
     ) {
-        let line = match desk.next() {
+        let line = match follower.next() {
             Some(next) if begins > next => {
-                return self.lose(log, desk, Some(Trouble::Gap { next, begins }), now_ms);
+                return self.lose(log, follower, Some(Trouble::Gap { next, begins }), now_ms);
             }
             Some(_) => FeedLine::Accepted(begins),
             None => FeedLine::GlimpseAccepted,
@@ -362,7 +361,7 @@ impl<'a> FeedSide<'a> {
         self.is_down = false;
         self.forget_troubles();
         self.route.accept(now_ms);
-        let name = self.name(desk.next().is_some(), false);
+        let name = self.name(follower.next().is_some(), false);
         log.say(&Named { line, name });
     }
 
@@ -375,31 +374,36 @@ impl<'a> FeedSide<'a> {
 
     // The server has ended its session. One that has sent no message yet is asked again, and so is a server of snapshots that has not sent
     // its End of Snapshot.
-    fn end<R: Eprint, B: OrderBook>(&mut self, log: &mut Log<'_, R>, desk: &Desk<B>, now_ms: u64) {
-        match desk.next() {
+    fn end<R: Eprint, B: OrderBook>(
+        &mut self,
+        log: &mut Log<'_, R>,
+        follower: &Follower<B>,
+        now_ms: u64,
+    ) {
+        match follower.next() {
             Some(next) if self.is_accepted && next > 1 => {
                 self.drop_connection(u64::MAX);
                 log.say(&FeedLine::Ended(next));
             }
-            _ => self.lose(log, desk, None, now_ms),
+            _ => self.lose(log, follower, None, now_ms),
         }
     }
 
     fn reject<R: Eprint, B: OrderBook>(
         &mut self,
         log: &mut Log<'_, R>,
-        desk: &Desk<B>,
+        follower: &Follower<B>,
         code: u8,
         now_ms: u64,
     ) -> Result<(), LiveFault> {
         if rejection_ends(code, self.was_accepted) {
-            return Err(LiveFault::Tool(ToolFault::Soup(SoupFault::Rejected(code))));
+            return Err(LiveFault::Session(SessionFault::Soup(SoupFault::Rejected(code))));
         }
-        let line = match desk.next() {
+        let line = match follower.next() {
             Some(_) => Trouble::Rejected(code),
             None => Trouble::GlimpseRejected(code),
         };
-        self.lose(log, desk, Some(line), now_ms);
+        self.lose(log, follower, Some(line), now_ms);
         Ok(())
     }
 
@@ -407,13 +411,13 @@ impl<'a> FeedSide<'a> {
     fn refuse<R: Eprint, B: OrderBook>(
         &mut self,
         log: &mut Log<'_, R>,
-        desk: &Desk<B>,
+        follower: &Follower<B>,
         named: Alpha<10>,
         now_ms: u64,
     ) -> Result<(), LiveFault> {
-        let (server, wanted) = match desk.next() {
-            Some(_) => (Source::Live, desk.session()),
-            None => (Source::Glimpse, self.glimpse_session.or(desk.session())),
+        let (server, wanted) = match follower.next() {
+            Some(_) => (Source::Live, follower.session()),
+            None => (Source::Glimpse, self.glimpse_session.or(follower.session())),
         };
         match wanted {
             Some(wanted) if !self.was_accepted => Err(LiveFault::OtherSession {
@@ -423,7 +427,7 @@ impl<'a> FeedSide<'a> {
             }),
             _ => {
                 let line = wanted.map(|wanted| Trouble::OtherSession(named, wanted));
-                self.lose(log, desk, line, now_ms);
+                self.lose(log, follower, line, now_ms);
                 Ok(())
             }
         }

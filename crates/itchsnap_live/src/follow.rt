@@ -2,22 +2,21 @@
 
 use crate::fault::LiveFault;
 use crate::feed_side::{FeedSide, SHARE};
+use crate::follow_form::FollowForm;
 use crate::log::Log;
-use crate::naming::nobody;
 use crate::route::Servers;
+use crate::session_fault::SessionFault;
+use crate::sessions::{Sending, write_text};
 use crate::step::Step;
 use crate::turns::Turns;
 use itch_book::{IndexedBook, OrderBook};
 use itch_codec::{decode, encode, json};
-use itch_commands::{ToolFault, write_text};
 use itch_frame::{Counted, CountedWrite, FrameFault, write_block};
 use itch_join::Joiner;
-use itch_live::{Desk, Follower, Sessions};
+use itch_live::{Follower, Sessions};
 use itch_market::Market;
 use itch_snapshot::SnapshotIter;
 use itch_soup::Credentials;
-use itchsnap_cli::sessions::Sending;
-use itchsnap_cli::words::FollowForm;
 use std::alloc::{AllocError, Global};
 use std::io::Write;
 use std::net::Net;
@@ -84,24 +83,13 @@ where
     Ok(true)
 }
 
-// A desk without places.
-fn closed_desk<B: OrderBook<Alloc = Global>>(
-    alloc: Global,
-    following: &Following,
-    joiner: Joiner<B>,
-) -> Result<Desk<B>, AllocError> {
-    let closed = nobody(following.credentials);
-    let follower = Follower::new(alloc, following.credentials, following.sessions, joiner, 0)?;
-    Desk::new(alloc, closed, follower, 0)
-}
-
-// A desk without places, and the connection of its follower.
+// What follows the feed, and its connection.
 #[derive(Drop)]
 struct Tail<'r, 'a, R: Clock, B: OrderBook> {
     log: Log<'r, R>,
     turns: Turns<'r, R>,
     feed: FeedSide<'a>,
-    desk: Desk<B>,
+    follower: Follower<B>,
     // Whether the feed's session is named.
     is_named: bool,
     // The block of the message that is shown as a line.
@@ -119,16 +107,21 @@ where
         following: &Following,
         joiner: Joiner<B>,
     ) -> Result<Tail<'r, 'a, R, B>, LiveFault> {
-        let desk = closed_desk(rt.alloc(), following, joiner)?;
+        let Following {
+            credentials,
+            sessions,
+            form: _,
+        } = *following;
+        let follower = Follower::new(rt.alloc(), credentials, sessions, joiner, 0)?;
         let log = Log::new(rt)?;
         let turns = Turns::begin(rt, rt, EVENTS)?;
-        let feed = FeedSide::new(rt.alloc(), servers, following.sessions.glimpse, FEED)?;
+        let feed = FeedSide::new(rt.alloc(), servers, sessions.glimpse, FEED)?;
         Ok(Tail {
             log,
             turns,
             feed,
-            desk,
-            is_named: following.sessions.feed.is_some(),
+            follower,
+            is_named: sessions.feed.is_some(),
             block: Vec::new(rt.alloc()),
         })
     }
@@ -145,15 +138,16 @@ where
             self.feed.note(event);
         }
         self.feed
-            .begin_turn(&mut self.log, &self.turns, &mut self.desk, now_ms);
+            .begin_turn(&mut self.log, &self.turns, &mut self.follower, now_ms);
         let ended = match self.steps(form, now_ms, out) {
             Err(fault) if !self.is_named => Err(fault.after_glimpse()),
             ended => ended,
         };
-        self.feed.end_turn(&mut self.log, &mut self.desk, now_ms);
+        self.feed
+            .end_turn(&mut self.log, &mut self.follower, now_ms);
         // What came before a fault is written too.
         match (ended, out.flush()) {
-            (Ok(_), Err(error)) => Err(LiveFault::Tool(ToolFault::Write(error))),
+            (Ok(_), Err(error)) => Err(LiveFault::Session(SessionFault::Write(error))),
             (ended, _) => ended,
         }
     }
@@ -168,11 +162,13 @@ where
         for _packet in 0..SHARE {
             let step = match form {
                 FollowForm::Json => self.show_step(now_ms, out)?,
-                _ => self.feed.step(&mut self.log, &mut self.desk, now_ms, out)?,
+                _ => self
+                    .feed
+                    .step(&mut self.log, &mut self.follower, now_ms, out)?,
             };
             match step {
                 Some(Step::Joined(_)) if matches!(form, FollowForm::Whole) => {
-                    if let Some(market) = self.desk.market() {
+                    if let Some(market) = self.follower.market() {
                         write_messages(market, out)?;
                     }
                 }
@@ -194,10 +190,10 @@ where
         let mut block = Counted::new(&mut self.block);
         let step = match self
             .feed
-            .step(&mut self.log, &mut self.desk, now_ms, &mut block)
+            .step(&mut self.log, &mut self.follower, now_ms, &mut block)
         {
-            Err(LiveFault::Tool(ToolFault::Write(_))) => {
-                return Err(LiveFault::Tool(ToolFault::OutOfMemory));
+            Err(LiveFault::Session(SessionFault::Write(_))) => {
+                return Err(LiveFault::Session(SessionFault::OutOfMemory));
             }
             step => step?,
         };
@@ -209,7 +205,7 @@ where
 }
 
 // Writes the line of the message in a block. One that was taken can be decoded.
-fn show<W: CountedWrite>(number: u64, block: &[u8], out: &mut W) -> Result<(), ToolFault> {
+fn show<W: CountedWrite>(number: u64, block: &[u8], out: &mut W) -> Result<(), SessionFault> {
     let payload = match block {
         [_, _, payload @ ..] => payload,
         _ => &[],
@@ -224,12 +220,12 @@ fn show<W: CountedWrite>(number: u64, block: &[u8], out: &mut W) -> Result<(), T
 fn write_messages<B: OrderBook, W: CountedWrite>(
     market: &Market<B>,
     out: &mut W,
-) -> Result<(), ToolFault> {
+) -> Result<(), SessionFault> {
     for message in SnapshotIter::new(market) {
         match write_block(out, encode(&message).bytes()) {
             Ok(()) => {}
-            Err(FrameFault::Write { error, .. }) => return Err(ToolFault::Write(error)),
-            Err(_) => return Err(ToolFault::TooMany),
+            Err(FrameFault::Write { error, .. }) => return Err(SessionFault::Write(error)),
+            Err(_) => return Err(SessionFault::TooMany),
         }
     }
     Ok(())

@@ -9,10 +9,11 @@ use crate::log::Log;
 use crate::opened::{follower_of, listen, named_desk, open_folder, open_record};
 use crate::question::{agreed, ask_session, asks_session};
 use crate::reception::Reception;
-use crate::record::{Record, RecordLoss};
+use crate::record::{Record, RecordLoss, RecordWords};
 use crate::room::SnapshotRoom;
 use crate::route::Servers;
-use crate::saving::Saver;
+use crate::saving::{Saver, SnapshotWords};
+use crate::sessions::{Login, current_session};
 use crate::spare::{SPARED, Spare};
 use crate::start::Start;
 use crate::step::Step;
@@ -23,8 +24,6 @@ use itch_frame::CountedWrite;
 use itch_join::Joiner;
 use itch_live::{Desk, Follower};
 use itch_soup::Credentials;
-use itchsnap_cli::sessions::Login;
-use itchsnap_cli::words::{RecordWords, SnapshotWords, current_session};
 use mio::Token;
 use std::alloc::Global;
 use std::fs::File;
@@ -177,7 +176,7 @@ where
         let places = serving.clients;
         let config = serving
             .login
-            .config(desk.session().unwrap_or(current_session()));
+            .config(desk.follower().session().unwrap_or(current_session()));
         let first_room = PLACES.saturating_add(places);
         let reception = Reception::new(alloc, config, Seq::new(1).unwrap(), first_room)?;
         let room = SnapshotRoom::new(serving.snapshot_memory);
@@ -280,10 +279,10 @@ where
         if self.feed.is_due(now_ms) {
             self.spare.release();
         }
-        self.feed
-            .begin_turn(&mut self.log, &self.turns, &mut self.desk, now_ms);
+        self.feed.begin_turn(&mut self.log, &self.turns, self.desk.follower_mut(), now_ms);
         let done = self.read_feed(now_ms);
-        self.feed.end_turn(&mut self.log, &mut self.desk, now_ms);
+        self.feed
+            .end_turn(&mut self.log, self.desk.follower_mut(), now_ms);
         let flushed = match self.record.flush() {
             Ok(()) => Ok(()),
             Err(error) => self.lose_record(RecordLoss::System(error)),
@@ -324,7 +323,7 @@ where
         let recording = &mut self.record.recording;
         match self
             .feed
-            .step(&mut self.log, &mut self.desk, now_ms, recording)
+            .step(&mut self.log, self.desk.follower_mut(), now_ms, recording)
         {
             Ok(step) => Ok(step),
             Err(fault) => {
@@ -377,7 +376,7 @@ where
 
     // The record has the feed's session before it has a message.
     fn begin_record(&mut self) -> Result<(), LiveFault> {
-        if let Some(session) = self.desk.session() {
+        if let Some(session) = self.desk.follower().session() {
             self.record.begin(self.log.runtime(), session)?;
         }
         Ok(())
@@ -392,7 +391,7 @@ where
             self.lose_record(RecordLoss::System(error))?;
         }
         self.spare.release();
-        let saved = match (&mut self.saver, self.desk.market()) {
+        let saved = match (&mut self.saver, self.desk.follower().market()) {
             (Some(saver), Some(market)) => {
                 let recording = &mut self.record.recording;
                 saver.save(&mut self.log, market, next, now_ms, recording)
@@ -412,12 +411,12 @@ where
             self.record.give_up();
             return Ok(());
         }
-        Err(loss.fault(self.desk.next()))
+        Err(loss.fault(self.desk.follower().next()))
     }
 
     // The fault of a feed that refuses to go on: with its session, or with the one of the record or of the snapshot, which it is not in.
     fn explained(&self, fault: LiveFault) -> LiveFault {
-        let fault = fault.of_message(self.desk.session(), self.feed.server());
+        let fault = fault.of_message(self.desk.follower().session(), self.feed.server());
         if self.record.session().is_some() {
             return fault.of_record();
         }
@@ -459,7 +458,7 @@ where
 
     // Answers all who wait, as often as the time allows.
     fn answer(&mut self, now_ms: u64) -> Result<(), LiveFault> {
-        if !self.clients.any_waits(&self.desk) || self.desk.market().is_none() {
+        if !self.clients.any_waits(&self.desk) || self.desk.follower().market().is_none() {
             return Ok(());
         }
         let idle = !self.feed.is_busy() && !self.clients.is_telling(&self.desk);

@@ -3,14 +3,13 @@
 use crate::callers::Callers;
 use crate::fault::LiveFault;
 use crate::live::Serving;
-use crate::naming::nobody;
 use crate::record::Record;
 use crate::resuming::at_the_first;
 use crate::saving::Saver;
+use crate::session_fault::SessionFault;
 use crate::start::Start;
 use crate::turns::called;
 use itch_book::OrderBook;
-use itch_commands::ToolFault;
 use itch_join::Joiner;
 use itch_live::{Desk, Follower, Sessions};
 use std::alloc::{AllocError, Global};
@@ -65,7 +64,7 @@ pub(crate) fn listen<R: Net + Clock + Eprint>(
     start: &Start<'_, '_, R>,
     address: SocketAddr,
     token: usize,
-) -> Result<Callers, ToolFault> {
+) -> Result<Callers, SessionFault> {
     called(Callers::listen(rt, start.turns.registry(), address, token))
 }
 
@@ -79,12 +78,11 @@ pub(crate) fn named_desk<R, B: OrderBook<Alloc = Global>>(
 where
     R: Net + Clock + Eprint + AllocGlobal,
 {
-    let closed = nobody(serving.credentials);
-    let mut desk = Desk::new(alloc, closed, follower, 0)?;
-    let found = start.find_session(&mut desk)?;
+    let mut follower = follower;
+    let found = start.find_session(&mut follower)?;
     let Some(session) = found else {
-        return Err(LiveFault::Tool(ToolFault::TooMany));
+        return Err(LiveFault::Session(SessionFault::TooMany));
     };
     let config = serving.login.config(session);
-    Ok(Desk::new(alloc, config, desk.into_follower(), serving.clients)?)
+    Ok(Desk::new(alloc, config, follower, serving.clients)?)
 }

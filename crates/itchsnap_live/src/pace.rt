@@ -3,7 +3,17 @@ ghost use Rattle.std.specs.Prelude.{◌≡◌, ◌*◌, nat_le};
 ghost use Rattle.itchsnap_live.specs.Paces.{is_due, timestamp};
 
 use byteorder::{BigEndian, ByteOrder};
-use itchsnap_cli::words::Pace;
+
+/// How fast a day file is played.
+#[derive(Clone, Copy, Debug, PartialEq, Eq)]
+pub enum Pace {
+    /// As fast as a client takes it.
+    Free,
+    /// So many messages a second from the login on.
+    Rate(u64),
+    /// As the timestamps of its messages say, so many times as fast.
+    Clock(u64),
+}
 
 /// Where a message has its timestamp, and where its header ends after that.
 const TIMESTAMP: usize = 5;

@@ -3,19 +3,19 @@
 use crate::callers::Callers;
 use crate::departure::Departure;
 use crate::log::Log;
+use crate::pace::Pace;
 use crate::playback::Playback;
 use crate::player_side::{PlayerSide, hand_on};
 use crate::reception::{Arrival, Reception};
 use crate::seated::Seated;
+use crate::session_fault::SessionFault;
+use crate::sessions::PIECE;
 use crate::spare::Spare;
 use crate::turns::{Turns, called};
 use itch_codec::Seq;
-use itch_commands::ToolFault;
 use itch_frame::CountedWrite;
 use itch_live::Player;
 use itch_soup::ServerConfig;
-use itchsnap_cli::sessions::PIECE;
-use itchsnap_cli::words::Pace;
 use mio::Token;
 use std::alloc::{AllocError, Global};
 use std::fs::File;
@@ -64,13 +64,13 @@ pub fn play_feed<R, W: CountedWrite>(
     rt: &R,
     playing: &Playing<'_>,
     out: &mut W,
-) -> Result<bool, ToolFault>
+) -> Result<bool, SessionFault>
 where
     R: Net + Clock + Files<File = File> + Eprint + AllocGlobal,
 {
     let total = Playback::open(rt, playing.path)?.count()?;
     let Some(end) = Seq::new(total.saturating_add(1)) else {
-        return Err(ToolFault::TooMany);
+        return Err(SessionFault::TooMany);
     };
     let mut players = Players::new(rt, playing, end)?;
     for _turn in 0..u64::MAX {
@@ -106,7 +106,7 @@ where
     R: Net + Clock + Files<File = File> + Eprint + AllocGlobal,
 {
     // Listens on the port, and says so.
-    fn new(rt: &'a R, playing: &'a Playing<'a>, end: Seq) -> Result<Players<'a, R>, ToolFault> {
+    fn new(rt: &'a R, playing: &'a Playing<'a>, end: Seq) -> Result<Players<'a, R>, SessionFault> {
         let turns = Turns::begin(rt, rt, EVENTS)?;
         let callers = called(Callers::listen(rt, turns.registry(), playing.address, LISTENER))?;
         Ok(Players {
@@ -126,7 +126,7 @@ where
     }
 
     // Waits until something is ready or due, and does it.
-    fn turn<W: CountedWrite>(&mut self, out: &mut W) -> Result<(), ToolFault> {
+    fn turn<W: CountedWrite>(&mut self, out: &mut W) -> Result<(), SessionFault> {
         let most_ms = self.patience_ms();
         let now_ms = self.turns.wait(most_ms)?;
         self.note();
@@ -212,7 +212,7 @@ where
         arrival: Arrival,
         place: usize,
         now_ms: u64,
-    ) -> Result<PlayerSide<File>, ToolFault> {
+    ) -> Result<PlayerSide<File>, SessionFault> {
         let playback = Playback::open(self.rt, self.playing.path)?;
         let total = self.end.value() - 1;
         let mut player = Player::new(self.rt.alloc(), self.playing.config, total, now_ms)?;

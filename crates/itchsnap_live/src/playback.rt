@@ -1,10 +1,10 @@
 //! A day file that is played to one client, which reads it by itself.
 
 use crate::pace::timestamp;
-use itch_commands::{Source, ToolFault, system_fault};
+use crate::session_fault::SessionFault;
+use crate::sessions::PIECE;
 use itch_frame::{BlockReader, Buffered};
 use itch_market::{ReplayEnd, Stop};
-use itchsnap_cli::sessions::PIECE;
 use std::alloc::Global;
 use std::fs;
 use std::io::{BufReader, Read};
@@ -24,17 +24,14 @@ impl<F: Read + Drop> Playback<F> {
     pub(crate) fn open<R: Files<File = F> + AllocGlobal>(
         rt: &R,
         path: &str,
-    ) -> Result<Playback<F>, ToolFault> {
+    ) -> Result<Playback<F>, SessionFault> {
         let alloc = rt.alloc();
         let file = match fs::open(rt, path) {
             Ok(file) => file,
-            Err(error) => {
-                let file = Source::Only;
-                return Err(system_fault(error, ToolFault::Open { file, error }));
-            }
+            Err(error) => return Err(SessionFault::of_system(error, SessionFault::Open(error))),
         };
         let Ok(buffered) = BufReader::with_capacity(alloc, PIECE, file) else {
-            return Err(ToolFault::OutOfMemory);
+            return Err(SessionFault::OutOfMemory);
         };
         Ok(Playback {
             blocks: BlockReader::new(alloc, Buffered::new(buffered))?,
@@ -44,35 +41,49 @@ impl<F: Read + Drop> Playback<F> {
     }
 
     /// How many messages there are from here on.
-    pub(crate) fn count(self) -> Result<u64, ToolFault> {
+    pub(crate) fn count(self) -> Result<u64, SessionFault> {
         let mut playback = self;
-        for count in 0..u64::MAX {
-            match playback.blocks.next_message() {
-                Ok(Some(_)) => {}
-                Ok(None) => return Ok(count),
-                Err(fault) => return Err(stopped(count, Stop::Frame(fault))),
-            }
+        match playback.blocks.pass_messages(u64::MAX) {
+            (count, Ok(_)) => Ok(count),
+            (count, Err(fault)) => Err(stopped(count, Stop::Frame(fault))),
         }
-        Ok(u64::MAX)
     }
 
     /// Moves on to a message, over at most so many, and says whether it is at hand. An earlier one is not gone back to.
-    pub(crate) fn move_to(&mut self, number: u64, most: usize) -> Result<bool, ToolFault> {
-        for _ in 0..most {
-            if self.number >= number {
-                break;
-            }
-            match self.blocks.next_message() {
-                Ok(Some(payload)) => {
-                    self.message.clear();
-                    self.message.extend_from_slice(payload)?;
-                    self.number = self.number.saturating_add(1);
-                }
-                Ok(None) => return Err(stopped(self.number, Stop::End)),
-                Err(fault) => return Err(stopped(self.number, Stop::Frame(fault))),
-            }
+    pub(crate) fn move_to(&mut self, number: u64, most: usize) -> Result<bool, SessionFault> {
+        let before = number.saturating_sub(1);
+        if self.number < before {
+            self.pass_over((before - self.number).min(most as u64))?;
+        }
+        if self.number == before {
+            self.take_next()?;
         }
         Ok(self.number == number)
+    }
+
+    // Passes over so many messages.
+    fn pass_over(&mut self, most: u64) -> Result<(), SessionFault> {
+        let (count, passed) = self.blocks.pass_messages(most);
+        self.number = self.number.saturating_add(count);
+        match passed {
+            Ok(true) => Ok(()),
+            Ok(false) => Err(stopped(self.number, Stop::End)),
+            Err(fault) => Err(stopped(self.number, Stop::Frame(fault))),
+        }
+    }
+
+    // The next message is at hand.
+    fn take_next(&mut self) -> Result<(), SessionFault> {
+        match self.blocks.next_message() {
+            Ok(Some(payload)) => {
+                self.message.clear();
+                self.message.extend_from_slice(payload)?;
+                self.number = self.number.saturating_add(1);
+                Ok(())
+            }
+            Ok(None) => Err(stopped(self.number, Stop::End)),
+            Err(fault) => Err(stopped(self.number, Stop::Frame(fault))),
+        }
     }
 
     /// The message at hand.
@@ -86,9 +97,6 @@ impl<F: Read + Drop> Playback<F> {
     }
 }
 
-fn stopped(count: u64, stop: Stop) -> ToolFault {
-    ToolFault::Stopped {
-        file: Source::Only,
-        end: ReplayEnd { count, stop },
-    }
+fn stopped(count: u64, stop: Stop) -> SessionFault {
+    SessionFault::Stopped(ReplayEnd { count, stop })
 }

@@ -2,11 +2,10 @@
 
 use crate::departure::{Departure, departure_of};
 use crate::link::Link;
-use crate::pace::is_due;
+use crate::pace::{Pace, is_due};
 use crate::playback::Playback;
-use itch_commands::ToolFault;
+use crate::session_fault::SessionFault;
 use itch_live::{Gone, Player};
-use itchsnap_cli::words::Pace;
 use mio::event::Event;
 use std::alloc::Global;
 use std::io::Read;
@@ -107,7 +106,7 @@ impl<F: Read + Drop> PlayerSide<F> {
     }
 
     // Hands in the messages that are due.
-    fn play(&mut self, pace: Pace, now_ms: u64) -> Result<Played, ToolFault> {
+    fn play(&mut self, pace: Pace, now_ms: u64) -> Result<Played, SessionFault> {
         for _ in 0..MESSAGES {
             let Some(number) = self.player.wanted() else {
                 return Ok(Played::Due);
@@ -121,7 +120,7 @@ impl<F: Read + Drop> PlayerSide<F> {
             }
             let message = self.playback.message();
             if message.len() > LONGEST {
-                return Err(ToolFault::TooMany);
+                return Err(SessionFault::TooMany);
             }
             self.player.play(message, now_ms);
             self.count = self.count.saturating_add(1);

@@ -6,14 +6,13 @@ ghost use Rattle.itchsnap_live.specs.Questions.{asks_session, is_another};
 use crate::fault::{LiveFault, RecordFault};
 use crate::feed_side::FeedSide;
 use crate::log::Log;
-use crate::naming::nobody;
 use crate::resuming::at_the_first;
 use crate::start::Start;
 use itch_book::OrderBook;
 use itch_codec::Alpha;
 use itch_codec::spaces::after_spaces;
 use itch_join::Joiner;
-use itch_live::{Desk, Follower, Sessions};
+use itch_live::{Follower, Sessions};
 use itch_soup::Credentials;
 use std::alloc::Global;
 use std::net::{Net, SocketAddr};
@@ -74,24 +73,23 @@ where
     let Ok(mut start) = Start::new(rt, feed.servers(), None, FEED) else {
         return None;
     };
-    let Ok(mut desk) = nameless_desk(rt.alloc(), credentials, joiner) else {
+    let Ok(mut follower) = nameless_follower(rt.alloc(), credentials, joiner) else {
         return None;
     };
-    start.ask(address, &mut desk, MOST_MS)
+    start.ask(address, &mut follower, MOST_MS)
 }
 
-// A desk without places whose follower has no session yet.
-fn nameless_desk<B: OrderBook<Alloc = Global>>(
+// A follower that has no session yet.
+fn nameless_follower<B: OrderBook<Alloc = Global>>(
     alloc: Global,
     credentials: &Credentials,
     joiner: Joiner<B>,
-) -> Result<Desk<B>, LiveFault> {
+) -> Result<Follower<B>, LiveFault> {
     let mut joiner = joiner;
     at_the_first(&mut joiner)?;
     let nameless = Sessions {
         feed: None,
         glimpse: None,
     };
-    let follower = Follower::new(alloc, *credentials, nameless, joiner, 0)?;
-    Ok(Desk::new(alloc, nobody(*credentials), follower, 0)?)
+    Ok(Follower::new(alloc, *credentials, nameless, joiner, 0)?)
 }

@@ -10,7 +10,7 @@ use crate::socket::Socket;
 use crate::spare::Spare;
 use arrayvec::ArrayVec;
 use itch_codec::Seq;
-use itch_live::Gone;
+use itch_live::{Gone, PendingPacket};
 use itch_soup::{Origin, ServerAct, ServerConfig, ServerSession, parse_packet};
 use mio::Registry;
 use mio::event::Event;
@@ -117,7 +117,8 @@ impl Visitor {
             }
             Stage::Ready => self.read(buffer),
             Stage::Rejected { code, at_ms } if now_ms >= at_ms => {
-                self.link.write(&[0, 2, b'J', code]);
+                let rejection = PendingPacket::of(&ServerSession::rejected(code));
+                self.link.write(rejection.bytes());
                 self.link.end_sending();
                 self.stage = Stage::Over(Departure::Rejected(code));
             }

@@ -3,16 +3,15 @@
 use crate::fault::{LiveFault, Owned, RecordFault};
 use crate::recording::Recording;
 use crate::resuming::replay_record;
+use crate::session_fault::SessionFault;
 use crate::session_file::{read_session, write_session};
+use crate::sessions::PIECE;
 use crate::step::record_fault;
 use crate::watch::{Change, Seen, change_of};
 use itch_book::OrderBook;
 use itch_codec::Alpha;
-use itch_commands::{Source, ToolFault, system_fault};
 use itch_frame::tally::Failures;
 use itch_join::Joiner;
-use itchsnap_cli::sessions::PIECE;
-use itchsnap_cli::words::{RecordWords, SyncTime};
 use std::fmt::{self, Display, Formatter};
 use std::fs::{self, File, OpenOptions, TryLockError};
 use std::io::{self, BufWriter, ErrorKind};
@@ -20,6 +19,27 @@ use std::rt::Files;
 
 /// The record is looked at, and synced, this often.
 const WATCH_MS: u64 = 1_000;
+
+/// When the record is synced to disk.
+#[derive(Clone, Copy, Debug, PartialEq, Eq)]
+pub enum SyncTime {
+    /// When the system writes it.
+    Never,
+    /// Once a second, if something was added.
+    EverySecond,
+    /// Whenever messages were added, before a client is sent them.
+    EveryMessage,
+}
+
+/// The record of a live server.
+#[derive(Clone, Copy, Debug, PartialEq, Eq)]
+pub struct RecordWords<'a> {
+    /// The day file that each message is appended to.
+    pub path: &'a str,
+    pub sync: SyncTime,
+    /// Whether the server goes on without a record that cannot be written.
+    pub is_optional: bool,
+}
 
 /// A record, or none.
 #[derive(Drop)]
@@ -76,7 +96,7 @@ impl<'a> Record<'a> {
             opened.length = whole.offset;
         }
         let Ok(file) = BufWriter::with_capacity(rt.alloc(), PIECE, file) else {
-            return Err(LiveFault::Tool(ToolFault::OutOfMemory));
+            return Err(LiveFault::Session(SessionFault::OutOfMemory));
         };
         let recording = Recording::File {
             file,
@@ -112,7 +132,7 @@ impl<'a> Record<'a> {
         &mut self,
         rt: &R,
         session: Alpha<10>,
-    ) -> Result<(), ToolFault> {
+    ) -> Result<(), SessionFault> {
         if let Some(kept) = &mut self.kept
             && !kept.is_named
         {
@@ -208,7 +228,7 @@ impl RecordLoss {
         match self {
             RecordLoss::Changed(change) => LiveFault::Record(RecordFault::Changed(change)),
             RecordLoss::System(error) => {
-                LiveFault::Tool(record_fault(ToolFault::Write(error), next))
+                LiveFault::Session(record_fault(SessionFault::Write(error), next))
             }
         }
     }
@@ -284,11 +304,5 @@ fn cut(file: &File, length: u64) -> Result<(), LiveFault> {
 
 // The record cannot be opened.
 fn open_fault(error: io::Error) -> LiveFault {
-    LiveFault::Tool(system_fault(
-        error,
-        ToolFault::Open {
-            file: Source::Only,
-            error,
-        },
-    ))
+    LiveFault::Session(SessionFault::of_system(error, SessionFault::Open(error)))
 }

@@ -1,15 +1,15 @@
 //! What a record has: its messages are replayed before more are added.
 
 use crate::fault::{LiveFault, RecordFault};
+use crate::session_fault::SessionFault;
+use crate::sessions::PIECE;
 use crate::step::stop_of;
 use itch_book::OrderBook;
 use itch_codec::{CodecFault, Message};
-use itch_commands::ToolFault;
 use itch_day::{Limit, Mark, Marked, Sink, Stop as DayStop, read_part};
 use itch_frame::{BlockReader, Buffered, CountedRead, FrameFault};
 use itch_join::{JoinFault, Joiner, Live};
 use itch_market::{Refusal, ReplayEnd, Stop};
-use itchsnap_cli::sessions::PIECE;
 use std::alloc::{Allocator, Global};
 use std::io::{BufReader, Read};
 
@@ -17,10 +17,10 @@ use std::io::{BufReader, Read};
 const NOTHING_BEFORE: &[u8] = b"G                   1";
 
 /// A joiner that has the market before the first message.
-pub(crate) fn at_the_first<B: OrderBook>(joiner: &mut Joiner<B>) -> Result<(), ToolFault> {
+pub(crate) fn at_the_first<B: OrderBook>(joiner: &mut Joiner<B>) -> Result<(), SessionFault> {
     match joiner.snapshot(NOTHING_BEFORE) {
         Ok(_) => Ok(()),
-        Err(_) => Err(ToolFault::OutOfMemory),
+        Err(_) => Err(SessionFault::OutOfMemory),
     }
 }
 
@@ -64,7 +64,7 @@ pub(crate) fn replay_record<F: Read + Drop, B: OrderBook>(
     joiner: Joiner<B>,
 ) -> Result<(Joiner<B>, Mark), LiveFault> {
     let Ok(buffered) = BufReader::with_capacity(alloc, PIECE, file) else {
-        return Err(LiveFault::Tool(ToolFault::OutOfMemory));
+        return Err(LiveFault::Session(SessionFault::OutOfMemory));
     };
     let mut blocks = BlockReader::new(alloc, Buffered::new(buffered))?;
     match replay(&mut blocks, joiner) {

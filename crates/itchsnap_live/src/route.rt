@@ -1,7 +1,7 @@
 //! The servers of a feed and of snapshots, which address of them is tried next, and when.
 
+use crate::places::{Feeds, Place};
 use crate::spot::{Spot, pause_after, spot_after};
-use itchsnap_cli::words::{Feeds, Place};
 use std::alloc::Global;
 use std::net::{Net, SocketAddr, ToSocketAddrs};
 

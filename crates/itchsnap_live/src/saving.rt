@@ -7,13 +7,12 @@ ghost use Rattle.itchsnap_live.specs.Savings.{is_wanted};
 use crate::fault::{LiveFault, Owned};
 use crate::log::Log;
 use crate::recording::Recording;
+use crate::session_fault::SessionFault;
+use crate::sessions::{PIECE, Sending, write_closed};
 use itch_book::OrderBook;
 use itch_codec::{GREATEST_SEQ, Seq};
-use itch_commands::{Source, ToolFault, system_fault, write_closed};
 use itch_market::Market;
 use itch_snapshot::snapshot_len;
-use itchsnap_cli::sessions::{PIECE, Sending};
-use itchsnap_cli::words::SnapshotWords;
 use std::fmt::{self, Display, Formatter};
 use std::fs::{self, File, TryLockError};
 use std::io::{self, BufWriter, ErrorKind};
@@ -21,6 +20,13 @@ use std::rt::Files;
 
 /// Snapshots that cannot be written are reported this often.
 const REPORT_MS: u64 = 60_000;
+
+/// A folder for snapshots, and after how many messages each is written.
+#[derive(Clone, Copy, Debug, PartialEq, Eq)]
+pub struct SnapshotWords<'a> {
+    pub folder: &'a str,
+    pub every: u64,
+}
 
 /// A folder that snapshots are written to, by this process alone.
 #[derive(Drop)]
@@ -39,7 +45,7 @@ struct Missed<'a> {
     count: u64,
     folder: &'a str,
     messages: u64,
-    fault: &'a ToolFault,
+    fault: &'a SessionFault,
 }
 
 impl Display for Missed<'_> {
@@ -55,8 +61,8 @@ impl Display for Missed<'_> {
             "snapshots: {count} not written, the last one {folder}/{messages}.snap: "
         )?;
         match fault {
-            ToolFault::Open { error, .. } | ToolFault::Write(error) => write!(f, "{error}"),
-            ToolFault::OutOfMemory => f.write_str("out of memory"),
+            SessionFault::Folder(error) | SessionFault::Write(error) => write!(f, "{error}"),
+            SessionFault::OutOfMemory => f.write_str("out of memory"),
             _ => f.write_str("too many messages"),
         }
     }
@@ -70,12 +76,12 @@ impl<'a> Saver<'a> {
     ) -> Result<Saver<'a>, LiveFault> {
         let folder = match open_folder(rt, words.folder) {
             Ok(folder) => folder,
-            Err(error) => return Err(LiveFault::Tool(folder_fault(error))),
+            Err(error) => return Err(LiveFault::Session(folder_fault(error))),
         };
         match folder.try_lock() {
             Ok(()) => {}
             Err(TryLockError::WouldBlock) => return Err(LiveFault::InUse(Owned::Snapshots)),
-            Err(TryLockError::Error(error)) => return Err(LiveFault::Tool(folder_fault(error))),
+            Err(TryLockError::Error(error)) => return Err(LiveFault::Session(folder_fault(error))),
         }
         Ok(Saver {
             words,
@@ -109,7 +115,13 @@ impl<'a> Saver<'a> {
     }
 
     // Takes note of a snapshot that is not written, and says so where that is due.
-    fn miss<R: Eprint>(&mut self, log: &mut Log<'_, R>, fault: &ToolFault, next: u64, now_ms: u64) {
+    fn miss<R: Eprint>(
+        &mut self,
+        log: &mut Log<'_, R>,
+        fault: &SessionFault,
+        next: u64,
+        now_ms: u64,
+    ) {
         self.missed = self.missed.saturating_add(1);
         let is_due = match self.reported_ms {
             Some(reported_ms) => now_ms.saturating_sub(reported_ms) >= REPORT_MS,
@@ -150,11 +162,11 @@ enum Unsaved {
     // The record could not be flushed.
     Record(io::Error),
     // The snapshot itself could not be written.
-    Snapshot(ToolFault),
+    Snapshot(SessionFault),
 }
 
-impl From<ToolFault> for Unsaved {
-    fn from(fault: ToolFault) -> Unsaved {
+impl From<SessionFault> for Unsaved {
+    fn from(fault: SessionFault) -> Unsaved {
         Unsaved::Snapshot(fault)
     }
 }
@@ -183,13 +195,13 @@ fn write_snapshot<R: Files<File = File> + AllocGlobal, B: OrderBook>(
     folder: &str,
     market: &Market<B>,
     next: u64,
-) -> Result<(), ToolFault> {
+) -> Result<(), SessionFault> {
     let messages = next.saturating_sub(1);
     let Some(next) = Seq::new(next) else {
-        return Err(ToolFault::TooMany);
+        return Err(SessionFault::TooMany);
     };
     if snapshot_len(market) >= u128::from(GREATEST_SEQ) {
-        return Err(ToolFault::TooMany);
+        return Err(SessionFault::TooMany);
     }
     let path = format!(in rt.alloc(); "{folder}/{messages}.snap")?;
     let beside = format!(in rt.alloc(); "{path}.part")?;
@@ -205,7 +217,7 @@ fn write_file<R: Files<File = File> + AllocGlobal, B: OrderBook>(
     path: &str,
     market: &Market<B>,
     next: Seq,
-) -> Result<(), ToolFault>
+) -> Result<(), SessionFault>
     requires { length (snap market.now) < 10 ^ 19 }
 {
     let file = match fs::create(rt, path) {
@@ -213,12 +225,12 @@ fn write_file<R: Files<File = File> + AllocGlobal, B: OrderBook>(
         Err(error) => return Err(folder_fault(error)),
     };
     let Ok(buffered) = BufWriter::with_capacity(rt.alloc(), PIECE, file) else {
-        return Err(ToolFault::OutOfMemory);
+        return Err(SessionFault::OutOfMemory);
     };
     let mut out = Sending::new(buffered);
     match write_closed(market, next, &mut out) {
         Ok(_) => {}
-        Err(ToolFault::Write(error)) => return Err(folder_fault(error)),
+        Err(SessionFault::Write(error)) => return Err(folder_fault(error)),
         Err(fault) => return Err(fault),
     }
     match out.flush() {
@@ -228,7 +240,7 @@ fn write_file<R: Files<File = File> + AllocGlobal, B: OrderBook>(
 }
 
 // Waits until a file is on disk.
-fn sync<R: Files<File = File>>(rt: &R, path: &str) -> Result<(), ToolFault> {
+fn sync<R: Files<File = File>>(rt: &R, path: &str) -> Result<(), SessionFault> {
     let file = match fs::open(rt, path) {
         Ok(file) => file,
         Err(error) => return Err(folder_fault(error)),
@@ -240,12 +252,6 @@ fn sync<R: Files<File = File>>(rt: &R, path: &str) -> Result<(), ToolFault> {
 }
 
 // A file of the folder cannot be written.
-fn folder_fault(error: io::Error) -> ToolFault {
-    system_fault(
-        error,
-        ToolFault::Open {
-            file: Source::Snapshot,
-            error,
-        },
-    )
+fn folder_fault(error: io::Error) -> SessionFault {
+    SessionFault::of_system(error, SessionFault::Folder(error))
 }

@@ -1,9 +1,9 @@
 //! The file beside a record that names the feed's session: the messages of another day have the same numbers.
 
 use crate::fault::{LiveFault, RecordFault};
+use crate::session_fault::SessionFault;
+use crate::version::VERSION;
 use itch_codec::Alpha;
-use itch_commands::{Source, ToolFault, system_fault};
-use itchsnap_cli::words::VERSION;
 use std::fs::{self, File};
 use std::io::{self, ErrorKind, Read, Write};
 use std::rt::Files;
@@ -22,7 +22,7 @@ pub(crate) fn read_session<R: Files<File = File> + AllocGlobal>(
         Err(error) => match error.kind() {
             ErrorKind::NotFound => return Ok(None),
             ErrorKind::InvalidData => return Err(LiveFault::Record(RecordFault::BadSession)),
-            _ => return Err(LiveFault::Tool(record_fault(error))),
+            _ => return Err(LiveFault::Session(record_fault(error))),
         },
     };
     match session_in(text.as_str()) {
@@ -36,7 +36,7 @@ pub(crate) fn write_session<R: Files<File = File> + AllocGlobal>(
     rt: &R,
     path: &str,
     session: &Alpha<10>,
-) -> Result<(), ToolFault> {
+) -> Result<(), SessionFault> {
     let name = format!(in rt.alloc(); "{path}.session")?;
     let beside = format!(in rt.alloc(); "{name}.part")?;
     let session = session.text().trim();
@@ -69,12 +69,6 @@ fn write_text<R: Files<File = File>>(
     fs::rename(rt, beside, name)
 }
 
-fn record_fault(error: io::Error) -> ToolFault {
-    system_fault(
-        error,
-        ToolFault::Open {
-            file: Source::Only,
-            error,
-        },
-    )
+fn record_fault(error: io::Error) -> SessionFault {
+    SessionFault::of_system(error, SessionFault::Open(error))
 }

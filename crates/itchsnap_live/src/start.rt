@@ -9,7 +9,7 @@ use crate::turns::Turns;
 use itch_book::OrderBook;
 use itch_codec::Alpha;
 use itch_frame::tally::Failures;
-use itch_live::Desk;
+use itch_live::Follower;
 use mio::Token;
 use std::alloc::Global;
 use std::fs::File;
@@ -54,49 +54,52 @@ where
         })
     }
 
-    /// Follows the feed for a desk without places until its session is known.
+    /// Follows the feed until its session is known.
     pub(crate) fn find_session<B: OrderBook<Alloc = Global>>(
         &mut self,
-        desk: &mut Desk<B>,
+        follower: &mut Follower<B>,
     ) -> Result<Option<Alpha<10>>, LiveFault> {
         for _turn in 0..u64::MAX {
-            if let Some(session) = desk.session() {
+            if let Some(session) = follower.session() {
                 return Ok(Some(session));
             }
-            self.turn(desk)?;
+            self.turn(follower)?;
         }
         Ok(None)
     }
 
-    /// The session that the server of this address names in its answer to one login for a desk without places, if it does so within so many
+    /// The session that the server of this address names in its answer to one login, if it does so within so many
     /// milliseconds. Nothing is said of it.
     pub(crate) fn ask<B: OrderBook<Alloc = Global>>(
         &mut self,
         address: SocketAddr,
-        desk: &mut Desk<B>,
+        follower: &mut Follower<B>,
         most_ms: u64,
     ) -> Option<Alpha<10>> {
         self.log.mute();
         self.feed.keep_to(address);
         for _turn in 0..u64::MAX {
-            if desk.session().is_some() || self.feed.is_down() || self.turns.is_past(most_ms) {
+            if follower.session().is_some() || self.feed.is_down() || self.turns.is_past(most_ms) {
                 break;
             }
-            if self.turn(desk).is_err() {
+            if self.turn(follower).is_err() {
                 break;
             }
         }
-        desk.session()
+        follower.session()
     }
 
-    fn turn<B: OrderBook<Alloc = Global>>(&mut self, desk: &mut Desk<B>) -> Result<(), LiveFault> {
+    fn turn<B: OrderBook<Alloc = Global>>(
+        &mut self,
+        follower: &mut Follower<B>,
+    ) -> Result<(), LiveFault> {
         let most_ms = if self.feed.is_busy() { 0 } else { MOMENT_MS };
         let now_ms = self.turns.wait(most_ms)?;
         self.note();
         self.feed
-            .begin_turn(&mut self.log, &self.turns, desk, now_ms);
-        let done = self.steps(desk, now_ms);
-        self.feed.end_turn(&mut self.log, desk, now_ms);
+            .begin_turn(&mut self.log, &self.turns, follower, now_ms);
+        let done = self.steps(follower, now_ms);
+        self.feed.end_turn(&mut self.log, follower, now_ms);
         done
     }
 
@@ -113,13 +116,15 @@ where
     // Does what the feed has sent, up to a share of bytes, or until it has named its session.
     fn steps<B: OrderBook<Alloc = Global>>(
         &mut self,
-        desk: &mut Desk<B>,
+        follower: &mut Follower<B>,
         now_ms: u64,
     ) -> Result<(), LiveFault> {
         let mut nowhere: Recording<File> = Recording::Nowhere(Failures::none());
         for _packet in 0..SHARE {
-            let step = self.feed.step(&mut self.log, desk, now_ms, &mut nowhere)?;
-            if step.is_none() || desk.session().is_some() {
+            let step = self
+                .feed
+                .step(&mut self.log, follower, now_ms, &mut nowhere)?;
+            if step.is_none() || follower.session().is_some() {
                 break;
             }
         }

@@ -2,8 +2,8 @@
 ghost use Rattle.std.specs.Prelude.{◌≡◌};
 ghost use Rattle.itchsnap_live.specs.Steps.{record_fault, refusal_of, rejection_ends, snapshot_fault_of, step_of, stop_of, unrecorded};
 
+use crate::session_fault::SessionFault;
 use itch_codec::Alpha;
-use itch_commands::{Source, ToolFault};
 use itch_frame::FrameFault;
 use itch_join::{Cause, JoinFault};
 use itch_live::News;
@@ -38,8 +38,8 @@ pub enum Step {
 /// # Faults
 ///
 /// A message of the feed that is no message or breaks an order rule (`Stopped`), or one of the
-/// snapshot (`Snap`); and a message that could not be recorded. All else is mended by a new connection.
-pub fn step_of(news: News) -> Result<Step, ToolFault>
+/// snapshot (`Snapshot`); and a message that could not be recorded. All else is mended by a new connection.
+pub fn step_of(news: News) -> Result<Step, SessionFault>
     ensures { result ≡ step_of news }
 {
     match news {
@@ -57,23 +57,19 @@ pub fn step_of(news: News) -> Result<Step, ToolFault>
 }
 
 // What a follower does about a message that its joiner did not take.
-fn refusal_of(fault: JoinFault) -> Result<Step, ToolFault>
+fn refusal_of(fault: JoinFault) -> Result<Step, SessionFault>
     ensures { result ≡ refusal_of fault }
 {
     match fault {
-        JoinFault::Halted { number, cause } => Err(ToolFault::Stopped {
-            file: Source::Only,
-            end: ReplayEnd {
-                count: number.saturating_sub(1),
-                stop: stop_of(cause),
-            },
-        }),
-        JoinFault::BadSnapshot { place, cause } => Err(ToolFault::Snap {
-            file: Source::Snapshot,
-            fault: snapshot_fault_of(place, cause),
-        }),
+        JoinFault::Halted { number, cause } => Err(SessionFault::Stopped(ReplayEnd {
+            count: number.saturating_sub(1),
+            stop: stop_of(cause),
+        })),
+        JoinFault::BadSnapshot { place, cause } => Err(SessionFault::Snapshot(snapshot_fault_of(
+            place, cause,
+        ))),
         // It was applied, and is not recorded: no connection would send it again.
-        JoinFault::OutOfMemory { taken: true } => Err(ToolFault::OutOfMemory),
+        JoinFault::OutOfMemory { taken: true } => Err(SessionFault::OutOfMemory),
         JoinFault::OutOfMemory { taken: false } => Ok(Step::NoMemory),
         JoinFault::Full { .. }
         | JoinFault::Conflict { .. }
@@ -91,34 +87,28 @@ pub fn rejection_ends(code: u8, was_accepted: bool) -> bool
 }
 
 // The fault of a message that could not be recorded.
-fn unrecorded(fault: FrameFault) -> ToolFault
+fn unrecorded(fault: FrameFault) -> SessionFault
     ensures { result ≡ unrecorded fault }
 {
     match fault {
-        FrameFault::Write { error, .. } => ToolFault::Write(error),
-        _ => ToolFault::Stopped {
-            file: Source::Only,
-            end: ReplayEnd {
-                count: 0,
-                stop: Stop::Frame(fault),
-            },
-        },
+        FrameFault::Write { error, .. } => SessionFault::Write(error),
+        _ => SessionFault::Stopped(ReplayEnd {
+            count: 0,
+            stop: Stop::Frame(fault),
+        }),
     }
 }
 
 /// The fault of a follower that keeps a record: one that could not be written is that of the last message that was taken, where
 /// `next` is the number after it.
-pub(crate) fn record_fault(fault: ToolFault, next: Option<u64>) -> ToolFault
+pub(crate) fn record_fault(fault: SessionFault, next: Option<u64>) -> SessionFault
     ensures { result ≡ record_fault fault next }
 {
     match fault {
-        ToolFault::Write(error) => ToolFault::Stopped {
-            file: Source::Only,
-            end: ReplayEnd {
-                count: next.unwrap_or(0).saturating_sub(2),
-                stop: Stop::Frame(FrameFault::Write { sent: 0, error }),
-            },
-        },
+        SessionFault::Write(error) => SessionFault::Stopped(ReplayEnd {
+            count: next.unwrap_or(0).saturating_sub(2),
+            stop: Stop::Frame(FrameFault::Write { sent: 0, error }),
+        }),
         _ => fault,
     }
 }

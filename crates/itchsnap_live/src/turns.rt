@@ -1,6 +1,6 @@
 //! The turns of a server: which sockets are ready, and which moment it is.
 
-use itch_commands::{ToolFault, system_fault};
+use crate::session_fault::SessionFault;
 use mio::{Events, Poll, Registry};
 use std::alloc::Global;
 use std::io;
@@ -23,7 +23,7 @@ impl<'a, C: Clock> Turns<'a, C> {
         rt: &R,
         clock: &'a C,
         events: usize,
-    ) -> Result<Turns<'a, C>, ToolFault> {
+    ) -> Result<Turns<'a, C>, SessionFault> {
         Ok(Turns {
             clock,
             begun: called(Instant::now(clock))?,
@@ -38,7 +38,7 @@ impl<'a, C: Clock> Turns<'a, C> {
     }
 
     /// Waits until a socket is ready, but no longer than this, and returns how many milliseconds have passed since the beginning.
-    pub(crate) fn wait(&mut self, most_ms: u64) -> Result<u64, ToolFault> {
+    pub(crate) fn wait(&mut self, most_ms: u64) -> Result<u64, SessionFault> {
         self.poll(most_ms)?;
         if self.events.is_empty() {
             // A wait that a signal cuts off ends so too. The process may have been stopped: nobody is silent who was not asked.
@@ -48,7 +48,7 @@ impl<'a, C: Clock> Turns<'a, C> {
     }
 
     /// How many milliseconds have passed since the beginning.
-    pub(crate) fn now(&self) -> Result<u64, ToolFault> {
+    pub(crate) fn now(&self) -> Result<u64, SessionFault> {
         let passed = called(self.begun.elapsed(self.clock))?;
         Ok(u64::try_from(passed.as_millis()).unwrap_or(u64::MAX))
     }
@@ -61,7 +61,7 @@ impl<'a, C: Clock> Turns<'a, C> {
         }
     }
 
-    fn poll(&mut self, most_ms: u64) -> Result<(), ToolFault> {
+    fn poll(&mut self, most_ms: u64) -> Result<(), SessionFault> {
         let most = Duration::from_millis(most_ms);
         called(self.poll.poll(&mut self.events, Some(most)))
     }
@@ -73,9 +73,9 @@ impl<'a, C: Clock> Turns<'a, C> {
 }
 
 /// What a call of the system about sockets or the clock gives, or its fault.
-pub(crate) fn called<T>(done: io::Result<T>) -> Result<T, ToolFault> {
+pub(crate) fn called<T>(done: io::Result<T>) -> Result<T, SessionFault> {
     match done {
         Ok(value) => Ok(value),
-        Err(error) => Err(system_fault(error, ToolFault::Socket(error))),
+        Err(error) => Err(SessionFault::of_system(error, SessionFault::Socket(error))),
     }
 }

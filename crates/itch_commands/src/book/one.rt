@@ -31,11 +31,11 @@ pub fn book<R: CountedRead + Drop, A: Allocator + Copy, W: CountedWrite>(
 {
     let mut reader = BlockReader::new(alloc, reader)?;
     let kind = FileKind::Day(Limit::whole());
-    one_over::<R, A, Book<A>, W>(alloc, locate, &mut reader, kind, out)
+    one_blocks::<_, _, Book<A>, _>(alloc, locate, &mut reader, kind, out)
 }
 
 // The same over a reader of blocks, for a file of either kind, with any book of orders.
-fn one_over<R: CountedRead, A: Allocator, B: OrderBook, W: CountedWrite>(
+fn one_blocks<R: CountedRead, A: Allocator, B: OrderBook, W: CountedWrite>(
     alloc: B::Alloc,
     locate: u16,
     reader: &mut BlockReader<R, A>,

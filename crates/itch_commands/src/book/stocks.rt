@@ -7,7 +7,6 @@ use crate::book::listed::write_books;
 use crate::fault::{Source, ToolFault};
 use crate::form::BookForm;
 use crate::kind::{FileKind, file_market};
-use crate::order_book::Book;
 use crate::stocks::stock_locates;
 use itch_book::OrderBook;
 use itch_codec::Seq;
@@ -19,22 +18,7 @@ use std::alloc::Allocator;
 /// names are separated by commas.
 ///
 /// `UnknownStock` if the directory has no entry with the stock of a name: then nothing is written.
-pub fn book_stocks<R: CountedRead, B: Allocator, A: Allocator + Copy, W: CountedWrite>(
-    alloc: A,
-    names: &str,
-    depth: Option<u64>,
-    reader: &mut BlockReader<R, B>,
-    kind: FileKind,
-    form: BookForm,
-    out: &mut W,
-) -> Result<bool, ToolFault>
-    ensures { ListsStocks R.remaining R.failures W.contents W.failures form (names_of names.now) depth kind (FromBlocks reader.old reader.new) out.old result out.new }
-{
-    stocks_over::<R, B, Book<A>, W>(alloc, names, depth, reader, kind, form, out)
-}
-
-// The same with any book of orders.
-fn stocks_over<R: CountedRead, A: Allocator, B: OrderBook, W: CountedWrite>(
+pub fn book_stocks<R: CountedRead, A: Allocator, B: OrderBook, W: CountedWrite>(
     alloc: B::Alloc,
     names: &str,
     depth: Option<u64>,

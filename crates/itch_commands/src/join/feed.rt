@@ -2,7 +2,7 @@
 ghost use Rattle.std.specs.Prelude.{◌≡◌, ◌<◌, ◌≤◌, ◌+◌, ◌^◌, IfSome, MatchResult};
 ghost use Rattle.itch_market.specs.Wanted.{has};
 ghost use Rattle.itch_join.specs.Takings.{IsJoined, position_of};
-ghost use Rattle.itch_commands.specs.AsRead.{as_read};
+ghost use Rattle.itch_snapshot.specs.AsRead.{as_read};
 ghost use Rattle.itch_commands.specs.FeedParts.{of_day};
 ghost use Rattle.itch_commands.specs.Joiners.{FeedsJoiner, IsStart, ended_feed, start_of};
 ghost use Rattle.itch_commands.specs.Joining.{ReadsFeed};
@@ -11,10 +11,10 @@ use crate::fault::{Source, ToolFault};
 use crate::feed_part::{FeedPart, Misfit};
 use crate::reading::stopped;
 use itch_book::OrderBook;
-use itch_day::{Limit, Stop as PartStop, read_part};
+use itch_day::{Limit, Stop as PartStop, pass_stop, read_part};
 use itch_frame::{BlockReader, CountedRead};
 use itch_join::Joiner;
-use itch_market::{Stop, pass_stop, reason_of};
+use itch_market::{Stop, reason_of};
 use std::alloc::Allocator;
 
 /// Delivers the messages of a feed that are wanted to a joiner that has joined, up to the first that is not taken.

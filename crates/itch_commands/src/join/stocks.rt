@@ -4,7 +4,7 @@ ghost use Rattle.itch_codec.specs.Widths.{IsSequence};
 ghost use Rattle.itch_market.specs.Wanted.{has};
 ghost use Rattle.itch_join.specs.Positions.{Position};
 ghost use Rattle.itch_join.specs.States.{new as fresh};
-ghost use Rattle.itch_commands.specs.AsRead.{as_read, read_by};
+ghost use Rattle.itch_snapshot.specs.AsRead.{as_read, read_by};
 ghost use Rattle.itch_commands.specs.Commands.{JoinsStocks};
 ghost use Rattle.itch_join.specs.Takings.{IsJoined, position_of};
 ghost use Rattle.itch_commands.specs.Joiners.{WritesStocks};
@@ -16,7 +16,6 @@ use crate::feed_part::FeedPart;
 use crate::join::feed::read_feed;
 use crate::join::new_joiner;
 use crate::join::start::read_start;
-use crate::order_book::Book;
 use crate::stocks::stock_locates;
 use crate::writing::write_closed_of;
 use itch_book::OrderBook;
@@ -37,13 +36,13 @@ use std::alloc::Allocator;
 pub fn join_stocks<
     R: CountedRead,
     S: CountedRead,
-    B: Allocator,
+    A: Allocator,
     C: Allocator,
-    A: Allocator + Copy,
+    B: OrderBook,
     W: CountedWrite,
 >(
-    alloc: A,
-    snapshot: &mut BlockReader<R, B>,
+    alloc: B::Alloc,
+    snapshot: &mut BlockReader<R, A>,
     feed: &mut BlockReader<S, C>,
     part: FeedPart,
     names: &str,
@@ -52,7 +51,7 @@ pub fn join_stocks<
     ensures { JoinsStocks R.remaining R.failures S.remaining S.failures W.contents W.failures (read_by None) part (names_of names.now) (FromBlocks snapshot.old snapshot.new)
         (FromBlocks feed.old feed.new) out.old result out.new }
 {
-    let mut joiner: Joiner<Book<A>> = new_joiner(alloc, None);
+    let mut joiner: Joiner<B> = new_joiner(alloc, None);
     join_with(alloc, &mut joiner, snapshot, feed, part, names, out)
 }
 

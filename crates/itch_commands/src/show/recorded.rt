@@ -15,7 +15,6 @@ use crate::choice::Choice;
 use crate::fault::{Source, ToolFault};
 use crate::form::ShowForm;
 use crate::kind::snapshot_market;
-use crate::order_book::Book;
 use itch_book::OrderBook;
 use itch_codec::{Message, Seq};
 use itch_frame::{BlockReader, CountedRead, CountedWrite};
@@ -26,22 +25,22 @@ use std::alloc::Allocator;
 /// Writes a line for each message of a snapshot file, in canonical order, and for its End of Snapshot, of those that are chosen. The
 /// file is read wholly first, and refused as `canon` refuses it; then nothing is written. If a stock that is looked for is not in the
 /// directory (`UnknownStock`), all lines have been written.
-pub fn show_snapshot<R: CountedRead, B: Allocator, A: Allocator + Copy, W: CountedWrite>(
-    alloc: A,
-    reader: &mut BlockReader<R, B>,
+pub fn show_snapshot<R: CountedRead, A: Allocator, B: OrderBook, W: CountedWrite>(
+    alloc: B::Alloc,
+    reader: &mut BlockReader<R, A>,
     form: ShowForm,
-    choice: Choice<'_, A>,
+    choice: Choice<'_, B::Alloc>,
     out: &mut W,
 ) -> Result<bool, ToolFault>
     ensures { ShowsSnapshot R.remaining R.failures W.contents W.failures form choice.entry (FromBlocks reader.old reader.new) out.old result out.new }
 {
     let mut choice = choice;
-    let found = show_over::<R, B, Book<A>, W>(alloc, reader, form, &mut choice, out)?;
+    let found = show_found::<R, A, B, W>(alloc, reader, form, &mut choice, out)?;
     if_found(found)
 }
 
-// The same with any book of orders. Returns whether each of the stocks that are looked for has come.
-fn show_over<R: CountedRead, A: Allocator, B: OrderBook, W: CountedWrite>(
+// Returns whether each of the stocks that are looked for has come.
+fn show_found<R: CountedRead, A: Allocator, B: OrderBook, W: CountedWrite>(
     alloc: B::Alloc,
     reader: &mut BlockReader<R, A>,
     form: ShowForm,

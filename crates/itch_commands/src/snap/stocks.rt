@@ -4,7 +4,6 @@ ghost use Rattle.itch_commands.specs.Readings.{FromBlocks};
 ghost use Rattle.itch_commands.specs.Stocks.{names_of};
 
 use crate::fault::{Source, ToolFault};
-use crate::order_book::Book;
 use crate::reading::read_settled;
 use crate::stocks::stock_locates;
 use crate::writing::write_closed_of;
@@ -19,20 +18,7 @@ use std::alloc::Allocator;
 /// leave. The names are separated by commas.
 ///
 /// `UnknownStock` if the directory has no entry with the stock of a name: then nothing is written.
-pub fn snap_stocks<R: CountedRead, B: Allocator, A: Allocator + Copy, W: CountedWrite>(
-    alloc: A,
-    reader: &mut BlockReader<R, B>,
-    limit: Limit,
-    names: &str,
-    out: &mut W,
-) -> Result<bool, ToolFault>
-    ensures { SnapsStocks R.remaining R.failures W.contents W.failures limit (names_of names.now) (FromBlocks reader.old reader.new) out.old result out.new }
-{
-    stocks_over::<R, B, Book<A>, W>(alloc, reader, limit, names, out)
-}
-
-// The same with any book of orders.
-fn stocks_over<R: CountedRead, A: Allocator, B: OrderBook, W: CountedWrite>(
+pub fn snap_stocks<R: CountedRead, A: Allocator, B: OrderBook, W: CountedWrite>(
     alloc: B::Alloc,
     reader: &mut BlockReader<R, A>,
     limit: Limit,

@@ -3,13 +3,8 @@
 use crate::words::arguments::{Argument, LiveArgument};
 use clap::error::ErrorKind;
 use clap::{Command, Error};
+use itchsnap_live::VERSION;
 use std::alloc::{AllocError, Global};
-
-/// The program's version, the toolchain that it is proved with, as `rt version` prints it, and whether it is a released build. In
-/// the released program `./make-release` replaces the last words by a text of the same length: `release` and the beginning of the
-/// hash of the sources.
-pub const VERSION: &str =
-    "0.1.0 (proved with rattle-kit-13f logic dac8208d650f15bf, not a released build)";
 
 /// A command: its name, what it does, its arguments in the order of the help, and an example.
 struct Entry {

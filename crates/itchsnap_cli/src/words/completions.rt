@@ -111,7 +111,8 @@ fn write_bash_command<W: fmt::Write>(command: &Command<'_>, f: &mut Formatter<W>
 fn write_zsh<W: fmt::Write>(commands: &[Command<'_>], f: &mut Formatter<W>) -> fmt::Result {
     f.write_str(ZSH_HEAD)?;
     for command in commands {
-        let (name, about) = (command.get_name(), command.get_about().unwrap_or(""));
+        let name = command.get_name();
+        let about = Quoted::new(Shell::Zsh, command.get_about());
         writeln!(f, "        '{name}:{about}'")?;
     }
     f.write_str(ZSH_MIDDLE)?;
@@ -128,7 +129,7 @@ fn write_zsh_command<W: fmt::Write>(command: &Command<'_>, f: &mut Formatter<W>)
         let Some(long) = argument.get_long() else {
             continue;
         };
-        let help = argument.get_help().unwrap_or("");
+        let help = Quoted::new(Shell::Zsh, argument.get_help());
         write!(f, " \\\n            '--{long}[{help}]")?;
         f.write_str(match operand_of(argument) {
             Operand::Nothing => "'",
@@ -145,7 +146,8 @@ fn write_zsh_command<W: fmt::Write>(command: &Command<'_>, f: &mut Formatter<W>)
 
 fn write_fish<W: fmt::Write>(commands: &[Command<'_>], f: &mut Formatter<W>) -> fmt::Result {
     for command in commands {
-        let (name, about) = (command.get_name(), command.get_about().unwrap_or(""));
+        let name = command.get_name();
+        let about = Quoted::new(Shell::Fish, command.get_about());
         writeln!(
             f,
             "complete -c itchsnap -n __fish_use_subcommand -f -a {name} -d '{about}'"
@@ -164,7 +166,7 @@ fn write_fish_command<W: fmt::Write>(command: &Command<'_>, f: &mut Formatter<W>
         let Some(long) = argument.get_long() else {
             continue;
         };
-        let help = argument.get_help().unwrap_or("");
+        let help = Quoted::new(Shell::Fish, argument.get_help());
         write!(
             f,
             "complete -c itchsnap -n '__fish_seen_subcommand_from {name}' -l {long}"
@@ -177,6 +179,39 @@ fn write_fish_command<W: fmt::Write>(command: &Command<'_>, f: &mut Formatter<W>
         writeln!(f, " -d '{help}'")?;
     }
     Ok(())
+}
+
+// A text as it stands between the single quotes of a script.
+#[derive(Clone, Copy)]
+struct Quoted<'a> {
+    shell: Shell,
+    text: &'a str,
+}
+
+impl<'a> Quoted<'a> {
+    fn new(shell: Shell, text: Option<&'a str>) -> Quoted<'a> {
+        Quoted {
+            shell,
+            text: text.unwrap_or(""),
+        }
+    }
+}
+
+impl Display for Quoted<'_> {
+    fn fmt<W: fmt::Write>(&self, f: &mut Formatter<W>) -> fmt::Result {
+        for letter in self.text.chars() {
+            match (self.shell, letter) {
+                (Shell::Zsh, '\'') => f.write_str("'\\''")?,
+                // A help text ends with a bracket, and a name with a colon.
+                (Shell::Zsh, '[' | ']' | ':' | '\\') | (Shell::Fish, '\'' | '\\') => write!(
+                    f,
+                    "\\{letter}"
+                )?,
+                _ => write!(f, "{letter}")?,
+            }
+        }
+        Ok(())
+    }
 }
 
 // What stands after an option.
@@ -198,5 +233,8 @@ fn operand_of(argument: &Arg<'_>) -> Operand {
 
 // Whether a path stands after this option.
 fn is_path(id: &str) -> bool {
-    matches!(id, "pass-file" | "feed-pass-file" | "record" | "snapshots")
+    matches!(
+        id,
+        "output" | "to" | "pass-file" | "feed-pass-file" | "record" | "snapshots"
+    )
 }

@@ -1,28 +1,25 @@
 //! What the program is asked to do: a request over files, one end of a session, or the completions of a shell.
 ghost use Rattle.std.specs.Prelude.{◌≡◌, option_map};
-ghost use Rattle.itch_commands.specs.Requests.{file_of_list};
-ghost use Rattle.itchsnap_cli.specs.Jobs.{file_of, follow_file, live_file, output_of, password_file, writes_snapshot};
+ghost use Rattle.itchsnap_cli.specs.Jobs.{output_of, writes_snapshot};
 
 use crate::words::commands::{command, usage_fault};
 use crate::words::completions::Shell;
-use crate::words::live::{
-    FeedWords, FollowForm, FollowWords, LiveWords, read_feed, read_follow, read_live,
-};
-use crate::words::points::{PointWords, read_points};
-use crate::words::request::{read_kind, read_output, read_path, read_request};
+use crate::words::live::{FeedWords, FollowWords, LiveWords, read_feed, read_follow, read_live};
+use crate::words::points::{PointWords, SnapWords, read_snap_words};
+use crate::words::request::{read_kind, read_output, read_path, read_request, read_snap};
 use crate::words::session::{
-    LoginWords, Password, Server, read_address, read_from, read_login, read_number, read_server,
-    read_session,
+    LoginWords, Server, read_address, read_from, read_login, read_number, read_server, read_session,
 };
 use clap::{ArgMatches, Error};
 use itch_codec::{Alpha, Seq};
-use itch_commands::{FileKind, Request, Source, list_file};
+use itch_commands::{FileKind, Request};
+use itchsnap_live::FollowForm;
 use std::alloc::Global;
 use std::net::SocketAddr;
 
 /// What the command line asks for. With `progress`, standard error shows how much was read so far; with `output`, a snapshot is
 /// written to the file of that path, and otherwise to standard output.
-#[derive(Clone, Copy, Debug, PartialEq, Eq)]
+#[derive(Debug, Drop)]
 pub enum Job<'a> {
     /// A request over files and standard streams.
     Files {
@@ -61,85 +58,15 @@ pub enum Job<'a> {
 }
 
 impl<'a> Job<'a> {
-    /// The path of the file that a fault names, or none if that is standard input. Of `live` and `follow` that may be a server whose
-    /// name is looked up, as it was written.
-    pub fn file(&self, source: Source) -> Option<&'a str>
-        ensures { option_map (λ path. path.now) result ≡ file_of self.now source }
-    {
-        match (self, source) {
-            (Job::Files { .. } | Job::Fetch { .. }, Source::Output) => self.output(),
-            (Job::Files { request, .. }, _) => request.file(source),
-            (Job::Points(words), Source::Output) => Some(words.folder),
-            (Job::Points(words), Source::Locates) => file_of_list(words.only),
-            (Job::Points(words), _) => words.file,
-            (Job::Serve { login, .. } | Job::Fetch { login, .. }, Source::PasswordFile) => {
-                password_file(login)
-            }
-            (Job::Serve { file, .. }, _) => *file,
-            (Job::Live(live), _) => live_file(live, source),
-            (Job::Follow(follow), _) => follow_file(follow, source),
-            (Job::Feed(feed), Source::PasswordFile) => password_file(&feed.login),
-            (Job::Feed(feed), _) => Some(feed.file),
-            (Job::Fetch { .. } | Job::Completions(_), _) => None,
-        }
-    }
-
     /// The path of the file that a snapshot is written to, or of the folder for several, if one is named.
     pub fn output(&self) -> Option<&'a str>
         ensures { option_map (λ path. path.now) result ≡ output_of self.now }
     {
-        match *self {
-            Job::Files { output, .. } | Job::Fetch { output, .. } => output,
+        match self {
+            Job::Files { output, .. } | Job::Fetch { output, .. } => *output,
             Job::Points(words) => Some(words.folder),
             _ => None,
         }
-    }
-}
-
-// The path of the file that has a list, if the words for it name one.
-fn file_of_list<'a>(words: Option<&'a str>) -> Option<&'a str>
-    ensures { option_map (λ path. path.now) result ≡ file_of_list (option_map (λ list. list.now) words.entry) }
-{
-    list_file(words?)
-}
-
-// What a fault of a live server names: its feed, its own password file there, its folder of snapshots, its record, or the server
-// that it begins with in place of a record.
-fn live_file<'a>(live: &LiveWords<'a>, source: Source) -> Option<&'a str>
-    ensures { option_map (λ path. path.now) result ≡ live_file live.now source }
-{
-    match (source, live.record, live.glimpse) {
-        (Source::First, _, _) => Some(live.feeds.first.words),
-        (Source::Second, _, _) => password_file(&live.feed_login),
-        (Source::PasswordFile, _, _) => password_file(&live.login),
-        (Source::Snapshot, _, _) => match live.snapshots {
-            Some(snapshots) => Some(snapshots.folder),
-            None => None,
-        },
-        (Source::Only, Some(record), _) => Some(record.path),
-        (Source::Only, None, Some(glimpse)) => Some(glimpse.words),
-        (Source::Only, None, None) | (Source::Output | Source::Locates, _, _) => None,
-    }
-}
-
-// What a fault names where a feed is followed: its server, the server of the snapshot, or the password file.
-fn follow_file<'a>(follow: &FollowWords<'a>, source: Source) -> Option<&'a str>
-    ensures { option_map (λ path. path.now) result ≡ follow_file follow.now source }
-{
-    match source {
-        Source::First => Some(follow.feeds.first.words),
-        Source::PasswordFile => password_file(&follow.login),
-        _ => Some(follow.glimpse.words),
-    }
-}
-
-// The path of the file that has the password of a login.
-fn password_file<'a>(login: &LoginWords<'a>) -> Option<&'a str>
-    ensures { option_map (λ path. path.now) result ≡ password_file login.now.password }
-{
-    match login.password {
-        Password::Word(_) => None,
-        Password::File(path) => Some(path),
     }
 }
 
@@ -187,11 +114,11 @@ fn read_matched<'a>(
         Some(("follow", options)) => Ok(Job::Follow(read_follow(alloc, options, password)?)),
         Some(("feed", options)) => Ok(Job::Feed(read_feed(alloc, options, password)?)),
         Some(("completions", options)) => Ok(Job::Completions(read_shell(alloc, options)?)),
-        Some(("snap", options)) => match read_points(alloc, options)? {
-            Some(words) => Ok(Job::Points(words)),
-            None => read_files(alloc, matches, options),
+        Some(("snap", options)) => match read_snap_words(alloc, options)? {
+            SnapWords::Several(words) => Ok(Job::Points(words)),
+            SnapWords::One(limit) => files(alloc, options, read_snap(alloc, options, limit)?),
         },
-        Some((_, options)) => read_files(alloc, matches, options),
+        Some((_, options)) => files(alloc, options, read_request(alloc, matches)?),
         None => Err(usage_fault(alloc, "a command is missing")?),
     }
 }
@@ -210,13 +137,13 @@ fn terminal_fault(job: &Job<'_>) -> &'static str {
     }
 }
 
-fn read_files<'a>(
+fn files<'a>(
     alloc: Global,
-    matches: &ArgMatches<'a>,
     options: &ArgMatches<'a>,
+    request: Request<'a>,
 ) -> Result<Job<'a>, Error> {
     Ok(Job::Files {
-        request: read_request(alloc, matches)?,
+        request,
         progress: options.get_flag("progress"),
         output: read_output(alloc, options)?,
     })

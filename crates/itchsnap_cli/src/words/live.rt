@@ -1,45 +1,18 @@
 //! The words of a live server, of what follows a feed, and of a feed that is played.
 
 use crate::words::commands::usage_fault;
-use crate::words::places::{Feeds, Place, read_feeds, read_place, read_place_if_any};
+use crate::words::places::{read_feeds, read_place, read_place_if_any};
 use crate::words::request::read_count;
 use crate::words::session::{LoginWords, Password, read_address, read_login, read_session};
 use crate::words::size::read_size;
 use clap::{ArgMatches, Error};
 use itch_codec::Alpha;
+use itchsnap_live::{Feeds, FollowForm, Pace, Place, RecordWords, SnapshotWords, SyncTime};
 use std::alloc::Global;
 use std::net::SocketAddr;
 
 /// How many clients a live server has at a time, where nothing is said.
 const CLIENTS: u64 = 64;
-
-/// A folder for snapshots, and after how many messages each is written.
-#[derive(Clone, Copy, Debug, PartialEq, Eq)]
-pub struct SnapshotWords<'a> {
-    pub folder: &'a str,
-    pub every: u64,
-}
-
-/// When the record is synced to disk.
-#[derive(Clone, Copy, Debug, PartialEq, Eq)]
-pub enum SyncTime {
-    /// When the system writes it.
-    Never,
-    /// Once a second, if something was added.
-    EverySecond,
-    /// Whenever messages were added, before a client is sent them.
-    EveryMessage,
-}
-
-/// The record of a live server.
-#[derive(Clone, Copy, Debug, PartialEq, Eq)]
-pub struct RecordWords<'a> {
-    /// The day file that each message is appended to.
-    pub path: &'a str,
-    pub sync: SyncTime,
-    /// Whether the server goes on without a record that cannot be written.
-    pub is_optional: bool,
-}
 
 /// What a live server is told.
 #[derive(Clone, Copy, Debug, PartialEq, Eq)]
@@ -68,17 +41,6 @@ pub struct LiveWords<'a> {
     pub stay: bool,
 }
 
-/// How the messages that are followed are written.
-#[derive(Clone, Copy, Debug, PartialEq, Eq)]
-pub enum FollowForm {
-    /// As the blocks of a day file.
-    Blocks,
-    /// The same after the messages of the snapshot.
-    Whole,
-    /// As lines of JSON.
-    Json,
-}
-
 /// What is followed, and how.
 #[derive(Clone, Copy, Debug, PartialEq, Eq)]
 pub struct FollowWords<'a> {
@@ -90,17 +52,6 @@ pub struct FollowWords<'a> {
     /// The session of the server of snapshots, where it is not the feed's.
     pub glimpse_session: Option<Alpha<10>>,
     pub form: FollowForm,
-}
-
-/// How fast a day file is played.
-#[derive(Clone, Copy, Debug, PartialEq, Eq)]
-pub enum Pace {
-    /// As fast as a client takes it.
-    Free,
-    /// So many messages a second from the login on.
-    Rate(u64),
-    /// As the timestamps of its messages say, so many times as fast.
-    Clock(u64),
 }
 
 /// Which day file is played, where, to whom and how.

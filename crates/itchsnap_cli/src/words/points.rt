@@ -6,57 +6,23 @@ use crate::words::request::{read_count, read_output, read_path, read_until};
 use crate::words::time::{read_digits, read_time};
 use clap::{ArgMatches, Error};
 use itch_commands::Limit;
-use std::alloc::Global;
+use std::alloc::{AllocError, Global};
 
 /// Where the snapshots of a day file are wanted.
-#[derive(Clone, Copy, Debug, PartialEq, Eq)]
-pub enum Points<'a> {
-    /// At its end.
-    End,
-    /// After each of these numbers of messages: they rise, and commas separate them.
-    After(&'a str),
-    /// Before the first message at each of these times or later: they rise too.
-    Until(&'a str),
+#[derive(Debug, Drop)]
+pub enum Points {
+    /// Where each of these parts of it ends. Each is longer than the one before.
+    At(Vec<Limit>),
     /// After each so many messages, and at its end.
     Every(u64),
 }
 
-impl<'a> Points<'a> {
-    /// Where the part of the file ends that a number or a time of the list wants; none if the text is neither.
-    pub fn limit(self, text: &str) -> Option<Limit> {
-        match self {
-            Points::After(_) => Some(Limit::counted(Some(read_number(text)?))),
-            Points::Until(_) => Some(Limit {
-                after: None,
-                until: Some(read_time(text)?),
-            }),
-            Points::End | Points::Every(_) => None,
-        }
-    }
-
-    // Whether each number or time of the list is one, and greater than the one before.
-    fn rise_in(self, list: &str) -> bool {
-        let mut before = None;
-        for text in list.split(',') {
-            let Some(limit) = self.limit(text) else {
-                return false;
-            };
-            let point = limit.after.or(limit.until);
-            if before.is_some() && point <= before {
-                return false;
-            }
-            before = point;
-        }
-        true
-    }
-}
-
 /// Which snapshots of a day file are wanted, and the folder for them.
-#[derive(Clone, Copy, Debug, PartialEq, Eq)]
+#[derive(Debug, Drop)]
 pub struct PointWords<'a> {
     /// The path of the day file, or none for standard input.
     pub file: Option<&'a str>,
-    pub points: Points<'a>,
+    pub points: Points,
     /// The list of the locates that are kept, if not all are.
     pub only: Option<&'a str>,
     pub folder: &'a str,
@@ -64,22 +30,30 @@ pub struct PointWords<'a> {
     pub progress: bool,
 }
 
-/// The words of `snap` with a folder; none if it is told no folder.
-pub fn read_points<'a>(
+/// What `snap` is told to write.
+#[derive(Drop)]
+pub enum SnapWords<'a> {
+    /// The snapshot after this part of the file.
+    One(Limit),
+    /// Snapshots in a folder.
+    Several(PointWords<'a>),
+}
+
+/// Reads which snapshots the words of `snap` ask for.
+///
+/// An error is a usage fault or out of memory: its kind says which.
+pub fn read_snap_words<'a>(
     alloc: Global,
     options: &ArgMatches<'a>,
-) -> Result<Option<PointWords<'a>>, Error> {
+) -> Result<SnapWords<'a>, Error> {
     let points = read_list(alloc, options)?;
     let Some(folder) = options.get_str("to") else {
-        if is_several(points) {
-            return Err(usage_fault(alloc, "several snapshots need --to, a folder for them")?);
-        }
-        return Ok(None);
+        return Ok(SnapWords::One(one_part(alloc, options, &points)?));
     };
     if options.get_str("stock").is_some() || read_output(alloc, options)?.is_some() {
         return Err(usage_fault(alloc, "--to excludes --stock and --output")?);
     }
-    Ok(Some(PointWords {
+    Ok(SnapWords::Several(PointWords {
         file: read_path(options, "FILE"),
         points,
         only: options.get_str("only"),
@@ -88,42 +62,96 @@ pub fn read_points<'a>(
     }))
 }
 
-// The points after `--after`, `--until` or `--every`.
-fn read_list<'a>(alloc: Global, options: &ArgMatches<'a>) -> Result<Points<'a>, Error> {
-    let every = read_count(alloc, options, "every", "--every takes decimal digits")?;
-    let points = match (options.get_str("after"), options.get_str("until"), every) {
-        (None, None, None) => Points::End,
-        (Some(list), None, None) => Points::After(list),
-        (None, Some(list), None) => Points::Until(list),
-        (None, None, Some(count)) => Points::Every(count),
-        // Whichever comes first ends the one part that is wanted.
-        (Some(list), Some(_), None) if options.get_str("to").is_none() => Points::After(list),
-        _ => {
-            return Err(usage_fault(
-                alloc,
-                "--after, --until and --every exclude each other where --to is given",
-            )?);
-        }
-    };
+// The one part of a file that is wanted without a folder: up to a number of messages, or a time, whichever comes first.
+fn one_part<'a>(alloc: Global, options: &ArgMatches<'a>, points: &Points) -> Result<Limit, Error> {
     match points {
-        Points::After(list) if !points.rise_in(list) => Err(usage_fault(
-            alloc,
-            "--after takes a number of messages, or with --to several that rise, such as 1000,2000",
-        )?),
-        Points::Until(list) if !points.rise_in(list) => Err(usage_fault(
-            alloc,
-            "--until takes a time such as 10:30 or 10:30:00.000000001, or nanoseconds since midnight; with --to several that rise",
-        )?),
-        _ => Ok(points),
+        Points::At(limits) if limits.len() == 1 => match limits[0].after {
+            Some(_) => Ok(Limit {
+                after: limits[0].after,
+                until: read_until(alloc, options)?,
+            }),
+            None => Ok(limits[0]),
+        },
+        _ => Err(usage_fault(alloc, "several snapshots need --to, a folder for them")?),
     }
 }
 
-fn is_several(points: Points<'_>) -> bool {
-    match points {
-        Points::After(list) | Points::Until(list) => list.contains(','),
-        Points::Every(_) => true,
-        Points::End => false,
+// The points after `--after`, `--until` or `--every`.
+fn read_list<'a>(alloc: Global, options: &ArgMatches<'a>) -> Result<Points, Error> {
+    let every = read_count(alloc, options, "every", "--every takes decimal digits")?;
+    match (options.get_str("after"), options.get_str("until"), every) {
+        (None, None, None) => Ok(Points::At(vec![in alloc; Limit::whole()]?)),
+        (Some(list), None, None) => read_each(alloc, list, Unit::Messages),
+        (None, Some(list), None) => read_each(alloc, list, Unit::Time),
+        (None, None, Some(count)) => Ok(Points::Every(count)),
+        // Whichever comes first ends the one part that is wanted.
+        (Some(list), Some(_), None) if options.get_str("to").is_none() => read_each(
+            alloc,
+            list,
+            Unit::Messages,
+        ),
+        _ => Err(usage_fault(
+            alloc,
+            "--after, --until and --every exclude each other where --to is given",
+        )?),
     }
+}
+
+// What a list counts.
+#[derive(Clone, Copy)]
+enum Unit {
+    Messages,
+    Time,
+}
+
+impl Unit {
+    // The part of a file that ends at a point, unless the text is none.
+    fn limit(self, text: &str) -> Option<Limit> {
+        match self {
+            Unit::Messages => Some(Limit::counted(Some(read_number(text)?))),
+            Unit::Time => Some(Limit {
+                after: None,
+                until: Some(read_time(text)?),
+            }),
+        }
+    }
+
+    // What is wrong with a list that has something else in it, or does not rise.
+    fn fault(self) -> &'static str {
+        match self {
+            Unit::Messages => {
+                "--after takes a number of messages, or with --to several that rise, such as 1000,2000"
+            }
+            Unit::Time => {
+                "--until takes a time such as 10:30 or 10:30:00.000000001, or nanoseconds since midnight; with --to several that rise"
+            }
+        }
+    }
+}
+
+fn read_each(alloc: Global, list: &str, unit: Unit) -> Result<Points, Error> {
+    match rising(alloc, list, unit)? {
+        Some(limits) => Ok(Points::At(limits)),
+        None => Err(usage_fault(alloc, unit.fault())?),
+    }
+}
+
+// The parts of a file that end at the points of a list; none unless each is longer than the one before.
+fn rising(alloc: Global, list: &str, unit: Unit) -> Result<Option<Vec<Limit>>, AllocError> {
+    let mut limits = Vec::new(alloc);
+    let mut before = None;
+    for text in list.split(',') {
+        let Some(limit) = unit.limit(text) else {
+            return Ok(None);
+        };
+        let point = limit.after.or(limit.until);
+        if before.is_some() && point <= before {
+            return Ok(None);
+        }
+        before = point;
+        limits.push(limit)?;
+    }
+    Ok(Some(limits))
 }
 
 // A number of messages, in decimal digits alone.
@@ -134,16 +162,4 @@ fn read_number(text: &str) -> Option<u64> {
     } else {
         None
     }
-}
-
-/// The part of a file that `snap` is told without a folder: up to a number of messages, or a time, whichever comes first.
-pub fn read_part<'a>(alloc: Global, options: &ArgMatches<'a>) -> Result<Limit, Error> {
-    let after = match options.get_str("after") {
-        Some(text) => read_number(text),
-        None => None,
-    };
-    Ok(Limit {
-        after,
-        until: read_until(alloc, options)?,
-    })
 }

@@ -1,46 +1,71 @@
 //! Requests over files, made from the matched words of the command line.
 
 use crate::words::commands::usage_fault;
-use crate::words::points::read_part;
 use crate::words::time::read_time;
 use clap::{ArgMatches, Error};
 use itch_commands::{
-    BookForm, Expected, FeedPart, FileKind, Filters, Form, Limit, Request, Selection, ShowForm,
-    path_of,
+    BookForm, Command, Expected, FeedPart, FileKind, Filters, Form, Limit, PairCommand, Request,
+    Selection, ShowForm, path_of,
 };
 use std::alloc::Global;
 
-/// Reads the matched words of a request over files.
+/// Reads the matched words of a request over files other than `snap`.
 ///
 /// An error is a usage fault or out of memory: its kind says which.
 pub fn read_request<'a>(alloc: Global, matches: &ArgMatches<'a>) -> Result<Request<'a>, Error> {
     match matches.subcommand() {
-        Some(("snap", options)) => read_snap(alloc, options),
-        Some(("check", options)) => Ok(Request::Check {
+        Some(("compare", options)) => read_compare(alloc, options),
+        Some(("join", options)) => read_join(alloc, options),
+        Some(("at", options)) => read_at(alloc, options),
+        Some(("book", options)) => read_book(alloc, options),
+        Some(("canon", options)) => Ok(Request::One {
+            file: read_path(options, "SNAP"),
+            command: Command::Canon {
+                check: options.get_flag("check"),
+            },
+        }),
+        Some((name, options)) => Ok(Request::One {
             file: read_path(options, "FILE"),
+            command: read_command(alloc, name, options)?,
+        }),
+        None => Err(usage_fault(alloc, "a command is missing")?),
+    }
+}
+
+/// Reads the words of `snap` for one part of a file.
+pub fn read_snap<'a>(
+    alloc: Global,
+    options: &ArgMatches<'a>,
+    limit: Limit,
+) -> Result<Request<'a>, Error> {
+    Ok(Request::One {
+        file: read_path(options, "FILE"),
+        command: Command::Snap {
+            limit,
+            selection: read_selection(alloc, options)?,
+        },
+    })
+}
+
+// What is done with a file that is named FILE.
+fn read_command<'a>(
+    alloc: Global,
+    name: &str,
+    options: &ArgMatches<'a>,
+) -> Result<Command<'a>, Error> {
+    match name {
+        "check" => Ok(Command::Check {
             limit: read_limit(alloc, options)?,
             expected: read_expected(alloc, options)?,
             form: read_form(options),
         }),
-        Some(("show", options)) => read_show(alloc, options),
-        Some(("canon", options)) => Ok(Request::Canon {
-            file: read_path(options, "SNAP"),
-            check: options.get_flag("check"),
+        "show" => Ok(Command::Show {
+            kind: read_kind(alloc, options)?,
+            form: read_show_form(alloc, options)?,
+            filters: read_filters(alloc, options)?,
         }),
-        Some(("compare", options)) => read_compare(alloc, options),
-        Some(("book", options)) => read_book(alloc, options),
-        Some(("join", options)) => read_join(alloc, options),
-        Some(("at", options)) => read_at(alloc, options),
         _ => Err(usage_fault(alloc, "a command is missing")?),
     }
-}
-
-fn read_snap<'a>(alloc: Global, options: &ArgMatches<'a>) -> Result<Request<'a>, Error> {
-    Ok(Request::Snap {
-        file: read_path(options, "FILE"),
-        limit: read_part(alloc, options)?,
-        selection: read_selection(alloc, options)?,
-    })
 }
 
 // What a file is expected to be, after `--expect` and `--ended`.
@@ -55,35 +80,32 @@ fn read_compare<'a>(alloc: Global, options: &ArgMatches<'a>) -> Result<Request<'
     let (first, second) = read_two(alloc, options, "A", "B")?;
     let kind = read_kind(alloc, options)?;
     let form = read_form(options);
-    if !options.get_flag("first") {
-        return Ok(Request::Compare {
-            first,
-            second,
-            kind,
-            form,
-        });
-    }
-    let FileKind::Day(limit) = kind else {
-        return Err(usage_fault(
-            alloc,
-            "--first excludes --snapshot: the files are read message by message",
-        )?);
+    let command = match (options.get_flag("first"), kind) {
+        (false, _) => PairCommand::Compare { kind, form },
+        (true, FileKind::Day(limit)) => PairCommand::CompareFirst { limit, form },
+        (true, FileKind::Snapshot) => {
+            return Err(usage_fault(
+                alloc,
+                "--first excludes --snapshot: the files are read message by message",
+            )?);
+        }
     };
-    Ok(Request::CompareFirst {
+    Ok(Request::Two {
         first,
         second,
-        limit,
-        form,
+        command,
     })
 }
 
 fn read_join<'a>(alloc: Global, options: &ArgMatches<'a>) -> Result<Request<'a>, Error> {
-    let (snapshot, feed) = read_two(alloc, options, "SNAP", "FEED")?;
-    Ok(Request::Join {
-        snapshot,
-        feed,
-        part: read_feed_part(alloc, options)?,
-        selection: read_selection(alloc, options)?,
+    let (first, second) = read_two(alloc, options, "SNAP", "FEED")?;
+    Ok(Request::Two {
+        first,
+        second,
+        command: PairCommand::Join {
+            part: read_feed_part(alloc, options)?,
+            selection: read_selection(alloc, options)?,
+        },
     })
 }
 
@@ -123,15 +145,6 @@ fn read_feed_part<'a>(alloc: Global, options: &ArgMatches<'a>) -> Result<FeedPar
     Ok(FeedPart {
         before: first.unwrap_or(1).saturating_sub(1),
         limit: read_limit(alloc, options)?,
-    })
-}
-
-fn read_show<'a>(alloc: Global, options: &ArgMatches<'a>) -> Result<Request<'a>, Error> {
-    Ok(Request::Show {
-        file: read_path(options, "FILE"),
-        kind: read_kind(alloc, options)?,
-        form: read_show_form(alloc, options)?,
-        filters: read_filters(alloc, options)?,
     })
 }
 
@@ -190,13 +203,14 @@ pub fn read_path<'a>(options: &ArgMatches<'a>, name: &str) -> Option<&'a str> {
 
 fn read_book<'a>(alloc: Global, options: &ArgMatches<'a>) -> Result<Request<'a>, Error> {
     let (selection, file) = read_booked(alloc, options)?;
-    let depth = read_count(alloc, options, "depth", "--depth takes decimal digits")?;
-    Ok(Request::Book {
-        selection,
-        depth,
+    Ok(Request::One {
         file,
-        kind: read_kind(alloc, options)?,
-        form: read_book_form(alloc, options)?,
+        command: Command::Book {
+            selection,
+            depth: read_count(alloc, options, "depth", "--depth takes decimal digits")?,
+            kind: read_kind(alloc, options)?,
+            form: read_book_form(alloc, options)?,
+        },
     })
 }
 

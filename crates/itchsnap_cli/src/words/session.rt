@@ -1,14 +1,11 @@
 //! The two ends of a session, as the command line has them: where a server listens, or is, and the login to it.
 
-ghost use Rattle.std.specs.Prelude.{◌≡◌, []};
-ghost use Rattle.itch_codec.specs.Text.{padded_to};
-
-use crate::sessions::default_session;
 use crate::words::commands::usage_fault;
 use crate::words::request::read_count;
 use crate::words::time::read_digits;
 use clap::{ArgMatches, Error};
 use itch_codec::{Alpha, MOST_MESSAGES, Seq};
+use itchsnap_live::sessions::{current_session, default_session};
 use std::alloc::Global;
 use std::fmt::{self, Debug, Formatter};
 use std::net::{IpAddr, Ipv4Addr, SocketAddr};
@@ -142,13 +139,6 @@ pub fn read_session<'a>(
         Ok(session) if !name.is_empty() => Ok(Some(session)),
         _ => Err(usage_fault(alloc, "a session has 1 to 10 printable characters")?),
     }
-}
-
-/// The name by which a login asks for the current session.
-pub fn current_session() -> Alpha<10>
-    ensures { result ≡ padded_to 10 [] }
-{
-    Alpha::from_text("").unwrap()
 }
 
 /// The session of a day file that is played: its name up to the first dot, or the last ten characters of that; `ITCHSNAP` where these are not

@@ -1,5 +1,5 @@
 use Rattle.std.proofs.Common.{◌≡◌, ℕ, Option, Some, None, option_map, sym, ap, ◌∙◌, subst}
-use Rattle.itch_table.specs.Table.{at}
+use Rattle.itch_book.specs.Table.{at}
 use Rattle.itch_book.specs.Links.{at_key}
 use Rattle.itch_book.specs.Queued.{Seen, seen, order_at, without_key}
 use Rattle.itch_book.specs.Indexed.{queue_of_side, indexed, IsIndexed, IsBusyBut}

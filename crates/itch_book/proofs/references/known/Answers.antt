@@ -1,6 +1,6 @@
 use Rattle.std.proofs.Common.{◌≡◌, eqb, Some, sym, ap, ◌∙◌, subst, arith}
 use Rattle.std.specs.Map.{lookup}
-use Rattle.itch_table.specs.Table.{at}
+use Rattle.itch_book.specs.Table.{at}
 use Rattle.itch_book.specs.Referred.{Referred, IsAt}
 use Rattle.itch_book.proofs.ReferredLemmas.{led_here, within, found}
 use Rattle.itch_book.proofs.references.known.Goals as goal

@@ -1,7 +1,7 @@
 use Rattle.std.proofs.Common.{◌≡◌, eqb, List, [], ◌∷◌, ◌++◌, length, None, rules, sym, ap, ◌∙◌, subst, arith}
 use Rattle.std.specs.Map.{lookup}
 use Rattle.std.specs.List.Sorted.{IsPermutation}
-use Rattle.itch_table.specs.Table.{at}
+use Rattle.itch_book.specs.Table.{at}
 use Rattle.itch_book.specs.declared.arrived.Arrived.{Arrived}
 use Rattle.itch_book.specs.Referred.{Referred, under_references, IsReferred}
 use Rattle.itch_book.proofs.ReferredLemmas.{unknown, referred_same, referred_put, put_entries}

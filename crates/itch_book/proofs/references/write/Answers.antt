@@ -1,6 +1,6 @@
 use Rattle.std.proofs.Common.{◌≡◌, eqb, Some, refl, sym, ap, ◌∙◌, subst, arith}
 use Rattle.std.specs.Map.{set_value}
-use Rattle.itch_table.specs.Table.{at}
+use Rattle.itch_book.specs.Table.{at}
 use Rattle.itch_book.specs.Referred.{Referred, IsAt}
 use Rattle.itch_book.proofs.ReferredLemmas.{led_here, within, set_found, referred_written}
 use Rattle.itch_book.proofs.references.write.Goals as goal

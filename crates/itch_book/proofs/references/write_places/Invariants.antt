@@ -1,4 +1,4 @@
-use Rattle.itch_table.specs.Table.{at}
+use Rattle.itch_book.specs.Table.{at}
 use Rattle.itch_book.specs.Referred.{references_of}
 use Rattle.itch_book.proofs.PlacedLemmas.{IsLed}
 use Rattle.itch_book.proofs.references.write_places.Given as goal

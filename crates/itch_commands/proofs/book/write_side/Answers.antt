@@ -2,7 +2,7 @@ use Rattle.std.proofs.Common.{Ok, Err, sym, subst, ◌∙◌}
 use Rattle.std.proofs.lemmas.Result.{err_from_is_err_and}
 use Rattle.itch_commands.specs.Forms.{row}
 use Rattle.itch_commands.specs.Outputs.{WritesText}
-use Rattle.itch_commands.proofs.QueuePrices.{one_fewer}
+use Rattle.itch_book.proofs.QueuePrices.{one_fewer}
 use Rattle.itch_commands.proofs.SideLines.{is_next, side_begun, side_more, side_fails, side_ends}
 use Rattle.itch_commands.proofs.book.write_side.Goals as goal
 

@@ -1,7 +1,7 @@
 use Rattle.std.proofs.Common.{length}
 use Rattle.std.specs.List.{filter}
 use Rattle.itch_book.specs.Orders.{queue, is_worse}
-use Rattle.itch_commands.specs.Books.{prices}
+use Rattle.itch_book.specs.Prices.{prices}
 use Rattle.itch_commands.specs.Forms.{row}
 use Rattle.itch_commands.proofs.SideLines.{SideSoFar}
 use Rattle.itch_commands.proofs.book.write_side.Given as goal

@@ -1,5 +1,5 @@
 use Rattle.std.proofs.Common.{◌≡◌, true, inr, subst}
-use Rattle.itch_commands.specs.AsRead.{read_by}
+use Rattle.itch_snapshot.specs.AsRead.{read_by}
 use Rattle.itch_commands.specs.FeedParts.{whole}
 use Rattle.itch_commands.specs.declared.feed_part.FeedPart.{FeedPart}
 use Rattle.itch_commands.specs.Joining.{ReadsStart, ReadsFeed, HasRoom, joined}

@@ -1,7 +1,7 @@
 use Rattle.std.proofs.Common.{◌≡◌, Ok, Err, refl, inl}
 use Rattle.std.proofs.lemmas.Result.{err_from_is_err_and}
 use Rattle.itch_market.specs.Wanted.{has}
-use Rattle.itch_commands.specs.AsRead.{as_read}
+use Rattle.itch_snapshot.specs.AsRead.{as_read}
 use Rattle.itch_join.specs.Takings.{position_of}
 use Rattle.itch_commands.specs.Joiners.{start_of}
 use Rattle.itch_commands.specs.Joining.{ReadsStart, ReadsFeed}

@@ -3,7 +3,8 @@ use Rattle.std.proofs.lemmas.Result.{err_from_is_err_and}
 use Rattle.itch_codec.specs.Messages.{message_of}
 use Rattle.itch_frame.specs.Reading.{bytes_left}
 use Rattle.itch_market.specs.Runs.{run}
-use Rattle.itch_commands.proofs.Comparisons.{taken_good, taken_few}
+use Rattle.itch_snapshot.proofs.DaySnapshots.{taken_few}
+use Rattle.itch_market.proofs.DayMessages.{taken_good}
 use Rattle.itch_commands.proofs.DayReadings.{read_done, day_done, day_fails}
 use Rattle.itch_commands.proofs.kind.day_market.Goals as goal
 

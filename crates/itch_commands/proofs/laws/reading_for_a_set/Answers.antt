@@ -1,5 +1,5 @@
 use Rattle.itch_market.specs.Content.{empty}
-use Rattle.itch_commands.proofs.AsRead.{read_number}
+use Rattle.itch_snapshot.proofs.AsRead.{read_number}
 use Rattle.itch_commands.proofs.SetReadings.{refused_so, effect_so, memory_so, bad_so, after_so}
 use Rattle.itch_commands.proofs.laws.reading_for_a_set.Goals as goal
 

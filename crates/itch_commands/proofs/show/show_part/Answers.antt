@@ -1,6 +1,7 @@
 use Rattle.std.proofs.Common.{rules, sym}
 use Rattle.itch_commands.specs.declared.show.sink.ShownLines.{ShownLines}
-use Rattle.itch_commands.proofs.ShownLines.{Unshown, shown_held, shown_part}
+use Rattle.itch_day.proofs.PassedBlocks.{stop_held}
+use Rattle.itch_commands.proofs.ShownLines.{Unshown, shown_part}
 use Rattle.itch_commands.proofs.show.show_part.Goals as goal
 
 pub pass_stop-requires : goal.pass_stop-requires
@@ -8,7 +9,7 @@ pass_stop-requires g c =
     let reads = c.read_part-stop.ensures.reads in
     let Lines = ShownLines g.row.A.Denot g.row.W.Denot in
     let refuses = Unshown g.W.CountedWrite.contents g.W.CountedWrite.failures (λ (s : Lines). s.out.now) (λ (s : Lines). s.out.ghost_name) (λ (s : Lines). s.choice.ghost_name) (λ (s : Lines). s.form) (λ (s : Lines). s.choice.now) in
-    shown_held g.R.CountedRead.remaining refuses c.args.limit c.read_part-stop.new.reader c.read_part-stop.new.count reads.last c.read_part-stop.new.sink c.read_part-stop.result reads.stops
+    stop_held g.R.CountedRead.remaining refuses c.args.limit c.read_part-stop.new.reader c.read_part-stop.new.count reads.last c.read_part-stop.new.sink c.read_part-stop.result reads.stops
 
 pub returns : goal.returns
 returns g c =

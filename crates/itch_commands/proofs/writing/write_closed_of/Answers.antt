@@ -1,5 +1,5 @@
 use Rattle.itch_snapshot.specs.Cursor.{cut_to}
-use Rattle.itch_commands.proofs.FailedWrites.{snapshot_cut}
+use Rattle.itch_snapshot.proofs.FailedWrites.{snapshot_cut}
 use Rattle.itch_commands.proofs.writing.write_closed_of.Goals as goal
 
 pub returns-in-Err-Write : goal.returns-in-Err-Write

@@ -1,7 +1,7 @@
 use Rattle.std.proofs.Common.{refl}
 use Rattle.itch_market.specs.Takings.{RefusesMessage}
 use Rattle.itch_market.proofs.DayParts.{is_part, is_part_left}
-use Rattle.itch_market.proofs.LeftReaders.{stop_held}
+use Rattle.itch_day.proofs.PassedBlocks.{stop_held}
 use Rattle.itch_market.proofs.replaying.replay_part.Goals as goal
 
 pub pass_stop-requires : goal.pass_stop-requires

@@ -1,5 +1,6 @@
 use Rattle.std.proofs.Common.{None, inl}
-use Rattle.itch_commands.proofs.Comparisons.{taken_good, taken_few, parts-laid}
+use Rattle.itch_snapshot.proofs.DaySnapshots.{taken_few, parts-laid}
+use Rattle.itch_market.proofs.DayMessages.{taken_good}
 use Rattle.itch_day.specs.Limits.{counted}
 use Rattle.itchsnap_c.specs.Files.{market_of}
 use Rattle.itchsnap_c.proofs.files.itchsnap_compare.Goals as goal

@@ -1,5 +1,5 @@
 use Rattle.std.proofs.Common.{◌≡◌, ◌++◌, ◌∷◌, [], Some, sym, subst, ◌∙◌, rules}
-use Rattle.itch_commands.proofs.QueuePrices.{one_fewer}
+use Rattle.itch_book.proofs.QueuePrices.{one_fewer}
 use Rattle.itchsnap_c.specs.Listings.{level_row}
 use Rattle.itchsnap_c.proofs.ListedSoFar.{LevelsSoFar, levels_begun, levels_more, levels_end}
 use Rattle.itchsnap_c.proofs.listings.levels_of.Goals as goal

@@ -1,5 +1,5 @@
 use Rattle.std.proofs.Common.{◌≡◌, ℕ, List, eqb, Option, Some, None, sym, ap, ◌∙◌, subst}
-use Rattle.itch_table.specs.Table.{at}
+use Rattle.itch_book.specs.Table.{at}
 use Rattle.itch_book.specs.declared.order.Order.{Order}
 use Rattle.itch_book.specs.Orders.{get, lay, added}
 use Rattle.itch_book.specs.Links.{at_key}

@@ -1,5 +1,5 @@
 use Rattle.std.proofs.Common.{ℕ, List, [], sym, ap, ◌∙◌, subst}
-use Rattle.itch_table.specs.Table.{at}
+use Rattle.itch_book.specs.Table.{at}
 use Rattle.itch_book.specs.Queued.{seen}
 use Rattle.itch_book.specs.Indexed.{Place, indexed, IsIndexed, IsBusy}
 use Rattle.itch_book.proofs.OrderLemmas.{lay_fit}

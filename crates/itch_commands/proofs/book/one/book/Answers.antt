@@ -14,8 +14,8 @@ pub returns : goal.returns
 returns g c =
     let reads = ReadsFile g.R.CountedRead.remaining g.R.CountedRead.failures Only (Day (counted None)) in
     let locate = c.args.locate in
-    Outputs-weaker g.W.CountedWrite.contents g.W.CountedWrite.failures (ReadsEntry locate (reads c.in_ok-reader.reader c.one_over.new.reader))
+    Outputs-weaker g.W.CountedWrite.contents g.W.CountedWrite.failures (ReadsEntry locate (reads c.in_ok-reader.reader c.one_blocks.new.reader))
     (FromReader c.args.reader (λ a b. ReadsEntry locate (reads a b))) (λ done. lines_at Text None done.0 locate) (λ _. true)
-    c.args.out.now c.one_over.new.out c.one_over.result
-    (λ r read. inr (c.in_ok-reader.reader, c.one_over.new.reader, c.in_ok-reader.ensures.0, c.in_ok-reader.ensures.1, c.in_ok-reader.ensures.2, read))
-    (subst (λ limit. ListsBook g.R.CountedRead.remaining g.R.CountedRead.failures g.W.CountedWrite.contents g.W.CountedWrite.failures locate (Day limit) (FromBlocks c.in_ok-reader.reader c.one_over.new.reader) c.args.out.now c.one_over.result c.one_over.new.out) c.whole.ensures c.one_over.ensures)
+    c.args.out.now c.one_blocks.new.out c.one_blocks.result
+    (λ r read. inr (c.in_ok-reader.reader, c.one_blocks.new.reader, c.in_ok-reader.ensures.0, c.in_ok-reader.ensures.1, c.in_ok-reader.ensures.2, read))
+    (subst (λ limit. ListsBook g.R.CountedRead.remaining g.R.CountedRead.failures g.W.CountedWrite.contents g.W.CountedWrite.failures locate (Day limit) (FromBlocks c.in_ok-reader.reader c.one_blocks.new.reader) c.args.out.now c.one_blocks.result c.one_blocks.new.out) c.whole.ensures c.one_blocks.ensures)

@@ -2,7 +2,7 @@ use Rattle.std.proofs.Common.{◌≡◌, ◌+◌, None, sym, ap, ◌∙◌, subs
 use Rattle.itch_day.specs.declared.limit.Limit.{Limit as DayLimit}
 use Rattle.itch_day.specs.declared.stop.Stop.TheVariants.{Late}
 use Rattle.itch_day.specs.Parts.{ReadsPart}
-use Rattle.itch_market.proofs.LeftReaders.{stop_held}
+use Rattle.itch_day.proofs.PassedBlocks.{stop_held}
 use Rattle.itch_join.specs.Positions.{Position}
 use Rattle.itch_join.specs.Takings.{MayTake, RefusesNumbered, TakesNumbered, position_of}
 use Rattle.itch_commands.specs.FeedParts.{misfit_of, of_day, part_of}

@@ -13,14 +13,14 @@ returns-in_err-found g c =
     let p = err_from_is_err_and c.from_residual.result c.from_residual.ensures.1 in
     let lines = closed_lines c.args.form c.args.choice in
     let verdict = closed_found c.args.choice in
-    let reads = ReadsSnap g.R.CountedRead.remaining g.R.CountedRead.failures Only c.args.reader.now c.show_over.new.reader in
-    let shows : Result Bool ToolFault → Type 0 = λ found. Outputs g.W.CountedWrite.contents g.W.CountedWrite.failures reads lines verdict c.args.out.now found c.show_over.new.out in
+    let reads = ReadsSnap g.R.CountedRead.remaining g.R.CountedRead.failures Only c.args.reader.now c.show_found.new.reader in
+    let shows : Result Bool ToolFault → Type 0 = λ found. Outputs g.W.CountedWrite.contents g.W.CountedWrite.failures reads lines verdict c.args.out.now found c.show_found.new.out in
     rw (p.1, p.2) (found_fails shows _
-    (recorded_never g.W.CountedWrite.contents g.W.CountedWrite.failures g.R.CountedRead.remaining g.R.CountedRead.failures c.args.reader.now c.show_over.new.reader lines verdict c.args.out.now c.show_over.new.out)
+    (recorded_never g.W.CountedWrite.contents g.W.CountedWrite.failures g.R.CountedRead.remaining g.R.CountedRead.failures c.args.reader.now c.show_found.new.reader lines verdict c.args.out.now c.show_found.new.out)
     c.in_err-found.ensures)
 
 pub returns : goal.returns
 returns g c =
-    let reads = ReadsSnap g.R.CountedRead.remaining g.R.CountedRead.failures Only c.args.reader.now c.show_over.new.reader in
-    let shows : Result Bool ToolFault → Type 0 = λ found. Outputs g.W.CountedWrite.contents g.W.CountedWrite.failures reads (closed_lines c.args.form c.args.choice) (closed_found c.args.choice) c.args.out.now found c.show_over.new.out in
+    let reads = ReadsSnap g.R.CountedRead.remaining g.R.CountedRead.failures Only c.args.reader.now c.show_found.new.reader in
+    let shows : Result Bool ToolFault → Type 0 = λ found. Outputs g.W.CountedWrite.contents g.W.CountedWrite.failures reads (closed_lines c.args.form c.args.choice) (closed_found c.args.choice) c.args.out.now found c.show_found.new.out in
     subst (IfFound shows) (sym c.if_found.ensures) (found_ends shows c.in_ok-found.found c.in_ok-found.ensures)

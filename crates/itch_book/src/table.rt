@@ -1,0 +1,134 @@
+//! A map from numbers that are nearly dense, as the order references of a day, to small numbers: links.
+//!
+//! A look-up reads one entry of a directory, which is indexed by the key's page, and one link of that page: no hash. A page
+//! has 32 keys, and stands only while one of them has a link: then it is used again.
+//!
+//! A page takes 144 bytes, and its row of the directory four. A key that goes into a page that stands earns 64 bytes; a new page
+//! and the rows up to it have to be paid from what was earned, and a key that cannot pay goes to a hash map. The directory has at
+//! most 2^18 rows, and 16 for each key that has a link. So keys that stay take at most 64 bytes each in pages, or 16 and what
+//! the hash map takes, and four megabytes together. Where keys fill pages and all go but one of each page, each keeps its page and
+//! takes up to 144 bytes, and 64 for its share of the directory. It is twice as much while vectors grow.
+ghost use Rattle.std.specs.Prelude.{◌≡◌, ℕ, ◌<◌, Some, None, OnOk, OnErr, IsSome, eqb};
+ghost use Rattle.itch_book.specs.Table.{at, Updates, IsSame, IsCount};
+
+mod credit;
+mod pages;
+
+use credit::Credit;
+use pages::{KEYS, Pages};
+use std::alloc::{AllocError, Allocator, Global};
+use std::collections::HashMap;
+use std::hash::{BuildHasherDefault, FoldHasher};
+use std::marker::Model;
+
+/// A link under each of some keys.
+#[derive(Drop)]
+pub struct Table<A: Allocator = Global> {
+    near: Pages<A>,
+    // The links of keys that got no page.
+    far: HashMap<u64, u32, BuildHasherDefault<FoldHasher>, A>,
+    // How many keys there are.
+    len: usize,
+    // What pages for new keys may take.
+    credit: Credit,
+}
+
+impl<A: Allocator> Model for Table<A> {
+    ghost use Rattle.itch_book.specs.Table.{Links, IsTable};
+
+    ghost Value = { Links };
+
+    ghost view = { λ t. record { near = t.near; far = t.far.entries } };
+
+    ghost invariant = { λ t. IsTable t.near t.far.entries t.len };
+}
+
+impl<A: Allocator> Table<A> {
+    /// No keys.
+    pub fn new(alloc: A) -> Self
+    where
+        A: Copy,
+        ensures { (k : ℕ) → at result k ≡ None }
+    {
+        Table {
+            near: Pages::new(alloc),
+            far: HashMap::new(alloc),
+            len: 0,
+            credit: Credit::new(),
+        }
+    }
+
+    /// The number of keys.
+    pub fn len(&self) -> usize
+        ensures { IsCount (at self.now) result }
+    {
+        self.len
+    }
+
+    /// The link at a key.
+    pub fn get(&self, key: u64) -> Option<u32>
+        ensures { result ≡ at self.now key }
+    {
+        let link = self.near.get(key);
+        if link.is_some() || self.far.is_empty() {
+            return link;
+        }
+        self.far.get(&key).copied()
+    }
+
+    /// Writes another link in place of that of a key.
+    pub fn set(&mut self, key: u64, link: u32)
+        requires link { link < 4294967295 }
+        requires known { IsSome (at self.old key) }
+        ensures { Updates self.old self.new key (Some link) }
+    {
+        if self.far.is_empty() || self.near.get(key).is_some() {
+            self.near.set(key, link);
+        } else {
+            *self.far.get_mut(&key).unwrap() = link;
+        }
+    }
+
+    /// Puts a link under a new key. If an allocation fails, or if there are 2^64 - 1 keys, no link changes.
+    pub fn insert(&mut self, key: u64, link: u32) -> Result<(), AllocError>
+    where
+        A: Copy,
+        requires link { link < 4294967295 }
+        requires new_key { at self.old key ≡ None }
+        ensures ok { OnOk result (Updates self.old self.new key (Some link)) }
+        ensures err { OnErr result (IsSame self.old self.new) }
+    {
+        if self.len == usize::MAX {
+            return Err(AllocError);
+        }
+        let cost = self.near.cost(key, self.len);
+        let credit = self.credit.after(key / KEYS, cost, self.len);
+        if self.credit.pays(cost) {
+            self.near.insert(key, link)?;
+            self.credit = credit;
+            self.len += 1;
+            return Ok(());
+        }
+        match self.far.insert(key, link) {
+            Ok(_) => {
+                self.credit = credit;
+                self.len += 1;
+                Ok(())
+            }
+            Err(_) => Err(AllocError),
+        }
+    }
+
+    /// Takes out the link at a key.
+    pub fn remove(&mut self, key: u64) -> u32
+        requires { IsSome (at self.old key) }
+        ensures link { at self.old key ≡ Some result }
+        ensures updates { Updates self.old self.new key None }
+    {
+        self.len -= 1;
+        match self.near.remove(key) {
+            Some(link) => link,
+            None => self.far.remove(&key).unwrap(),
+        }
+    }
+}

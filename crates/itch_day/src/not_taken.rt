@@ -1,0 +1,26 @@
+//! Why the message of a block is not taken.
+ghost use Rattle.std.specs.Prelude.{◌≡◌};
+ghost use Rattle.itch_day.specs.Parts.{stop_of};
+
+use crate::stop::Stop;
+
+/// Why the message of a block that is held is not taken. It is small, unlike a [`Stop`], which has room for the fault of a read.
+pub(crate) enum NotTaken<F> {
+    Ended,
+    Late,
+    TooMany,
+    Refused(F),
+}
+
+// Why a part goes no further there.
+#[inline(always)]
+pub(crate) fn stop_of<F>(why: NotTaken<F>) -> Stop<F>
+    ensures { result ≡ stop_of why }
+{
+    match why {
+        NotTaken::Ended => Stop::End,
+        NotTaken::Late => Stop::Late,
+        NotTaken::TooMany => Stop::TooMany,
+        NotTaken::Refused(why) => Stop::Refused(why),
+    }
+}

@@ -1,0 +1,66 @@
+//! Messages that are passed over, and only counted.
+ghost use Rattle.itch_frame.specs.Passing.{PassesAtHand, PassesMessage, PassesMessages};
+
+use crate::counted::CountedRead;
+use crate::fault::FrameFault;
+use crate::reader::BlockReader;
+use std::alloc::Allocator;
+
+// What lay at hand, and was passed.
+#[derive(Clone, Copy)]
+enum AtHand {
+    // A message.
+    Message,
+    // An empty block, at which the messages end.
+    End,
+    // No whole block.
+    Nothing,
+}
+
+impl<R: CountedRead, A: Allocator> BlockReader<R, A> {
+    /// Passes over messages, at most so many, and returns how many: true if there are as many, false if the messages end after them.
+    ///
+    /// They end as [`BlockReader::next_message`] says, and the faults are those of that call.
+    pub fn pass_messages(&mut self, most: u64) -> (u64, Result<bool, FrameFault>)
+        ensures { PassesMessages R.remaining R.failures most self.old result.0 result.1 self.new }
+    {
+        for count in 0..most {
+            match pass_at_hand(self) {
+                AtHand::Message => {}
+                AtHand::End => return (count, Ok(false)),
+                AtHand::Nothing => match pass_message(self) {
+                    Ok(true) => {}
+                    Ok(false) => return (count, Ok(false)),
+                    Err(fault) => return (count, Err(fault)),
+                },
+            }
+        }
+        (most, Ok(true))
+    }
+}
+
+// Passes over the next message if it lies at hand, as it mostly does.
+#[inline(always)]
+fn pass_at_hand<R: CountedRead, A: Allocator>(reader: &mut BlockReader<R, A>) -> AtHand
+    ensures { PassesAtHand R.remaining R.failures reader.old result reader.new }
+{
+    match reader.next_at_hand() {
+        Some(payload) if payload.is_empty() => AtHand::End,
+        Some(_) => AtHand::Message,
+        None => AtHand::Nothing,
+    }
+}
+
+// Passes over the next message (true), unless the messages end here (false).
+#[inline(never)]
+fn pass_message<R: CountedRead, A: Allocator>(
+    reader: &mut BlockReader<R, A>,
+) -> Result<bool, FrameFault>
+    ensures { PassesMessage R.remaining R.failures reader.old result reader.new }
+{
+    match reader.next_message() {
+        Ok(Some(_)) => Ok(true),
+        Ok(None) => Ok(false),
+        Err(fault) => Err(fault),
+    }
+}

@@ -1,4 +1,0 @@
-pub mod ReadLemmas
-pub mod PageLemmas
-pub mod CountLemmas
-pub mod TableLemmas

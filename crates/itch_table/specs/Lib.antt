@@ -1,4 +1,0 @@
-pub mod Credit
-pub mod Link
-pub mod Pages
-pub mod Table

@@ -1,0 +1,52 @@
+//! The status of the program, also if its output pipe was closed.
+ghost use Rattle.std.specs.Prelude.{◌≡◌, ◌↔◌, IsTrue};
+ghost use Rattle.itch_tool.specs.Endings.{EndsByClosedPipe, exit_status};
+
+use crate::failure::Failure;
+use itch_commands::{ToolFault, status};
+use itchsnap_live::SessionFault;
+use std::io::ErrorKind;
+
+/// The status that a shell gives a program that SIGPIPE ended: 128 plus the signal's number.
+const CLOSED_PIPE: u8 = 141;
+
+/// Whether a job failed because the pipe that it writes to was closed.
+pub fn ends_by_closed_pipe(outcome: &Result<bool, Failure>) -> bool
+    ensures { IsTrue result ↔ EndsByClosedPipe outcome.now }
+{
+    match outcome {
+        Err(
+            Failure::Command {
+                fault: ToolFault::Write(error),
+                ..
+            },
+        ) => matches!(error.kind(), ErrorKind::BrokenPipe),
+        Err(Failure::Session(SessionFault::Write(error))) => matches!(
+            error.kind(),
+            ErrorKind::BrokenPipe
+        ),
+        _ => false,
+    }
+}
+
+/// The status of the program: 141 if the pipe that it writes to was closed, otherwise that of its outcome.
+pub fn final_status(outcome: &Result<bool, Failure>) -> u8
+    ensures closed { EndsByClosedPipe outcome.now → result ≡ 141 }
+    ensures other { (¬ EndsByClosedPipe outcome.now) → result ≡ exit_status outcome.now }
+{
+    if ends_by_closed_pipe(outcome) {
+        CLOSED_PIPE
+    } else {
+        exit_status(outcome)
+    }
+}
+
+// The status of a job: that of its answer, or of its failure.
+fn exit_status(outcome: &Result<bool, Failure>) -> u8
+    ensures { result ≡ exit_status outcome.now }
+{
+    match outcome {
+        Ok(answer) => status(&Ok(*answer)),
+        Err(failure) => failure.status(),
+    }
+}

@@ -1,0 +1,313 @@
+//! What a failure is about, and its name in the second line.
+ghost use Rattle.std.specs.Prelude.{◌≡◌, Some, None};
+ghost use Rattle.itch_tool.specs.Names.{first_path, input_name, last_path, name_of, output_name, subject_of};
+
+use itch_commands::{Command, PairCommand, Request, Source};
+use itchsnap_cli::words::{FeedWords, FollowWords, Job, LiveWords, PointWords, Server};
+use itchsnap_live::{SessionDevice, SessionFault};
+use std::fmt;
+use std::net::SocketAddr;
+
+/// The name of a file, a standard stream, an address or a server.
+#[derive(Clone, Copy)]
+pub enum Name<'a> {
+    Path(&'a str),
+    Input,
+    Output,
+    /// Where a server listens.
+    Address(SocketAddr),
+    /// The host and the port of a server that a client connects to.
+    Server(&'a str, u16),
+}
+
+impl<'a> Name<'a> {
+    fn of_input(path: Option<&'a str>) -> Name<'a>
+        ensures { result ≡ input_name path.entry }
+    {
+        match path {
+            Some(path) => Name::Path(path),
+            None => Name::Input,
+        }
+    }
+
+    fn of_output(path: Option<&'a str>) -> Name<'a>
+        ensures { result ≡ output_name path.entry }
+    {
+        match path {
+            Some(path) => Name::Path(path),
+            None => Name::Output,
+        }
+    }
+}
+
+impl fmt::Display for Name<'_> {
+    fn fmt<W: fmt::Write>(&self, f: &mut fmt::Formatter<W>) -> fmt::Result {
+        match self {
+            Name::Path(path) => f.write_str(path),
+            Name::Input => f.write_str("standard input"),
+            Name::Output => f.write_str("standard output"),
+            Name::Address(address) => write!(f, "{address}"),
+            // The colons of an IPv6 address stand in brackets.
+            Name::Server(host, port) if host.contains(':') => write!(f, "[{host}]:{port}"),
+            Name::Server(host, port) => write!(f, "{host}:{port}"),
+        }
+    }
+}
+
+/// What the fault of a command is about.
+#[derive(Clone, Copy)]
+pub enum Subject<'a> {
+    Input(InputFile<'a>),
+    /// The file of a checkpoint, with its path.
+    Checkpoint(&'a str),
+    /// What is written to the file or the folder of a path, or to standard output.
+    Output(Option<&'a str>),
+}
+
+impl<'a> Subject<'a> {
+    pub fn name(self) -> Name<'a> {
+        match self {
+            Subject::Input(file) => Name::of_input(file.path),
+            Subject::Checkpoint(path) => Name::Path(path),
+            Subject::Output(path) => Name::of_output(path),
+        }
+    }
+}
+
+/// A file that a command reads: its path, or none for standard input, and the words of a command that reads it from there.
+#[derive(Clone, Copy)]
+pub struct InputFile<'a> {
+    pub path: Option<&'a str>,
+    pub words: &'static str,
+}
+
+/// The files of a command, of which a fault says one.
+#[derive(Clone, Copy)]
+pub struct CommandFiles<'a> {
+    /// The first of two files, or the snapshot that a feed is joined to.
+    first: InputFile<'a>,
+    /// The only file, the second of two, or the feed.
+    last: InputFile<'a>,
+    /// The path of the file or the folder that is written, if it is not standard output.
+    output: Option<&'a str>,
+}
+
+impl<'a> CommandFiles<'a> {
+    fn of_one(path: Option<&'a str>, words: &'static str, output: Option<&'a str>) -> Self
+        ensures first { result.first.path ≡ path.entry }
+        ensures last { result.last.path ≡ path.entry }
+        ensures output { result.output ≡ output.entry }
+    {
+        let file = InputFile { path, words };
+        CommandFiles {
+            first: file,
+            last: file,
+            output,
+        }
+    }
+
+    pub fn of_request(request: &Request<'a>, output: Option<&'a str>) -> Self
+        ensures first { result.first.path ≡ first_path request.now }
+        ensures last { result.last.path ≡ last_path request.now }
+        ensures output { result.output ≡ output.entry }
+    {
+        match request {
+            Request::One { file, command } => CommandFiles::of_one(
+                *file,
+                words_of(command),
+                output,
+            ),
+            Request::Two {
+                first,
+                second,
+                command,
+            } => {
+                let (first_words, second_words) = words_of_pair(command);
+                CommandFiles {
+                    first: InputFile {
+                        path: *first,
+                        words: first_words,
+                    },
+                    last: InputFile {
+                        path: *second,
+                        words: second_words,
+                    },
+                    output,
+                }
+            }
+            Request::At { feed, .. } => CommandFiles::of_one(*feed, "at .. - ..", output),
+        }
+    }
+
+    pub fn of_points(words: &PointWords<'a>) -> Self
+        ensures file { result.last.path ≡ words.now.file }
+        ensures folder { result.output ≡ Some words.now.folder }
+    {
+        CommandFiles::of_one(words.file, "snap --to ..", Some(words.folder))
+    }
+
+    pub fn of_served(path: Option<&'a str>) -> Self
+        ensures { result.last.path ≡ path.entry }
+    {
+        CommandFiles::of_one(path, "serve - ..", None)
+    }
+
+    pub fn subject(&self, source: Source) -> Subject<'a>
+        ensures { result ≡ subject_of self.now source }
+    {
+        match source {
+            Source::First | Source::Snapshot => Subject::Input(self.first),
+            Source::Only | Source::Second => Subject::Input(self.last),
+            Source::Output => Subject::Output(self.output),
+        }
+    }
+}
+
+// The words of a command that reads its file from standard input.
+fn words_of(command: &Command<'_>) -> &'static str {
+    match command {
+        Command::Snap { .. } => "snap",
+        Command::Check { .. } => "check",
+        Command::Show { .. } => "show",
+        Command::Canon { check: true } => "canon --check",
+        Command::Canon { check: false } => "canon",
+        Command::Book { .. } => "book ..",
+    }
+}
+
+// The same of the first file, and of the second.
+fn words_of_pair(command: &PairCommand<'_>) -> (&'static str, &'static str) {
+    match command {
+        PairCommand::Compare { .. } => ("compare - ..", "compare .. -"),
+        PairCommand::CompareFirst { .. } => ("compare --first - ..", "compare --first .. -"),
+        PairCommand::Join { .. } => ("join - ..", "join .. -"),
+    }
+}
+
+/// The names of what a session works on.
+#[derive(Clone, Copy)]
+pub struct SessionNames<'a> {
+    // The address that it listens on, or the server that it connects to.
+    peer: Name<'a>,
+    // The day file that is played, or that a feed is recorded in.
+    day_file: Option<&'a str>,
+    // The folder of snapshots.
+    folder: Option<&'a str>,
+    // The file that is written, if it is not standard output.
+    output: Option<&'a str>,
+}
+
+impl<'a> SessionNames<'a> {
+    // The names of a session that reads no file.
+    fn of_peer(peer: Name<'a>, output: Option<&'a str>) -> Self {
+        SessionNames {
+            peer,
+            day_file: None,
+            folder: None,
+            output,
+        }
+    }
+
+    pub fn of_served(address: SocketAddr) -> Self {
+        SessionNames::of_peer(Name::Address(address), None)
+    }
+
+    pub fn of_fetched(server: &Server<'a>, output: Option<&'a str>) -> Self {
+        SessionNames::of_peer(Name::Server(server.host, server.port), output)
+    }
+
+    pub fn of_live(words: &LiveWords<'a>) -> Self {
+        SessionNames {
+            peer: Name::Address(words.address),
+            day_file: words.record.map(|record| record.path),
+            folder: words.snapshots.map(|snapshots| snapshots.folder),
+            output: None,
+        }
+    }
+
+    pub fn of_follow(words: &FollowWords<'a>) -> Self {
+        let feed = words.feeds.first;
+        SessionNames::of_peer(Name::Server(feed.host, feed.port), None)
+    }
+
+    pub fn of_feed(words: &FeedWords<'a>) -> Self {
+        SessionNames {
+            peer: Name::Address(words.address),
+            day_file: Some(words.file),
+            folder: None,
+            output: None,
+        }
+    }
+
+    /// The name of the device that a session failed at, or of its peer.
+    pub fn name(&self, fault: &SessionFault) -> Name<'a> {
+        match fault.cause() {
+            Some(cause) => self.name_of(cause.device),
+            None => self.peer,
+        }
+    }
+
+    fn name_of(&self, device: SessionDevice) -> Name<'a>
+        ensures { result ≡ name_of self.now device }
+    {
+        match device {
+            SessionDevice::DayFile => Name::of_input(self.day_file),
+            SessionDevice::Folder => Name::of_input(self.folder),
+            SessionDevice::Output => Name::of_output(self.output),
+            SessionDevice::Socket => self.peer,
+        }
+    }
+}
+
+/// The names of what a job works on.
+#[derive(Clone, Copy)]
+pub struct JobNames<'a> {
+    pub files: CommandFiles<'a>,
+    pub session: SessionNames<'a>,
+}
+
+impl<'a> JobNames<'a> {
+    pub fn of(job: &Job<'a>) -> JobNames<'a> {
+        match job {
+            Job::Files {
+                request,
+                output,
+                ..
+            } => JobNames::of_files(CommandFiles::of_request(request, *output)),
+            Job::Points(words) => JobNames::of_files(CommandFiles::of_points(words)),
+            Job::Serve { file, address, .. } => JobNames {
+                files: CommandFiles::of_served(*file),
+                session: SessionNames::of_served(*address),
+            },
+            Job::Fetch { server, output, .. } => {
+                JobNames::of_session(SessionNames::of_fetched(server, *output))
+            }
+            Job::Live(words) => JobNames::of_session(SessionNames::of_live(words)),
+            Job::Follow(words) => JobNames::of_session(SessionNames::of_follow(words)),
+            Job::Feed(words) => JobNames::of_session(SessionNames::of_feed(words)),
+            Job::Completions(_) => JobNames::none(),
+        }
+    }
+
+    /// Where nothing but standard output can fail.
+    pub fn none() -> JobNames<'a> {
+        JobNames {
+            files: CommandFiles::of_one(None, "", None),
+            session: SessionNames::of_peer(Name::Output, None),
+        }
+    }
+
+    fn of_files(files: CommandFiles<'a>) -> JobNames<'a> {
+        JobNames {
+            files,
+            ..JobNames::none()
+        }
+    }
+
+    fn of_session(session: SessionNames<'a>) -> JobNames<'a> {
+        JobNames {
+            session,
+            ..JobNames::none()
+        }
+    }
+}

@@ -1,0 +1,261 @@
+//! Parts of a day, read one after another.
+use crate::doubles::PieceReader;
+use crate::equal::{same, same_in};
+use itch_codec::{CodecFault, MOST_MESSAGES, Message};
+use itch_day::{Limit, Mark, Marked, Sink, Stop, read_further, read_part};
+use itch_frame::{BlockReader, CountedRead, FrameFault};
+use std::alloc::Allocator;
+use std::process::Abort;
+use std::test::Fail;
+
+// System events at 1, 2, 3, 3 and 4 nanoseconds after midnight, and an empty block; each message has 14 bytes with its length.
+const DAY: &[u8] =
+    b"\0\x0cS\0\0\0\0\0\0\0\0\0\x01O\0\x0cS\0\0\0\0\0\0\0\0\0\x02S\0\x0cS\0\0\0\0\0\0\0\0\0\x03Q\
+\0\x0cS\0\0\0\0\0\0\0\0\0\x03M\0\x0cS\0\0\0\0\0\0\0\0\0\x04E\0\0";
+
+// The limits of parts of the day, why each part goes no further, and how many messages were taken until then.
+const PARTS: [(Option<u64>, Option<u64>, &str, u64); 8] = [
+    (Some(1), None, "full", 1),
+    (None, Some(3), "late", 2),
+    (None, Some(3), "late", 2),
+    (Some(3), Some(4), "full", 3),
+    (Some(5), Some(4), "late", 4),
+    (Some(5), None, "full", 5),
+    (None, None, "end", 5),
+    (Some(9), None, "end", 5),
+];
+
+// Takes what spells a message, but refuses the one with this number. It keeps the number of the last one that it took.
+#[derive(Drop)]
+struct Picky {
+    refused: u64,
+    taken: u64,
+}
+
+impl Sink for Picky {
+    type Fault = u64;
+
+    ghost is_ready = { λ _ _. Unit {0} };
+
+    ghost takes = { λ _ _ _ _. Unit {0} };
+
+    ghost refuses = { λ _ _ _ _ _. Unit {0} };
+
+    fn take(
+        &mut self,
+        number: u64,
+        payload: &[u8],
+        message: &Result<Message<'_>, CodecFault>,
+    ) -> Result<(), u64> {
+        let _payload = payload;
+        if number == self.refused || message.is_err() {
+            return Err(number);
+        }
+        self.taken = number;
+        Ok(())
+    }
+}
+
+// A word for a stop.
+fn word(stop: &Stop<u64>) -> &'static str {
+    match stop {
+        Stop::Full => "full",
+        Stop::Late => "late",
+        Stop::End => "end",
+        Stop::Frame(FrameFault::Truncated { .. }) => "truncated",
+        Stop::Frame(_) => "failed",
+        Stop::TooMany => "too many",
+        Stop::Refused(_) => "refused",
+    }
+}
+
+// Reads a part of a day after so many messages, and returns why it goes no further.
+fn part<R: CountedRead, A: Allocator>(
+    reader: &mut BlockReader<R, A>,
+    count: &mut u64,
+    sink: &mut Picky,
+    limit: Limit,
+) -> &'static str {
+    let mut at = (*count).min(MOST_MESSAGES);
+    let stop = read_part(reader, &mut at, sink, limit);
+    *count = at;
+    word(&stop)
+}
+
+// The same after a part that went before.
+fn further<R: CountedRead, A: Allocator>(
+    reader: &mut BlockReader<R, A>,
+    count: &mut u64,
+    sink: &mut Picky,
+    limit: Limit,
+) -> &'static str {
+    let mut at = (*count).min(MOST_MESSAGES);
+    let stop = read_further(reader, &mut at, sink, limit);
+    *count = at;
+    word(&stop)
+}
+
+// Each part goes on where the one before it stopped.
+fn goes_on<R: CountedRead, A: Allocator>(
+    rt: &impl Abort,
+    reader: &mut BlockReader<R, A>,
+    is_further: bool,
+) {
+    let mut count = 0;
+    let mut sink = Picky {
+        refused: 0,
+        taken: 0,
+    };
+    for (after, until, word, taken) in PARTS {
+        let limit = Limit { after, until };
+        let stop = if is_further {
+            further(reader, &mut count, &mut sink, limit)
+        } else {
+            part(reader, &mut count, &mut sink, limit)
+        };
+        same_in(rt, (after, until), stop, word);
+        same_in(rt, (after, until), count, taken);
+        same_in(rt, (after, until), sink.taken, taken);
+    }
+}
+
+#[test]
+fn a_part_goes_on_where_the_one_before_it_stopped(rt: HostRuntime) -> Result<(), Fail> {
+    for piece in [1, 9, 80] {
+        let mut reader = BlockReader::new(rt.alloc(), PieceReader::new(DAY, piece, None))?;
+        goes_on(&rt, &mut reader, false);
+        let mut reader = BlockReader::new(rt.alloc(), PieceReader::new(DAY, piece, None))?;
+        goes_on(&rt, &mut reader, true);
+    }
+    Ok(())
+}
+
+// The third message is refused twice, and then taken.
+fn refuses_twice<R: CountedRead, A: Allocator>(rt: &impl Abort, reader: &mut BlockReader<R, A>) {
+    let mut count = 0;
+    let mut sink = Picky {
+        refused: 3,
+        taken: 0,
+    };
+    for _ in 0..2 {
+        same(
+            rt,
+            part(reader, &mut count, &mut sink, Limit::whole()),
+            "refused",
+        );
+        same(rt, count, 2);
+        same(rt, sink.taken, 2);
+    }
+    sink.refused = 0;
+    same(
+        rt,
+        part(reader, &mut count, &mut sink, Limit::whole()),
+        "end",
+    );
+    same(rt, count, 5);
+}
+
+#[test]
+fn a_refused_message_is_left(rt: HostRuntime) -> Result<(), Fail> {
+    let mut reader = BlockReader::new(rt.alloc(), PieceReader::new(DAY, 64, None))?;
+    refuses_twice(&rt, &mut reader);
+    Ok(())
+}
+
+// So many messages are taken until this stops them, however often it is asked.
+fn stops<R: CountedRead, A: Allocator>(
+    rt: &impl Abort,
+    reader: &mut BlockReader<R, A>,
+    word: &'static str,
+    taken: u64,
+) {
+    let mut count = 0;
+    let mut sink = Picky {
+        refused: 0,
+        taken: 0,
+    };
+    for _ in 0..2 {
+        same(
+            rt,
+            part(reader, &mut count, &mut sink, Limit::whole()),
+            word,
+        );
+        same(rt, count, taken);
+    }
+}
+
+#[test]
+fn says_why_a_part_goes_no_further(rt: HostRuntime) -> Result<(), Fail> {
+    for (bytes, word, taken) in [
+        (b"".as_slice(), "end", 0),
+        (b"\0\0", "end", 0),
+        (&DAY[..20], "truncated", 1),
+        (&DAY[..28], "end", 2),
+        (b"\0\x01S", "refused", 0),
+    ] {
+        let mut reader = BlockReader::new(rt.alloc(), PieceReader::new(bytes, 7, None))?;
+        stops(&rt, &mut reader, word, taken);
+    }
+    Ok(())
+}
+
+// A read fails, and then the part goes on to its end.
+fn fails_and_goes_on<R: CountedRead, A: Allocator>(
+    rt: &impl Abort,
+    reader: &mut BlockReader<R, A>,
+    at: u64,
+) {
+    let mut count = 0;
+    let mut sink = Picky {
+        refused: 0,
+        taken: 0,
+    };
+    let first = part(reader, &mut count, &mut sink, Limit::whole());
+    same_in(rt, at, first, "failed");
+    let second = part(reader, &mut count, &mut sink, Limit::whole());
+    same_in(rt, at, second, "end");
+    same_in(rt, at, count, 5);
+}
+
+#[test]
+fn nothing_is_lost_whichever_read_fails(rt: HostRuntime) -> Result<(), Fail> {
+    for at in 1..=72 {
+        let source = PieceReader::new(DAY, 1, Some(at));
+        let mut reader = BlockReader::new(rt.alloc(), source)?;
+        fails_and_goes_on(&rt, &mut reader, at);
+    }
+    Ok(())
+}
+
+// The mark after the messages before a time.
+fn mark_at<R: CountedRead, A: Allocator>(reader: &mut BlockReader<R, A>, until: u64) -> Mark {
+    let sink = Picky {
+        refused: 0,
+        taken: 0,
+    };
+    let mut marked = Marked {
+        sink,
+        mark: Mark::new(),
+    };
+    let mut count = 0;
+    let limit = Limit {
+        after: None,
+        until: Some(until),
+    };
+    let _stop = read_part(reader, &mut count, &mut marked, limit);
+    marked.mark
+}
+
+#[test]
+fn a_mark_is_past_what_was_taken(rt: HostRuntime) -> Result<(), Fail> {
+    for (until, count, latest) in [(1, 0, None), (3, 2, Some(2)), (9, 5, Some(4))] {
+        let mut reader = BlockReader::new(rt.alloc(), PieceReader::new(DAY, 9, None))?;
+        let mark = Mark {
+            count,
+            offset: 14 * count,
+            latest,
+        };
+        same_in(&rt, until, mark_at(&mut reader, until), mark);
+    }
+    Ok(())
+}

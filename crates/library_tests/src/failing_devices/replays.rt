@@ -1,0 +1,76 @@
+//! A day file replayed.
+use crate::book::has_len;
+use crate::doubles::PieceReader;
+use crate::equal::{holds_in, same_in};
+use crate::files::{REPLACED, blocks};
+use itch_book::{IndexedBook, ListBook, OrderBook};
+use itch_frame::{BlockReader, CountedRead, FrameFault};
+use itch_market::{Market, Stop, replay};
+use std::alloc::{Allocator, Global};
+use std::process::Abort;
+use std::test::Fail;
+
+// Where the four blocks of the day end.
+const ENDS: [usize; 4] = [41, 83, 121, 158];
+
+// Replays what a reader has left, and returns how many messages were applied, and why no further one was.
+fn replayed<R: CountedRead, A: Allocator, B: OrderBook>(
+    reader: &mut BlockReader<R, A>,
+    market: &mut Market<B>,
+) -> (u64, Stop) {
+    let end = replay(reader, market);
+    (end.count, end.stop)
+}
+
+// How many blocks of the day end in its first `at` bytes.
+fn whole_blocks(at: usize) -> u64 {
+    ENDS.iter().filter(|end| **end <= at).count() as u64
+}
+
+// The read of the byte after the first `at` fails: the messages before are counted, and a second replay goes on.
+fn goes_on<R: CountedRead, A: Allocator, B: OrderBook>(
+    rt: &impl Abort,
+    reader: &mut BlockReader<R, A>,
+    market: &mut Market<B>,
+    at: usize,
+) {
+    let (first, stop) = replayed(reader, market);
+    let has_failed = matches!(stop, Stop::Frame(FrameFault::Read(_)));
+    holds_in(rt, ("byte", at), has_failed);
+    same_in(rt, ("byte", at), first, whole_blocks(at));
+    let (second, stop) = replayed(reader, market);
+    holds_in(rt, ("byte", at), matches!(stop, Stop::End));
+    same_in(rt, ("byte", at), first.saturating_add(second), 4);
+    has_len(rt, market.book(), 2);
+}
+
+// The same of the day and a market over this memory.
+fn fails_and_goes_on<B: OrderBook>(
+    rt: &impl Abort,
+    alloc: Global,
+    memory: B::Alloc,
+    at: usize,
+) -> Result<(), Fail> {
+    let day = blocks(alloc, REPLACED)?;
+    let bytes = PieceReader::new(day.written(), 1, Some((at as u64).saturating_add(1)));
+    let mut reader = BlockReader::new(alloc, bytes)?;
+    let mut market: Market<B> = Market::new(memory);
+    goes_on(rt, &mut reader, &mut market, at);
+    Ok(())
+}
+
+#[test]
+fn a_replay_goes_on(rt: HostRuntime) -> Result<(), Fail> {
+    for at in 0..158 {
+        fails_and_goes_on::<IndexedBook>(&rt, rt.alloc(), rt.alloc(), at)?;
+    }
+    Ok(())
+}
+
+#[test]
+fn a_replay_over_a_list_goes_on(rt: HostRuntime) -> Result<(), Fail> {
+    for at in 0..158 {
+        fails_and_goes_on::<ListBook>(&rt, rt.alloc(), rt.alloc(), at)?;
+    }
+    Ok(())
+}

@@ -1,0 +1,405 @@
+//! Joins by what their calls return and the markets that they lead to. The helpers take a joiner over any book.
+use crate::equal::{same, same_in, same_words};
+use crate::files::{AAPL, ADD_1, ADD_2, EVENT};
+use itch_book::{IndexedBook, ListBook, OrderBook};
+use itch_codec::{CodecFault, Message, encode};
+use itch_join::{Cause, JoinFault, Joiner, Live, Snap, laws};
+use itch_market::{Market, Refusal};
+use itch_snapshot::SnapshotIter;
+use std::alloc::{AllocError, Global};
+use std::process::Abort;
+use std::test::Fail;
+
+mod refused_memory;
+mod restricted;
+mod sink;
+
+const CLOSES: &[u8] = b"S\0\0\0\0\0\0\0\0\0\0C";
+
+// The same at a locate that is not in the directory.
+const ADD_1_AT_9: &[u8] =
+    b"A\0\x09\0\0\0\0\0\0\0\0\0\0\0\0\0\0\0\x01B\0\0\0\x01AAPL    \0\x16\xe3\x60";
+
+const ADD_3: &[u8] =
+    b"A\0\x01\0\0\0\0\0\0\0\0\0\0\0\0\0\0\0\x03S\0\0\x01\x2cAAPL    \0\x16\xe3\xc4";
+
+const ADD_4: &[u8] = b"A\0\x01\0\0\0\0\0\0\0\0\0\0\0\0\0\0\0\x04B\0\0\0\x46AAPL    \0\x16\xe3\x60";
+
+const EXECUTE_1: &[u8] = b"E\0\x01\0\0\0\0\0\0\0\0\0\0\0\0\0\0\0\x01\0\0\0\x32\0\0\0\0\0\0\0\x01";
+// Order 4 of 70 shares in place of order 1.
+const REPLACE_1: &[u8] =
+    b"U\0\x01\0\0\0\0\0\0\0\0\0\0\0\0\0\0\0\x01\0\0\0\0\0\0\0\x04\0\0\0\x46\0\x16\xe3\x60";
+
+const DELETE_3: &[u8] = b"D\0\x01\0\0\0\0\0\0\0\0\0\0\0\0\0\0\0\x03";
+
+const NAMED_5: &[u8] =
+    b"F\0\x01\0\0\0\0\0\0\0\0\0\0\0\0\0\0\0\x05S\0\0\0\x0aAAPL    \0\x16\xe4\x28ABCD";
+
+const BROKEN_TRADE: &[u8] = b"B\0\x01\0\0\0\0\0\0\0\0\0\0\0\0\0\0\0\x01";
+
+const END_1: &[u8] = b"G                   1";
+
+const END_3: &[u8] = b"G                   3";
+
+const END_6: &[u8] = b"G                   6";
+
+// The snapshot of the messages before the sixth, without its End of Snapshot.
+const BEFORE_6: &[&[u8]] = &[EVENT, AAPL, ADD_1, ADD_2, ADD_3];
+
+// A joiner for which `cap` messages may wait. This helper and those of one call and its result have no contract, so that a proof of
+// a test need not carry what each call leaves.
+fn joiner<B: OrderBook>(memory: B::Alloc, cap: usize) -> Joiner<B> {
+    Joiner::new(memory, cap)
+}
+
+fn live<B: OrderBook>(
+    rt: &impl Abort,
+    joiner: &mut Joiner<B>,
+    number: u64,
+    payload: &[u8],
+    want: Result<Live, JoinFault>,
+) {
+    same_in(rt, ("message", number), joiner.live(number, payload), want);
+}
+
+fn snapshot<B: OrderBook>(
+    rt: &impl Abort,
+    joiner: &mut Joiner<B>,
+    payload: &[u8],
+    want: Result<Snap, JoinFault>,
+) {
+    same(rt, joiner.snapshot(payload), want);
+}
+
+fn resume<B: OrderBook>(
+    rt: &impl Abort,
+    joiner: &mut Joiner<B>,
+    want: Result<Option<u64>, JoinFault>,
+) {
+    same(rt, joiner.resume(), want);
+}
+
+fn restart<B: OrderBook>(joiner: &mut Joiner<B>) {
+    joiner.restart();
+}
+
+// The number that comes next, which there is once there is a market, and how many messages wait.
+fn stands<B: OrderBook>(rt: &impl Abort, joiner: &Joiner<B>, next: Option<u64>, waiting: usize) {
+    same(rt, joiner.next(), next);
+    same(rt, joiner.market().is_some(), next.is_some());
+    same(rt, joiner.waiting(), waiting);
+}
+
+// Takes messages of a snapshot, which none of them ends.
+fn read<B: OrderBook>(rt: &impl Abort, joiner: &mut Joiner<B>, payloads: &[&[u8]]) {
+    for payload in payloads {
+        snapshot(rt, joiner, payload, Ok(Snap::More));
+    }
+}
+
+// The payloads of the snapshot of a joiner's market, one after another.
+fn spelled<B: OrderBook>(alloc: Global, joiner: &Joiner<B>) -> Result<Vec<u8>, Fail> {
+    let market = joiner.market().ok_or("a market")?;
+    let mut bytes = Vec::new(alloc);
+    push_all(&mut bytes, market)?;
+    Ok(bytes)
+}
+
+fn push_all<B: OrderBook>(bytes: &mut Vec<u8>, market: &Market<B>) -> Result<(), AllocError> {
+    for message in SnapshotIter::new(market) {
+        push(bytes, &message)?;
+    }
+    Ok(())
+}
+
+fn push(bytes: &mut Vec<u8>, message: &Message<'_>) -> Result<(), AllocError> {
+    bytes.extend_from_slice(encode(message).bytes())
+}
+
+fn joined_up(alloc: Global, payloads: &[&[u8]]) -> Result<Vec<u8>, AllocError> {
+    let mut bytes = Vec::new(alloc);
+    for payload in payloads {
+        bytes.extend_from_slice(payload)?;
+    }
+    Ok(bytes)
+}
+
+// The snapshot of the joiner's market has these messages.
+fn check_market<B: OrderBook>(
+    rt: &impl Abort,
+    alloc: Global,
+    joiner: &Joiner<B>,
+    want: &[&[u8]],
+) -> Result<(), Fail> {
+    same(
+        rt,
+        spelled(alloc, joiner)?.as_slice(),
+        joined_up(alloc, want)?.as_slice(),
+    );
+    Ok(())
+}
+
+// A call of a joiner with its result, or what it holds by then.
+#[derive(Clone, Copy)]
+enum Step<'a> {
+    Live(u64, &'a [u8], Result<Live, JoinFault>),
+    Snapshot(&'a [u8], Result<Snap, JoinFault>),
+    // Messages of a snapshot, none of which ends it.
+    Read(&'a [&'a [u8]]),
+    Resume(Result<Option<u64>, JoinFault>),
+    Restart,
+    // The number that comes next, if there is a market, and how many messages wait.
+    Stands(Option<u64>, usize),
+    Waiting(usize),
+    // The snapshot of the market has these messages.
+    Market(&'a [&'a [u8]]),
+}
+
+fn take_step<B: OrderBook>(
+    rt: &impl Abort,
+    alloc: Global,
+    joiner: &mut Joiner<B>,
+    step: Step<'_>,
+) -> Result<(), Fail> {
+    match step {
+        Step::Live(number, payload, want) => live(rt, joiner, number, payload, want),
+        Step::Snapshot(payload, want) => snapshot(rt, joiner, payload, want),
+        Step::Read(payloads) => read(rt, joiner, payloads),
+        Step::Resume(want) => resume(rt, joiner, want),
+        Step::Restart => restart(joiner),
+        Step::Stands(next, waiting) => stands(rt, joiner, next, waiting),
+        Step::Waiting(want) => same(rt, joiner.waiting(), want),
+        Step::Market(want) => check_market(rt, alloc, joiner, want)?,
+    }
+    Ok(())
+}
+
+fn take_steps<B: OrderBook>(
+    rt: &impl Abort,
+    alloc: Global,
+    joiner: &mut Joiner<B>,
+    steps: &[Step<'_>],
+) -> Result<(), Fail> {
+    for step in steps {
+        take_step(rt, alloc, joiner, *step)?;
+    }
+    Ok(())
+}
+
+// A joiner for which `cap` messages may wait takes these steps.
+fn check<B: OrderBook>(
+    rt: &impl Abort,
+    alloc: Global,
+    memory: B::Alloc,
+    cap: usize,
+    steps: &[Step<'_>],
+) -> Result<(), Fail> {
+    let mut joiner: Joiner<B> = joiner(memory, cap);
+    take_steps(rt, alloc, &mut joiner, steps)
+}
+
+// The program's joiner takes these steps.
+fn check_indexed(
+    rt: &impl Abort,
+    alloc: Global,
+    cap: usize,
+    steps: &[Step<'_>],
+) -> Result<(), Fail> {
+    check::<IndexedBook>(rt, alloc, alloc, cap, steps)
+}
+
+// Messages 7 and 8 come before the snapshot of the first five, and 9 when there is room for it.
+const JOINS_LATE: &[Step<'static>] = &[
+    Step::Live(8, DELETE_3, Ok(Live::Kept)),
+    Step::Live(7, REPLACE_1, Ok(Live::Kept)),
+    Step::Live(9, NAMED_5, Err(JoinFault::Full { cap: 2 })),
+    Step::Read(BEFORE_6),
+    Step::Stands(None, 2),
+    Step::Resume(Ok(None)),
+    Step::Snapshot(END_6, Ok(Snap::Joined { next: 6 })),
+    Step::Live(6, EXECUTE_1, Ok(Live::Applied { next: 9 })),
+    Step::Live(6, EXECUTE_1, Ok(Live::Old)),
+    Step::Live(9, NAMED_5, Ok(Live::Applied { next: 10 })),
+    Step::Stands(Some(10), 0),
+    Step::Market(&[EVENT, AAPL, ADD_2, ADD_4, NAMED_5]),
+];
+
+#[test]
+fn joins_late(rt: HostRuntime) -> Result<(), Fail> {
+    check::<IndexedBook>(&rt, rt.alloc(), rt.alloc(), 2, JOINS_LATE)?;
+    check::<ListBook>(&rt, rt.alloc(), rt.alloc(), 2, JOINS_LATE)
+}
+
+#[test]
+fn the_laws_of_joins() {
+    laws::lawful_market();
+    laws::late_joiner();
+    laws::at_most_cap_wait();
+    laws::last_result();
+    laws::snapshot_of_feed();
+    laws::whole_feed();
+    laws::restricted_feed();
+    laws::snapshot_for_a_set();
+    laws::any_snapshot_for_a_set();
+}
+
+// The snapshot of the first two messages.
+const READ_2: Step<'static> = Step::Read(&[EVENT, AAPL]);
+
+const JOINED_AT_3: Step<'static> = Step::Snapshot(END_3, Ok(Snap::Joined { next: 3 }));
+
+#[test]
+fn a_refused_message_halts_for_good(rt: HostRuntime) -> Result<(), Fail> {
+    let halted = JoinFault::Halted {
+        number: 3,
+        cause: Cause::Rule(Refusal::UnknownLocate),
+    };
+    let steps = [
+        READ_2,
+        JOINED_AT_3,
+        Step::Live(4, ADD_2, Ok(Live::Kept)),
+        Step::Live(3, ADD_1_AT_9, Err(halted)),
+        Step::Live(3, ADD_1, Err(halted)),
+        Step::Live(0, ADD_1, Err(halted)),
+        Step::Live(1, EVENT, Err(halted)),
+        Step::Snapshot(END_3, Err(halted)),
+        Step::Resume(Err(halted)),
+        Step::Restart,
+        Step::Resume(Err(halted)),
+        Step::Stands(Some(3), 1),
+        Step::Market(&[EVENT, AAPL]),
+    ];
+    check_indexed(&rt, rt.alloc(), 1, &steps)
+}
+
+// The message that is refused waits, and one before it is delivered.
+#[test]
+fn a_waiting_message_halts(rt: HostRuntime) -> Result<(), Fail> {
+    let halted = JoinFault::Halted {
+        number: 4,
+        cause: Cause::Codec(CodecFault::Empty),
+    };
+    let steps = [
+        READ_2,
+        JOINED_AT_3,
+        Step::Live(4, b"", Ok(Live::Kept)),
+        Step::Live(5, ADD_2, Ok(Live::Kept)),
+        Step::Live(3, ADD_1, Err(halted)),
+        Step::Stands(Some(4), 2),
+        Step::Market(&[EVENT, AAPL, ADD_1]),
+    ];
+    check_indexed(&rt, rt.alloc(), 2, &steps)
+}
+
+#[test]
+fn a_broken_snapshot_is_restarted(rt: HostRuntime) -> Result<(), Fail> {
+    let broken = JoinFault::BadSnapshot {
+        place: 1,
+        cause: Cause::Rule(Refusal::UnknownLocate),
+    };
+    let bad = Err(JoinFault::BadNumber);
+    let steps = [
+        Step::Snapshot(ADD_1, Err(broken)),
+        Step::Snapshot(END_1, Err(broken)),
+        Step::Live(1, EVENT, Ok(Live::Kept)),
+        Step::Live(1, EVENT, Ok(Live::Kept)),
+        Step::Live(1, CLOSES, Err(JoinFault::Conflict { number: 1 })),
+        Step::Live(2, AAPL, Err(JoinFault::Full { cap: 1 })),
+        Step::Live(0, AAPL, bad),
+        Step::Live(10_000_000_000_000_000_000, AAPL, bad),
+        Step::Restart,
+        Step::Waiting(1),
+        Step::Snapshot(END_1, Ok(Snap::Joined { next: 2 })),
+        Step::Waiting(0),
+        Step::Snapshot(END_1, Err(JoinFault::Joined)),
+        Step::Restart,
+        Step::Resume(Ok(Some(2))),
+        Step::Market(&[EVENT]),
+    ];
+    check_indexed(&rt, rt.alloc(), 1, &steps)
+}
+
+// A thousand messages wait for a joiner, the last one first.
+fn check_thousand<B: OrderBook>(rt: &impl Abort, memory: B::Alloc) {
+    let mut joiner: Joiner<B> = joiner(memory, 1000);
+    for back in 0..1000u64 {
+        live(rt, &mut joiner, 1000 - back, BROKEN_TRADE, Ok(Live::Kept));
+    }
+    snapshot(rt, &mut joiner, END_1, Ok(Snap::Joined { next: 1001 }));
+    same(rt, joiner.waiting(), 0);
+}
+
+#[test]
+fn a_thousand_messages_wait(rt: HostRuntime) {
+    check_thousand::<IndexedBook>(&rt, rt.alloc());
+}
+
+// No message may wait: a feed in order from its first message on.
+#[test]
+fn joins_a_feed_in_order(rt: HostRuntime) -> Result<(), Fail> {
+    let steps = [
+        READ_2,
+        JOINED_AT_3,
+        Step::Live(1, EVENT, Ok(Live::Old)),
+        Step::Live(2, AAPL, Ok(Live::Old)),
+        Step::Live(4, ADD_2, Err(JoinFault::Full { cap: 0 })),
+        Step::Live(3, ADD_1, Ok(Live::Applied { next: 4 })),
+        Step::Market(&[EVENT, AAPL, ADD_1]),
+    ];
+    check_indexed(&rt, rt.alloc(), 0, &steps)
+}
+
+#[test]
+fn a_feed_with_nothing_new(rt: HostRuntime) -> Result<(), Fail> {
+    let steps = [
+        READ_2,
+        JOINED_AT_3,
+        Step::Live(1, EVENT, Ok(Live::Old)),
+        Step::Stands(Some(3), 0),
+        Step::Market(&[EVENT, AAPL]),
+    ];
+    check_indexed(&rt, rt.alloc(), 0, &steps)
+}
+
+#[test]
+fn a_snapshot_without_its_end(rt: HostRuntime) -> Result<(), Fail> {
+    let steps = [Step::Read(&[AAPL]), Step::Stands(None, 0)];
+    check_indexed(&rt, rt.alloc(), 0, &steps)
+}
+
+#[test]
+fn faults_have_words(rt: HostRuntime) -> Result<(), Fail> {
+    let cause = Cause::Rule(Refusal::StockMismatch);
+    let rows = [
+        (JoinFault::Full { cap: 2 }, "2 messages wait already"),
+        (
+            JoinFault::Conflict { number: 7 },
+            "message 7 waits with other bytes",
+        ),
+        (JoinFault::BadNumber, "bad message number"),
+        (
+            JoinFault::Halted { number: 3, cause },
+            "message 3: stock mismatch",
+        ),
+        (JoinFault::OutOfMemory { taken: true }, "out of memory"),
+        (JoinFault::Joined, "joined already"),
+        (
+            JoinFault::BadSnapshot {
+                place: 1,
+                cause: Cause::Codec(CodecFault::Empty),
+            },
+            "snapshot message 1: empty message",
+        ),
+        (
+            JoinFault::BadSnapshot {
+                place: 2,
+                cause: Cause::TooMany,
+            },
+            "snapshot message 2: too many messages",
+        ),
+    ];
+    for (fault, words) in rows {
+        same_words(&rt, rt.alloc(), &fault, words)?;
+    }
+    Ok(())
+}

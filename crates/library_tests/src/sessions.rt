@@ -1,0 +1,172 @@
+//! A served session that the tables use: its login, its answers, and both of its ends over memory.
+use crate::doubles::{FuseWriter, PieceReader};
+use crate::equal::same;
+use crate::files::{AAPL, ADD_1, ADD_2, EVENT, are_same, market, seq};
+use itch_book::{ListBook, OrderBook};
+use itch_codec::{Alpha, Seq};
+use itch_frame::{BlockReader, CountedRead, CountedWrite};
+use itch_market::Market;
+use itch_snapshot::snapshot_len;
+use itch_soup::{
+    Credentials, Rest, Served, ServerConfig, SoupFault, fetch_one, fetch_rest, serve_one,
+};
+use std::alloc::{Allocator, Global};
+use std::process::Abort;
+use std::test::Fail;
+
+/// Logins for all messages and for those from the third on.
+pub(crate) const LOGIN_1: &[u8] = b"\0\x2fLuser  secret                                 1";
+
+pub(crate) const LOGIN_3: &[u8] = b"\0\x2fLuser  secret                                 3";
+
+/// Their answers: the acceptance, the messages, End of Snapshot, and the end of the session.
+pub(crate) const FROM_1: &[u8] = b"\0\x1fA  ITCHSNAP                   1\
+    \0\x0dSS\0\0\0\0\0\0\0\0\0\0O\
+    \0\x28SR\0\x01\0\0\0\0\0\0\0\0AAPL    QN\0\0\0dNCZ PNN1N\0\0\0\0N\
+    \0\x25SA\0\x01\0\0\0\0\0\0\0\0\0\0\0\0\0\0\0\x01B\0\0\0dAAPL    \0\x16\xe3\x60\
+    \0\x25SA\0\x01\0\0\0\0\0\0\0\0\0\0\0\0\0\0\0\x02B\0\0\0\xc8AAPL    \0\x16\xe3\x60\
+    \0\x16SG                   5\0\x01Z";
+
+pub(crate) const FROM_3: &[u8] = b"\0\x1fA  ITCHSNAP                   3\
+    \0\x25SA\0\x01\0\0\0\0\0\0\0\0\0\0\0\0\0\0\0\x01B\0\0\0dAAPL    \0\x16\xe3\x60\
+    \0\x25SA\0\x01\0\0\0\0\0\0\0\0\0\0\0\0\0\0\0\x02B\0\0\0\xc8AAPL    \0\x16\xe3\x60\
+    \0\x16SG                   5\0\x01Z";
+
+/// The blocks of the messages from the third on.
+pub(crate) const REST_3: &[u8] =
+    b"\0\x24A\0\x01\0\0\0\0\0\0\0\0\0\0\0\0\0\0\0\x01B\0\0\0dAAPL    \0\x16\xe3\x60\
+    \0\x24A\0\x01\0\0\0\0\0\0\0\0\0\0\0\0\0\0\0\x02B\0\0\0\xc8AAPL    \0\x16\xe3\x60\
+    \0\x15G                   5";
+
+/// What is served: four messages, and then End of Snapshot with number 5.
+pub(crate) const SERVED: &[&[u8]] = &[EVENT, AAPL, ADD_1, ADD_2];
+
+pub(crate) fn alpha<const N: usize>(rt: &impl Abort, text: &str) -> Alpha<N> {
+    Alpha::from_text(text).expect(rt, "a text that fits")
+}
+
+pub(crate) fn config(rt: &impl Abort) -> ServerConfig {
+    ServerConfig {
+        username: alpha(rt, "user"),
+        password: alpha(rt, "secret"),
+        session: alpha(rt, "ITCHSNAP"),
+    }
+}
+
+pub(crate) fn credentials(rt: &impl Abort) -> Credentials {
+    Credentials {
+        username: alpha(rt, "user"),
+        password: alpha(rt, "secret"),
+        session: alpha(rt, ""),
+    }
+}
+
+/// The market that is served.
+pub(crate) fn served_market(alloc: Global) -> Result<Market<ListBook>, Fail> {
+    market(alloc, alloc, SERVED)
+}
+
+/// Serves one session of a market, with 5 in its End of Snapshot. This helper and those below have no contract, so that a proof of
+/// a test need not carry what the call leaves.
+pub(crate) fn serve<R: CountedRead, A: Allocator, W: CountedWrite, B: OrderBook>(
+    rt: &impl Abort,
+    reader: &mut BlockReader<R, A>,
+    writer: &mut W,
+    market: &Market<B>,
+) -> Result<Served, SoupFault> {
+    assert!(rt; snapshot_len(market) < 10);
+    serve_one(reader, writer, market, seq(rt, 5), &config(rt))
+}
+
+/// Serves one session of what this reader gives.
+pub(crate) fn serve_from<R: CountedRead + Drop, W: CountedWrite, B: OrderBook>(
+    rt: &impl Abort,
+    alloc: Global,
+    reader: R,
+    writer: &mut W,
+    market: &Market<B>,
+) -> Result<Result<Served, SoupFault>, Fail> {
+    let mut reader = BlockReader::new(alloc, reader)?;
+    Ok(serve(rt, &mut reader, writer, market))
+}
+
+/// Fetches over a reader and a writer, and logs in for all messages.
+pub(crate) fn fetch<R: CountedRead, A: Allocator, B: OrderBook>(
+    rt: &impl Abort,
+    memory: B::Alloc,
+    reader: &mut BlockReader<R, A>,
+    writer: &mut FuseWriter,
+) -> Result<(Market<B>, Seq), SoupFault> {
+    fetch_one(memory, reader, writer, &credentials(rt))
+}
+
+/// What a fetch gives.
+pub(crate) type Fetched<B> = Result<(Market<B>, Seq), SoupFault>;
+
+/// A fetch of what this reader gives, which logs in for all messages.
+pub(crate) fn fetched<R: CountedRead + Drop, B: OrderBook>(
+    rt: &impl Abort,
+    alloc: Global,
+    memory: B::Alloc,
+    reader: R,
+) -> Result<Fetched<B>, Fail> {
+    let mut reader = BlockReader::new(alloc, reader)?;
+    let mut writer = FuseWriter::new(alloc, 64, None);
+    let result = fetch(rt, memory, &mut reader, &mut writer);
+    same(rt, writer.written(), LOGIN_1);
+    Ok(result)
+}
+
+fn fault_over<R: CountedRead + Drop, B: OrderBook>(
+    rt: &impl Abort,
+    alloc: Global,
+    memory: B::Alloc,
+    reader: R,
+) -> Result<Option<SoupFault>, Fail> {
+    Ok(fetched::<R, B>(rt, alloc, memory, reader)?.err())
+}
+
+/// The fault of a fetch, if it has one.
+pub(crate) fn fetch_fault<R: CountedRead + Drop>(
+    rt: &impl Abort,
+    alloc: Global,
+    reader: R,
+) -> Result<Option<SoupFault>, Fail> {
+    fault_over::<R, ListBook>(rt, alloc, alloc, reader)
+}
+
+/// Fetches the messages from the third on over a reader and a writer.
+pub(crate) fn fetch_third<R: CountedRead, A: Allocator, M: Allocator>(
+    rt: &impl Abort,
+    memory: M,
+    reader: &mut BlockReader<R, A>,
+    writer: &mut FuseWriter,
+) -> Result<Rest<M>, SoupFault> {
+    fetch_rest(memory, reader, writer, &credentials(rt), seq(rt, 3))
+}
+
+/// What this reader gives from the third message on, after a login for it.
+pub(crate) fn third_fetched<R: CountedRead + Drop, M: Allocator>(
+    rt: &impl Abort,
+    alloc: Global,
+    memory: M,
+    reader: R,
+) -> Result<Result<Rest<M>, SoupFault>, Fail> {
+    let mut reader = BlockReader::new(alloc, reader)?;
+    let mut writer = FuseWriter::new(alloc, 64, None);
+    let result = fetch_third(rt, memory, &mut reader, &mut writer);
+    same(rt, writer.written(), LOGIN_3);
+    Ok(result)
+}
+
+/// This market is the one that is served, and this the number of its End of Snapshot.
+pub(crate) fn is_served_market<B: OrderBook>(
+    rt: &impl Abort,
+    alloc: Global,
+    market: &Market<B>,
+    next: Seq,
+) -> Result<(), Fail> {
+    assert!(rt; are_same(rt, &served_market(alloc)?, market));
+    same(rt, next.value(), 5);
+    Ok(())
+}

@@ -1,0 +1,149 @@
+//! Keys chosen to take as much memory as they can, and the memory that they take.
+use super::calls::{has, put, take};
+use itch_book::table::Table;
+use linked_list_allocator::LocalHeap;
+use std::alloc::AllocError;
+use std::process::Abort;
+use std::test::Fail;
+
+// Twice what the pages of any keys may take at first, and what a heap needs for itself: vectors double as they grow.
+const START: usize = 8_500_000;
+// Twice what a key may take.
+const FOR_KEY: usize = 128;
+
+// Puts in so many keys, so far apart, and checks the memory that they take.
+fn fill(
+    rt: &impl Abort,
+    heap: &LocalHeap,
+    table: &mut Table<&LocalHeap>,
+    step: u64,
+    count: u32,
+) -> Result<(), AllocError> {
+    for number in 0..count {
+        put(rt, table, u64::from(number).wrapping_mul(step), number)?;
+    }
+    for number in 0..count {
+        has(
+            rt,
+            table,
+            u64::from(number).wrapping_mul(step),
+            Some(number),
+        );
+    }
+    let bound = START.saturating_add(FOR_KEY.saturating_mul(count as usize));
+    assert!(rt; heap.used() <= bound, "{count} keys {step} apart");
+    Ok(())
+}
+
+// Takes out all of them.
+fn empty(rt: &impl Abort, table: &mut Table<&LocalHeap>, step: u64, count: u32) {
+    for number in 0..count {
+        let key = u64::from(number).wrapping_mul(step);
+        assert!(rt; take(rt, table, key) == number);
+        has(rt, table, key, None);
+    }
+}
+
+// A page for each key, or eight; so far apart that hardly any gets a page; and spread over all numbers.
+#[test]
+fn sparse_keys_take_bounded_memory(rt: HostRuntime) -> Result<(), Fail> {
+    for step in [32, 33, 256, 10_000, 1_000_000_007, 0x0000_1234_5678_9abd] {
+        let heap = LocalHeap::new(rt.alloc(), 128 << 20)?;
+        let mut table: Table<&LocalHeap> = Table::new(&heap);
+        fill(&rt, &heap, &mut table, step, 20_000)?;
+        let used = heap.used();
+        empty(&rt, &mut table, step, 20_000);
+        fill(&rt, &heap, &mut table, step, 20_000)?;
+        // A hash map may grow once as keys come and go.
+        let most = used.saturating_add(used / 8);
+        assert!(rt; heap.used() <= most, "keys {step} apart, again");
+    }
+    Ok(())
+}
+
+// So many that the pages of the first ones are few: one key of a page each, or two or four.
+#[test]
+fn many_sparse_keys_take_little_more_than_a_map(rt: HostRuntime) -> Result<(), Fail> {
+    for step in [8, 16, 32, 100, 256, 1 << 20, 0x0000_1234_5678_9abd] {
+        let heap = LocalHeap::new(rt.alloc(), 64 << 20)?;
+        let mut table: Table<&LocalHeap> = Table::new(&heap);
+        fill(&rt, &heap, &mut table, step, 140_000)?;
+    }
+    Ok(())
+}
+
+// Keys that stand side by side take a few bytes each, also after so many keys with a page each that no more of them get one.
+#[test]
+fn dense_keys_after_sparse_ones_get_pages(rt: HostRuntime) -> Result<(), Fail> {
+    let heap = LocalHeap::new(rt.alloc(), 64 << 20)?;
+    let mut table: Table<&LocalHeap> = Table::new(&heap);
+    fill(&rt, &heap, &mut table, 32, 100_000)?;
+    let used = heap.used();
+    for key in 4_000_000..4_400_000u64 {
+        put(&rt, &mut table, key, 1)?;
+    }
+    let more = heap.used().saturating_sub(used);
+    assert!(rt; more <= 8_000_000, "{more} bytes, {used} before");
+    Ok(())
+}
+
+// The greatest keys, and those at the ends of pages.
+#[test]
+fn keys_at_the_ends(rt: HostRuntime) -> Result<(), Fail> {
+    let heap = LocalHeap::new(rt.alloc(), 1 << 20)?;
+    let mut table: Table<&LocalHeap> = Table::new(&heap);
+    let keys = [
+        0,
+        31,
+        32,
+        63,
+        64,
+        u64::MAX,
+        u64::MAX - 31,
+        u64::MAX - 32,
+        1 << 32,
+        1 << 63,
+    ];
+    for (key, link) in keys.iter().zip(1..) {
+        put(&rt, &mut table, *key, link)?;
+    }
+    for (key, link) in keys.iter().zip(1..) {
+        has(&rt, &table, *key, Some(link));
+        has(&rt, &table, *key ^ 7, None);
+    }
+    Ok(())
+}
+
+// A key that comes and goes a million times takes memory once.
+#[test]
+fn a_key_used_again(rt: HostRuntime) -> Result<(), Fail> {
+    let heap = LocalHeap::new(rt.alloc(), 1 << 20)?;
+    let mut table: Table<&LocalHeap> = Table::new(&heap);
+    for key in [7, u64::MAX] {
+        put(&rt, &mut table, key, 1)?;
+        let used = heap.used();
+        for _ in 0..500_000 {
+            assert!(rt; take(&rt, &mut table, key) == 1);
+            put(&rt, &mut table, key, 1)?;
+        }
+        assert!(rt; heap.used() == used);
+    }
+    Ok(())
+}
+
+// Of a million rising keys a hundred are known at a time: a few pages serve them, and the directory has a word for each page.
+#[test]
+fn rising_keys_use_pages_again(rt: HostRuntime) -> Result<(), Fail> {
+    let heap = LocalHeap::new(rt.alloc(), 4 << 20)?;
+    let mut table: Table<&LocalHeap> = Table::new(&heap);
+    for key in 0..1_000_000u64 {
+        put(&rt, &mut table, key, 1)?;
+        if key >= 100 {
+            assert!(rt; take(&rt, &mut table, key - 100) == 1);
+        }
+    }
+    assert!(rt; heap.used() <= 300_000);
+    has(&rt, &table, 999_900, Some(1));
+    has(&rt, &table, 999_899, None);
+    Ok(())
+}

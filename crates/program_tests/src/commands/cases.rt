@@ -1,0 +1,264 @@
+//! Commands over files, with files of their own, and what they write of them.
+use super::blocks::*;
+use super::files::file;
+use itch_commands::book::book;
+use itch_commands::canon::canon;
+use itch_commands::check::check;
+use itch_commands::compare::{compare, compare_first};
+use itch_commands::join::join;
+use itch_commands::show::show;
+use itch_commands::snap::snap;
+use itch_commands::{
+    Book, BookForm, Command, FeedPart, FileKind, Filters, Limit, PairCommand, Selection, ShowForm,
+    ToolFault, perform, perform_pair, read_locates,
+};
+use itch_frame::{BlockReader, CountedRead, CountedWrite};
+use std::alloc::Global;
+use std::test::Fail;
+
+/// A command over one file.
+#[derive(Clone, Copy)]
+pub(super) enum Single {
+    Check,
+    Snap,
+    Canon,
+    CanonCheck,
+    Show,
+    ShowChosen,
+    ShowSnapshot,
+    Book,
+    BookLocates,
+    SnapStocks,
+    BookStocks,
+}
+
+/// A command over two files.
+#[derive(Clone, Copy)]
+pub(super) enum Double {
+    Compare,
+    CompareFirst,
+    Join,
+    JoinStocks,
+}
+
+pub(super) const DAY: [&str; 4] = [AAPL, ATTRIBUTED_1, BUY_2_OF_200, REPLACE_1_BY_3];
+
+pub(super) const SNAPSHOT: [&str; 4] = [AAPL, BUY_2_OF_200, ATTRIBUTED_3, END_5];
+
+const LINES: &[u8] = b"1 R 1 0 0 [AAPL] 51 4e 100 4e 43 5a20 50 4e 4e 31 4e 0 4e\n\
+    2 F 1 0 0 1 B 100 [AAPL] 150.0000 [ABCD]\n\
+    3 A 1 0 0 2 B 200 [AAPL] 150.0000\n\
+    4 U 1 0 0 1 3 100 150.0000\n";
+
+const AS_CSV: &[u8] = b"locate,stock,side,price,shares,orders\n1,AAPL,B,150.0000,300,2\n";
+
+const CHOSEN_LINES: &[u8] = b"2 F 1 0 00:00:00.000000000 1 B 100 [AAPL] 150.0000 [ABCD]\n\
+    4 U 1 0 00:00:00.000000000 1 3 100 150.0000\n";
+
+const SNAPSHOT_LINES: &[u8] =
+    b"{\"number\":2,\"type\":\"A\",\"stock_locate\":1,\"tracking_number\":0,\
+    \"time\":\"00:00:00.000000000\",\"ns\":0,\"order_reference_number\":2,\"buy_sell_indicator\":\"B\",\
+    \"shares\":200,\"stock\":\"AAPL\",\"price\":\"150.0000\"}\n\
+    {\"number\":4,\"type\":\"G\",\"sequence_number\":5}\n";
+
+// Each command without its contract, so that what calls one of them does not carry it.
+fn checked<R: CountedRead + Drop, W: CountedWrite>(
+    alloc: Global,
+    reader: R,
+    out: &mut W,
+) -> Result<bool, ToolFault> {
+    check(alloc, reader, out)
+}
+
+fn snapped<R: CountedRead + Drop, W: CountedWrite>(
+    alloc: Global,
+    reader: R,
+    out: &mut W,
+) -> Result<bool, ToolFault> {
+    snap(alloc, reader, None, None, out)
+}
+
+fn made_canonical<R: CountedRead + Drop, W: CountedWrite>(
+    alloc: Global,
+    reader: R,
+    check: bool,
+    out: &mut W,
+) -> Result<bool, ToolFault> {
+    canon(alloc, reader, check, out)
+}
+
+fn shown<R: CountedRead + Drop, W: CountedWrite>(
+    alloc: Global,
+    reader: R,
+    out: &mut W,
+) -> Result<bool, ToolFault> {
+    show(alloc, reader, out)
+}
+
+fn booked<R: CountedRead + Drop, W: CountedWrite>(
+    alloc: Global,
+    reader: R,
+    out: &mut W,
+) -> Result<bool, ToolFault> {
+    book(alloc, 1, reader, out)
+}
+
+fn compared<R: CountedRead + Drop, S: CountedRead + Drop, W: CountedWrite>(
+    alloc: Global,
+    first: R,
+    second: S,
+    out: &mut W,
+) -> Result<bool, ToolFault> {
+    compare(alloc, first, second, out)
+}
+
+fn compared_first<R: CountedRead + Drop, S: CountedRead + Drop, W: CountedWrite>(
+    alloc: Global,
+    first: R,
+    second: S,
+    out: &mut W,
+) -> Result<bool, ToolFault> {
+    compare_first(alloc, first, second, out)
+}
+
+fn joined<R: CountedRead + Drop, S: CountedRead + Drop, W: CountedWrite>(
+    alloc: Global,
+    snapshot: R,
+    feed: S,
+    out: &mut W,
+) -> Result<bool, ToolFault> {
+    join(alloc, snapshot, feed, None, out)
+}
+
+// What a command says, with the list of the locates that are wanted, if it has one.
+fn performed<R: CountedRead + Drop, W: CountedWrite>(
+    alloc: Global,
+    command: Command<'_>,
+    list: Option<&str>,
+    reader: R,
+    out: &mut W,
+) -> Result<bool, ToolFault> {
+    let set = match list {
+        Some(list) => Some(read_locates(alloc, list)?),
+        None => None,
+    };
+    let mut reader = BlockReader::new(alloc, reader)?;
+    perform::<_, _, Book<Global>, _>(alloc, command, set.as_ref(), &mut reader, out)
+}
+
+fn joined_of_stocks<R: CountedRead + Drop, S: CountedRead + Drop, W: CountedWrite>(
+    alloc: Global,
+    snapshot: R,
+    feed: S,
+    out: &mut W,
+) -> Result<bool, ToolFault> {
+    let command = PairCommand::Join {
+        part: FeedPart::whole(),
+        selection: Selection::Stocks("AAPL"),
+    };
+    let mut snapshot = BlockReader::new(alloc, snapshot)?;
+    let mut feed = BlockReader::new(alloc, feed)?;
+    perform_pair::<_, _, _, _, Book<Global>, _>(alloc, command, None, &mut snapshot, &mut feed, out)
+}
+
+// The messages of order 1, of some locates, stocks and types, with names.
+const SHOW_CHOSEN: Command<'static> = Command::Show {
+    kind: WHOLE,
+    form: ShowForm::Named,
+    filters: Filters {
+        only: Some("1-3"),
+        stocks: Some("AAPL"),
+        types: Some("FU"),
+        reference: Some(1),
+    },
+};
+
+// The orders of a snapshot without attribution, and its End, as JSON.
+const SHOW_SNAPSHOT: Command<'static> = Command::Show {
+    kind: FileKind::Snapshot,
+    form: ShowForm::Json,
+    filters: Filters {
+        only: None,
+        stocks: None,
+        types: Some("AG"),
+        reference: None,
+    },
+};
+
+const BOOK_LOCATES: Command<'static> = Command::Book {
+    selection: Selection::Locates("1"),
+    depth: None,
+    kind: WHOLE,
+    form: BookForm::Csv,
+};
+
+const BOOK_STOCKS: Command<'static> = Command::Book {
+    selection: Selection::Stocks("AAPL"),
+    depth: None,
+    kind: WHOLE,
+    form: BookForm::Csv,
+};
+
+const SNAP_STOCKS: Command<'static> = Command::Snap {
+    limit: WHOLE_DAY,
+    selection: Selection::Stocks("AAPL"),
+};
+
+const WHOLE_DAY: Limit = Limit {
+    after: None,
+    until: None,
+};
+
+const WHOLE: FileKind = FileKind::Day(WHOLE_DAY);
+
+/// Performs a command over this reader of its file.
+pub(super) fn perform_single<R: CountedRead + Drop, W: CountedWrite>(
+    command: Single,
+    alloc: Global,
+    reader: R,
+    out: &mut W,
+) -> Result<bool, ToolFault> {
+    match command {
+        Single::Check => checked(alloc, reader, out),
+        Single::Snap => snapped(alloc, reader, out),
+        Single::Canon => made_canonical(alloc, reader, false, out),
+        Single::CanonCheck => made_canonical(alloc, reader, true, out),
+        Single::Show => shown(alloc, reader, out),
+        Single::Book => booked(alloc, reader, out),
+        Single::ShowChosen => performed(alloc, SHOW_CHOSEN, Some("1-3"), reader, out),
+        Single::ShowSnapshot => performed(alloc, SHOW_SNAPSHOT, None, reader, out),
+        Single::BookLocates => performed(alloc, BOOK_LOCATES, Some("1"), reader, out),
+        Single::SnapStocks => performed(alloc, SNAP_STOCKS, None, reader, out),
+        Single::BookStocks => performed(alloc, BOOK_STOCKS, None, reader, out),
+    }
+}
+
+/// Performs a command over these readers of its files.
+pub(super) fn perform_double<R: CountedRead + Drop, S: CountedRead + Drop, W: CountedWrite>(
+    command: Double,
+    alloc: Global,
+    first: R,
+    second: S,
+    out: &mut W,
+) -> Result<bool, ToolFault> {
+    match command {
+        Double::Compare => compared(alloc, first, second, out),
+        Double::CompareFirst => compared_first(alloc, first, second, out),
+        Double::Join => joined(alloc, first, second, out),
+        Double::JoinStocks => joined_of_stocks(alloc, first, second, out),
+    }
+}
+
+/// What a command writes of its file, which is the day or, of `canon` and `show --snapshot`, the snapshot.
+pub(super) fn wanted(alloc: Global, command: Single) -> Result<Vec<u8>, Fail> {
+    match command {
+        Single::Check => Ok(Vec::from_slice(alloc, b"ok 4 messages\n")?),
+        Single::CanonCheck => Ok(Vec::from_slice(alloc, b"canonical\n")?),
+        Single::Show => Ok(Vec::from_slice(alloc, LINES)?),
+        Single::ShowChosen => Ok(Vec::from_slice(alloc, CHOSEN_LINES)?),
+        Single::ShowSnapshot => Ok(Vec::from_slice(alloc, SNAPSHOT_LINES)?),
+        Single::Book => Ok(Vec::from_slice(alloc, b"1 AAPL\nB 150.0000 300 2\n")?),
+        Single::BookLocates | Single::BookStocks => Ok(Vec::from_slice(alloc, AS_CSV)?),
+        Single::Snap | Single::SnapStocks | Single::Canon => file(alloc, &SNAPSHOT),
+    }
+}

@@ -1,0 +1,8 @@
+//! A live server's core, over its public items alone: whole days of calls, byte by byte, and each allocation refused in turn.
+mod clients;
+mod feeds;
+mod messages;
+mod players;
+mod refused_memory;
+mod sessions;
+mod steps;

@@ -1,0 +1,145 @@
+//! Each allocation refused in turn: what was there before is there still, and the same call succeeds with memory.
+use super::messages::{
+    AAPL, ACCEPTED_1, ACCEPTED_3, ADD_1, EVENT, FEED_FROM_1, FEED_FROM_3, LOGIN, SNAPSHOT_2,
+    WELCOME,
+};
+use super::steps::{Brought, Standing, Step, desk, take_steps};
+use crate::equal::{holds_in, same_in};
+use itch_book::{IndexedBook, OrderBook};
+use itch_live::Desk;
+use library_tests::doubles::{FuseWriter, Refusing};
+use std::alloc::Global;
+use std::process::Abort;
+use std::test::Fail;
+
+type Index<'a> = IndexedBook<&'a Refusing<Global>>;
+
+// More allocations than a test makes: none is refused.
+const NONE: u64 = 1_000_000;
+
+const TWO_MESSAGES: &[Step<'static>] = &[
+    Step::Connect(FEED_FROM_1),
+    Step::Feed(ACCEPTED_1, Brought::Accepted(1)),
+    Step::Feed(EVENT, Brought::Taken(2)),
+    Step::Feed(AAPL, Brought::Taken(3)),
+];
+
+// A desk with each of its allocations refused in turn. Returns how many were refused.
+fn refuse_desk<B: OrderBook>(
+    rt: &impl Abort,
+    memory: B::Alloc,
+    refusing: &Refusing<Global>,
+) -> u64 {
+    for nth in 0..16 {
+        refusing.arm(nth);
+        let made = desk::<B>(rt, memory, false).is_ok();
+        holds_in(rt, 0, made != refusing.has_refused());
+        if made {
+            return nth;
+        }
+    }
+    panic!(rt; "more than 16 allocations")
+}
+
+// A client is admitted so.
+fn refuse_client<B: OrderBook>(
+    rt: &impl Abort,
+    refusing: &Refusing<Global>,
+    desk: &mut Desk<B>,
+) -> u64 {
+    for nth in 0..16 {
+        refusing.arm(nth);
+        let place = desk.admit(0);
+        if !refusing.has_refused() {
+            same_in(rt, 1, place, Ok(Some(0)));
+            return nth;
+        }
+        holds_in(rt, 1, place.is_err() && desk.guest(0).is_none());
+    }
+    panic!(rt; "more than 16 allocations")
+}
+
+// It is answered so.
+fn refuse_answer<B: OrderBook>(
+    rt: &impl Abort,
+    refusing: &Refusing<Global>,
+    desk: &mut Desk<B>,
+) -> u64 {
+    for nth in 0..16 {
+        refusing.arm(nth);
+        let answered = desk.answer(u64::MAX, 0);
+        if !refusing.has_refused() {
+            holds_in(rt, 2, answered.is_ok());
+            return nth;
+        }
+        holds_in(rt, 2, answered.is_err());
+        same_in(rt, 2, desk.pending(0), WELCOME);
+    }
+    panic!(rt; "more than 16 allocations")
+}
+
+fn check_clients<B: OrderBook>(
+    rt: &impl Abort,
+    alloc: Global,
+    memory: B::Alloc,
+    refusing: &Refusing<Global>,
+) -> Result<(), Fail> {
+    let mut desk: Desk<B> = desk(rt, memory, false)?;
+    let mut record = FuseWriter::new(alloc, 5, None);
+    take_steps(rt, &mut desk, &mut record, TWO_MESSAGES)?;
+    holds_in(rt, 3, refuse_client(rt, refusing, &mut desk) > 0);
+    refusing.arm(0);
+    take_steps(rt, &mut desk, &mut record, &[Step::Hear(0, LOGIN)])?;
+    holds_in(rt, 4, !refusing.has_refused());
+    holds_in(rt, 5, refuse_answer(rt, refusing, &mut desk) > 1);
+    refusing.arm(0);
+    let rest = [
+        Step::Take(0, 33),
+        Step::Pending(0, SNAPSHOT_2),
+        Step::Take(0, 84),
+        Step::Stands(0, Standing::Closing),
+        Step::Tick,
+        Step::Leave(0),
+        Step::Answer,
+    ];
+    take_steps(rt, &mut desk, &mut record, &rest)?;
+    holds_in(rt, 6, !refusing.has_refused());
+    Ok(())
+}
+
+#[test]
+fn a_desk_and_its_clients(rt: HostRuntime) -> Result<(), Fail> {
+    let refusing = Refusing::new(rt.alloc(), NONE);
+    assert!(rt; refuse_desk::<Index<'_>>(&rt, &refusing, &refusing) > 1);
+    refusing.arm(NONE);
+    check_clients::<Index<'_>>(&rt, rt.alloc(), &refusing, &refusing)
+}
+
+// A message for which memory is refused is asked for again.
+const REFUSED_AT_3: &[Step<'static>] = &[
+    Step::Feed(ADD_1, Brought::NoMemory),
+    Step::Next(Some(3)),
+    Step::Connect(FEED_FROM_3),
+    Step::Feed(ACCEPTED_3, Brought::Accepted(3)),
+    Step::Feed(ADD_1, Brought::Taken(4)),
+    Step::Next(Some(4)),
+];
+
+fn check_feed<B: OrderBook>(
+    rt: &impl Abort,
+    alloc: Global,
+    memory: B::Alloc,
+    refusing: &Refusing<Global>,
+) -> Result<(), Fail> {
+    let mut desk: Desk<B> = desk(rt, memory, false)?;
+    let mut record = FuseWriter::new(alloc, 5, None);
+    take_steps(rt, &mut desk, &mut record, TWO_MESSAGES)?;
+    refusing.arm(0);
+    take_steps(rt, &mut desk, &mut record, REFUSED_AT_3)
+}
+
+#[test]
+fn a_message_of_the_feed(rt: HostRuntime) -> Result<(), Fail> {
+    let refusing = Refusing::new(rt.alloc(), NONE);
+    check_feed::<Index<'_>>(&rt, rt.alloc(), &refusing, &refusing)
+}

@@ -1,0 +1,159 @@
+//! The session of the feed: known beforehand, or named first by the feed or by a server of snapshots, and kept.
+use super::messages::{
+    AAPL, ACCEPTED_1, ACCEPTED_3, ADD_1, ADD_2, DAY, END_3, EVENT, FEED_FROM_1, FEED_FROM_3,
+    FEED_FROM_3_BLANK, MONDAY_FROM_1, SNAPSHOTS_1, SNAPSHOTS_FROM_1, TUESDAY_1, TUESDAY_3,
+};
+use super::steps::{Brought, Step, UNKNOWN, config, desk_of, feed, follower_of, known, take_steps};
+use crate::equal::same_in;
+use itch_book::{IndexedBook, OrderBook};
+use itch_live::{Desk, Follower, Sessions};
+use library_tests::doubles::FuseWriter;
+use std::alloc::Global;
+use std::process::Abort;
+use std::test::Fail;
+
+type Index = IndexedBook<Global>;
+
+const TUESDAY: Brought = Brought::OtherSession(*b"   TUESDAY");
+
+fn check<B: OrderBook>(
+    rt: &impl Abort,
+    alloc: Global,
+    memory: B::Alloc,
+    sessions: Sessions,
+    glimpse: bool,
+    steps: &[Step<'_>],
+) -> Result<(), Fail> {
+    let mut desk: Desk<B> = desk_of(rt, memory, sessions, glimpse, 1)?;
+    let mut record = FuseWriter::new(alloc, 5, None);
+    take_steps(rt, &mut desk, &mut record, steps)
+}
+
+// The first login is for the session that is known, and what accepts it in another name is not taken.
+const BEFOREHAND: &[Step<'static>] = &[
+    Step::Session(Some(b"MONDAY    ")),
+    Step::Connect(MONDAY_FROM_1),
+    Step::Feed(TUESDAY_1, TUESDAY),
+    Step::Feed(EVENT, Brought::Broken),
+    Step::Next(Some(1)),
+    Step::Connect(MONDAY_FROM_1),
+    Step::Feed(ACCEPTED_1, Brought::Accepted(1)),
+    Step::Feed(EVENT, Brought::Taken(2)),
+    Step::Feed(AAPL, Brought::Taken(3)),
+    Step::Feed(ADD_1, Brought::Taken(4)),
+    Step::Feed(ADD_2, Brought::Taken(5)),
+    Step::Session(Some(b"MONDAY    ")),
+    Step::Recorded(DAY),
+];
+
+#[test]
+fn known_beforehand(rt: HostRuntime) -> Result<(), Fail> {
+    let sessions = known(&rt, Some("MONDAY"), None);
+    check::<Index>(&rt, rt.alloc(), rt.alloc(), sessions, false, BEFOREHAND)
+}
+
+// The session that a server of snapshots names first is the feed's: a feed of another day is not joined to the snapshot.
+const NAMED_BY_THE_SNAPSHOT: &[Step<'static>] = &[
+    Step::Session(None),
+    Step::Connect(FEED_FROM_1),
+    Step::Feed(ACCEPTED_1, Brought::Accepted(1)),
+    Step::Session(Some(b"    MONDAY")),
+    Step::Feed(EVENT, Brought::Nothing),
+    Step::Feed(AAPL, Brought::Nothing),
+    Step::Feed(END_3, Brought::Joined(3)),
+    Step::Connect(FEED_FROM_3),
+    Step::Feed(TUESDAY_3, TUESDAY),
+    Step::Feed(ADD_1, Brought::Broken),
+    Step::Next(Some(3)),
+    Step::Recorded(b""),
+];
+
+#[test]
+fn named_by_the_snapshot(rt: HostRuntime) -> Result<(), Fail> {
+    let sessions = known(&rt, None, None);
+    check::<Index>(
+        &rt,
+        rt.alloc(),
+        rt.alloc(),
+        sessions,
+        true,
+        NAMED_BY_THE_SNAPSHOT,
+    )
+}
+
+// A snapshot of another day than the one that is known is not taken.
+const SNAPSHOT_OF_ANOTHER_DAY: &[Step<'static>] = &[
+    Step::Connect(MONDAY_FROM_1),
+    Step::Feed(TUESDAY_1, TUESDAY),
+    Step::Feed(EVENT, Brought::Broken),
+    Step::Connect(MONDAY_FROM_1),
+    Step::Feed(ACCEPTED_1, Brought::Accepted(1)),
+    Step::Feed(EVENT, Brought::Nothing),
+    Step::Feed(AAPL, Brought::Nothing),
+    Step::Feed(END_3, Brought::Joined(3)),
+];
+
+#[test]
+fn a_snapshot_of_another_day(rt: HostRuntime) -> Result<(), Fail> {
+    let sessions = known(&rt, Some("MONDAY"), None);
+    check::<Index>(
+        &rt,
+        rt.alloc(),
+        rt.alloc(),
+        sessions,
+        true,
+        SNAPSHOT_OF_ANOTHER_DAY,
+    )
+}
+
+// A server of snapshots with its own name for the session has to accept in that, and says nothing of the feed's.
+const TWO_NAMES: &[Step<'static>] = &[
+    Step::Connect(SNAPSHOTS_FROM_1),
+    Step::Feed(ACCEPTED_1, Brought::OtherSession(*b"    MONDAY")),
+    Step::Connect(SNAPSHOTS_FROM_1),
+    Step::Feed(SNAPSHOTS_1, Brought::Accepted(1)),
+    Step::Session(None),
+    Step::Feed(EVENT, Brought::Nothing),
+    Step::Feed(AAPL, Brought::Nothing),
+    Step::Feed(END_3, Brought::Joined(3)),
+    Step::Connect(FEED_FROM_3_BLANK),
+    Step::Feed(ACCEPTED_3, Brought::Accepted(3)),
+    Step::Session(Some(b"    MONDAY")),
+    Step::Feed(ADD_1, Brought::Taken(4)),
+];
+
+#[test]
+fn two_names(rt: HostRuntime) -> Result<(), Fail> {
+    let sessions = known(&rt, None, Some("SNAPSHOTS"));
+    check::<Index>(&rt, rt.alloc(), rt.alloc(), sessions, true, TWO_NAMES)
+}
+
+const GONE_ON: &[Step<'static>] = &[
+    Step::Session(Some(b"    MONDAY")),
+    Step::Next(Some(3)),
+    Step::Admit(Some(0)),
+    Step::Feed(ADD_1, Brought::Taken(4)),
+    Step::Feed(ADD_2, Brought::Taken(5)),
+    Step::Recorded(DAY),
+];
+
+fn check_connected<B: OrderBook>(
+    rt: &impl Abort,
+    alloc: Global,
+    memory: B::Alloc,
+) -> Result<(), Fail> {
+    let mut follower: Follower<B> = follower_of(rt, memory, UNKNOWN, false)?;
+    let mut record = FuseWriter::new(alloc, 5, None);
+    same_in(rt, 0, &follower.connect(0)[..], FEED_FROM_1);
+    feed(&mut follower, ACCEPTED_1, 7, 0, &mut record);
+    feed(&mut follower, EVENT, 7, 0, &mut record);
+    feed(&mut follower, AAPL, 7, 0, &mut record);
+    let mut desk = Desk::new(memory, config(rt), follower, 1)?;
+    take_steps(rt, &mut desk, &mut record, GONE_ON)
+}
+
+// A desk whose follower is connected already goes on with that connection.
+#[test]
+fn connected_before(rt: HostRuntime) -> Result<(), Fail> {
+    check_connected::<Index>(&rt, rt.alloc(), rt.alloc())
+}

@@ -1,0 +1,310 @@
+//! A desk that is taken through steps, each at its moment.
+use crate::equal::{holds_in, same_in};
+use itch_book::OrderBook;
+use itch_codec::Alpha;
+use itch_join::{JoinFault, Joiner};
+use itch_live::{Desk, Follower, Gone, News, Sessions};
+use itch_soup::{Credentials, ServerConfig, Tick};
+use library_tests::doubles::FuseWriter;
+use std::alloc::{AllocError, Global};
+use std::process::Abort;
+use std::test::Fail;
+
+/// What is done, and what has to come of it.
+#[derive(Clone, Copy)]
+pub(crate) enum Step<'a> {
+    /// At this moment from here on.
+    At(u64),
+    /// A connection to the feed begins with this login.
+    Connect(&'a [u8]),
+    /// The feed sends this, in one piece and in pieces of one byte, and the last news is this one.
+    Feed(&'a [u8], Brought),
+    /// What is due to the feed.
+    FeedTick(Tick),
+    /// The number of the next message.
+    Next(Option<u64>),
+    /// The feed's session, as a server writes it.
+    Session(Option<&'a [u8]>),
+    /// A client comes, and is given this place.
+    Admit(Option<usize>),
+    /// A client says this, of which all is taken.
+    Hear(usize, &'a [u8]),
+    /// Those who wait are answered.
+    Answer,
+    /// They are answered where all snapshots may have so many bytes.
+    AnswerWithin(u64),
+    /// The snapshots that are kept have so many bytes.
+    Kept(u64),
+    /// Exactly this is pending for a client.
+    Pending(usize, &'a [u8]),
+    /// The socket of a client takes so many bytes.
+    Take(usize, usize),
+    /// The clients are told the moment.
+    Tick,
+    /// A client is there, is closing, or is gone.
+    Stands(usize, Standing),
+    /// The login of a client was accepted, or was not.
+    Accepted(usize, bool),
+    /// The login of a client was rejected with this code, or with none.
+    Rejected(usize, Option<u8>),
+    /// The connection of a client is closed.
+    Leave(usize),
+    /// Exactly this was recorded.
+    Recorded(&'a [u8]),
+}
+
+/// What the feed has brought.
+#[derive(Clone, Copy, Debug, PartialEq, Eq)]
+pub(crate) enum Brought {
+    Nothing,
+    Accepted(u64),
+    Joined(u64),
+    Taken(u64),
+    Ended,
+    Rejected(u8),
+    OtherSession([u8; 10]),
+    Broken,
+    OutOfOrder,
+    NoMemory,
+    Refused,
+    Unrecorded,
+}
+
+#[derive(Clone, Copy, Debug, PartialEq, Eq)]
+pub(crate) enum Standing {
+    Free,
+    There,
+    Closing,
+    Gone(Gone),
+}
+
+/// What news is.
+pub(crate) fn what_came(news: &News) -> Brought {
+    match news {
+        News::Nothing => Brought::Nothing,
+        News::Accepted { next } => Brought::Accepted(*next),
+        News::Joined { next } => Brought::Joined(*next),
+        News::Taken { next } => Brought::Taken(*next),
+        News::Ended => Brought::Ended,
+        News::Rejected(code) => Brought::Rejected(*code),
+        News::OtherSession { named } => Brought::OtherSession(*named.bytes()),
+        News::Broken(_) => Brought::Broken,
+        News::Refused(JoinFault::Full { .. }) => Brought::OutOfOrder,
+        News::Refused(JoinFault::OutOfMemory { .. }) => Brought::NoMemory,
+        News::Refused(_) => Brought::Refused,
+        News::Unrecorded(_) => Brought::Unrecorded,
+    }
+}
+
+fn alpha<const N: usize>(rt: &impl Abort, text: &str) -> Alpha<N> {
+    Alpha::from_text(text).expect(rt, "a text that fits")
+}
+
+pub(crate) fn config(rt: &impl Abort) -> ServerConfig {
+    ServerConfig {
+        username: alpha(rt, "user"),
+        password: alpha(rt, "secret"),
+        session: alpha(rt, "ITCHSNAP"),
+    }
+}
+
+pub(crate) fn credentials(rt: &impl Abort) -> Credentials {
+    Credentials {
+        username: alpha(rt, "user"),
+        password: alpha(rt, "secret"),
+        session: alpha(rt, ""),
+    }
+}
+
+/// No session is known beforehand.
+pub(crate) const UNKNOWN: Sessions = Sessions {
+    feed: None,
+    glimpse: None,
+};
+
+/// These sessions are known beforehand.
+pub(crate) fn known(rt: &impl Abort, feed: Option<&str>, glimpse: Option<&str>) -> Sessions {
+    Sessions {
+        feed: feed.map(|name| alpha(rt, name)),
+        glimpse: glimpse.map(|name| alpha(rt, name)),
+    }
+}
+
+/// A desk with two places, whose market is that of no messages, or none yet where it begins with a GLIMPSE server.
+pub(crate) fn desk<B: OrderBook>(
+    rt: &impl Abort,
+    memory: B::Alloc,
+    glimpse: bool,
+) -> Result<Desk<B>, AllocError> {
+    desk_of(rt, memory, UNKNOWN, glimpse, 2)
+}
+
+/// The same with so many places, and with these sessions.
+pub(crate) fn desk_of<B: OrderBook>(
+    rt: &impl Abort,
+    memory: B::Alloc,
+    sessions: Sessions,
+    glimpse: bool,
+    places: usize,
+) -> Result<Desk<B>, AllocError> {
+    let follower = follower_of(rt, memory, sessions, glimpse)?;
+    Desk::new(memory, config(rt), follower, places)
+}
+
+/// What follows a feed with these sessions, whose market is that of no messages, or none yet.
+pub(crate) fn follower_of<B: OrderBook>(
+    rt: &impl Abort,
+    memory: B::Alloc,
+    sessions: Sessions,
+    glimpse: bool,
+) -> Result<Follower<B>, AllocError> {
+    let mut joiner: Joiner<B> = Joiner::new(memory, 0);
+    if !glimpse {
+        let joined = joiner.snapshot(b"G                   1");
+        assert!(rt; joined.is_ok());
+    }
+    Follower::new(memory, credentials(rt), sessions, joiner, 0)
+}
+
+/// How a client stands that has its place.
+pub(crate) fn how_it_stands(is_gone: bool, why: Option<Gone>, is_closing: bool) -> Standing {
+    match why {
+        Some(reason) if is_gone => Standing::Gone(reason),
+        None if is_closing => Standing::Closing,
+        _ => Standing::There,
+    }
+}
+
+fn stands_at<B: OrderBook>(desk: &Desk<B>, place: usize) -> Standing {
+    match desk.guest(place) {
+        None => Standing::Free,
+        Some(guest) => how_it_stands(guest.is_gone(), guest.why_gone(), guest.is_closing()),
+    }
+}
+
+fn is_accepted_at<B: OrderBook>(desk: &Desk<B>, place: usize) -> bool {
+    match desk.guest(place) {
+        None => false,
+        Some(guest) => guest.is_accepted(),
+    }
+}
+
+// Whether the feed's session is this one.
+fn is_session<B: OrderBook>(desk: &Desk<B>, want: Option<&[u8]>) -> bool {
+    match (desk.follower().session(), want) {
+        (Some(session), Some(want)) => &session.bytes()[..] == want,
+        (None, None) => true,
+        _ => false,
+    }
+}
+
+fn rejection_at<B: OrderBook>(desk: &Desk<B>, place: usize) -> Option<u8> {
+    match desk.guest(place) {
+        None => None,
+        Some(guest) => guest.rejection_code(),
+    }
+}
+
+/// The feed sends this in pieces of so many bytes. Returns the last news.
+pub(crate) fn feed<B: OrderBook>(
+    follower: &mut Follower<B>,
+    bytes: &[u8],
+    piece: usize,
+    now: u64,
+    record: &mut FuseWriter,
+) -> Brought {
+    let mut last = Brought::Nothing;
+    let mut from = 0usize;
+    for _call in 0..bytes.len() {
+        let to = from.saturating_add(piece).min(bytes.len());
+        if from < to {
+            let (count, news) = follower.hear(&bytes[from..to], now, record);
+            from = from.saturating_add(count);
+            last = what_came(&news);
+        }
+    }
+    last
+}
+
+// A client says this. Returns how many bytes were taken.
+fn hear<B: OrderBook>(desk: &mut Desk<B>, place: usize, bytes: &[u8], now: u64) -> usize {
+    let mut from = 0usize;
+    for _call in 0..bytes.len() {
+        if from < bytes.len() {
+            from = from.saturating_add(desk.hear(place, &bytes[from..], now));
+        }
+    }
+    from
+}
+
+fn take<B: OrderBook>(desk: &mut Desk<B>, place: usize, count: usize, now: u64) -> bool {
+    let fits = count <= desk.pending(place).len();
+    if fits {
+        desk.took(place, count, now);
+    }
+    fits
+}
+
+/// Takes a step of a desk at this moment. Returns the moment from then on.
+pub(crate) fn take_step<B: OrderBook>(
+    rt: &impl Abort,
+    desk: &mut Desk<B>,
+    record: &mut FuseWriter,
+    (at, now): (usize, u64),
+    step: Step<'_>,
+) -> Result<u64, Fail> {
+    match step {
+        Step::At(now) => return Ok(now),
+        Step::Connect(login) => same_in(rt, at, &desk.follower_mut().connect(now)[..], login),
+        Step::Feed(bytes, want) => same_in(
+            rt,
+            at,
+            feed(desk.follower_mut(), bytes, 7, now, record),
+            want,
+        ),
+        Step::FeedTick(want) => same_in(rt, at, desk.follower_mut().tick(now), want),
+        Step::Next(want) => same_in(rt, at, desk.follower().next(), want),
+        Step::Session(want) => holds_in(rt, at, is_session(desk, want)),
+        Step::Admit(want) => same_in(rt, at, desk.admit(now)?, want),
+        Step::Hear(place, bytes) => same_in(rt, at, hear(desk, place, bytes, now), bytes.len()),
+        Step::Answer => desk.answer(u64::MAX, now)?,
+        Step::AnswerWithin(limit) => desk.answer(limit, now)?,
+        Step::Kept(want) => same_in(rt, at, desk.snapshot_bytes(), want),
+        Step::Pending(place, want) => same_in(rt, at, desk.pending(place), want),
+        Step::Take(place, count) => holds_in(rt, at, take(desk, place, count, now)),
+        Step::Tick => desk.tick(now),
+        Step::Stands(place, want) => same_in(rt, at, stands_at(desk, place), want),
+        Step::Accepted(place, want) => same_in(rt, at, is_accepted_at(desk, place), want),
+        Step::Rejected(place, want) => same_in(rt, at, rejection_at(desk, place), want),
+        Step::Leave(place) => desk.leave(place),
+        Step::Recorded(want) => same_in(rt, at, record.written(), want),
+    }
+    Ok(now)
+}
+
+/// Takes a desk through these steps, from moment 0 on.
+pub(crate) fn take_steps<B: OrderBook>(
+    rt: &impl Abort,
+    desk: &mut Desk<B>,
+    record: &mut FuseWriter,
+    steps: &[Step<'_>],
+) -> Result<(), Fail> {
+    let mut now = 0;
+    for at in 0..steps.len() {
+        now = take_step(rt, desk, record, (at, now), steps[at])?;
+    }
+    Ok(())
+}
+
+/// A desk of its own for these steps.
+pub(crate) fn check<B: OrderBook>(
+    rt: &impl Abort,
+    alloc: Global,
+    memory: B::Alloc,
+    glimpse: bool,
+    steps: &[Step<'_>],
+) -> Result<(), Fail> {
+    let mut desk: Desk<B> = desk(rt, memory, glimpse)?;
+    let mut record = FuseWriter::new(alloc, 5, None);
+    take_steps(rt, &mut desk, &mut record, steps)
+}

@@ -1,0 +1,24 @@
+//! The examples of the crates' pages, run.
+
+use itch_codec::Alpha;
+use itchsnap_cli::input::Tally;
+use itchsnap_live::sessions::{Login, default_session};
+use std::test::Fail;
+
+#[test]
+fn whole_messages_are_counted(rt: HostRuntime) -> Result<(), Fail> {
+    let mut tally = Tally::new();
+    tally.pass(b"\0\x02hi\0\x02");
+    tally.pass(b"ho");
+    assert_eq!(rt; tally.messages(), 2);
+    Ok(())
+}
+
+#[test]
+fn a_login_is_for_both_ends(rt: HostRuntime) {
+    let (Ok(login), Ok(any)) = (Login::new("desk", "secret"), Alpha::from_text("")) else {
+        panic!(rt; "a login");
+    };
+    assert_eq!(rt; login.config(default_session()).session.text(), "ITCHSNAP");
+    assert_eq!(rt; login.credentials(any).username.text(), "desk");
+}

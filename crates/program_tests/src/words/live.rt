@@ -1,0 +1,173 @@
+//! What the words of `live`, `follow` and `feed` ask for.
+
+use super::{asked, words};
+use crate::equal::{holds_in, same_in};
+use itchsnap_cli::words::{Job, Password, read_job};
+use std::test::Fail;
+
+const FEED: &str =
+    "feeds: Feeds { first: Place { words: \"h:1\", host: \"h\", port: 1 }, others: [None, None, None, None, None, None, None] }";
+
+const LOGIN: &str = "LoginWords { user: \"user\", .. }";
+
+#[test]
+fn words_of_a_live_server_are_read(rt: HostRuntime) -> Result<(), Fail> {
+    let cases = [
+        (
+            "",
+            "glimpse: None, address: 127.0.0.1:0",
+            "session: None, glimpse_session: None, clients: 64, clients_per_address: None, snapshot_memory: None, record: None, snapshots: None, stay: false",
+        ),
+        (
+            "--record day.itch --stay --clients 007 --clients-per-address 2",
+            "glimpse: None, address: 127.0.0.1:0",
+            "session: None, glimpse_session: None, clients: 7, clients_per_address: Some(2), snapshot_memory: None, \
+             record: Some(RecordWords { path: \"day.itch\", sync: EverySecond, is_optional: false }), snapshots: None, stay: true",
+        ),
+        (
+            "--record r --sync message --record-optional",
+            "glimpse: None, address: 127.0.0.1:0",
+            "session: None, glimpse_session: None, clients: 64, clients_per_address: None, snapshot_memory: None, \
+             record: Some(RecordWords { path: \"r\", sync: EveryMessage, is_optional: true }), snapshots: None, stay: false",
+        ),
+        (
+            "--bind ::1 --glimpse [::1]:65535 --snapshots s --every 1000",
+            "glimpse: Some(Place { words: \"[::1]:65535\", host: \"::1\", port: 65535 }), address: [::1]:0",
+            "session: None, glimpse_session: None, clients: 64, clients_per_address: None, snapshot_memory: None, record: None, \
+             snapshots: Some(SnapshotWords { folder: \"s\", every: 1000 }), stay: false",
+        ),
+    ];
+    for (line, place, kept) in cases {
+        let line = format!(in rt.alloc();
+            "live --feed h:1 --port 0 --user user --pass secret {line}"
+        )?;
+        let wanted = format!(in rt.alloc();
+            "Live(LiveWords {{ {FEED}, {place}, login: {LOGIN}, feed_login: {LOGIN}, {kept} }})"
+        )?;
+        let words = words(rt.alloc(), line.as_str())?;
+        let found = asked(rt.alloc(), words.as_slice())?;
+        same_in(&rt, line.as_str(), found.as_str(), wanted.as_str());
+    }
+    Ok(())
+}
+
+#[test]
+fn a_feed_may_have_several_servers(rt: HostRuntime) -> Result<(), Fail> {
+    let cases = [
+        (
+            "--feed g:2",
+            "others: [Some(Place { words: \"g:2\", host: \"g\", port: 2 }), None, None, None, None, None, None] }",
+        ),
+        (
+            "--feed b:2 --feed c:3 --feed d:4 --feed e:5 --feed f:6 --feed g:7 --feed [::1]:8",
+            "Some(Place { words: \"[::1]:8\", host: \"::1\", port: 8 })] }",
+        ),
+    ];
+    for (more, wanted) in cases {
+        let line = format!(in rt.alloc();
+            "live --feed h:1 {more} --port 0 --user user --pass secret"
+        )?;
+        let words = words(rt.alloc(), line.as_str())?;
+        let found = asked(rt.alloc(), words.as_slice())?;
+        holds_in(&rt, line.as_str(), found.as_str().contains(wanted));
+    }
+    Ok(())
+}
+
+#[test]
+fn bytes_are_counted_in_units(rt: HostRuntime) -> Result<(), Fail> {
+    let cases = [
+        ("1", "snapshot_memory: Some(1),"),
+        ("1000000", "snapshot_memory: Some(1000000),"),
+        ("512K", "snapshot_memory: Some(524288),"),
+        ("256M", "snapshot_memory: Some(268435456),"),
+        ("2G", "snapshot_memory: Some(2147483648),"),
+        (
+            "17179869183G",
+            "snapshot_memory: Some(18446744072635809792),",
+        ),
+    ];
+    for (size, wanted) in cases {
+        let line = format!(in rt.alloc();
+            "live --feed h:1 --port 0 --user user --pass secret --snapshot-memory {size}"
+        )?;
+        let words = words(rt.alloc(), line.as_str())?;
+        let found = asked(rt.alloc(), words.as_slice())?;
+        holds_in(&rt, line.as_str(), found.as_str().contains(wanted));
+    }
+    Ok(())
+}
+
+#[test]
+fn words_of_a_follower_are_read(rt: HostRuntime) -> Result<(), Fail> {
+    for (line, form) in [("", "Blocks"), ("--whole", "Whole"), ("--json", "Json")] {
+        let line = format!(in rt.alloc();
+            "follow --feed h:1 --glimpse g.example:2 --user user --pass secret {line}"
+        )?;
+        let wanted = format!(in rt.alloc();
+            "Follow(FollowWords {{ {FEED}, glimpse: Place {{ words: \"g.example:2\", host: \"g.example\", port: 2 }}, \
+             login: {LOGIN}, session: None, glimpse_session: None, form: {form} }})"
+        )?;
+        let words = words(rt.alloc(), line.as_str())?;
+        let found = asked(rt.alloc(), words.as_slice())?;
+        same_in(&rt, line.as_str(), found.as_str(), wanted.as_str());
+    }
+    Ok(())
+}
+
+#[test]
+fn words_of_a_played_feed_are_read(rt: HostRuntime) -> Result<(), Fail> {
+    let cases = [
+        ("", "pace: Free, count: None, stay: false"),
+        (
+            "--rate 1000 --stay",
+            "pace: Rate(1000), count: None, stay: true",
+        ),
+        (
+            "--clock 10 --count 2",
+            "pace: Clock(10), count: Some(2), stay: false",
+        ),
+    ];
+    for (line, rest) in cases {
+        let line = format!(in rt.alloc();
+            "feed day.itch --port 5 --user user --pass secret {line}"
+        )?;
+        let wanted = format!(in rt.alloc();
+            "Feed(FeedWords {{ file: \"day.itch\", address: 127.0.0.1:5, login: {LOGIN}, session: None, {rest} }})"
+        )?;
+        let words = words(rt.alloc(), line.as_str())?;
+        let found = asked(rt.alloc(), words.as_slice())?;
+        same_in(&rt, line.as_str(), found.as_str(), wanted.as_str());
+    }
+    Ok(())
+}
+
+#[test]
+fn a_live_server_may_have_a_login_of_its_own(rt: HostRuntime) -> Result<(), Fail> {
+    let line =
+        "live --feed h:1 --port 0 --user user --pass secret --feed-user other --feed-pass-file p";
+    let words = words(rt.alloc(), line)?;
+    let job = read_job(rt.alloc(), words.as_slice(), false, None);
+    let own = match &job {
+        Ok(Job::Live(live)) => live.feed_login,
+        _ => return Err(Fail::from("no live server")),
+    };
+    same_in(&rt, line, own.user, "other");
+    holds_in(&rt, line, own.password == Password::File("p"));
+    Ok(())
+}
+
+#[test]
+fn sessions_are_named_by_words(rt: HostRuntime) -> Result<(), Fail> {
+    let line =
+        "live --feed h:1 --glimpse h:2 --port 0 --user user --pass secret --session DAY1 --glimpse-session OTHER";
+    let words = words(rt.alloc(), line)?;
+    let job = read_job(rt.alloc(), words.as_slice(), false, None);
+    let (feed, glimpse) = match &job {
+        Ok(Job::Live(live)) => (live.session, live.glimpse_session),
+        _ => return Err(Fail::from("no live server")),
+    };
+    holds_in(&rt, line, feed.is_some_and(|it| it.text() == "DAY1"));
+    holds_in(&rt, line, glimpse.is_some_and(|it| it.text() == "OTHER"));
+    Ok(())
+}

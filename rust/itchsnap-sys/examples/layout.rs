@@ -1,0 +1,36 @@
+//! Prints the size and the alignment of each struct, and the offset of each field, for comparison with those of the header.
+
+use itchsnap_sys::*;
+use std::mem::{align_of, offset_of, size_of};
+
+macro_rules! layouts {
+    ($($name:ident { $($field:ident),* })*) => {
+        $(
+            println!(concat!(stringify!($name), " {} {}"), size_of::<$name>(), align_of::<$name>());
+            $(println!(concat!(stringify!($name), ".", stringify!($field), " {}"), offset_of!($name, $field));)*
+        )*
+    };
+}
+
+fn main() {
+    layouts! {
+        itchsnap_answer { detail, code }
+        itchsnap_handle { at, live }
+        itchsnap_loaded { next, place, detail, code }
+        itchsnap_applied { count, detail, code }
+        itchsnap_order { reference, price, shares, locate, buy, attributed, mpid, code }
+        itchsnap_level_total { shares_low, shares_high, orders, code }
+        itchsnap_price { price, code }
+        itchsnap_count { count, code }
+        itchsnap_written { len, code }
+        itchsnap_price_level { shares_low, shares_high, orders, price }
+        itchsnap_stock_name { stock, code }
+        itchsnap_outcome { count, len, detail, code }
+        itchsnap_comparison { place, count, detail, code, file }
+        itchsnap_joined { number, detail, code, cause }
+        itchsnap_login { username, password, session }
+        itchsnap_act { number, detail, code }
+        itchsnap_login_packet { bytes, code }
+        itchsnap_acceptance_packet { bytes, code }
+    }
+}

@@ -1,0 +1,98 @@
+"""Runs of the packages: they are those of the release, and Debian's own checks find no error in them.
+
+RUNS has a function for each run, named for what it shows; it yields what differs.
+"""
+import re
+import tarfile
+import tempfile
+import zipfile
+from pathlib import Path
+
+from kit import RELEASE, TOP, VERSION, Skipped, differs, fails, need, packed, ran
+
+DIST = RELEASE / "dist"
+ARCHIVE = f"itchsnap-{VERSION}-x86_64-linux"
+NAMES = [f"{ARCHIVE}.tar.gz", f"itchsnap_{VERSION}_amd64.deb", f"libitchsnap-dev_{VERSION}_amd64.deb", f"libitchsnap0_{VERSION}_amd64.deb",
+         f"sundrekk-{VERSION}-py3-none-manylinux_2_17_x86_64.whl"]
+
+
+def the_packages_are_those_of_the_release():
+    folder = packed()
+    if (DIST / "SHA256SUMS").read_text() == (folder / "SHA256SUMS").read_text():
+        return
+    if (DIST / "TOOLS").read_text() != (folder / "TOOLS").read_text():
+        raise Skipped("the checksums differ, and so do the tools that packed, which are those of release/dist/TOOLS")
+    yield "release/dist is of another release or of other files: run ./make-release, or if only they changed, tools/pack release/dist"
+
+
+def the_checksums_are_of_each_package():
+    folder = packed()
+    yield from differs("packages", [*re.findall(r"^[0-9a-f]{64}  (.*)$", (folder / "SHA256SUMS").read_text(), re.M)], NAMES)
+    yield from fails("sha256sum", "sha256sum", "--check", "--strict", "SHA256SUMS", folder=folder)
+    yield from fails("sha256sum of what is committed", "sha256sum", "--check", "--strict", "--ignore-missing", "SHA256SUMS", folder=DIST)
+
+
+def another_folder_is_left_alone():
+    with tempfile.TemporaryDirectory() as folder:
+        kept = Path(folder) / "kept"
+        kept.touch()
+        yield from differs("pack", ran(TOP / "tools/pack", folder), (1, f"pack: {folder} is there, and is no folder of packages\n"))
+        yield from differs("kept", kept.exists(), True)
+
+
+def lintian_finds_no_error():
+    need("lintian")
+    yield from fails("lintian", "lintian", "--fail-on", "error", *sorted(packed().glob("*.deb")))
+
+
+def the_archive_has_the_program_and_what_belongs_to_it():
+    with tarfile.open(packed() / f"{ARCHIVE}.tar.gz") as archive:
+        files = {it.name.removeprefix(f"{ARCHIVE}/"): archive.extractfile(it).read() for it in archive if it.isfile()}
+    units = sorted(f"lib/systemd/system/{it.name}" for it in TOP.glob("deploy/*.service"))
+    yield from differs("files", sorted(files), ["LICENSE", "bin/itchsnap", *units, "share/bash-completion/completions/itchsnap",
+                                                "share/fish/vendor_completions.d/itchsnap.fish", "share/man/man1/itchsnap.1",
+                                                "share/zsh/site-functions/_itchsnap"])
+    if files["bin/itchsnap"] != (RELEASE / "itchsnap").read_bytes():
+        yield "the program is not that of release/"
+
+
+def needed(file):
+    """The symbols of glibc that a file needs, by their versions."""
+    _, said = ran("objdump", "--dynamic-syms", file)
+    found = {}
+    for version, name in re.findall(r"\*UND\*.*\(GLIBC_([\d.]+)\)\s+(\w+)$", said, re.M):
+        found.setdefault(tuple(map(int, version.split("."))), set()).add(name)
+    return found
+
+
+def the_packages_ask_for_the_glibc_of_their_symbols():
+    need("objdump", "dpkg-deb")
+    for name, file in ((NAMES[1], RELEASE / "itchsnap"), (NAMES[3], RELEASE / "libitchsnap.so")):
+        newest = ".".join(map(str, max(needed(file))))
+        yield from differs(name, ran("dpkg-deb", "--field", packed() / name, "Depends")[1], f"libc6 (>= {newest})\n")
+    late = {(2, 33): {"__x86_get_cpuid_feature_leaf"}, (2, 34): {"__libc_start_main"}}
+    yield from differs("after 2.28", {it: names for it, names in needed(RELEASE / "itchsnap").items() if it > (2, 28)}, late)
+
+
+def every_package_has_the_licence():
+    licence = (TOP / "LICENSE").read_bytes()
+    with tarfile.open(packed() / f"{ARCHIVE}.tar.gz") as archive:
+        yield from differs("the archive", archive.extractfile(f"{ARCHIVE}/LICENSE").read(), licence)
+    with zipfile.ZipFile(packed() / NAMES[-1]) as wheel:
+        yield from differs("the wheel", wheel.read(f"sundrekk-{VERSION}.dist-info/LICENSE"), licence)
+    need("dpkg-deb")
+    for name in NAMES[1:4]:
+        package = name.partition("_")[0]
+        _, said = ran("sh", "-c", 'dpkg-deb --fsys-tarfile "$0" | tar -xO "./usr/share/doc/$1/copyright"', packed() / name, package)
+        yield from differs(package, said.encode(), licence)
+
+
+RUNS = [
+    the_packages_are_those_of_the_release,
+    the_checksums_are_of_each_package,
+    another_folder_is_left_alone,
+    lintian_finds_no_error,
+    the_archive_has_the_program_and_what_belongs_to_it,
+    the_packages_ask_for_the_glibc_of_their_symbols,
+    every_package_has_the_licence,
+]

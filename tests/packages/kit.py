@@ -1,0 +1,63 @@
+"""What the modules of runs share: commands, what is packed of this checkout, and why a run is left out."""
+import functools
+import os
+import shutil
+import subprocess
+import tempfile
+from pathlib import Path
+
+TOP = Path(__file__).resolve().parents[2]
+RELEASE = TOP / "release"
+EXAMPLES = TOP / "examples"
+# The version that is packed.
+VERSION = dict(line.split(" ", 1) for line in (RELEASE / "RECORD").read_text().splitlines())["version"]
+KEPT = Path(os.environ.get("XDG_CACHE_HOME") or Path.home() / ".cache") / "sundrekk"
+
+
+class Skipped(Exception):
+    """Why a run is left out."""
+
+
+def need(*tools):
+    """Leaves the run out where a tool is missing."""
+    if missing := [it for it in tools if not shutil.which(it)]:
+        raise Skipped(f"no {', no '.join(missing)} here")
+
+
+def ran(*words, folder=None, timeout=600, **environment):
+    """What a command ended with: its status, and what it wrote, both outputs together."""
+    done = subprocess.run([str(it) for it in words], cwd=folder, env={**os.environ, **environment}, stdin=subprocess.DEVNULL,
+                          stdout=subprocess.PIPE, stderr=subprocess.STDOUT, text=True, errors="backslashreplace", timeout=timeout)
+    return done.returncode, done.stdout
+
+
+def fails(label, *words, **more):
+    """What a command says, where it does not end well."""
+    status, said = ran(*words, **more)
+    if status:
+        yield f"{label}: status {status}\n{said}".rstrip()
+
+
+def differs(label, got, wanted):
+    if got != wanted:
+        yield f"{label}: {repr(got)[:400]}, not {repr(wanted)[:400]}"
+
+
+def snapshot_differs(label, out):
+    """Whether a file is not the snapshot of opening.itch."""
+    yield from differs(label, out.read_bytes() if out.exists() else None, (EXAMPLES / "opening.snap").read_bytes())
+
+
+@functools.cache
+def packed():
+    """The folder of what `tools/pack` makes of the release. It is made once, and lives as long as this process."""
+    status, said = ran(TOP / "tools/pack", "--tools")
+    if status:
+        raise Skipped(said.strip())
+    room = tempfile.TemporaryDirectory()
+    folder = Path(room.name) / "dist"
+    packed.room = room
+    status, said = ran(TOP / "tools/pack", folder)
+    if status:
+        raise RuntimeError(f"tools/pack: {said}")
+    return folder

@@ -1,0 +1,165 @@
+"""Runs of servers that have nothing to do, or that can do nothing for a while: they take next to no processor time, and go on afterwards.
+
+RUNS has a function for each run, named for what it shows; it is given the program, and yields what differs.
+"""
+import contextlib
+import socket
+import threading
+import time
+from concurrent.futures import ThreadPoolExecutor
+
+from calls import is_told, shim, told_once
+from common import differs, split
+from living import ENDED, LOGIN, WORDS, Feed, Running, acceptance, answer, connect, day_of, feeding, folder_with, live, packet, plays, received
+from standby import closed_port
+
+# The share of a processor that a server may take, also where a message is to be due soon, and for how long it is looked at.
+SHARE, SHARE_BEFORE_A_MESSAGE = 0.01, 0.05
+LOOK = 1
+# So many clients come while a call fails: more than the server has places.
+FEW, MANY = 2, 70
+
+
+def share_differs(label, server, most=SHARE):
+    """What differs where a process takes more than its share of a processor in some seconds: in each of two looks, since it may have had something
+    to do in the first one."""
+    shares = []
+    for _ in range(2):
+        used, begun = server.processor_seconds(), time.monotonic()
+        time.sleep(LOOK)
+        shares.append((server.processor_seconds() - used) / (time.monotonic() - begun))
+        if shares[-1] < most:
+            return []
+    return [f"{label}: {min(shares):.1%} of a processor"]
+
+
+@contextlib.contextmanager
+def following(program, folder):
+    """`live`, whose feed sends heartbeats, beside a client that has not logged in, and `follow` behind both."""
+    day, _ = day_of(20)
+    end = threading.Event()
+    with Feed(plays(day, wait=end)) as feed, live(program, feed.port) as server, connect(server.port):
+        servers = "--feed", f"127.0.0.1:{feed.port}", "--glimpse", f"127.0.0.1:{server.port}"
+        with Running(program, "follow", *servers, *WORDS, listens=False) as follower:
+            follower.said("feed: accepted")
+            yield server, follower
+        end.set()
+
+
+@contextlib.contextmanager
+def without_a_feed(program, folder):
+    """`live`, whose feed ends and is lost, and one that never had one."""
+    day, _ = day_of(20)
+    with Feed(plays(day), lambda peer, login: None) as feed, live(program, feed.port) as lost, \
+            live(program, closed_port()) as alone, Feed(plays(day, then=ENDED)) as other, live(program, other.port, "--stay") as over:
+        lost.said("feed: lost")
+        over.said("feed: ended")
+        yield lost, alone, over
+
+
+@contextlib.contextmanager
+def before_a_market(program, folder):
+    """`live`, where a client that sends no more and one that does wait for the market, and one more for a place."""
+    day, _ = day_of(20)
+    begin = threading.Event()
+
+    def late(peer, login):
+        peer.sendall(acceptance(1))
+        begin.wait()
+
+    with Feed(late) as glimpse, Feed(plays(day)) as feed, contextlib.ExitStack() as held, \
+            live(program, feed.port, "--glimpse", f"127.0.0.1:{glimpse.port}", "--clients", "2") as server:
+        clients = [held.enter_context(connect(server.port)) for _ in range(3)]
+        for client in clients:
+            client.sendall(LOGIN)
+        clients[0].shutdown(socket.SHUT_WR)
+        received(clients[1], len(acceptance(1)))
+        yield (server,)
+        begin.set()
+
+
+@contextlib.contextmanager
+def played(program, folder):
+    """`feed`, to a client that has all, and to one that reads nothing."""
+    (folder / "day").write_bytes(day_of(20)[0])
+    (folder / "large").write_bytes((b"\xea\x60" + b"z" * 60_000) * 200)
+    with feeding(program, folder / "day", "--stay") as all_played, feeding(program, folder / "large") as unread, \
+            logged_in(all_played), logged_in(unread, 4096):
+        yield all_played, unread
+
+
+@contextlib.contextmanager
+def paced(program, folder):
+    """`feed`, to a client whose next message is not due."""
+    (folder / "day").write_bytes(day_of(20)[0])
+    with feeding(program, folder / "day", "--rate", "1") as server, logged_in(server):
+        yield (server,)
+
+
+@contextlib.contextmanager
+def logged_in(server, room=None):
+    """A client whose login is accepted."""
+    with connect(server.port, room) as client:
+        client.sendall(LOGIN)
+        received(client, len(acceptance(1)))
+        yield client
+
+
+def an_idle_server_takes_next_to_no_processor_time(program):
+    """With a feed that says nothing new, without one, before there is a market, and where clients have all, or read nothing."""
+    with ThreadPoolExecutor(16) as looks, contextlib.ExitStack() as held:
+        looked = []
+        for scene in following, without_a_feed, before_a_market, played, paced:
+            folder = held.enter_context(folder_with())
+            most = SHARE_BEFORE_A_MESSAGE if scene is paced else SHARE
+            for place, server in enumerate(held.enter_context(scene(program, folder))):
+                looked.append(looks.submit(share_differs, f"{scene.__name__} {place}", server, most))
+        for look in looked:
+            yield from look.result()
+
+
+def meanwhile(program, kind, start, count):
+    """What differs where each call of a kind fails for a while: clients that come meanwhile are told nothing or all that there is, the server takes little time,
+    and afterwards the next client is told all. `start` begins the server, and says what a client is told."""
+    with shim() as library, folder_with() as folder, start(program, folder, LD_PRELOAD=str(library), FAIL=f"{kind}:while",
+                                                           FAILING=str(folder / "fails")) as (server, wanted):
+        (folder / "fails").touch()
+        with ThreadPoolExecutor(count) as clients:
+            answers = [clients.submit(told_once, server.port) for _ in range(count)]
+            differences = share_differs(kind, server)
+            (folder / "fails").unlink()
+            others = {it.result() for it in answers} - {b""}
+        differences += [f"{kind}: a client is told {it and it[:100]!r}" for it in others if not (it or b"").startswith(acceptance(1))]
+        return differences + [*differs(f"{kind}: told afterwards", is_told(server, wanted), True)]
+
+
+@contextlib.contextmanager
+def one_place(program, folder, **environment):
+    day, wanted = day_of(20)
+    end = threading.Event()
+    with Feed(plays(day, until=10), plays(day, wait=end)) as feed, live(program, feed.port, "--clients", "1", **environment) as server:
+        yield server, answer(wanted)
+        end.set()
+
+
+@contextlib.contextmanager
+def a_feed(program, folder, **environment):
+    day, _ = day_of(20)
+    (folder / "day").write_bytes(day)
+    with Running(program, "feed", folder / "day", "--port", "0", "--session", "ITCHSNAP", *WORDS, **environment) as server:
+        yield server, acceptance(1) + b"".join(map(packet, split(day))) + ENDED
+
+
+def a_server_waits_while_calls_fail_and_goes_on_afterwards(program):
+    """More clients come meanwhile than there are places, and none of these is lost."""
+    rows = [(kind, one_place, FEW) for kind in ("accept4", "epoll_ctl", "open", "connect", "socket")]
+    rows += [("accept4", a_feed, FEW), ("epoll_ctl", a_feed, MANY), ("open", a_feed, MANY)]
+    with ThreadPoolExecutor(len(rows)) as side_by_side:
+        for found in side_by_side.map(lambda row: meanwhile(program, *row), rows):
+            yield from found
+
+
+RUNS = [
+    an_idle_server_takes_next_to_no_processor_time,
+    a_server_waits_while_calls_fail_and_goes_on_afterwards,
+]

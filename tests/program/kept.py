@@ -1,0 +1,58 @@
+"""Runs of `live` with a record and snapshots that end at a call in turn: the process is killed there, or a write of it fails.
+
+RUNS has a function for each run, named for what it shows; it is given the program, and yields what differs.
+"""
+from calls import failing_in_turn, shim
+from common import differs, split
+from living import ENDED, Feed, day_of, folder_with, live, plays, snapshot_after
+
+EVERY = 20
+
+
+class Keeping:
+    """A server that is started again after it has ended, and what it is to have kept by then."""
+
+    def __init__(self, program, library, **environment):
+        self.program, self.environment = program, {"LD_PRELOAD": str(library), **environment}
+        self.day, _ = day_of(80)
+        self.blocks = split(self.day)
+        self.snapshots = {count: snapshot_after(program, self.day, count) for count in range(EVERY, len(self.blocks) + 1, EVERY)}
+
+    def run(self, folder, **environment):
+        words = "--record", folder / "record", "--snapshots", folder / "snapshots", "--every", EVERY
+        with Feed(plays(self.day, then=ENDED)) as feed, live(self.program, feed.port, *words, **environment) as server:
+            return server.ended()
+
+    def attempt(self, kind, nth):
+        with folder_with() as folder:
+            (folder / "snapshots").mkdir()
+            failed = folder / "failed"
+            self.run(folder, FAIL=f"{kind}:{nth}", FAILED=str(failed), **self.environment)
+            differences = list(self.differences(folder))
+            status, _, lines = self.run(folder)
+            if status != 0:
+                differences.append(f"started again: {status}, {lines}")
+            else:
+                differences += self.differences(folder)
+                differences += differs("the record in the end", (folder / "record").read_bytes() == self.day, True)
+            return differences, failed.exists()
+
+    def differences(self, folder):
+        """The record is a beginning of the day, has each message that a snapshot has, and no snapshot is of anything else."""
+        record = (folder / "record").read_bytes() if (folder / "record").exists() else b""
+        yield from differs("the record", self.day.startswith(record), True)
+        for path in (folder / "snapshots").glob("*.snap"):
+            count = int(path.stem)
+            yield from differs(path.name, path.read_bytes() == self.snapshots.get(count), True)
+            if len(record) < len(b"".join(self.blocks[:count])):
+                yield f"{path.name}: the record has {len(record)} bytes"
+
+
+def the_record_has_what_each_snapshot_has(program):
+    """Wherever the process is killed, and wherever a write fails; and it goes on with both when it is started again."""
+    with shim() as library:
+        yield from failing_in_turn(Keeping(program, library, KILLS="1").attempt, "open write sync rename".split())
+        yield from failing_in_turn(Keeping(program, library).attempt, ["write"])
+
+
+RUNS = [the_record_has_what_each_snapshot_has]

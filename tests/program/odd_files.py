@@ -1,0 +1,132 @@
+"""Runs over unusual files: pipes, files that may not be read, a day file that goes away, and an index whose numbers are wrong.
+
+RUNS has a function for each run, named for what it shows; it is given the program, and yields what differs.
+"""
+import contextlib
+import json
+import os
+import shutil
+import subprocess
+
+from common import differs, ended_in, file, split
+from living import ENDED, LOGIN, WORDS, Feed, acceptance, connect, day_of, feeding, folder_with, packet, plays, received, recorded, told
+from starts import nobody
+
+DAY = file("START_STAMPED AAPL_STAMPED BUY_1_STAMPED BUY_7_OF_300 EXECUTE_7 CANCEL_7 AAPL_LATE")
+POINTS = ["0", "2", "3", "6", "7", "00:00:00.000000004", "00:00:00.000000009"]
+
+
+@contextlib.contextmanager
+def checkpoints(program, every="2"):
+    """A folder with a day, and the folder `snapshots` of it."""
+    with folder_with(day=DAY) as folder:
+        (folder / "snapshots").mkdir()
+        ended_in(folder, program, "snap", "day", "--every", every, "--to", "snapshots")
+        yield folder
+
+
+def snapped(folder, program, point):
+    return ended_in(folder, program, "snap", "day", "--until" if ":" in point else "--after", point)
+
+
+@contextlib.contextmanager
+def piped(path, data):
+    """A pipe of this path, which somebody writes these bytes to."""
+    os.mkfifo(path)
+    with subprocess.Popen(["sh", "-c", 'cat >"$0"', path], stdin=subprocess.PIPE, process_group=0) as writer:
+        with contextlib.suppress(BrokenPipeError):
+            writer.stdin.write(data)
+            writer.stdin.close()
+        try:
+            yield
+        finally:
+            writer.kill()
+            path.unlink()
+
+
+def at_reads_pipes_as_files(program):
+    """The day, the index, and a snapshot; a pipe in place of the folder has no index."""
+    with checkpoints(program) as folder:
+        for point in POINTS:
+            with piped(folder / "feed", DAY):
+                yield from differs(f"day, {point}", ended_in(folder, program, "at", "snapshots", "feed", point), snapped(folder, program, point))
+        with piped(folder / "feed", DAY[:-1] + b"N" + DAY):
+            got = ended_in(folder, program, "at", "snapshots", "feed", "2")
+            yield from differs("more than the day", got, snapped(folder, program, "2"))
+        with piped(folder / "feed", bytes(len(DAY))):
+            status, output, error = ended_in(folder, program, "at", "snapshots", "feed", "6")
+            yield from differs("another day", (status, output, error.splitlines()[:1]), (1, b"", [b"itchsnap: checkpoint: of another day"]))
+        for name in "index.jsonl", "6.snap":
+            path = folder / "snapshots" / name
+            data = path.read_bytes()
+            path.unlink()
+            with piped(path, data):
+                yield from differs(name, ended_in(folder, program, "at", "snapshots", "day", "6"), snapped(folder, program, "6"))
+            path.write_bytes(data)
+        os.mkfifo(folder / "pipe")
+        error = b"itchsnap: cannot open\n  pipe/index.jsonl: Not a directory (os error 20)\n"
+        yield from differs("the folder", ended_in(folder, program, "at", "pipe", "day", "6"), (3, b"", error))
+
+
+def at_believes_no_offset_that_is_not_of_its_day(program):
+    """One of another line, one byte before and after, none, and those beyond the end: it is refused, and nothing is written."""
+    with checkpoints(program, "1") as folder:
+        index = folder / "snapshots/index.jsonl"
+        lines = [json.loads(it) for it in index.read_text().splitlines()]
+        offsets = {it["offset"] for it in lines}
+        for line in lines:
+            wrong = {0, line["offset"] - 1, line["offset"] + 1, len(DAY) + 1, 2**63, 2**64 - 1, *offsets} - {line["offset"]}
+            for offset in sorted(wrong):
+                index.write_text(json.dumps({**line, "offset": offset}) + "\n")
+                status, output, error = ended_in(folder, program, "at", "snapshots", "day", "7")
+                if (status, output) != (1, b"") or not error.startswith(b"itchsnap: checkpoint: "):
+                    yield f"{line['messages']} at {offset}: {status}, {output!r}, {error!r}"
+
+
+def a_record_that_may_not_be_read_stays_as_it_is(program):
+    """One that may only be appended to, one that may only be read, and one whose session may not be read: the feed is not asked."""
+    day, _ = day_of(20)
+    kept = b"".join(split(day)[:5])
+    for name, mode in (("record", 0o222), ("record", 0o444), ("record", 0), ("record.session", 0)):
+        with folder_with(**recorded(kept)) as folder, Feed(plays(day, then=ENDED)) as feed:
+            shutil.copy(program, folder / "itchsnap")
+            folder.chmod(0o755)
+            (folder / "record").chmod(0o666)
+            (folder / name).chmod(mode)
+            words = "live", "--feed", f"127.0.0.1:{feed.port}", "--port", "0", *WORDS, "--record", "record"
+            status, output, error = ended_in(folder, *nobody(), folder / "itchsnap", *words)
+            lines = error.decode().splitlines()
+            if (status, output, lines[:1]) != (3, b"", ["itchsnap: cannot open"]) or not error.endswith(b": Permission denied (os error 13)\n"):
+                yield f"{name} of mode {mode:o}: {status}, {output!r}, {error!r}"
+            yield from differs(f"{name} of mode {mode:o}", ((folder / "record").read_bytes() == kept, feed.asked()), (True, []))
+
+
+def a_day_file_that_goes_away_is_played_to_those_who_have_it(program):
+    """Who came before it was removed has all of it, and who comes afterwards nothing, until it is there again. Of one that is shorter by then there
+    is what it has."""
+    day, _ = day_of(20)
+    blocks = split(day)
+    whole = acceptance(1) + b"".join(map(packet, blocks)) + ENDED
+    with folder_with(day=day) as folder, feeding(program, folder / "day", "--rate", "40") as server:
+        with connect(server.port) as early:
+            early.sendall(LOGIN)
+            begun = received(early, len(acceptance(1)))
+            (folder / "day").rename(folder / "gone")
+            yield from differs("while it is gone", told(server.port, LOGIN) in (b"", b"reset"), True)
+            yield from differs("who came before", begun + received(early) == whole, True)
+        (folder / "day").write_bytes(b"".join(blocks[:9]))
+        less = told(server.port, LOGIN)
+        yield from differs("one that is shorter", whole.startswith(less) and ENDED not in less, True)
+        (folder / "gone").replace(folder / "day")
+        yield from differs("once it is there again", told(server.port, LOGIN) == whole, True)
+        server.has_lines(4)
+        endings = sorted(it.split(": ")[1] for it in b"".join(server.output).decode().splitlines())
+        yield from differs("endings", endings, [f"accepted from 1, {len(blocks)} packets"] * 2 + ["fault"] * 2)
+
+
+RUNS = [
+    at_reads_pipes_as_files,
+    at_believes_no_offset_that_is_not_of_its_day,
+    a_record_that_may_not_be_read_stays_as_it_is,
+    a_day_file_that_goes_away_is_played_to_those_who_have_it,
+]

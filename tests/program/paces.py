@@ -1,0 +1,163 @@
+"""Runs of when something comes: the pauses before a lost feed is asked again, and the messages of a feed that is played at a rate or by the clock.
+
+RUNS has a function for each run, named for what it shows; it is given the program, and yields what differs.
+
+A busy machine makes each thing late now and then, and nothing early. So nothing may be early, and in one of some attempts little may be late.
+"""
+import contextlib
+import socket
+import statistics
+import struct
+import threading
+import time
+from concurrent.futures import ThreadPoolExecutor
+
+from common import split
+from living import (ENDED, LOGIN, Feed, acceptance, block_in, connect, day_of, feeding, folder_with, live, number_in, packet, plays, received, sends,
+                    told)
+from standby import closed_port
+
+# What a clock in milliseconds may be off at either end.
+TICK = 0.003
+ATTEMPTS = 3
+# The pauses before a server's turn comes again; the moment is looked at ten times a second.
+PAUSES = [0.1, 0.2, 0.4, 0.8]
+LATE = 0.25
+RATE, MESSAGES = 10, 20
+
+
+def each_in_some_attempt(attempts):
+    """What differs in the last of some attempts of each of these, where something differs in all."""
+    def differences(attempt):
+        for _ in range(ATTEMPTS):
+            if not (found := list(attempt())):
+                return []
+        return found
+
+    with ThreadPoolExecutor(len(attempts)) as side_by_side:
+        for found in side_by_side.map(differences, attempts):
+            yield from found
+
+
+def pauses_differ(label, times):
+    """What differs where between these times are not the pauses, each twice as long as the one before."""
+    pauses = [after - before for before, after in zip(times, times[1:])]
+    if len(pauses) != len(PAUSES) or not all(wanted - TICK <= it <= wanted + LATE for it, wanted in zip(pauses, PAUSES)):
+        yield f"{label}: pauses of {[round(it, 3) for it in pauses]}"
+
+
+def noting(times, script):
+    """The same script, which notes when a login comes."""
+    def noted(peer, login):
+        times.append(time.monotonic())
+        script(peer, login)
+
+    return noted
+
+
+def a_lost_feed_is_asked_again_after_longer_and_longer_pauses(program):
+    """Whether it closes the connection, resets it, rejects the login, sends one more message each time, ends before any, or breaks the protocol."""
+    day, _ = day_of(20)
+    packets = [packet(it) for it in split(day)]
+
+    def resets(peer, _login):
+        peer.setsockopt(socket.SOL_SOCKET, socket.SO_LINGER, struct.pack("ii", 1, 0))
+
+    def goes_on(peer, login):
+        peer.sendall(acceptance(number_in(login)) + packets[number_in(login) - 1])
+
+    def attempt(label, script):
+        times = []
+        with Feed(*[noting(times, script)] * len(PAUSES), noting(times, plays(day, then=ENDED))) as feed, live(program, feed.port) as server:
+            server.ended()
+        yield from pauses_differ(label, times)
+
+    scripts = {"closed": sends(b""), "reset": resets, "rejected": sends(b"\0\x02JS"), "a message": goes_on, "ended": sends(ENDED),
+               "broken": sends(b"\0\0")}
+    yield from each_in_some_attempt([lambda row=row: attempt(*row) for row in scripts.items()])
+
+
+def a_refused_feed_is_asked_again_after_longer_and_longer_pauses(program):
+    """Nobody listens until the fourth pause is over: then it is asked after the fifth one, and not at once."""
+    day, _ = day_of(20)
+    opens, due = sum(PAUSES) + 0.3, sum(PAUSES) + 2 * PAUSES[-1]
+
+    def attempt():
+        times, port = [], closed_port()
+        with live(program, port) as server:
+            server.said("feed: lost at 1")
+            begun = time.monotonic()
+            time.sleep(opens)
+            with Feed(noting(times, plays(day, then=ENDED)), port=port):
+                server.ended()
+        asked = [time - begun for time in times]
+        if len(asked) != 1 or not due - LATE < asked[0] < due + len(PAUSES) * LATE:
+            yield f"asked after {asked} seconds, not {due}"
+
+    yield from each_in_some_attempt([attempt])
+
+
+def a_wrong_password_is_told_later_each_time(program):
+    """By `live` and by `feed`."""
+    day, _ = day_of(20)
+    wrong = LOGIN.replace(b"secret", b"wrong ")
+
+    def attempt(label, port):
+        times = [time.monotonic()]
+        for _ in PAUSES:
+            if told(port, wrong) != b"\0\x02JA":
+                yield f"{label}: not rejected"
+            times.append(time.monotonic())
+        yield from pauses_differ(label, times)
+
+    def of_live():
+        end = threading.Event()
+        with Feed(plays(day, wait=end)) as feed, live(program, feed.port) as server:
+            yield from attempt("live", server.port)
+            end.set()
+
+    def of_feed():
+        with folder_with(day=day) as folder, feeding(program, folder / "day") as server:
+            yield from attempt("feed", server.port)
+
+    yield from each_in_some_attempt([of_live, of_feed])
+
+
+def arrivals(port, first):
+    """How long after its login each message comes to a client that asks for those from a number on."""
+    times = []
+    with connect(port) as peer:
+        begun = time.monotonic()
+        peer.sendall(LOGIN[:-20] + b"%20d" % first)
+        received(peer, len(acceptance(first)))
+        while (block := block_in(peer)) and block != ENDED:
+            if block[2:3] == b"S":
+                times.append(time.monotonic() - begun)
+    return times
+
+
+def spacing_differs(label, times, first):
+    """What differs where the messages from a number on do not come one by one at the rate: one is early, or most are half of a gap late."""
+    late = [time - place / RATE for place, time in enumerate(times)]
+    if len(times) != MESSAGES + 1 - first or min(late) < -TICK or statistics.median(late) > 0.5 / RATE:
+        yield f"{label} from {first}: {[round(it, 3) for it in times]}"
+
+
+def messages_are_played_one_by_one(program):
+    """At a rate and by their timestamps, also to a client that begins at a later number, and to one that comes while others are played to."""
+    blocks = split(day_of(MESSAGES)[0])[:MESSAGES]
+    timed = b"".join(it[:7] + struct.pack(">Q", 10**12 + n * 10**9)[2:] + it[13:] for n, it in enumerate(blocks))
+    with folder_with(day=timed) as folder, contextlib.ExitStack() as held:
+        rates = held.enter_context(feeding(program, folder / "day", "--rate", RATE))
+        clock = held.enter_context(feeding(program, folder / "day", "--clock", RATE))
+
+        rows = [(label, server, first) for label, server in (("rate", rates), ("clock", clock)) for first in (1, 2, MESSAGES - 5)]
+        yield from each_in_some_attempt([lambda row=row: spacing_differs(row[0], arrivals(row[1].port, row[2]), row[2]) for row in rows])
+
+
+RUNS = [
+    a_lost_feed_is_asked_again_after_longer_and_longer_pauses,
+    a_refused_feed_is_asked_again_after_longer_and_longer_pauses,
+    a_wrong_password_is_told_later_each_time,
+    messages_are_played_one_by_one,
+]

@@ -1,0 +1,107 @@
+"""Runs of clients in unusual states: they send no more, or have gone, before there is a market or a place; and they wait while descriptors are short.
+
+RUNS has a function for each run, named for what it shows; it is given the program, and yields what differs.
+"""
+import contextlib
+import socket
+import threading
+
+from common import differs, split
+from hostile import started_by, without_beats
+from idle import share_differs
+from living import CLIENT_BEAT, ENDED, LOGIN, Feed, acceptance, answer, connect, day_of, folder_with, live, plays, received, told
+
+ACCEPTED = len(acceptance(1))
+LEFT = b"\0\x01O"
+
+
+class Late:
+    """A server of snapshots whose snapshot comes once an event is set."""
+
+    def __init__(self, snapshot):
+        self.begin, self.rest = threading.Event(), answer(snapshot)[ACCEPTED:]
+
+    def __call__(self, peer, login):
+        peer.sendall(acceptance(1))
+        self.begin.wait()
+        peer.sendall(self.rest)
+
+
+@contextlib.contextmanager
+def before_a_market(program, *words):
+    """A server that has no market yet, what a client is told in the end, and what lets the market come."""
+    day, snapshot = day_of(50)
+    late, end = Late(snapshot), threading.Event()
+    with Feed(late) as glimpse, Feed(plays(day, wait=end, held=ENDED)) as feed, \
+            live(program, feed.port, "--glimpse", f"127.0.0.1:{glimpse.port}", *words) as server:
+        try:
+            yield server, answer(snapshot), late.begin, end
+        finally:
+            late.begin.set()
+            end.set()
+
+
+def asks(port, held, more=b""):
+    """A client that has logged in."""
+    client = held.enter_context(connect(port))
+    client.sendall(LOGIN + more)
+    return client
+
+
+def rest_differs(label, clients, wanted):
+    """What differs where each of these clients is told this in the end, beside heartbeats, and after what was read before. Each goes then."""
+    for place, (client, before) in enumerate(clients):
+        with contextlib.suppress(ConnectionError):
+            before += received(client)
+        client.close()
+        yield from differs(f"{label} {place}", without_beats(before) == wanted, True)
+
+
+def a_client_that_sends_no_more_waits_for_a_market(program):
+    """It ends its sending half with its login, after heartbeats, or once it is accepted: it is told all. One that logs out has left."""
+    with before_a_market(program) as (server, wanted, begin, end), contextlib.ExitStack() as held:
+        clients = [asks(server.port, held, more) for more in (b"", CLIENT_BEAT * 5, b"", b"")]
+        for client in clients[:2]:
+            client.shutdown(socket.SHUT_WR)
+        heard = [(client, received(client, ACCEPTED)) for client in clients]
+        clients[2].shutdown(socket.SHUT_WR)
+        clients[3].sendall(CLIENT_BEAT)
+        clients[3].shutdown(socket.SHUT_WR)
+        yield from differs("one that logs out", told(server.port, LOGIN + LEFT) in (acceptance(1), b""), True)
+        begin.set()
+        yield from rest_differs("client", heard, wanted)
+        end.set()
+        status, output, _ = server.ended()
+    lines = sorted(line.split(": ")[1] for line in output.decode().splitlines())
+    packets = len(split(wanted)) - 2
+    yield from differs("ended", (status, lines), (0, [f"accepted at {packets}, {packets} packets"] * 4 + ["left"]))
+
+
+def a_client_that_sends_no_more_waits_for_a_place(program):
+    """Beside one that has the only place: it is told all afterwards, and the one that has the place is too."""
+    with before_a_market(program, "--clients", "1") as (server, wanted, begin, _), contextlib.ExitStack() as held:
+        first = asks(server.port, held)
+        heard = [(first, received(first, ACCEPTED))]
+        for more in (b"", CLIENT_BEAT * 3, CLIENT_BEAT * 300):
+            client = asks(server.port, held, more)
+            client.shutdown(socket.SHUT_WR)
+            heard.append((client, b""))
+        begin.set()
+        yield from rest_differs("client", heard, wanted)
+
+
+def clients_wait_while_descriptors_are_short(program):
+    """More than there are descriptors for wait for a market: all are told it in the end, and meanwhile the server takes no time."""
+    with folder_with() as folder, before_a_market(started_by(folder, program, "ulimit -n 20")) as (server, wanted, begin, _), \
+            contextlib.ExitStack() as held:
+        clients = [(asks(server.port, held), b"") for _ in range(40)]
+        yield from share_differs("while they wait", server)
+        begin.set()
+        yield from rest_differs("client", clients, wanted)
+
+
+RUNS = [
+    a_client_that_sends_no_more_waits_for_a_market,
+    a_client_that_sends_no_more_waits_for_a_place,
+    clients_wait_while_descriptors_are_short,
+]

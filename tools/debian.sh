@@ -1,0 +1,100 @@
+# The three Debian packages. For tools/pack, which has set `room`, `out` and `version`, and read tools/layout.sh.
+
+maintainer="Sundrekk maintainers <maintainers@users.noreply.sundrekk.example>"
+triplet=x86_64-linux-gnu
+
+# Begins a package: `prefix` is where its files go.
+begin() {
+    package=$1
+    prefix=$room/$package/usr
+    home=/usr
+    lib=lib/$triplet
+    zsh=share/zsh/vendor-completions
+    mkdir -p "$room/$package/DEBIAN"
+}
+
+# A changelog as Debian has them.
+changelog() {
+    echo "itchsnap ($version) unstable; urgency=medium"
+    echo
+    echo "  * CHANGELOG.md of the sources has what changed."
+    echo
+    echo " -- $maintainer  $(date -u -R -d "@$SOURCE_DATE_EPOCH")"
+}
+
+# Each file of a package with its MD5, as dpkg checks it.
+sums() {
+    (cd "$room/$package" && find usr -type f -print0 | sort -z | xargs -0 md5sum)
+}
+
+# The size of a package as dpkg counts it, which is the same on each file system: whole kilobytes of each file, and one of anything else.
+kilobytes() {
+    find "$room/$package/usr" -printf '%y %s\n' | awk '{ sum += $1 == "f" ? int(($2 + 1023) / 1024) : 1 } END { print sum }'
+}
+
+# The fields of a package's control file; the section, what it depends on, and its description are given.
+control() {
+    echo "Package: $package"
+    echo "Source: itchsnap"
+    echo "Version: $version"
+    echo "Architecture: amd64"
+    echo "Maintainer: $maintainer"
+    echo "Installed-Size: $(kilobytes)"
+    echo "Depends: $2"
+    echo "Section: $1"
+    echo "Priority: optional"
+    [ -z "$4" ] || echo "Multi-Arch: $4"
+    echo "Description: $3"
+}
+
+# Ends a package: what every one has, and its archive.
+finish() {
+    local doc=share/doc/$package
+    put 644 "$doc/copyright" cat "$top/LICENSE"
+    put 644 "$doc/changelog.gz" eval 'changelog | gzip -9n'
+    control "$@" >"$room/$package/DEBIAN/control"
+    sums >"$room/$package/DEBIAN/md5sums"
+    dpkg-deb --root-owner-group --threads-max=1 -Zxz --build "$room/$package" "$out/${package}_${version}_amd64.deb" >/dev/null
+}
+
+# The page of the program as Debian has it. The program is not stripped: its bytes are those that were compared with what is proved.
+pack_program() {
+    begin itchsnap
+    lay_program
+    gzip -9n "$prefix/share/man/man1/itchsnap.1"
+    prefix=$prefix/share/doc/itchsnap/examples units= lay_units
+    put 644 share/lintian/overrides/itchsnap echo "itchsnap: unstripped-binary-or-object [usr/bin/itchsnap]"
+    finish net "libc6 (>= 2.34)" "market snapshots for Nasdaq TotalView-ITCH 5.0
+ itchsnap turns a day file of an ITCH feed into the messages that rebuild the
+ current market. It checks and compares day files, prints order books, and
+ serves snapshots to those who join a feed late. Its code is proved." foreign
+}
+
+pack_shared() {
+    begin libitchsnap0
+    lay_shared
+    echo "libitchsnap 0 libitchsnap0 (>= $version)" >"$room/$package/DEBIAN/shlibs"
+    echo "activate-noawait ldconfig" >"$room/$package/DEBIAN/triggers"
+    finish libs "libc6 (>= 2.14)" "market snapshots for ITCH 5.0 - shared library
+ Markets, snapshots, joiners and sessions for programs in C, C++ and other
+ languages. Its code is proved.
+ .
+ This package has the shared library." same
+}
+
+pack_development() {
+    begin libitchsnap-dev
+    lay_development
+    finish libdevel "libitchsnap0 (= $version), libc6-dev" "market snapshots for ITCH 5.0 - development files
+ Markets, snapshots, joiners and sessions for programs in C, C++ and other
+ languages. Its code is proved.
+ .
+ This package has the header, the static library, and the files for pkg-config
+ and CMake." same
+}
+
+pack_debian() {
+    pack_program
+    pack_shared
+    pack_development
+}

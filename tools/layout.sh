@@ -1,0 +1,71 @@
+# Where each file of the product goes below a folder: for ./install and for the packages. For scripts that have read tools/release.sh.
+# They set `prefix`, the folder; `program`, the program; `libraries`, the folder with the C library; and `version`, such as 0.1.0.
+
+# Below the folder: where the libraries go, and the zsh completions.
+lib=lib
+zsh=share/zsh/site-functions
+# What the pkg-config file names as the folder: what is packed below one folder is installed below another.
+home=
+
+# Writes what a command prints to a place below the folder, by way of a new file beside it, so that a program that runs is not written to.
+put() {
+    local mode=$1 to=$prefix/$2
+    shift 2
+    if ! { mkdir -p "$(dirname "$to")" && "$@" >"$to.new" && chmod "$mode" "$to.new" && mv -f "$to.new" "$to"; } 2>/dev/null; then
+        echo "${0##*/}: cannot write $to" >&2
+        exit 1
+    fi
+    placed "$to"
+}
+
+# Makes a link at a place below the folder.
+put_link() {
+    local to=$prefix/$1
+    if ! ln -sfn "$2" "$to" 2>/dev/null; then
+        echo "${0##*/}: cannot write $to" >&2
+        exit 1
+    fi
+    placed "$to"
+}
+
+# What is done with the name of a file that was put in its place: nothing, where the script says nothing else.
+placed() {
+    :
+}
+
+# A template with the folders and the version that it leaves open.
+filled() {
+    sed -e "s|@PREFIX@|${home:-$prefix}|" -e "s|@LIB@|$lib|" -e "s|@VERSION@|$version|g" -e "s|@UP@|$(sed 's|[^/]*|..|g' <<<"$lib")|" "$1"
+}
+
+# The program, its manual page, and its completions for three shells.
+lay_program() {
+    put 755 bin/itchsnap cat "$program"
+    put 644 share/man/man1/itchsnap.1 cat "$top/docs/itchsnap.1"
+    put 644 share/bash-completion/completions/itchsnap "$program" completions bash
+    put 644 "$zsh/_itchsnap" "$program" completions zsh
+    put 644 share/fish/vendor_completions.d/itchsnap.fish "$program" completions fish
+}
+
+# The shared library, by the name that programs load.
+lay_shared() {
+    put 644 "$lib/libitchsnap.so.0" cat "$libraries/libitchsnap.so"
+}
+
+# What programs are compiled with: the header, the static library, and what pkg-config and CMake read.
+lay_development() {
+    put 644 include/itchsnap.h cat "$top/c/itchsnap.h"
+    put 644 "$lib/libitchsnap.a" cat "$libraries/libitchsnap.a"
+    put_link "$lib/libitchsnap.so" libitchsnap.so.0
+    put 644 "$lib/pkgconfig/itchsnap.pc" filled "$top/c/itchsnap.pc.in"
+    put 644 "$lib/cmake/itchsnap/itchsnap-config.cmake" filled "$top/c/itchsnap-config.cmake.in"
+    put 644 "$lib/cmake/itchsnap/itchsnap-config-version.cmake" filled "$top/c/itchsnap-config-version.cmake.in"
+}
+
+# The systemd units of deploy/, where there are any, below a folder that may be another than that of systemd.
+lay_units() {
+    local it
+    for it in "$top"/deploy/*.service; do
+        [ ! -e "$it" ] || put 644 "${units-lib/systemd/system/}${it##*/}" cat "$it"
+    done
+}
