@@ -12,6 +12,8 @@ from kit import rt, rtlib
 
 # A function's line where search found no proof of one of its own goals. That it calls another which is not proved is no failure of its own.
 SEARCHED = re.compile(r"no proof: expected .*`search` did not prove")
+# The last line of a check of some functions.
+COUNTED = re.compile(r"only=\d+ proved=\d+")
 # A proof file that names what an edit took away says nothing of the contract.
 NAMES_ONLY = re.compile(r"has no field|is not in scope|has no `|was not admitted|which was rejected, was not checked")
 
@@ -57,12 +59,17 @@ class Checker:
         return subprocess.CompletedProcess(words, started.returncode, said)
 
 
+def only(functions):
+    """Returns the words by which a check reads these functions and what they call, and no others."""
+    return [word for it in sorted(functions) for word in ("--only", it)]
+
+
 def reached_the_prover(ran, texts):
-    """Returns whether a check was refused by the prover, with every text read: the same conditions as in rt's must_fail."""
+    """Returns whether the prover refused some of the functions that it was to check, with every text read, as rt's must_fail wants it too."""
     lines = ran.stdout.rstrip("\n").split("\n")
     if any(rt.unread(it, texts) for it in lines) or rtlib.STALE.search(ran.stdout):
         return False
-    return ran.returncode == 1 and lines[-1].startswith("logic=not-proved")
+    return ran.returncode == 1 and bool(COUNTED.match(lines[-1]))
 
 
 def own_failure(said, crate, function):

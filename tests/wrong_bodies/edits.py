@@ -11,10 +11,11 @@ MOST_IN_A_ROUND = 20
 
 @dataclass(frozen=True)
 class Edit:
-    """An edit's file, and the functions that it changes, as rattle names them below the crate. The prover must refuse one of them."""
+    """An edit's file, the functions that it changes, as rattle names them below the crate, and their files. The prover must refuse one of them."""
 
     path: Path
     functions: tuple[str, ...]
+    files: tuple[str, ...]
 
     @property
     def name(self):
@@ -48,9 +49,10 @@ def edits_of(crate):
 
 
 def read(path):
-    """Reads the lines `fn: ` of an edit."""
+    """Reads the lines `fn: ` and `file: ` of an edit."""
     lines = path.read_text(encoding="utf-8", errors="replace").splitlines()
-    return Edit(path, tuple(it.removeprefix("fn: ").strip() for it in lines if it.startswith("fn: ")))
+    said = lambda word: tuple(it.removeprefix(word).strip() for it in lines if it.startswith(word))
+    return Edit(path, said("fn: "), said("file: "))
 
 
 def applied(edit, folder, before):

@@ -1,69 +1,75 @@
-"""`edits.record`: at which sources the edits of each crate were last refused."""
+"""`edits.record`: what each edit rested on when the prover last refused it."""
 import hashlib
 import os
 import re
 import threading
 from pathlib import Path
 
-from kit import rtlib, toolchain_line
+from kit import toolchain_line
 
 HERE = Path(__file__).resolve().parent
 TOP = HERE.parent.parent
 FILE = HERE / "edits.record"
+# What decides whether an edit was refused.
+JUDGE = HERE / "checking.py"
 WRITING = threading.Lock()
-
-
-def listed(name):
-    """Returns the crate's line of crates.txt."""
-    lines = (TOP / "crates.txt").read_text(encoding="utf-8").splitlines()
-    return next(it for it in lines if re.match(rf"{name}\b[^:]*:", it))
-
-
-def files_below(folder, parts):
-    """Returns the files of these parts of the folder, in a fixed order."""
-    return sorted(it for part in parts for it in Path(folder, part).rglob("*") if it.is_file())
 
 
 def text_that_counts(path):
     """Returns what a check reads of a file: no lines that are all comment (`//`, `///`, `//!`, `--`), nor blank ones."""
     lines = path.read_bytes().split(b"\n")
-    marks = {".rt": b"//", ".antt": b"--"}
-    mark = marks.get(path.suffix)
+    mark = {".rt": b"//", ".antt": b"--", ".py": b"#"}.get(path.suffix)
     if not mark:
         return b"\n".join(lines)
     return b"\n".join(it for it in lines if it.strip() and not it.lstrip().startswith(mark))
 
 
-def hash_of(crate):
-    """Hashes all that the refusals rest on: the toolchain, these scripts, the crate with its edits, and the crates below it."""
+def files_below(folder):
+    """Returns the files below a folder, in a fixed order."""
+    return sorted(it for it in folder.rglob("*") if it.is_file())
+
+
+def traits(folder):
+    """Returns the sources below a folder that declare a trait, whose contracts its impls meet."""
+    return [it for it in files_below(folder) if re.search(rb"^(pub )?trait ", it.read_bytes(), re.MULTILINE)]
+
+
+def files_behind(crate, edit):
+    """Returns the files that an edit's refusal rests on first: the edit, what it changes, its functions' proofs, and the crate's traits and definitions."""
+    folder = Path(crate.folder)
+    found = [JUDGE, edit.path, *(folder / it for it in edit.files)]
+    for function in edit.functions:
+        found += files_below(folder / "proofs" / function.replace("::", "/"))
+    return [*found, *traits(folder / "src"), *files_below(folder / "specs")]
+
+
+def hash_of(crate, edit):
+    """Hashes the toolchain, and the files that an edit's refusal rests on first."""
     found = hashlib.sha256(toolchain_line().encode())
-    files = [it for it in files_below(HERE, ["."]) if it.suffix in ("", ".py")]
-    files += files_below(crate.folder, [*rtlib.PARTS, "wrong"])
-    for below in crate.below():
-        files += files_below(below.folder, rtlib.PARTS)
-    for name in [crate.name, *(it.name for it in crate.below())]:
-        found.update(f"{listed(name)}\n".encode())
-    for it in files:
+    for it in files_behind(crate, edit):
         found.update(f"{it.relative_to(TOP)} {hashlib.sha256(text_that_counts(it)).hexdigest()}\n".encode())
-    return found.hexdigest()
+    return found.hexdigest()[:32]
+
+
+def name_of(crate, edit):
+    return f"{crate.name}/{edit.name}"
+
+
+def is_there(name):
+    return (TOP / "crates" / name.replace("/", "/wrong/")).with_suffix(".edit").exists()
 
 
 def lines():
-    """Returns what the record has of each crate: the number of its edits, and the hash."""
+    """Returns the hash at which each edit was last refused, by `CRATE/NAME`."""
     if not FILE.is_file():
         return {}
-    rows = [it.split() for it in FILE.read_text(encoding="utf-8").splitlines()[1:]]
-    return {name: (int(count), text) for name, count, text in rows}
+    return dict(it.split() for it in FILE.read_text(encoding="utf-8").splitlines()[1:])
 
 
-def write(name, count, text):
-    """Records that all of the crate's edits were refused at the sources with this hash, or with no count that they were not. Other crates' lines stay."""
+def write(hashes):
+    """Records these edits by their hashes, and forgets those that have none, or no file. Other edits' lines stay."""
     with WRITING:
-        kept = lines()
-        kept.pop(name, None)
-        if count is not None:
-            kept[name] = (count, text)
-        rows = [f"{it} {number} {text}" for it, (number, text) in sorted(kept.items())]
+        rows = [f"{it} {text}" for it, text in sorted({**lines(), **hashes}.items()) if text and is_there(it)]
         beside = FILE.with_name(f"{FILE.name}.{os.getpid()}")
         beside.write_text("\n".join([toolchain_line(), *rows, ""]), encoding="utf-8")
         os.replace(beside, FILE)
