@@ -44,6 +44,7 @@ pub mod TotalLemmas
 pub mod LineLemmas
 pub mod BetweenLemmas
 pub mod NextLemmas
+pub mod SwapLemmas
 pub mod PageReads
 pub mod PageLemmas
 pub mod KeyCounts

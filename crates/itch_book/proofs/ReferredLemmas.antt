@@ -5,9 +5,9 @@ use Rattle.std.specs.List.Sorted.{IsPermutation}
 use Rattle.std.specs.Map.{lookup, values_of, keys_of, set_value, remove_entry}
 use Rattle.std.proofs.lemmas.Bool.{false≢true, cases_lt}
 use Rattle.std.proofs.lemmas.Bool.Decides.{nat_tests}
-use Rattle.std.proofs.lemmas.List.{take_more, take_all, get_or-map, length-map, get_or_append_left, map-append, length-set, length-append}
+use Rattle.std.proofs.lemmas.List.{take_more, take_all, get_or-map, length-map, get_or_append_left, map-append, map-set, length-set, length-append, get_or-set_same, get_or-set_other}
 use Rattle.std.proofs.lemmas.Option.{slice_get-get_or, get_or_from_slice_get, slice_get_within}
-use Rattle.std.proofs.lemmas.List.Sorted.{IsPermutation-refl, IsPermutation-sym, IsPermutation-cons, IsPermutation-map, IsPermutation-to_front}
+use Rattle.std.proofs.lemmas.List.Sorted.{IsPermutation-refl, IsPermutation-sym, IsPermutation-cons, IsPermutation-map, IsPermutation-to_front, IsPermutation-trans, IsPermutation-append_left}
 use Rattle.itch_book.specs.Table.{Links, at}
 use Rattle.itch_book.specs.declared.arrived.Arrived.{Arrived}
 use Rattle.itch_book.specs.Referred.{reference_of, under_references, references_of, IsAt, IsPlaced, IsReferred}
@@ -313,3 +313,71 @@ module _ (f g : Links) (xs us : List Arrived) (k i : ℕ) (gone : Arrived) (is :
           (let b = length-map xs reference_of in omega arith) came_reference (λ q. puts q ∙ ap (λ n. cond (eqb n q) (Some i) (at g q)) its_reference);
       few = fewer;
     }
+
+-- after an order was written in place of another reference's
+pub swap_placed : (f g : ℕ → Option ℕ) (ks : List ℕ) (old new i : ℕ) → IsPlaced f ks → f old ≡ Some i → f new ≡ None
+    → ((q : ℕ) → g q ≡ cond (eqb old q) None (cond (eqb new q) (Some i) (f q))) → IsPlaced g (set ks i new)
+swap_placed f g ks old new i is there fresh swaps = record {
+  leads = λ j h. let low : j < length ks = let l = length-set ks i new in omega arith in
+      by_test (eqb j i)
+      (λ e. let s : j ≡ i = is_number j i e in
+      subst (λ n. g (get_or (set ks n new) j 0) ≡ Some j) s
+      (subst (λ n. g n ≡ Some j) (sym (get_or-set_same ks j new 0 low))
+      (swaps new ∙ ap (λ b. cond b None (cond (eqb new new) (Some i) (f new))) (other_number old new not_old) ∙ ap (λ b. cond b (Some i) (f new)) (same_number new)
+      ∙ ap (λ n. Some n) (sym s))))
+      (λ e. let ne : j ≢ i = λ (s : j ≡ i). false≢true (sym e ∙ subst (λ n. eqb j n ≡ true) s (same_number j)) in
+      let lead = is.leads j low in
+      let k = get_or ks j 0 in
+      let apart_old : eqb old k ≡ false = other_number old k (λ s. ne (one_some (f k) j i lead (subst (λ n. f n ≡ Some i) s there))) in
+      let apart_new : eqb new k ≡ false = other_number new k (λ s. none_some (f k) j (subst (λ n. f n ≡ None) s fresh) lead) in
+      subst (λ n. g n ≡ Some j) (sym (get_or-set_other ks i j new 0 ne))
+      (swaps k ∙ ap (λ b. cond b None (cond (eqb new k) (Some i) (f k))) apart_old ∙ ap (λ b. cond b (Some i) (f k)) apart_new ∙ lead));
+  back = λ q j h. by_test (eqb old q)
+      (λ e. absurd (none_some (g q) j (swaps q ∙ ap (λ b. cond b None (cond (eqb new q) (Some i) (f q))) e) h))
+      (λ e. let past : g q ≡ cond (eqb new q) (Some i) (f q) = swaps q ∙ ap (λ b. cond b None (cond (eqb new q) (Some i) (f q))) e in
+      by_test (eqb new q)
+      (λ e2. let s : i ≡ j = one_some (g q) i j (past ∙ ap (λ b. cond b (Some i) (f q)) e2) h in
+      let low = (is.back old i there).0 in
+      subst (λ n. (n < length (set ks i new)) × (get_or (set ks i new) n 0 ≡ q)) s
+      ((let l = length-set ks i new in omega arith), get_or-set_same ks i new 0 low ∙ is_number new q e2))
+      (λ e2. let was = is.back q j (sym (ap (λ b. cond b (Some i) (f q)) e2) ∙ sym past ∙ h) in
+      let low = was.0 in
+      let ne : j ≢ i = λ (s : j ≡ i). false≢true (sym e ∙ subst (λ n. eqb old n ≡ true) (sym (is.back old i there).1 ∙ ap (λ n. get_or ks n 0) (sym s) ∙ was.1) (same_number old)) in
+      ((let l = length-set ks i new in omega arith), get_or-set_other ks i j new 0 ne ∙ was.1)));
+}
+  where
+    not_old : (old ≡ new) → ⊥
+    not_old s = none_some (f new) i fresh (subst (λ n. f n ≡ Some i) s there)
+
+pub referred_swapped : (f g : Links) (xs : List Arrived) (y : Arrived) (old i : ℕ) → IsReferred f xs → at f old ≡ Some i → at f (reference_of y) ≡ None
+    → ((q : ℕ) → at g q ≡ cond (eqb old q) None (cond (eqb (reference_of y) q) (Some i) (at f q))) → IsReferred g (set xs i y)
+referred_swapped f g xs y old i is there fresh swaps = record {
+  placed = subst (IsPlaced (at g)) (sym (map-set reference_of xs i y)) (swap_placed (at f) (at g) (references_of xs) old (reference_of y) i is.placed there fresh swaps);
+  few = let l = length-set xs i y in let few = is.few in omega arith;
+}
+
+-- the entries are those without the old one, and the new one
+swap_first : (k : ℕ) (xs : List Arrived) (i : ℕ) (y : Arrived) → i < length xs → ((j : ℕ) → j < i → eqb k (get_or (references_of xs) j 0) ≡ false) → get_or (references_of xs) i 0 ≡ k
+    → IsPermutation ((reference_of y, y) ∷ remove_entry (eqb k) (under_references xs)) (under_references (set xs i y))
+swap_first k [] i y h before e = absurd (omega arith)
+swap_first k (x ∷ xs) zero y h before e =
+    let here : eqb k (reference_of x) ≡ true = subst (λ n. eqb k n ≡ true) (sym e) (same_number k) in
+    simp here (IsPermutation-refl ((reference_of y, y) ∷ under_references xs))
+swap_first k (x ∷ xs) (suc i) y h before e =
+    let other : eqb k (reference_of x) ≡ false = before 0 (omega arith) in
+    let rest = swap_first k xs i y (omega arith) (λ j l. before (suc j) (omega arith)) e in
+    let left = remove_entry (eqb k) (under_references xs) in
+    simp other (IsPermutation-trans ((reference_of y, y) ∷ (reference_of x, x) ∷ left) ((reference_of x, x) ∷ (reference_of y, y) ∷ left) ((reference_of x, x) ∷ under_references (set xs i y))
+    (IsPermutation-append_left left ((reference_of y, y) ∷ (reference_of x, x) ∷ []) ((reference_of x, x) ∷ (reference_of y, y) ∷ []) (IsPermutation-to_front ((reference_of y, y) ∷ []) (reference_of x, x)))
+    (IsPermutation-cons (reference_of x, x) _ _ rest))
+
+pub swapped : (f : ℕ → Option ℕ) (xs : List Arrived) → IsPlaced f (references_of xs) → (k i : ℕ) (y : Arrived) → f k ≡ Some i
+    → IsPermutation ((reference_of y, y) ∷ remove_entry (eqb k) (under_references xs)) (under_references (set xs i y))
+swapped f xs is k i y e = swap_first k xs i y (within f xs is k i e) (earlier f xs is k i e) (is.back k i e).1
+
+-- where the new one was put there too, the old one is led to still
+pub led_still : (f g : ℕ → Option ℕ) (old new i : ℕ) → f old ≡ Some i → ((q : ℕ) → g q ≡ cond (eqb new q) (Some i) (f q)) → g old ≡ Some i
+led_still f g old new i there puts =
+    by_test (eqb new old)
+    (λ e. puts old ∙ ap (λ b. cond b (Some i) (f old)) e)
+    (λ e. puts old ∙ ap (λ b. cond b (Some i) (f old)) e ∙ there)

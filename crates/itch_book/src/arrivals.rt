@@ -10,7 +10,7 @@ ghost use Rattle.itch_book.specs.TakenShares.{IsLeft};
 use crate::arrived::{Arrived, Wanted, its_order};
 use crate::line::{first_in_line, level_in_line, next_in_line, stands_at};
 use crate::order::{Order, Placed, Taken, order_of, unplaced};
-use crate::references::{References, cut, known, least, put, total_of, write};
+use crate::references::{References, cut, known, least, put, swap, total_of, write};
 use itch_codec::Side;
 use std::alloc::{AllocError, Allocator, Global};
 use std::marker::Model;
@@ -69,6 +69,7 @@ impl<A: Allocator + Copy> Arrivals<A> {
     }
 
     /// Has the orders of these references read into the processor's cache, where there are many orders.
+    #[inline(always)]
     pub(crate) fn look_ahead(&mut self, references: &[u64])
         ensures { self.new ≡ self.old }
     {
@@ -76,6 +77,7 @@ impl<A: Allocator + Copy> Arrivals<A> {
     }
 
     /// The number of orders.
+    #[inline(always)]
     pub(crate) fn len(&self) -> usize
         ensures { result ≡ length self.now.orders }
     {
@@ -83,6 +85,7 @@ impl<A: Allocator + Copy> Arrivals<A> {
     }
 
     /// The order of a reference.
+    #[inline(always)]
     pub(crate) fn get(&self, reference: u64) -> Option<&Order>
         ensures { option_copied result ≡ get self.now.orders reference }
     {
@@ -90,6 +93,7 @@ impl<A: Allocator + Copy> Arrivals<A> {
     }
 
     /// The order of a reference, and its place.
+    #[inline(always)]
     pub(crate) fn find(&self, reference: u64) -> Option<Placed<'_>>
         ensures { option_map (λ p. p.order.now) result ≡ get self.now.orders reference }
     {
@@ -122,6 +126,7 @@ impl<A: Allocator + Copy> Arrivals<A> {
     }
 
     /// The order of the same locate after that of a reference: the next in the line, if the order stands at this place in it.
+    #[inline(always)]
     pub(crate) fn after(&self, reference: u64, place: usize) -> Option<Placed<'_>>
         requires { IsSome (get self.now.orders reference) }
         ensures { option_map (λ p. p.order.now) result ≡ after self.now.orders reference }
@@ -148,6 +153,7 @@ impl<A: Allocator + Copy> Arrivals<A> {
 
     /// Adds an order, last at its price. If an allocation fails, or if there is no number left for its arrival, no order
     /// changes.
+    #[inline(always)]
     pub(crate) fn add(&mut self, order: Order) -> Result<(), AllocError>
         requires some_shares { 0 < order.shares }
         requires new_reference { get self.old.orders order.reference ≡ None }
@@ -166,6 +172,7 @@ impl<A: Allocator + Copy> Arrivals<A> {
 
     /// Takes shares from an order, which keeps its place, and is removed if none remain. It is not looked for if it stands at
     /// this place.
+    #[inline(always)]
     pub(crate) fn take(&mut self, reference: u64, place: usize, shares: u32) -> Taken
         requires { IsSomeAnd (get self.old.orders reference) (λ x. shares ≤ x.shares) }
         ensures orders { self.new.orders ≡ lay (taken reference shares self.old.orders) }
@@ -187,6 +194,7 @@ impl<A: Allocator + Copy> Arrivals<A> {
     }
 
     /// Removes an order, and returns it.
+    #[inline(always)]
     pub(crate) fn delete(&mut self, reference: u64) -> Order
         requires { IsSome (get self.old.orders reference) }
         ensures orders { self.new.orders ≡ lay (without reference self.old.orders) }
@@ -200,6 +208,7 @@ impl<A: Allocator + Copy> Arrivals<A> {
     /// looked for if it stands at this place.
     ///
     /// If an allocation fails, or if there is no number left for its arrival, no order changes.
+    #[inline(always)]
     pub(crate) fn replace(
         &mut self,
         original: u64,
@@ -214,26 +223,26 @@ impl<A: Allocator + Copy> Arrivals<A> {
         ensures ok { OnOk result (self.new.orders ≡ lay (replaced original reference shares price self.old.orders)) }
         ensures err { OnErr result (self.new.orders ≡ self.old.orders) }
     {
-        let old = self.live(original, place);
+        let arrival = self.next;
+        if arrival == u64::MAX {
+            return Err(AllocError);
+        }
+        let (at, old) = known(&self.references, original, place);
         let order = Order {
             reference,
             shares,
             price,
-            ..old
+            ..old.order
         };
-        self.add(order)?;
-        self.delete(original);
+        self.is_settled = false;
+        swap(
+            &mut self.references,
+            at,
+            original,
+            Arrived { order, arrival },
+        )?;
+        self.next = arrival + 1;
         Ok(())
-    }
-
-    // The order of a reference that has one.
-    fn live(&self, reference: u64, place: usize) -> Order
-        requires { IsSome (get self.now.orders reference) }
-        ensures order { get self.now.orders reference ≡ Some result }
-        ensures book { IsBook self.now.orders }
-    {
-        let (_, arrived) = known(&self.references, reference, place);
-        arrived.order
     }
 }
 

@@ -27,6 +27,7 @@ pub(crate) fn first_in_line(line: &[Arrived], wanted: Wanted) -> Option<Placed<'
 }
 
 // Whether the order of a reference stands at a place.
+#[inline(always)]
 pub(crate) fn stands_at(line: &[Arrived], reference: u64, place: usize) -> bool
     ensures { IsTrue result ↔ IsSomeAnd (slice_get line.now place) (λ x. x.order.reference ≡ reference) }
 {

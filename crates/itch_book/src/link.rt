@@ -23,6 +23,7 @@ impl Model for Link {
 
 impl Link {
     /// A link to no place.
+    #[inline(always)]
     pub(crate) fn none() -> Link
         ensures { result ≡ None }
     {
@@ -30,6 +31,7 @@ impl Link {
     }
 
     /// A link to a place.
+    #[inline(always)]
     pub(crate) fn to(place: u32) -> Link
         requires { place < 4294967295 }
         ensures { result ≡ Some place }
@@ -38,6 +40,7 @@ impl Link {
     }
 
     /// The place.
+    #[inline(always)]
     pub(crate) fn place(self) -> Option<u32>
         ensures { result ≡ self }
     {

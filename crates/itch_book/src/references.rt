@@ -65,6 +65,7 @@ impl<A: Allocator> References<A> {
     }
 
     /// The number of orders.
+    #[inline(always)]
     pub(crate) fn len(&self) -> usize
         ensures { result ≡ length self.now.entries }
     {
@@ -72,6 +73,7 @@ impl<A: Allocator> References<A> {
     }
 
     /// The order of a reference, and its place.
+    #[inline(always)]
     pub(crate) fn find(&self, reference: u64) -> Option<Placed<'_>>
         ensures { option_map (λ p. p.order.now) result ≡ option_map its_order (lookup (eqb reference) self.now.entries) }
     {
@@ -85,6 +87,7 @@ impl<A: Allocator> References<A> {
     }
 
     /// The orders as a line, if they are settled.
+    #[inline(always)]
     pub(crate) fn line_if(&self, is_settled: bool) -> Option<&[Arrived]>
         ensures { option_copied result ≡ line_if is_settled (values_of self.now.entries) }
     {
@@ -97,6 +100,7 @@ impl<A: Allocator> References<A> {
 
     /// Has the orders of the first of these references read into the processor's cache, where there are more than fit there
     /// anyway. So it waits for memory once, and not for each in turn when messages change them.
+    #[inline(always)]
     pub(crate) fn look_ahead(&mut self, references: &[u64])
         ensures { self.new ≡ self.old }
     {
@@ -118,6 +122,7 @@ impl<A: Allocator> References<A> {
 }
 
 // The places of the first references in the table. Those that it does not have are given the first place.
+#[inline(always)]
 fn places_of<A: Allocator>(table: &Table<A>, references: &[u64]) -> [u32; AHEAD] {
     let mut places = [0; AHEAD];
     for (place, reference) in places.iter_mut().zip(references) {
@@ -127,17 +132,20 @@ fn places_of<A: Allocator>(table: &Table<A>, references: &[u64]) -> [u32; AHEAD]
 }
 
 // Something of each order at these places, so that all of them have to be read.
+#[inline(always)]
 fn seen_at(orders: &[Arrived], places: &[u32; AHEAD]) -> u64 {
     let mut seen = 0;
     for place in places {
         if let Some(arrived) = orders.get(*place as usize) {
-            seen ^= arrived.order.reference;
+            // An order may lie in two lines of the cache: both ends are read.
+            seen ^= arrived.order.reference ^ arrived.arrival;
         }
     }
     seen
 }
 
 // The order of a reference that has one, and its place: the one that is given, if the order stands there.
+#[inline(always)]
 pub(crate) fn known<A: Allocator>(
     references: &References<A>,
     reference: u64,
@@ -152,6 +160,7 @@ pub(crate) fn known<A: Allocator>(
 }
 
 // The place of a reference that has an order: the one that is given, if the order stands there. Else the table has it.
+#[inline(always)]
 fn place_of<A: Allocator>(references: &References<A>, reference: u64, place: usize) -> usize
     requires { IsSome (lookup (eqb reference) references.now.entries) }
     ensures { IsAt references.now.entries reference result }
@@ -163,6 +172,7 @@ fn place_of<A: Allocator>(references: &References<A>, reference: u64, place: usi
 }
 
 // Puts an order under its reference. If an allocation fails, or if there are 2^32 - 1 orders, nothing changes.
+#[inline(always)]
 pub(crate) fn put<A: Allocator + Copy>(
     references: &mut References<A>,
     arrived: Arrived,
@@ -179,11 +189,33 @@ pub(crate) fn put<A: Allocator + Copy>(
     references
         .places
         .insert(arrived.order.reference, place as u32)?;
-    references.orders.push(arrived).unwrap();
+    references.orders.push_reserved(arrived);
+    Ok(())
+}
+
+// Puts an order in place of that of another reference, which stands at this place. If an allocation fails, nothing changes.
+#[inline(always)]
+pub(crate) fn swap<A: Allocator + Copy>(
+    references: &mut References<A>,
+    place: usize,
+    old: u64,
+    replacement: Arrived,
+) -> Result<(), AllocError>
+    requires place { IsAt references.old.entries old place }
+    requires new_reference { lookup (eqb replacement.order.reference) references.old.entries ≡ None }
+    ensures ok { OnOk result (IsPermutation ((replacement.order.reference, replacement) ∷ remove_entry (eqb old) references.old.entries) references.new.entries) }
+    ensures err { OnErr result (references.new.entries ≡ references.old.entries) }
+{
+    references
+        .places
+        .insert(replacement.order.reference, place as u32)?;
+    references.places.remove(old);
+    references.orders[place] = replacement;
     Ok(())
 }
 
 // Takes out the order of a reference. The last one comes into its place.
+#[inline(always)]
 pub(crate) fn cut<A: Allocator>(references: &mut References<A>, reference: u64) -> Arrived
     requires { IsSome (lookup (eqb reference) references.old.entries) }
     ensures found { lookup (eqb reference) references.old.entries ≡ Some result }
@@ -199,6 +231,7 @@ pub(crate) fn cut<A: Allocator>(references: &mut References<A>, reference: u64) 
 }
 
 // Writes an order in place of that of the same reference, which stands at this place.
+#[inline(always)]
 pub(crate) fn write<A: Allocator>(references: &mut References<A>, place: usize, arrived: Arrived)
     requires { IsAt references.old.entries arrived.order.reference place }
     ensures { references.new.entries ≡ set_value (eqb arrived.order.reference) references.old.entries arrived }

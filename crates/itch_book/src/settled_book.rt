@@ -34,10 +34,12 @@ impl<A: Allocator + Copy> OrderBook for SettledBook<A> {
         self.arrivals.len()
     }
 
+    #[inline(always)]
     fn get(&self, reference: u64) -> Option<&Order> {
         self.arrivals.get(reference)
     }
 
+    #[inline(always)]
     fn find(&self, reference: u64) -> Option<Placed<'_>> {
         self.arrivals.find(reference)
     }
@@ -46,6 +48,7 @@ impl<A: Allocator + Copy> OrderBook for SettledBook<A> {
         self.arrivals.first(locate)
     }
 
+    #[inline(always)]
     fn after(&self, reference: u64, place: usize) -> Option<Placed<'_>> {
         self.arrivals.after(reference, place)
     }
@@ -63,20 +66,24 @@ impl<A: Allocator + Copy> OrderBook for SettledBook<A> {
     }
 
     // Fails too once every number of an arrival is used up.
+    #[inline(always)]
     fn add(&mut self, order: Order) -> Result<(), AllocError> {
         self.arrivals.add(order)
     }
 
+    #[inline(always)]
     fn take(&mut self, reference: u64, place: usize, shares: u32) -> Taken {
         self.arrivals.take(reference, place, shares)
     }
 
     // To take the order out of the table gives its place.
+    #[inline(always)]
     fn delete(&mut self, reference: u64, _place: usize) -> Order {
         self.arrivals.delete(reference)
     }
 
     // The same, since a replacement arrives anew.
+    #[inline(always)]
     fn replace(
         &mut self,
         original: u64,
@@ -90,6 +97,7 @@ impl<A: Allocator + Copy> OrderBook for SettledBook<A> {
     }
 
     // Has the orders of the references read into the processor's cache, where there are many.
+    #[inline(always)]
     fn look_ahead(&mut self, references: &[u64])
         ensures orders { self.new.arrivals.orders ≡ self.old.arrivals.orders }
         ensures settled { self.new.arrivals.is_settled ≡ self.old.arrivals.is_settled }

@@ -59,6 +59,7 @@ impl<A: Allocator> Table<A> {
     }
 
     /// The number of keys.
+    #[inline(always)]
     pub fn len(&self) -> usize
         ensures { IsCount (at self.now) result }
     {
@@ -66,6 +67,7 @@ impl<A: Allocator> Table<A> {
     }
 
     /// The link at a key.
+    #[inline(always)]
     pub fn get(&self, key: u64) -> Option<u32>
         ensures { result ≡ at self.now key }
     {
@@ -77,6 +79,7 @@ impl<A: Allocator> Table<A> {
     }
 
     /// Writes another link in place of that of a key.
+    #[inline(always)]
     pub fn set(&mut self, key: u64, link: u32)
         requires link { link < 4294967295 }
         requires known { IsSome (at self.old key) }
@@ -90,6 +93,7 @@ impl<A: Allocator> Table<A> {
     }
 
     /// Puts a link under a new key. If an allocation fails, or if there are 2^64 - 1 keys, no link changes.
+    #[inline(always)]
     pub fn insert(&mut self, key: u64, link: u32) -> Result<(), AllocError>
     where
         A: Copy,
@@ -120,6 +124,7 @@ impl<A: Allocator> Table<A> {
     }
 
     /// Takes out the link at a key.
+    #[inline(always)]
     pub fn remove(&mut self, key: u64) -> u32
         requires { IsSome (at self.old key) }
         ensures link { at self.old key ≡ Some result }

@@ -8,3 +8,4 @@ pub mod Texts
 pub mod Trimming
 pub mod Hexadecimal
 pub mod LaterDigits
+pub mod OneType

@@ -13,3 +13,4 @@ pub mod Clock
 pub mod Names
 pub mod Json
 pub mod Named
+pub mod Typed

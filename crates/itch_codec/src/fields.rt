@@ -15,6 +15,7 @@ use byteorder::{BigEndian, ByteOrder};
 /// The bytes of a message as it is built. The longest message of the table has 44.
 pub(crate) type Buffer = ArrayVec<u8, 48>;
 
+#[inline(always)]
 #[tactic(auto, unfolding(crate::specs::Numbers::number_at))]
 pub(crate) fn u16_at(payload: &[u8], offset: usize) -> u16
     requires { offset + 2 ≤ length payload.now }
@@ -23,6 +24,7 @@ pub(crate) fn u16_at(payload: &[u8], offset: usize) -> u16
     BigEndian::read_u16(&payload[offset..offset + 2])
 }
 
+#[inline(always)]
 #[tactic(auto, unfolding(crate::specs::Numbers::number_at))]
 pub(crate) fn u32_at(payload: &[u8], offset: usize) -> u32
     requires { offset + 4 ≤ length payload.now }
@@ -31,6 +33,7 @@ pub(crate) fn u32_at(payload: &[u8], offset: usize) -> u32
     BigEndian::read_u32(&payload[offset..offset + 4])
 }
 
+#[inline(always)]
 #[tactic(auto, unfolding(crate::specs::Numbers::number_at))]
 pub(crate) fn u48_at(payload: &[u8], offset: usize) -> u64
     requires { offset + 6 ≤ length payload.now }
@@ -40,6 +43,7 @@ pub(crate) fn u48_at(payload: &[u8], offset: usize) -> u64
     BigEndian::read_u48(&payload[offset..offset + 6])
 }
 
+#[inline(always)]
 #[tactic(auto, unfolding(crate::specs::Numbers::number_at))]
 pub(crate) fn u64_at(payload: &[u8], offset: usize) -> u64
     requires { offset + 8 ≤ length payload.now }
@@ -48,6 +52,7 @@ pub(crate) fn u64_at(payload: &[u8], offset: usize) -> u64
     BigEndian::read_u64(&payload[offset..offset + 8])
 }
 
+#[inline(always)]
 #[tactic(auto, unfolding(crate::specs::Numbers::slice_at))]
 pub(crate) fn codes_at<const N: usize>(payload: &[u8], offset: usize) -> [u8; N]
     requires { offset + N ≤ length payload.now }
@@ -58,6 +63,7 @@ pub(crate) fn codes_at<const N: usize>(payload: &[u8], offset: usize) -> [u8; N]
     bytes
 }
 
+#[inline(always)]
 pub(crate) fn text_at<const N: usize>(payload: &[u8], offset: usize) -> Result<Alpha<N>, CodecFault>
     requires { offset + N ≤ length payload.now }
     ensures { Reads (λ text. Has payload.now (column offset N Text) (Bytes text)) (field_fault payload.now (column offset N Text)) result }
@@ -95,6 +101,7 @@ pub(crate) fn known_text<const N: usize>(payload: &[u8], offset: usize) -> Alpha
     Alpha::known(codes_at(payload, offset))
 }
 
+#[inline(always)]
 pub(crate) fn side_at(payload: &[u8], offset: usize) -> Result<Side, CodecFault>
     requires { offset < length payload.now }
     ensures { Reads (λ side. Has payload.now (column offset 1 OneSide) (TheSide side)) (field_fault payload.now (column offset 1 OneSide)) result }

@@ -64,6 +64,7 @@ impl Header {
     ghost use Rattle.itch_codec.specs.Values.{header_values};
     ghost use Rattle.itch_codec.specs.Widths.{IsHeader};
 
+    #[inline(always)]
     pub(crate) fn decode(payload: &[u8]) -> Header
         requires { 11 ≤ length payload.now }
         ensures { HasAll payload.now (with_header []) (header_values result []) }

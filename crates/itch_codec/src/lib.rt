@@ -38,6 +38,7 @@ pub mod spaces;
 mod stocks;
 mod text;
 mod trades;
+mod typed;
 mod undecoded;
 mod words;
 

@@ -40,6 +40,7 @@ pub struct AddOrder {
 }
 
 impl AddOrder {
+    #[inline(always)]
     pub(crate) fn decode(payload: &[u8]) -> Result<AddOrder, CodecFault>
         requires { 36 ≤ length payload.now }
         ensures { Reads (λ m. HasAll payload.now add_order.columns (add_order_values m)) (first_fault payload.now add_order.columns) result }
@@ -117,6 +118,7 @@ pub struct AttributedAddOrder {
 }
 
 impl AttributedAddOrder {
+    #[inline(always)]
     pub(crate) fn decode(payload: &[u8]) -> Result<AttributedAddOrder, CodecFault>
         requires { length payload.now ≡ 40 }
         ensures { Reads (λ m. HasAll payload.now attributed_add_order.columns (attributed_add_order_values m)) (first_fault payload.now attributed_add_order.columns) result }
@@ -160,6 +162,7 @@ pub struct OrderExecuted {
 }
 
 impl OrderExecuted {
+    #[inline(always)]
     pub(crate) fn decode(payload: &[u8]) -> OrderExecuted
         requires { 31 ≤ length payload.now }
         ensures { HasAll payload.now order_executed.columns (order_executed_values result) }
@@ -231,6 +234,7 @@ pub struct OrderExecutedWithPrice {
 }
 
 impl OrderExecutedWithPrice {
+    #[inline(always)]
     pub(crate) fn decode(payload: &[u8]) -> OrderExecutedWithPrice
         requires { length payload.now ≡ 36 }
         ensures { HasAll payload.now order_executed_with_price.columns (order_executed_with_price_values result) }
@@ -276,6 +280,7 @@ pub struct OrderCancel {
 }
 
 impl OrderCancel {
+    #[inline(always)]
     pub(crate) fn decode(payload: &[u8]) -> OrderCancel
         requires { length payload.now ≡ 23 }
         ensures { HasAll payload.now order_cancel.columns (order_cancel_values result) }
@@ -319,6 +324,7 @@ pub struct OrderDelete {
 }
 
 impl OrderDelete {
+    #[inline(always)]
     pub(crate) fn decode(payload: &[u8]) -> OrderDelete
         requires { length payload.now ≡ 19 }
         ensures { HasAll payload.now order_delete.columns (order_delete_values result) }
@@ -364,6 +370,7 @@ pub struct OrderReplace {
 }
 
 impl OrderReplace {
+    #[inline(always)]
     pub(crate) fn decode(payload: &[u8]) -> OrderReplace
         requires { length payload.now ≡ 35 }
         ensures { HasAll payload.now order_replace.columns (order_replace_values result) }

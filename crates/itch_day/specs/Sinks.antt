@@ -1,5 +1,5 @@
 -- What takes the messages of a day.
-use Rattle.std.specs.Prelude.{◌≡◌, ℕ, ◌+◌, List, [], ◌∷◌, None, Some, Result, Ok, Err}
+use Rattle.std.specs.Prelude.{◌≡◌, ℕ, ◌+◌, List, [], ◌∷◌, Bool, true, false, None, Some, Result, Ok, Err}
 use Rattle.itch_codec.specs.Messages.{fault, message_of}
 use Rattle.itch_codec.specs.Widths.{IsMessage}
 use Rattle.itch_codec.specs.declared.fault.CodecFault.{CodecFault}
@@ -15,3 +15,9 @@ module _ {T : Type 0} (takes : T → ℕ → List ℕ → T → Type 0) where
   abbrev pub TakesAll : T → ℕ → List (List ℕ) → T → Type 0
   TakesAll old count [] new = new ≡ old
   TakesAll old count (payload ∷ rest) new = (next : T) × takes old (count + 1) payload next × TakesAll next (count + 1) rest new
+
+-- what comes of a payload that is offered as it is: it is taken, or refused; or nothing changes, and it has yet to be decoded
+abbrev pub OffersPayload : {T F : Type 0} → (T → ℕ → List ℕ → T → Type 0) → (T → ℕ → List ℕ → F → T → Type 0) → T → ℕ → List ℕ → Result Bool F → T → Type 0
+OffersPayload takes refuses old number payload (Ok true) new = takes old number payload new
+OffersPayload takes refuses old number payload (Ok false) new = new ≡ old
+OffersPayload takes refuses old number payload (Err why) new = refuses old number payload why new

@@ -178,6 +178,17 @@ fn take<T: Sink>(
     if *count == MOST_MESSAGES {
         return Err(NotTaken::TooMany);
     }
+    // (whether a message is late is known once it is decoded)
+    if limit.until.is_none() {
+        match sink.take_payload(*count + 1, payload) {
+            Ok(true) => {
+                *count += 1;
+                return Ok(());
+            }
+            Ok(false) => {}
+            Err(why) => return Err(NotTaken::Refused(why)),
+        }
+    }
     let message = decode(payload);
     if is_late(limit, &message) {
         return Err(NotTaken::Late);

@@ -4,21 +4,19 @@ use Rattle.std.specs.FinMap as map
 use Rattle.std.specs.Map.{keys_of}
 use Rattle.std.specs.List.{AllByRecursion}
 use Rattle.std.specs.List.Sorted.{IsStrictlySortedBy}
+use Rattle.std.specs.Prelude.{map as map_list}
+use Rattle.std.specs.Option.{IsNone}
+use Rattle.std.specs.Str.{bytes_eq}
 use Rattle.std.proofs.Math.Seq.{drop-cons}
-use Rattle.std.proofs.lemmas.List.{drop_all}
+use Rattle.std.proofs.lemmas.List.{drop_all, map-set, map-append, length-map, get_or-map, set-get_or}
+use Rattle.itch_codec.specs.Text.{IsPrintable}
 use Rattle.std.proofs.lemmas.Bool.Decides.{nat_tests}
 use Rattle.itch_market.specs.Content.{Listing, Securities}
-use Rattle.itch_market.specs.Slots.{entries_from, directory, locates_from}
+use Rattle.itch_market.specs.Slots.{entries_from, directory, locates_from, slot, stock_in, has_stock}
 use Rattle.std.specs.Cmp.{nat_cmp_total}
 use Rattle.std.specs.FinMap.{nat_cmp-IsAntisymmetric}
 use Rattle.itch_market.proofs.Trees.{insert_present}
 use Rattle.itch_market.proofs.Maps.{get-insert, get_there, get_elsewhere, same_map, entries_of_rising}
-
--- what slots have at a place
-abbrev pub slot : List (Option Listing) → ℕ → Option Listing
-slot [] q = None
-slot (s ∷ slots) zero = s
-slot (s ∷ slots) (suc q) = slot slots q
 
 apart : (q locate : ℕ) → q < locate → q ≢ locate
 apart q locate low same = absurd (omega arith)
@@ -160,3 +158,39 @@ get_past slots i past = get_of_slots slots i ∙ slot_past slots i (omega arith)
 pub kept_here : (securities : Securities) (locate : ℕ) (s t : Listing) → Some s ≡ map.get securities locate → t ≡ s → map.insert securities locate t ≡ securities
 kept_here securities locate s t there same =
     ap (map.insert securities locate) same ∙ insert_present nat_cmp_total nat_cmp-IsAntisymmetric securities locate s (sym there)
+
+-- a slot and its stock are written together
+pub stocks_set : (stocks : List (List ℕ)) (slots : List (Option Listing)) (i : ℕ) (s : Option Listing) → stocks ≡ map_list stock_in slots
+    → set stocks i (stock_in s) ≡ map_list stock_in (set slots i s)
+stocks_set stocks slots i s same = ap (λ xs. set xs i (stock_in s)) same ∙ sym (map-set stock_in slots i s)
+
+-- an empty slot and its zeros come together
+pub stocks_more : (stocks : List (List ℕ)) (slots : List (Option Listing)) → stocks ≡ map_list stock_in slots
+    → stocks ++ stock_in None ∷ [] ≡ map_list stock_in (slots ++ None ∷ [])
+stocks_more stocks slots same = ap (λ xs. xs ++ stock_in None ∷ []) same ∙ sym (map-append stock_in slots (None ∷ []))
+
+-- a stock is that of its slot
+pub stock_read : (stocks : List (List ℕ)) (slots : List (Option Listing)) (i : ℕ) (known : List ℕ) → stocks ≡ map_list stock_in slots → i < length stocks
+    → known ≡ get_or stocks i known → known ≡ stock_in (slot slots i)
+stock_read stocks slots i known same low is =
+    let within : i < length slots = rw (same, length-map) at low in
+    is ∙ ap (λ xs. get_or xs i known) same ∙ get_or-map stock_in slots i None known within
+    ∙ ap stock_in (slot_read slots i (get_or slots i None) None within refl)
+
+-- eight zeros are no stock
+zeros_differ : (stock : List ℕ) → IsPrintable stock → length stock ≡ 8 → bytes_eq (replicate 8 0) stock ≡ false
+zeros_differ [] printable width = absurd (omega arith)
+zeros_differ (byte ∷ stock) printable width = let other : eqb 0 byte ≡ false = grind (arith, nat_tests) in rw other refl
+
+-- to compare with the stock beside a slot is to compare with that of its security
+pub stock_compared : (s : Option Listing) (stock : List ℕ) → IsPrintable stock → length stock ≡ 8 → bytes_eq (stock_in s) stock ≡ has_stock s stock
+stock_compared None stock printable width = zeros_differ stock printable width
+stock_compared (Some s) stock printable width = refl
+
+-- an empty slot that is emptied changes nothing
+pub none_kept : (slots : List (Option Listing)) (i : ℕ) (was now taken : Option Listing) → i < length slots → taken ≡ was → was ≡ get_or slots i was → now ≡ None
+    → IsNone taken → directory (set slots i now) ≡ directory slots
+none_kept slots i was now (Some s) low taken read emptied none = absurd (let none_none : ⊥ = cc in none_none)
+none_kept slots i was now None low taken read emptied none =
+    let same : now ≡ get_or slots i was = cc in
+    ap directory (ap (set slots i) same ∙ set-get_or slots i was)

@@ -16,3 +16,4 @@ pub mod DayMessages
 pub mod Partial
 pub mod Wanted
 pub mod Plain
+pub mod AtHand

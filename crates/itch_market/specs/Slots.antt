@@ -1,5 +1,6 @@
 -- The directory by locate: slots from locate 0 on, each with the security there, if there is one.
-use Rattle.std.specs.Prelude.{ℕ, suc, ◌<◌, ◌≡◌, List, [], ◌∷◌, Option, Some, None, length, drop}
+use Rattle.std.specs.Prelude.{ℕ, zero, suc, ◌<◌, ◌≡◌, Bool, false, List, [], ◌∷◌, Option, Some, None, length, drop, replicate}
+use Rattle.std.specs.Str.{bytes_eq}
 use Rattle.std.specs.FinMap as map
 use Rattle.std.specs.Map.{keys_of}
 use Rattle.itch_market.specs.Content.{Listing, Securities}
@@ -22,3 +23,19 @@ locates_from locate slots = keys_of (entries_from locate (drop locate slots))
 abbrev pub IsFirstFrom : ℕ → List (Option Listing) → Option ℕ → Type 0
 IsFirstFrom from slots None = locates_from from slots ≡ []
 IsFirstFrom from slots (Some locate) = (locate < length slots) × (locates_from from slots ≡ locate ∷ locates_from (suc locate) slots)
+
+-- what slots have at a place
+abbrev pub slot : List (Option Listing) → ℕ → Option Listing
+slot [] q = None
+slot (s ∷ slots) zero = s
+slot (s ∷ slots) (suc q) = slot slots q
+
+-- whether a slot has a security with this stock
+abbrev pub has_stock : Option Listing → List ℕ → Bool
+has_stock None stock = false
+has_stock (Some s) stock = bytes_eq s.entry.stock stock
+
+-- the stock of the security in a slot, or eight zeros
+abbrev pub stock_in : Option Listing → List ℕ
+stock_in None = replicate 8 0
+stock_in (Some s) = s.entry.stock

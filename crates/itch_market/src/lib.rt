@@ -20,6 +20,7 @@ pub mod laws;
 mod locate_set;
 mod locates;
 mod market;
+mod named_slots;
 mod positions;
 mod refusal;
 mod refused;

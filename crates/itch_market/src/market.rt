@@ -9,6 +9,7 @@ ghost use Rattle.itch_market.specs.Effects.{effect, takes_memory};
 ghost use Rattle.itch_market.specs.GoodMarkets.{IsGood};
 
 mod actions;
+mod at_hand;
 mod plain;
 mod rules;
 

@@ -1,6 +1,7 @@
 //! A market that takes the messages of a day.
 
 use crate::market::Market;
+use crate::refusal::Refusal;
 use crate::refused::Refused;
 use itch_book::OrderBook;
 use itch_codec::{CodecFault, Message};
@@ -32,6 +33,15 @@ impl<B: OrderBook> Sink for Market<B> {
                 Err(why) => Err(Refused::Rule(why)),
             },
             Err(fault) => Err(Refused::Codec(*fault)),
+        }
+    }
+
+    #[inline(always)]
+    fn take_payload(&mut self, number: u64, payload: &[u8]) -> Result<bool, Refused> {
+        let _number = number;
+        match self.apply_at_hand(payload) {
+            Ok(is_applied) => Ok(is_applied),
+            Err(_error) => Err(Refused::Rule(Refusal::OutOfMemory)),
         }
     }
 

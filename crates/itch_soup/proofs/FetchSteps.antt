@@ -1,8 +1,9 @@
 -- A fetch step by step: what a client has received so far, and one packet more.
-use Rattle.std.proofs.Common.{◌≡◌, ℕ, ◌+◌, ◌-◌, ◌^◌, ◌≤◌, true, false, List, [], ◌∷◌, ◌++◌, map, length, Option, None, Some, Ok, Err, refl, sym, ap, subst, ◌∙◌, arith, length-append}
+use Rattle.std.proofs.Common.{◌≡◌, ℕ, ◌+◌, ◌-◌, ◌^◌, ◌≤◌, true, false, List, [], ◌∷◌, ◌++◌, map, length, Option, None, Some, Result, Ok, Err, refl, sym, ap, subst, ◌∙◌, arith, length-append}
 use Rattle.std.proofs.lemmas.List.{length-map}
 use Rattle.std.specs.List.{AllByRecursion}
 use Rattle.std.specs.Option.{is_some}
+use Rattle.std.specs.Result.{IsOk}
 use Rattle.std.specs.Io.KnownBytes.{Consumes}
 use Rattle.itch_codec.specs.Messages.{message_of}
 use Rattle.itch_codec.specs.Widths.{IsMessage}
@@ -129,6 +130,19 @@ module _ (start : Client) (old mid new : Option (List ℕ)) (count : ℕ) (c : C
       let took = subst (λ s. TakesAt s load payload (Ok (Some next)) after) so_far.taking loads in
       (next, took.0.1, took.0.0, took.2)
 
+  -- so its reader finishes
+  unfinished : (payload : List ℕ) (taken : Option ℕ) → Loads load payload (Ok taken) after → true ≡ is_some taken → (back : Load) → Finishes after (Err back) → ⊥
+  unfinished payload taken loads closed back finishes =
+      let (next, number_is, market, at_end) = closed_by payload taken loads closed in
+      finishes.1 next at_end
+
+  finished_by : (answer : ClientAct) → TakesAnswer answer load true after → (result : Result (Content × ℕ) Load) → Finishes after result → IsOk result
+  finished_by answer takes (Ok done) finishes = refl
+  finished_by act.Nothing (unclosed, same) (Err back) finishes = absurd (let no_one : ⊥ = cc in no_one)
+  finished_by (act.Accepted next) (one, unclosed, same) (Err back) finishes = absurd (let no_one : ⊥ = cc in no_one)
+  finished_by (act.Data number payload) (taken, loads, closed) (Err back) finishes = absurd (unfinished payload taken loads closed back finishes)
+  finished_by answer takes (Err back) finishes = absurd takes
+
   heard_end : (answer : ClientAct) → client_answer c packet ≡ answer → TakesAnswer answer load true after → (done : Content × ℕ) → Finishes after (Ok done) → Fetched start old new done
   unfolding closes
   heard_end act.Nothing is (unclosed, same) done finishes = absurd (let no_one : ⊥ = cc in no_one)
@@ -161,6 +175,12 @@ pub hearing_closed : (start : Client) (old mid new : Option (List ℕ)) (count :
     → TakesPacket (is_enough count) c load mid new (Ok true) later after → (done : Content × ℕ) → Finishes after (Ok done) → Receives start old new (Ok done)
 hearing_closed start old mid new count c c_after load after so_far (packet, (room, (payload, fits, consumed, spelled)), is, takes) done finishes =
     heard_end start old mid new count c load after so_far packet payload room fits consumed spelled (client_answer c packet) refl takes done finishes
+
+-- and the snapshot's reader finishes
+pub hearing_finishes : (start : Client) (old mid new : Option (List ℕ)) (count : ℕ) (c later : Client) (load after : Load) → Hearing start old mid count c load
+    → TakesPacket (is_enough count) c load mid new (Ok true) later after → (result : Result (Content × ℕ) Load) → Finishes after result → IsOk result
+hearing_finishes start old mid new count c c_after load after so_far (packet, (room, (payload, fits, consumed, spelled)), is, takes) result finishes =
+    finished_by start old mid new count c load after so_far packet payload room fits consumed spelled (client_answer c packet) takes result finishes
 
 -- the snapshot's reader has taken these messages
 loaded : (payloads : List (List ℕ)) (load : Load) → Applied payloads load.taken load.market → load.stage ≡ Taking → load ≡ load_of payloads

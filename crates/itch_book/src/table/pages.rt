@@ -93,6 +93,7 @@ impl<A: Allocator> Pages<A> {
     }
 
     /// The link of a key.
+    #[inline(always)]
     pub(crate) fn get(&self, key: u64) -> Option<u32>
         ensures { result ≡ link_at self.now key }
     {
@@ -103,6 +104,7 @@ impl<A: Allocator> Pages<A> {
     }
 
     /// Writes another link in place of that of a key.
+    #[inline(always)]
     pub(crate) fn set(&mut self, key: u64, link: u32)
         requires link { link < 4294967295 }
         requires known { IsSome (link_at self.old key) }
@@ -114,6 +116,7 @@ impl<A: Allocator> Pages<A> {
     }
 
     /// Puts a link under a key. If an allocation fails, or if there are 2^32 - 1 pages, no link changes.
+    #[inline(always)]
     pub(crate) fn insert(&mut self, key: u64, link: u32) -> Result<(), AllocError>
         requires { link < 4294967295 }
         ensures ok { OnOk result ((q : ℕ) → link_at self.new q ≡ update eqb (link_at self.old) key (Some link) q) }
@@ -134,6 +137,7 @@ impl<A: Allocator> Pages<A> {
     }
 
     /// Takes out the link of a key. A page whose last link it was is used again.
+    #[inline(always)]
     pub(crate) fn remove(&mut self, key: u64) -> Option<u32>
         ensures link { result ≡ link_at self.old key }
         ensures updates { (q : ℕ) → link_at self.new q ≡ update eqb (link_at self.old) key None q }
@@ -154,6 +158,7 @@ impl<A: Allocator> Pages<A> {
 }
 
 // The place of the page of a number.
+#[inline(always)]
 fn place_at(directory: &[Link], number: usize) -> Option<u32>
     ensures { result ≡ place_at directory.now number }
 {
@@ -176,6 +181,7 @@ fn reach<A: Allocator>(directory: &mut Vec<Link, A>, number: usize) -> Result<()
 }
 
 // A link of a page.
+#[inline(always)]
 fn link_of(page: &Page, offset: usize) -> Option<u32>
     requires { offset < length page.now.links }
     ensures { result ≡ slice_index_or page.now.links offset None }
@@ -208,6 +214,7 @@ fn page_of(number: usize, offset: usize, link: u32) -> Page
 }
 
 // Writes a link of a page: what it was, and how many keys have one now.
+#[inline(always)]
 fn write(page: &mut Page, offset: usize, link: Link) -> (Option<u32>, usize)
     requires offset { offset < length page.old.links }
     requires live { page.old.live ≡ count_by is_some page.old.links }

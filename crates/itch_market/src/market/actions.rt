@@ -36,6 +36,7 @@ fn position_of(x: ParticipantPosition) -> [u8; 3]
 }
 
 /// The live order that a message makes.
+#[inline(always)]
 fn order_of(x: AddOrder, mpid: Option<Alpha<4>>) -> Order
     ensures order { result ≡ order_of x mpid }
     ensures fits { IsOrder result }
@@ -144,7 +145,8 @@ impl<B: OrderBook> Market<B> {
         Ok(())
     }
 
-    fn add(&mut self, x: AddOrder, mpid: Option<Alpha<4>>) -> Result<(), AllocError>
+    #[inline(always)]
+    pub(super) fn add(&mut self, x: AddOrder, mpid: Option<Alpha<4>>) -> Result<(), AllocError>
         requires { add_reason self.old x ≡ None }
         ensures ok { OnOk result (self.new ≡ laid (record self.old { orders = book.added (order_of x mpid) self.old.orders })) }
         ensures err { OnErr result (self.new ≡ self.old) }
@@ -152,21 +154,24 @@ impl<B: OrderBook> Market<B> {
         self.book.add(order_of(x, mpid))
     }
 
-    fn take(&mut self, reference: u64, place: usize, shares: u32)
+    #[inline(always)]
+    pub(super) fn take(&mut self, reference: u64, place: usize, shares: u32)
         requires { IsSomeAnd (book.get self.old.orders reference) (λ x. shares ≤ x.shares) }
         ensures { self.new ≡ laid (record self.old { orders = book.taken reference shares self.old.orders }) }
     {
         let _left = self.book.take(reference, place, shares);
     }
 
-    fn delete(&mut self, reference: u64, place: usize)
+    #[inline(always)]
+    pub(super) fn delete(&mut self, reference: u64, place: usize)
         requires { IsSome (book.get self.old.orders reference) }
         ensures { self.new ≡ laid (record self.old { orders = book.without reference self.old.orders }) }
     {
         let _order = self.book.delete(reference, place);
     }
 
-    fn replace(&mut self, x: OrderReplace, place: usize) -> Result<(), AllocError>
+    #[inline(always)]
+    pub(super) fn replace(&mut self, x: OrderReplace, place: usize) -> Result<(), AllocError>
         requires { reason self.old (Message.OrderReplace x) ≡ None }
         ensures ok { OnOk result (self.new ≡ laid (effect self.old (Message.OrderReplace x))) }
         ensures err { OnErr result (self.new ≡ self.old) }

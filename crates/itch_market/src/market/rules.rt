@@ -71,17 +71,21 @@ impl<B: OrderBook> Market<B> {
         }
     }
 
+    #[inline(always)]
     fn security_refusal(&self, locate: u16, stock: Alpha<8>) -> Option<Refusal>
         ensures { result ≡ security_reason (map.get self.now.securities locate) stock None }
     {
+        if self.securities.has_stock(locate, stock) {
+            return None;
+        }
         match self.security(locate) {
             None => Some(Refusal::UnknownLocate),
-            Some(security) if is_other_stock(security, stock) => Some(Refusal::StockMismatch),
-            Some(_) => None,
+            Some(_) => Some(Refusal::StockMismatch),
         }
     }
 
-    fn add_refusal(&self, x: AddOrder) -> Option<Refusal>
+    #[inline(always)]
+    pub(super) fn add_refusal(&self, x: AddOrder) -> Option<Refusal>
         ensures { result ≡ add_reason self.now x }
     {
         match self.security_refusal(x.header.locate, x.stock) {
@@ -92,7 +96,13 @@ impl<B: OrderBook> Market<B> {
         }
     }
 
-    fn check_take(&self, locate: u16, reference: u64, shares: u32) -> Result<usize, Refusal>
+    #[inline(always)]
+    pub(super) fn check_take(
+        &self,
+        locate: u16,
+        reference: u64,
+        shares: u32,
+    ) -> Result<usize, Refusal>
         ensures { result_err result ≡ take_reason self.now locate reference shares }
     {
         match self.book.find(reference) {
@@ -105,7 +115,8 @@ impl<B: OrderBook> Market<B> {
         }
     }
 
-    fn check_delete(&self, x: OrderDelete) -> Result<usize, Refusal>
+    #[inline(always)]
+    pub(super) fn check_delete(&self, x: OrderDelete) -> Result<usize, Refusal>
         ensures { result_err result ≡ reason self.now (Message.OrderDelete x) }
     {
         match self.book.find(x.reference) {
@@ -115,7 +126,8 @@ impl<B: OrderBook> Market<B> {
         }
     }
 
-    fn check_replace(&self, x: OrderReplace) -> Result<usize, Refusal>
+    #[inline(always)]
+    pub(super) fn check_replace(&self, x: OrderReplace) -> Result<usize, Refusal>
         ensures { result_err result ≡ reason self.now (Message.OrderReplace x) }
     {
         match self.book.find(x.original) {

@@ -20,7 +20,7 @@ invariant_of-references-in_err-insert g c =
 pub invariant_of-references-2 : goal.invariant_of-references-2
 invariant_of-references-2 g c =
     let xs = c.references.inside.orders.items in let k = c.args.arrived.order.reference in
-    let pushed : c.push.new.self.items ≡ xs ++ c.args.arrived ∷ [] = search rules in
+    let pushed : c.push_reserved.new.self.items ≡ xs ++ c.args.arrived ∷ [] = search rules in
     let new : at c.references.inside.places k ≡ None = unknown _ _ c.references.invariant.placed k (ap (λ (t : Referred). lookup (eqb k) t.entries) c.references.view_is ∙ c.requires) in
     let last : c.len-place.result ≡ length xs = let long = c.references.inside.orders.ok.0 in let n = c.len-place.ensures in omega arith in
     subst (λ (t : List Arrived). IsReferred c.insert.new.self t) (sym pushed)
@@ -29,6 +29,6 @@ invariant_of-references-2 g c =
 pub returns-clause-ok : goal.returns-clause-ok
 returns-clause-ok g c =
     let xs = c.references.inside.orders.items in let x = c.args.arrived in
-    let pushed : c.push.new.self.items ≡ xs ++ x ∷ [] = search rules in
+    let pushed : c.push_reserved.new.self.items ≡ xs ++ x ∷ [] = search rules in
     subst (λ (t : List Arrived). IsPermutation ((x.order.reference, x) ∷ c.args.references.now.entries) (under_references t)) (sym pushed)
     (subst (λ (t : Referred). IsPermutation ((x.order.reference, x) ∷ t.entries) (under_references (xs ++ x ∷ []))) c.references.view_is (put_entries xs x))

@@ -3,7 +3,7 @@ use Rattle.std.proofs.lemmas.Result.{err_from_is_err_and}
 use Rattle.itch_frame.specs.Reading.{bytes_left}
 use Rattle.itch_market.specs.Content.{laid}
 use Rattle.itch_market.specs.GoodMarkets.{IsGood}
-use Rattle.itch_soup.proofs.FetchSteps.{hearing_first, hearing_on, hearing_ends, hearing_closed}
+use Rattle.itch_soup.proofs.FetchSteps.{hearing_first, hearing_on, hearing_ends, hearing_closed, hearing_finishes}
 use Rattle.itch_soup.proofs.fetch.receive.Goals as goal
 
 pub loop-count-init : goal.loop-count-init
@@ -29,3 +29,7 @@ pub returns-then-branch-clause-received : goal.returns-then-branch-clause-receiv
 returns-then-branch-clause-received g c =
     hearing_closed _ _ _ _ _ _ _ _ _ c.loop-count.invariant.hearing (rw c.if-branch.true at c.in_ok-take_packet.ensures.step) c.unwrap.result
     (rw c.unwrap.ensures at c.finish.ensures)
+
+pub unwrap-requires : goal.unwrap-requires
+unwrap-requires g c =
+    hearing_finishes _ _ _ _ _ _ _ _ _ c.loop-count.invariant.hearing (rw c.if-branch.true at c.in_ok-take_packet.ensures.step) _ c.finish.ensures

@@ -7,7 +7,7 @@ use Rattle.itch_market.proofs.securities.Securities.enter.Goals as goal
 
 pub returns-clause-ok : goal.returns-clause-ok
 returns-clause-ok g c =
-    let grown = c.grow_to.new.slots.items in
+    let grown = c.grow_to.new.self in
     let low : c.from-at.result < length grown = search rules in
     let base : directory grown ≡ c.args.self.now = c.in_ok-grow_to.ensures.directory ∙ c.in_default.ensures.none refl ∙ c.self.view_is in
     let nothing = rw (c.from-at.ensures, c.self.view_is) at c.in_default.ensures.security in

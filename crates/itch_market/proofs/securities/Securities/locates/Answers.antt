@@ -7,5 +7,5 @@ use Rattle.itch_market.proofs.securities.Securities.locates.Goals as goal
 
 pub returns : goal.returns
 returns g c =
-    c.new.ensures ∙ ap (locates_from 0) c.deref.ensures.value ∙ keys_of_slots c.self.inside.slots.items
+    c.new.ensures ∙ ap (locates_from 0) c.all.ensures ∙ keys_of_slots c.self.inside.slots
     ∙ ap (λ (m : Securities). map.keys m) c.self.view_is
