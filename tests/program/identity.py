@@ -232,6 +232,20 @@ def what_is_checked_is_gone_on_with(program):
             yield from differs("the record", (folder / "record").read_bytes(), day)
 
 
+def what_is_not_cut_off_a_record_is_not_said_to_be_dropped(program):
+    """Where the cut fails the server ends, and that is all that it says; the record stays as it is."""
+    day, _ = day_of(30)
+    blocks = split(day)
+    kept = b"".join(blocks[:20]) + blocks[20][:7]
+    with tempfile.TemporaryDirectory() as apart, folder_with(**recorded(kept)) as folder, Feed(plays(day, then=ENDED)) as feed:
+        failed = Path(apart) / "a call failed"
+        environment = {"LD_PRELOAD": str(failing.build_shim(apart, "calls.c")), "FAIL": "ftruncate:1", "FAILED": str(failed)}
+        got = live_in(folder, program, feed.port, "--record", "record", **environment)
+        line = b"itchsnap: cannot open\n  record: Input/output error (os error 5)\n"
+        yield from differs("ended", (*got, failed.exists()), (3, b"", line, True))
+        yield from differs("the record", ((folder / "record").read_bytes(), feed.asked()), (kept, []))
+
+
 def a_record_is_on_disk(program):
     """Each second, or with each message, unless that is not asked for: a sync that fails is a write that does."""
     day, _ = day_of(30)
@@ -287,6 +301,7 @@ RUNS = [
     one_process_has_a_record,
     a_record_that_is_changed_ends_it,
     what_is_checked_is_gone_on_with,
+    what_is_not_cut_off_a_record_is_not_said_to_be_dropped,
     a_record_is_on_disk,
     a_record_may_be_optional,
     a_server_names_its_session,

@@ -91,8 +91,8 @@ impl<'a> Record<'a> {
         let (joiner, whole) = replay_record(rt.alloc(), open_again(rt, path)?, joiner)?;
         if whole.offset < opened.length {
             let (rest, messages) = (opened.length - whole.offset, whole.count);
-            let _ = eprintln!(rt; "record: dropped {rest} bytes after message {messages}");
             cut(&file, whole.offset)?;
+            let _ = eprintln!(rt; "record: dropped {rest} bytes after message {messages}");
             opened.length = whole.offset;
         }
         let Ok(file) = BufWriter::with_capacity(rt.alloc(), PIECE, file) else {
