@@ -279,6 +279,19 @@ def a_record_may_be_optional(program):
         yield from differs("served", fetch(program, server.port), (0, wanted, b""))
 
 
+def an_optional_record_needs_no_session_file(program):
+    """Where that cannot be written the server says so, and goes on without the record; one that is not optional ends it."""
+    day, wanted = day_of(30)
+    with folder_with() as folder, Feed(plays(day, then=ENDED)) as feed:
+        (folder / "record.session.part").mkdir()
+        with live(program, feed.port, "--record", folder / "record", "--record-optional", "--stay") as server:
+            yield from differs("said", server.said("record: "), "record: given up: Is a directory (os error 21)\n")
+            server.said("feed: ended")
+            yield from differs("served", fetch(program, server.port), (0, wanted, b""))
+        yield from differs("not optional", live_in(folder, program, feed.port, "--record", "record")[:2], (3, b""))
+        yield from differs("the record", (folder / "record").read_bytes(), b"")
+
+
 def a_server_names_its_session(program):
     """`serve`, as it is told; `follow` of both ends of one session."""
     day, _ = day_of(20)
@@ -304,5 +317,6 @@ RUNS = [
     what_is_not_cut_off_a_record_is_not_said_to_be_dropped,
     a_record_is_on_disk,
     a_record_may_be_optional,
+    an_optional_record_needs_no_session_file,
     a_server_names_its_session,
 ]

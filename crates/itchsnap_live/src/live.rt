@@ -13,6 +13,7 @@ use crate::record::{Record, RecordLoss, RecordWords};
 use crate::room::SnapshotRoom;
 use crate::route::Servers;
 use crate::saving::{Saver, SnapshotWords};
+use crate::session_fault::SessionFault;
 use crate::sessions::{Login, current_session};
 use crate::spare::{SPARED, Spare};
 use crate::start::Start;
@@ -376,10 +377,16 @@ where
 
     // The record has the feed's session before it has a message.
     fn begin_record(&mut self) -> Result<(), LiveFault> {
-        if let Some(session) = self.desk.follower().session() {
-            self.record.begin(self.log.runtime(), session)?;
+        let Some(session) = self.desk.follower().session() else {
+            return Ok(());
+        };
+        match self.record.begin(self.log.runtime(), session) {
+            Ok(()) => Ok(()),
+            Err(SessionFault::Open(error)) if self.record.is_optional() => {
+                self.lose_record(RecordLoss::System(error))
+            }
+            Err(fault) => Err(LiveFault::Session(fault)),
         }
-        Ok(())
     }
 
     // Writes the snapshot after a message, where one is asked for, and says whether it is. The record has each message that the snapshot has.
