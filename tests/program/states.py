@@ -9,7 +9,7 @@ import threading
 from common import differs, split
 from hostile import started_by, without_beats
 from idle import share_differs
-from living import CLIENT_BEAT, ENDED, LOGIN, Feed, acceptance, answer, connect, day_of, folder_with, live, plays, received, told
+from living import CLIENT_BEAT, ENDED, LOGIN, Feed, acceptance, answer, connect, day_of, feeding, folder_with, live, packet, plays, received, told
 
 ACCEPTED = len(acceptance(1))
 LEFT = b"\0\x01O"
@@ -100,8 +100,23 @@ def clients_wait_while_descriptors_are_short(program):
         yield from rest_differs("client", clients, wanted)
 
 
+def clients_of_a_feed_wait_while_descriptors_are_short(program):
+    """More than there are descriptors for, of which each is played a file that is opened for it: all have the whole day in the end."""
+    day, _ = day_of(50)
+    wanted = acceptance(1) + b"".join(map(packet, split(day))) + ENDED
+    with folder_with(day=day) as folder, feeding(started_by(folder, program, "ulimit -n 20"), folder / "day") as server, \
+            contextlib.ExitStack() as held:
+        clients = [(asks(server.port, held), b"") for _ in range(40)]
+        yield from share_differs("while they wait", server)
+        yield from rest_differs("client", clients, wanted)
+        server.has_lines(len(clients))
+        endings = {it.split(": ")[1] for it in b"".join(server.output).decode().splitlines()}
+        yield from differs("endings", endings, {f"accepted from 1, {len(split(day))} packets"})
+
+
 RUNS = [
     a_client_that_sends_no_more_waits_for_a_market,
     a_client_that_sends_no_more_waits_for_a_place,
     clients_wait_while_descriptors_are_short,
+    clients_of_a_feed_wait_while_descriptors_are_short,
 ]

@@ -119,7 +119,7 @@ where
             reception: Reception::new(rt.alloc(), playing.config, end, ROOMS)?,
             clients: no_clients(rt.alloc())?,
             seated: Seated::new(rt.alloc(), CLIENTS)?,
-            spare: Spare::new(rt.alloc(), 0)?,
+            spare: Spare::new(rt.alloc(), 1)?,
             ended: 0,
             buffer: vec![in rt.alloc(); 0; PIECE]?,
         })
@@ -178,15 +178,19 @@ where
         }
     }
 
-    // Gives places to those whose login is right, in the order in which they came, as far as there are places.
+    // Gives places to those whose login is right, in the order in which they came, as far as there are places, and a descriptor for the file of each.
     fn seat(&mut self, now_ms: u64) {
         for place in 0..self.clients.len() {
             if self.is_taken(place) {
                 continue;
             }
+            if !self.spare.hold(self.rt) {
+                return;
+            }
             let Some(arrival) = self.reception.next_arrival(&self.seated, CLIENTS) else {
                 return;
             };
+            self.spare.release();
             let number = arrival.link.number();
             match self.seat_one(arrival, place, now_ms) {
                 Ok(client) => self.set(place, Some(client)),
