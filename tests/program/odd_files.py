@@ -83,6 +83,25 @@ def at_believes_no_offset_that_is_not_of_its_day(program):
                     yield f"{line['messages']} at {offset}: {status}, {output!r}, {error!r}"
 
 
+def at_believes_no_number_that_is_not_of_its_file(program):
+    """The number of another line, one more and one less, none and the greatest; and names that are not quite those of the number's file, which is not
+    there. Such a line is passed over."""
+    with checkpoints(program, "1") as folder:
+        index = folder / "snapshots/index.jsonl"
+        lines = [json.loads(it) for it in index.read_text().splitlines()]
+        wanted = snapped(folder, program, "7")
+        counts = {it["messages"] for it in lines}
+        for line in lines:
+            count = line["messages"]
+            for wrong in sorted({0, count - 1, count + 1, 2**64 - 1, *counts} - {count}):
+                index.write_text(json.dumps({**line, "messages": wrong}) + "\n")
+                yield from differs(f"{count} as {wrong}", ended_in(folder, program, "at", "snapshots", "day", "7"), wanted)
+        (folder / "snapshots/2.snap").unlink()
+        for name in "", "2", "2.snap ", "02.snap", "+2.snap", "./2.snap", "2.SNAP", "2.snap.part", 2, None, ["2.snap"]:
+            index.write_text(json.dumps({**lines[1], "file": name}) + "\n")
+            yield from differs(f"file {name!r}", ended_in(folder, program, "at", "snapshots", "day", "7"), wanted)
+
+
 def a_record_that_may_not_be_read_stays_as_it_is(program):
     """One that may only be appended to, one that may only be read, and one whose session may not be read: the feed is not asked."""
     day, _ = day_of(20)
@@ -127,6 +146,7 @@ def a_day_file_that_goes_away_is_played_to_those_who_have_it(program):
 RUNS = [
     at_reads_pipes_as_files,
     at_believes_no_offset_that_is_not_of_its_day,
+    at_believes_no_number_that_is_not_of_its_file,
     a_record_that_may_not_be_read_stays_as_it_is,
     a_day_file_that_goes_away_is_played_to_those_who_have_it,
 ]

@@ -82,6 +82,9 @@ fn read_checkpoint(
     let Some(mark) = read_mark(&fields, point) else {
         return Ok(None);
     };
+    if !is_of_its_file(alloc, &fields, mark.count)? {
+        return Ok(None);
+    }
     let Some(fingerprint) = read_fingerprint(&fields) else {
         return Ok(None);
     };
@@ -103,6 +106,18 @@ fn read_mark(fields: &Value, point: Limit) -> Option<Mark> {
     let count = fields.get("messages")?.as_u64()?;
     let offset = fields.get("offset")?.as_u64()?;
     read_latest(fields.get("timestamp")).mark(count, offset, point)
+}
+
+// Whether a line of so many messages names the snapshot of that number, if it names any.
+fn is_of_its_file(alloc: Global, fields: &Value, count: u64) -> Result<bool, AllocError> {
+    let Some(file) = fields.get("file") else {
+        return Ok(true);
+    };
+    let name = format!(in alloc; "{count}.snap")?;
+    match file.as_str() {
+        Some(file) => Ok(file == name.as_str()),
+        None => Ok(false),
+    }
 }
 
 fn read_latest(timestamp: Option<&Value>) -> Latest {
