@@ -136,12 +136,15 @@ module _ (start : Client) (old mid new : Option (List ℕ)) (count : ℕ) (c : C
       let (next, number_is, market, at_end) = closed_by payload taken loads closed in
       finishes.1 next at_end
 
+  not_failed : (answer : ClientAct) → TakesAnswer answer load true after → (back : Load) → Finishes after (Err back) → ⊥
+  not_failed act.Nothing (unclosed, same) back finishes = let no_one : ⊥ = cc in no_one
+  not_failed (act.Accepted next) (one, unclosed, same) back finishes = let no_one : ⊥ = cc in no_one
+  not_failed (act.Data number payload) (taken, loads, closed) back finishes = unfinished payload taken loads closed back finishes
+  not_failed answer takes back finishes = absurd takes
+
   finished_by : (answer : ClientAct) → TakesAnswer answer load true after → (result : Result (Content × ℕ) Load) → Finishes after result → IsOk result
   finished_by answer takes (Ok done) finishes = refl
-  finished_by act.Nothing (unclosed, same) (Err back) finishes = absurd (let no_one : ⊥ = cc in no_one)
-  finished_by (act.Accepted next) (one, unclosed, same) (Err back) finishes = absurd (let no_one : ⊥ = cc in no_one)
-  finished_by (act.Data number payload) (taken, loads, closed) (Err back) finishes = absurd (unfinished payload taken loads closed back finishes)
-  finished_by answer takes (Err back) finishes = absurd takes
+  finished_by answer takes (Err back) finishes = absurd (not_failed answer takes back finishes)
 
   heard_end : (answer : ClientAct) → client_answer c packet ≡ answer → TakesAnswer answer load true after → (done : Content × ℕ) → Finishes after (Ok done) → Fetched start old new done
   unfolding closes
