@@ -78,9 +78,13 @@ def refused_to_start(server):
 
 
 def unwritten(status, lines, record, kind):
-    """What differs in the ending of a server that could not sync its record, or write the name of its session beside it: nothing else ends it."""
-    first = r"(message \d+: write failed|cannot open)" if kind == "sync" else "cannot open"
-    wanted = rf"itchsnap: {first}\n  {re.escape(str(record))}(\.session)?: {re.escape(REASON)}\n"
+    """What differs in the ending of a server that could not write the name of its session beside its record, or sync the record or look at it: nothing
+    else ends it."""
+    name = re.escape(str(record))
+    wanted = rf"cannot open\n  {name}\.session"
+    if kind in ("sync", "statx"):
+        wanted = rf"({wanted}|message \d+: write failed\n  {name})"
+    wanted = rf"itchsnap: {wanted}: {re.escape(REASON)}\n"
     if status != 3 or not re.fullmatch(wanted, "".join(lines[-2:])):
         yield f"ended with {status}, {lines}"
 

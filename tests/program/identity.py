@@ -288,7 +288,9 @@ def an_optional_record_needs_no_session_file(program):
             yield from differs("said", server.said("record: "), "record: given up: Is a directory (os error 21)\n")
             server.said("feed: ended")
             yield from differs("served", fetch(program, server.port), (0, wanted, b""))
-        yield from differs("not optional", live_in(folder, program, feed.port, "--record", "record")[:2], (3, b""))
+        got = live_in(folder, program, feed.port, "--record", "record")
+        line = b"feed: accepted from 1\nitchsnap: cannot open\n  record.session: Is a directory (os error 21)\n"
+        yield from differs("not optional", got, (3, b"", line))
         yield from differs("the record", (folder / "record").read_bytes(), b"")
 
 

@@ -115,7 +115,8 @@ def a_record_that_may_not_be_read_stays_as_it_is(program):
             words = "live", "--feed", f"127.0.0.1:{feed.port}", "--port", "0", *WORDS, "--record", "record"
             status, output, error = ended_in(folder, *nobody(), folder / "itchsnap", *words)
             lines = error.decode().splitlines()
-            if (status, output, lines[:1]) != (3, b"", ["itchsnap: cannot open"]) or not error.endswith(b": Permission denied (os error 13)\n"):
+            ending = f"\n  {name}: Permission denied (os error 13)\n"
+            if (status, output, lines[:1]) != (3, b"", ["itchsnap: cannot open"]) or not error.endswith(ending.encode()):
                 yield f"{name} of mode {mode:o}: {status}, {output!r}, {error!r}"
             yield from differs(f"{name} of mode {mode:o}", ((folder / "record").read_bytes() == kept, feed.asked()), (True, []))
 

@@ -22,6 +22,8 @@ pub enum LiveFault {
     Session(SessionFault),
     /// The record cannot be continued.
     Record(RecordFault),
+    /// The file beside the record that names its session cannot be read or written.
+    SessionFile(io::Error),
     /// Another process uses a file of the server.
     InUse(Owned),
     /// A server accepted the login in another session than the one that was asked for.
@@ -91,6 +93,7 @@ impl LiveFault {
         match self {
             LiveFault::Session(fault) | LiveFault::Refused { fault, .. } => fault.status(),
             LiveFault::Record(fault) => record_status(fault),
+            LiveFault::SessionFile(_) => 3,
             LiveFault::InUse(_) => 3,
             LiveFault::OtherSession { .. } | LiveFault::GlimpseSession { .. } => 1,
         }
@@ -108,6 +111,7 @@ impl LiveFault {
             LiveFault::Record(RecordFault::UnknownSession) => Some(Detail::NoSessionFile(record)),
             LiveFault::Record(RecordFault::BadSession) => Some(Detail::SessionFile(record)),
             LiveFault::Record(_) => Some(Detail::Path(record)),
+            LiveFault::SessionFile(error) => Some(Detail::SessionFileFailed(record, *error)),
             LiveFault::InUse(Owned::Record) => Some(Detail::InUse(record)),
             LiveFault::InUse(Owned::Snapshots) => Some(Detail::InUse(snapshots)),
             LiveFault::Refused {
@@ -205,7 +209,7 @@ impl Display for LiveFault {
         match self {
             LiveFault::Session(fault) | LiveFault::Refused { fault, .. } => write!(f, "{fault}"),
             LiveFault::Record(fault) => write!(f, "itchsnap: record: {fault}"),
-            LiveFault::InUse(_) => f.write_str("itchsnap: cannot open"),
+            LiveFault::SessionFile(_) | LiveFault::InUse(_) => f.write_str("itchsnap: cannot open"),
             LiveFault::OtherSession {
                 server,
                 named,
@@ -290,6 +294,8 @@ pub enum Detail<'a> {
     Path(&'a str),
     /// What failed is the session file of the record of this path.
     SessionFile(&'a str),
+    /// What failed is the session file of the record of this path, with the system's own error.
+    SessionFileFailed(&'a str, io::Error),
     /// The record of this path has no session file.
     NoSessionFile(&'a str),
     /// Another process holds the lock of this path.
@@ -305,6 +311,7 @@ impl Display for Detail<'_> {
         match self {
             Detail::Path(path) => f.write_str(path),
             Detail::SessionFile(path) => write!(f, "{path}.session"),
+            Detail::SessionFileFailed(path, error) => write!(f, "{path}.session: {error}"),
             Detail::NoSessionFile(path) => write!(
                 f,
                 "{path}: there is no {path}.session: name its session with --session, or begin a new record"

@@ -13,7 +13,6 @@ use crate::record::{Record, RecordLoss, RecordWords};
 use crate::room::SnapshotRoom;
 use crate::route::Servers;
 use crate::saving::{Saver, SnapshotWords};
-use crate::session_fault::SessionFault;
 use crate::sessions::{Login, current_session};
 use crate::spare::{SPARED, Spare};
 use crate::start::Start;
@@ -382,10 +381,10 @@ where
         };
         match self.record.begin(self.log.runtime(), session) {
             Ok(()) => Ok(()),
-            Err(SessionFault::Open(error)) if self.record.is_optional() => {
+            Err(LiveFault::SessionFile(error)) if self.record.is_optional() => {
                 self.lose_record(RecordLoss::System(error))
             }
-            Err(fault) => Err(LiveFault::Session(fault)),
+            Err(fault) => Err(fault),
         }
     }
 

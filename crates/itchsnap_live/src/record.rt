@@ -132,7 +132,7 @@ impl<'a> Record<'a> {
         &mut self,
         rt: &R,
         session: Alpha<10>,
-    ) -> Result<(), SessionFault> {
+    ) -> Result<(), LiveFault> {
         if let Some(kept) = &mut self.kept
             && !kept.is_named
         {

@@ -22,7 +22,7 @@ pub(crate) fn read_session<R: Files<File = File> + AllocGlobal>(
         Err(error) => match error.kind() {
             ErrorKind::NotFound => return Ok(None),
             ErrorKind::InvalidData => return Err(LiveFault::Record(RecordFault::BadSession)),
-            _ => return Err(LiveFault::Session(record_fault(error))),
+            _ => return Err(file_fault(error)),
         },
     };
     match session_in(text.as_str()) {
@@ -36,14 +36,14 @@ pub(crate) fn write_session<R: Files<File = File> + AllocGlobal>(
     rt: &R,
     path: &str,
     session: &Alpha<10>,
-) -> Result<(), SessionFault> {
+) -> Result<(), LiveFault> {
     let name = format!(in rt.alloc(); "{path}.session")?;
     let beside = format!(in rt.alloc(); "{name}.part")?;
     let session = session.text().trim();
     let text = format!(in rt.alloc(); "{session}\nitchsnap {VERSION}\n")?;
     match write_text(rt, beside.as_str(), name.as_str(), text.as_str()) {
         Ok(()) => Ok(()),
-        Err(error) => Err(record_fault(error)),
+        Err(error) => Err(file_fault(error)),
     }
 }
 
@@ -69,6 +69,9 @@ fn write_text<R: Files<File = File>>(
     fs::rename(rt, beside, name)
 }
 
-fn record_fault(error: io::Error) -> SessionFault {
-    SessionFault::of_system(error, SessionFault::Open(error))
+fn file_fault(error: io::Error) -> LiveFault {
+    match error.kind() {
+        ErrorKind::OutOfMemory => LiveFault::Session(SessionFault::OutOfMemory),
+        _ => LiveFault::SessionFile(error),
+    }
 }
