@@ -63,7 +63,7 @@ where
 }
 
 fn print_completions<R: Print + AllocGlobal>(rt: &R, shell: Shell) -> Result<bool, ToolFault> {
-    let completions = Completions::new(rt.alloc(), shell)?;
+    let completions = Completions::new(shell);
     let script = format!(in rt.alloc(); "{completions}")?;
     match rt.print(script.as_str()) {
         Ok(()) => Ok(true),

@@ -12,6 +12,7 @@
 //! assert_eq!(request, Request::One { file: Some("day.itch"), command });
 //! ```
 
+mod argument;
 mod arguments;
 mod commands;
 mod completions;

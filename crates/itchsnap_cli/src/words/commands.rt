@@ -1,34 +1,54 @@
 //! The words of the command line: the commands, what they take, and an example of each.
 
-use crate::words::arguments::{Argument, LiveArgument};
+use crate::words::argument::{Argument, Value};
+use crate::words::arguments::{
+    AFTER, BIND, FEED, FEED_FILE, FEED_SESSION, FILE, GLIMPSE_SESSION, JSON, MOST_COUNTED, ONLY,
+    OUTPUT, PASSWORD, PASSWORD_FILE, PORT, PROGRESS, RECORDED, SESSION, STOCK, UNTIL, USER,
+};
 use clap::error::ErrorKind;
 use clap::{Command, Error};
 use itchsnap_live::VERSION;
 use std::alloc::{AllocError, Global};
 
 /// A command: its name, what it does, its arguments in the order of the help, and an example.
-struct Entry {
-    name: &'static str,
-    about: &'static str,
-    takes: &'static [Argument],
+pub struct Entry {
+    pub name: &'static str,
+    pub about: &'static str,
+    pub takes: &'static [Argument],
     example: &'static str,
 }
 
 /// The commands.
-const COMMANDS: [Entry; 14] = [
+pub const COMMANDS: [Entry; 14] = [
     Entry {
         name: "snap",
         about: "Write the snapshot of the market that a day file leaves",
         takes: &[
-            Argument::File,
-            Argument::AfterEach,
-            Argument::UntilEach,
-            Argument::Every,
-            Argument::To,
-            Argument::Only,
-            Argument::Stock,
-            Argument::Output,
-            Argument::Progress,
+            FILE,
+            Argument::Optional {
+                long: "after",
+                value: Value::Text("N"),
+                help: "Stop after the first N messages; with --to N,.. take a snapshot after each N",
+            },
+            Argument::Optional {
+                long: "until",
+                value: Value::Text("TIME"),
+                help: "Stop before the first message at TIME or later, such as 10:30; with --to TIME,..",
+            },
+            Argument::Optional {
+                long: "every",
+                value: Value::Range("N", 1, MOST_COUNTED),
+                help: "With --to, take a snapshot after each N messages, and one at the end",
+            },
+            Argument::Optional {
+                long: "to",
+                value: Value::Path("DIR"),
+                help: "Write each snapshot to DIR/N.snap, for its N messages, and list them in DIR/index.jsonl",
+            },
+            ONLY,
+            STOCK,
+            OUTPUT,
+            PROGRESS,
         ],
         example: "Example: itchsnap snap day.itch --only 1-40,77 > day.snap",
     },
@@ -36,13 +56,20 @@ const COMMANDS: [Entry; 14] = [
         name: "check",
         about: "Check that a file follows the order rules",
         takes: &[
-            Argument::File,
-            Argument::After,
-            Argument::Until,
-            Argument::Expect,
-            Argument::Ended,
-            Argument::Json,
-            Argument::Progress,
+            FILE,
+            AFTER,
+            UNTIL,
+            Argument::Optional {
+                long: "expect",
+                value: Value::Range("N", 0, MOST_COUNTED),
+                help: "Refuse a file that does not have exactly N messages",
+            },
+            Argument::Flag {
+                long: "ended",
+                help: "Refuse a file whose last system event is not End of Messages",
+            },
+            JSON,
+            PROGRESS,
         ],
         example: "Example: itchsnap check day.itch",
     },
@@ -50,14 +77,23 @@ const COMMANDS: [Entry; 14] = [
         name: "compare",
         about: "Check whether two files leave the same market",
         takes: &[
-            Argument::First,
-            Argument::Second,
-            Argument::Earliest,
-            Argument::After,
-            Argument::Until,
-            Argument::Recorded,
-            Argument::Json,
-            Argument::Progress,
+            Argument::RequiredWord {
+                id: "A",
+                help: "The first file; `-` for standard input",
+            },
+            Argument::RequiredWord {
+                id: "B",
+                help: "The second file, or `-`",
+            },
+            Argument::Flag {
+                long: "first",
+                help: "Find after how many messages the markets first differ",
+            },
+            AFTER,
+            UNTIL,
+            RECORDED,
+            JSON,
+            PROGRESS,
         ],
         example: "Example: itchsnap compare day.itch other.itch",
     },
@@ -65,10 +101,16 @@ const COMMANDS: [Entry; 14] = [
         name: "canon",
         about: "Write a snapshot in canonical form",
         takes: &[
-            Argument::Snapshot,
-            Argument::Check,
-            Argument::Output,
-            Argument::Progress,
+            Argument::Word {
+                id: "SNAP",
+                help: "The snapshot to read; standard input if it is `-` or left out",
+            },
+            Argument::Flag {
+                long: "check",
+                help: "Only report whether the snapshot is in canonical form",
+            },
+            OUTPUT,
+            PROGRESS,
         ],
         example: "Example: itchsnap canon other.snap > day.snap",
     },
@@ -76,15 +118,22 @@ const COMMANDS: [Entry; 14] = [
         name: "join",
         about: "Join a feed to a snapshot, and write the snapshot after both",
         takes: &[
-            Argument::Joined,
-            Argument::Feed,
-            Argument::FirstNumber,
-            Argument::After,
-            Argument::Until,
-            Argument::Only,
-            Argument::Stock,
-            Argument::Output,
-            Argument::Progress,
+            Argument::RequiredWord {
+                id: "SNAP",
+                help: "The snapshot, read up to its End of Snapshot; `-` for standard input",
+            },
+            FEED_FILE,
+            Argument::Optional {
+                long: "from",
+                value: Value::Range("M", 1, MOST_COUNTED),
+                help: "The number in its day of the first message of FEED, if not 1",
+            },
+            AFTER,
+            UNTIL,
+            ONLY,
+            STOCK,
+            OUTPUT,
+            PROGRESS,
         ],
         example: "Example: itchsnap join early.snap day.itch > day.snap",
     },
@@ -92,13 +141,19 @@ const COMMANDS: [Entry; 14] = [
         name: "at",
         about: "Write the snapshot at a point of the day, from the nearest of its snapshots",
         takes: &[
-            Argument::Checkpoints,
-            Argument::Feed,
-            Argument::Point,
-            Argument::Only,
-            Argument::Stock,
-            Argument::Output,
-            Argument::Progress,
+            Argument::RequiredWord {
+                id: "DIR",
+                help: "The folder with snapshots of the day and their index",
+            },
+            FEED_FILE,
+            Argument::RequiredWord {
+                id: "POINT",
+                help: "The number of messages, or the time, such as 10:30",
+            },
+            ONLY,
+            STOCK,
+            OUTPUT,
+            PROGRESS,
         ],
         example: "Example: itchsnap at snapshots day.itch 10:30 > day.snap",
     },
@@ -106,17 +161,36 @@ const COMMANDS: [Entry; 14] = [
         name: "show",
         about: "Print the messages of a file, each as a line",
         takes: &[
-            Argument::File,
-            Argument::After,
-            Argument::Until,
-            Argument::Recorded,
-            Argument::ShownOnly,
-            Argument::ShownStock,
-            Argument::Types,
-            Argument::Reference,
-            Argument::Names,
-            Argument::Json,
-            Argument::Progress,
+            FILE,
+            AFTER,
+            UNTIL,
+            RECORDED,
+            Argument::Optional {
+                long: "only",
+                value: Value::Text("LIST"),
+                help: "Print only messages of these locates, such as 1-40,77",
+            },
+            Argument::Optional {
+                long: "stock",
+                value: Value::Text("LIST"),
+                help: "Print only messages of these stocks, such as AAPL,MSFT",
+            },
+            Argument::Optional {
+                long: "types",
+                value: Value::Text("LETTERS"),
+                help: "Print only messages of these types, such as AEX",
+            },
+            Argument::Optional {
+                long: "reference",
+                value: Value::Number("N"),
+                help: "Print only messages of this order, through its replacements",
+            },
+            Argument::Flag {
+                long: "names",
+                help: "Print codes as characters, and timestamps as times of the day",
+            },
+            JSON,
+            PROGRESS,
         ],
         example: "Example: itchsnap show day.itch --reference 7",
     },
@@ -124,16 +198,31 @@ const COMMANDS: [Entry; 14] = [
         name: "book",
         about: "Print the price levels of locates",
         takes: &[
-            Argument::Locate,
-            Argument::File,
-            Argument::BookStock,
-            Argument::Depth,
-            Argument::After,
-            Argument::Until,
-            Argument::Recorded,
-            Argument::Json,
-            Argument::Csv,
-            Argument::Progress,
+            // With `--stock` the first word is the file, so this one is not required.
+            Argument::Word {
+                id: "LOCATE",
+                help: "The locates, such as 1-40,77",
+            },
+            FILE,
+            Argument::Optional {
+                long: "stock",
+                value: Value::Text("LIST"),
+                help: "Print the locates with these stocks, such as AAPL,MSFT; LOCATE is left out",
+            },
+            Argument::Optional {
+                long: "depth",
+                value: Value::Range("N", 0, MOST_COUNTED),
+                help: "Print the best N prices of each side",
+            },
+            AFTER,
+            UNTIL,
+            RECORDED,
+            JSON,
+            Argument::Flag {
+                long: "csv",
+                help: "Print comma-separated values, after a line with the names of the columns",
+            },
+            PROGRESS,
         ],
         example: "Example: itchsnap book 1 day.itch --until 10:30 --depth 5",
     },
@@ -141,18 +230,25 @@ const COMMANDS: [Entry; 14] = [
         name: "serve",
         about: "Serve the snapshot of a file over SoupBinTCP",
         takes: &[
-            Argument::Served,
-            Argument::After,
-            Argument::Until,
-            Argument::Recorded,
-            Argument::Count,
-            Argument::Progress,
-            Argument::Live(LiveArgument::NamedSession),
-            Argument::Bind,
-            Argument::ListenedPort,
-            Argument::User,
-            Argument::Password,
-            Argument::PasswordFile,
+            Argument::RequiredWord {
+                id: "FILE",
+                help: "The file whose market is served; `-` for standard input",
+            },
+            AFTER,
+            UNTIL,
+            RECORDED,
+            Argument::Required {
+                long: "count",
+                value: Value::Range("N", 1, 1_000_000),
+                help: "Serve N connections, one after another",
+            },
+            PROGRESS,
+            SESSION,
+            BIND,
+            PORT,
+            USER,
+            PASSWORD,
+            PASSWORD_FILE,
         ],
         example: "Example: itchsnap serve day.itch --port 5100 --user desk --pass secret --count 1",
     },
@@ -160,15 +256,35 @@ const COMMANDS: [Entry; 14] = [
         name: "fetch",
         about: "Write the snapshot that a server has",
         takes: &[
-            Argument::Host,
-            Argument::Port,
-            Argument::User,
-            Argument::Password,
-            Argument::PasswordFile,
-            Argument::Session,
-            Argument::Timeout,
-            Argument::From,
-            Argument::Output,
+            Argument::Optional {
+                long: "host",
+                value: Value::Text("HOST"),
+                help: "The name or the address of the server, if not 127.0.0.1",
+            },
+            Argument::Required {
+                long: "port",
+                value: Value::Range("P", 1, 65_535),
+                help: "The port of the server",
+            },
+            USER,
+            PASSWORD,
+            PASSWORD_FILE,
+            Argument::Optional {
+                long: "session",
+                value: Value::Text("S"),
+                help: "The session, 1 to 10 printable characters, if not the current one",
+            },
+            Argument::Optional {
+                long: "timeout",
+                value: Value::Range("SECONDS", 1, 86_400),
+                help: "Give up if the server is silent for so long, 1 to 86400",
+            },
+            Argument::Optional {
+                long: "from",
+                value: Value::Text("N"),
+                help: "Write the messages from number N on, as they come, and no whole snapshot",
+            },
+            OUTPUT,
         ],
         example: "Example: itchsnap fetch --port 5100 --user desk --pass secret > day.snap",
     },
@@ -176,26 +292,72 @@ const COMMANDS: [Entry; 14] = [
         name: "live",
         about: "Follow a live feed, and serve the snapshot of its present market",
         takes: &[
-            Argument::Live(LiveArgument::Feed),
-            Argument::Live(LiveArgument::GlimpseIfAny),
-            Argument::Live(LiveArgument::FeedUser),
-            Argument::Live(LiveArgument::FeedPasswordFile),
-            Argument::Live(LiveArgument::Session),
-            Argument::Live(LiveArgument::GlimpseSession),
-            Argument::Bind,
-            Argument::ListenedPort,
-            Argument::User,
-            Argument::Password,
-            Argument::PasswordFile,
-            Argument::Live(LiveArgument::Clients),
-            Argument::Live(LiveArgument::ClientsPerAddress),
-            Argument::Live(LiveArgument::SnapshotMemory),
-            Argument::Live(LiveArgument::Record),
-            Argument::Live(LiveArgument::Sync),
-            Argument::Live(LiveArgument::RecordOptional),
-            Argument::Live(LiveArgument::Snapshots),
-            Argument::Live(LiveArgument::Every),
-            Argument::Live(LiveArgument::Stay),
+            FEED,
+            Argument::Optional {
+                long: "glimpse",
+                value: Value::Text("HOST:PORT"),
+                help: "A server of snapshots to begin with, and not the feed's first message",
+            },
+            Argument::Optional {
+                long: "feed-user",
+                value: Value::Text("U"),
+                help: "The user name to the feed, if another",
+            },
+            Argument::Optional {
+                long: "feed-pass-file",
+                value: Value::Path("FILE"),
+                help: "A file whose first line is the password to the feed, if another",
+            },
+            FEED_SESSION,
+            GLIMPSE_SESSION,
+            BIND,
+            PORT,
+            USER,
+            PASSWORD,
+            PASSWORD_FILE,
+            Argument::Optional {
+                long: "clients",
+                value: Value::Range("N", 1, 1_000),
+                help: "Serve N clients at a time, if not 64",
+            },
+            Argument::Optional {
+                long: "clients-per-address",
+                value: Value::Range("N", 1, 1_000),
+                help: "Serve at most N of them from one address [default: no limit]",
+            },
+            Argument::Optional {
+                long: "snapshot-memory",
+                value: Value::Text("BYTES"),
+                help: "The most memory for snapshots in use, such as 512M or 2G [default: 256M or more]",
+            },
+            Argument::Optional {
+                long: "record",
+                value: Value::Path("FILE"),
+                help: "Append each message to a day file, which is replayed first",
+            },
+            Argument::Optional {
+                long: "sync",
+                value: Value::Text("WHEN"),
+                help: "Sync the record to disk: no, second or message [default: second]",
+            },
+            Argument::Flag {
+                long: "record-optional",
+                help: "Serve on without the record if it cannot be written",
+            },
+            Argument::Optional {
+                long: "snapshots",
+                value: Value::Path("DIR"),
+                help: "Write snapshots into a folder",
+            },
+            Argument::Optional {
+                long: "every",
+                value: Value::Range("N", 1, MOST_COUNTED),
+                help: "Write a snapshot after each N messages",
+            },
+            Argument::Flag {
+                long: "stay",
+                help: "Serve on once the feed has ended its session",
+            },
         ],
         example: "Example: itchsnap live --feed feed.example:5000 --port 5100 --user desk --pass-file pass",
     },
@@ -203,15 +365,22 @@ const COMMANDS: [Entry; 14] = [
         name: "follow",
         about: "Fetch a snapshot, join a live feed, and write each message from there on",
         takes: &[
-            Argument::Live(LiveArgument::Feed),
-            Argument::Live(LiveArgument::Glimpse),
-            Argument::Live(LiveArgument::Session),
-            Argument::Live(LiveArgument::GlimpseSession),
-            Argument::User,
-            Argument::Password,
-            Argument::PasswordFile,
-            Argument::Live(LiveArgument::Whole),
-            Argument::Json,
+            FEED,
+            Argument::Required {
+                long: "glimpse",
+                value: Value::Text("HOST:PORT"),
+                help: "The server of the snapshot to begin with",
+            },
+            FEED_SESSION,
+            GLIMPSE_SESSION,
+            USER,
+            PASSWORD,
+            PASSWORD_FILE,
+            Argument::Flag {
+                long: "whole",
+                help: "Write the messages of the snapshot first, without its End of Snapshot",
+            },
+            JSON,
         ],
         example: "Example: itchsnap follow --feed host:5000 --glimpse host:5100 --user desk --pass-file pass --json",
     },
@@ -219,31 +388,56 @@ const COMMANDS: [Entry; 14] = [
         name: "feed",
         about: "Play a day file as a live feed over SoupBinTCP",
         takes: &[
-            Argument::Live(LiveArgument::File),
-            Argument::Live(LiveArgument::Rate),
-            Argument::Live(LiveArgument::Clock),
-            Argument::Live(LiveArgument::Count),
-            Argument::Live(LiveArgument::StayAtEnd),
-            Argument::Live(LiveArgument::NamedSession),
-            Argument::Bind,
-            Argument::ListenedPort,
-            Argument::User,
-            Argument::Password,
-            Argument::PasswordFile,
+            Argument::RequiredWord {
+                id: "FILE",
+                help: "The day file to play",
+            },
+            Argument::Optional {
+                long: "rate",
+                value: Value::Range("N", 1, MOST_COUNTED),
+                help: "Play N messages a second",
+            },
+            Argument::Optional {
+                long: "clock",
+                value: Value::Range("X", 1, MOST_COUNTED),
+                help: "Play by the timestamps of the messages, X times as fast",
+            },
+            Argument::Optional {
+                long: "count",
+                value: Value::Range("N", 1, MOST_COUNTED),
+                help: "End once N connections have ended, if not never",
+            },
+            Argument::Flag {
+                long: "stay",
+                help: "Send heartbeats after the last message, and no end",
+            },
+            SESSION,
+            BIND,
+            PORT,
+            USER,
+            PASSWORD,
+            PASSWORD_FILE,
         ],
         example: "Example: itchsnap feed day.itch --port 5000 --user desk --pass-file pass --rate 1000",
     },
     Entry {
         name: "completions",
         about: "Print the completions of these words for a shell",
-        takes: &[Argument::Shell],
+        takes: &[Argument::RequiredWord {
+            id: "SHELL",
+            help: "The shell: bash, zsh or fish",
+        }],
         example: "Example: itchsnap completions bash > completions.bash",
     },
 ];
 
 /// The program's commands and their arguments.
 pub fn command<'a>(alloc: Global) -> Result<Command<'a>, AllocError> {
-    let mut program = program(alloc)?;
+    let mut program = Command::new(alloc, "itchsnap")
+        .about("Market snapshots for TotalView-ITCH 5.0")
+        .version(VERSION)
+        .subcommand_required(true)
+        .bin_name("itchsnap")?;
     for entry in &COMMANDS {
         program = program.subcommand(entry.command(alloc)?)?;
     }
@@ -253,16 +447,6 @@ pub fn command<'a>(alloc: Global) -> Result<Command<'a>, AllocError> {
 /// The usage fault with this message.
 pub fn usage_fault(alloc: Global, message: &str) -> Result<Error, AllocError> {
     command(alloc)?.error(ErrorKind::ValueValidation, message)
-}
-
-fn program<'a>(alloc: Global) -> Result<Command<'a>, AllocError> {
-    let program = Command::new(alloc, "itchsnap").bin_name("itchsnap")?;
-    Ok(
-        program
-            .about("Market snapshots for TotalView-ITCH 5.0")
-            .version(VERSION)
-            .subcommand_required(true),
-    )
 }
 
 impl Entry {

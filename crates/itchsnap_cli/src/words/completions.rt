@@ -1,8 +1,7 @@
 //! Completions of the command line, as a script that a shell reads.
 
-use crate::words::commands::command;
-use clap::{Arg, Command};
-use std::alloc::{AllocError, Global};
+use crate::words::argument::Value;
+use crate::words::commands::{COMMANDS, Entry};
 use std::fmt::{self, Display, Formatter};
 
 /// What is typed after `completions`.
@@ -11,7 +10,7 @@ const SHELLS: &str = "bash zsh fish";
 const BASH_HEAD: &str = r#"_itchsnap() {
     local words= typed=${COMP_WORDS[COMP_CWORD]}
     case $COMP_CWORD:${COMP_WORDS[1]} in
-"#;
+        1:*) words=""#;
 
 const BASH_TAIL: &str = r#"    esac
     COMPREPLY=()
@@ -56,86 +55,76 @@ pub enum Shell {
     Fish,
 }
 
-/// The completions of a shell: `Display` gives the script.
-#[derive(Drop)]
-pub struct Completions<'a> {
-    shell: Shell,
-    program: Command<'a>,
-}
+/// The completions of every command and option for a shell: `Display` gives the script.
+#[derive(Clone, Copy, Debug, PartialEq, Eq)]
+pub struct Completions(Shell);
 
-impl<'a> Completions<'a> {
-    /// The completions of every command and option.
-    pub fn new(alloc: Global, shell: Shell) -> Result<Completions<'a>, AllocError> {
-        let program = command(alloc)?;
-        Ok(Completions { shell, program })
+impl Completions {
+    pub fn new(shell: Shell) -> Completions {
+        Completions(shell)
     }
 }
 
-impl Display for Completions<'_> {
+impl Display for Completions {
     fn fmt<W: fmt::Write>(&self, f: &mut Formatter<W>) -> fmt::Result {
-        match self.shell {
-            Shell::Bash => write_bash(self.program.get_subcommands(), f),
-            Shell::Zsh => write_zsh(self.program.get_subcommands(), f),
-            Shell::Fish => write_fish(self.program.get_subcommands(), f),
+        match self.0 {
+            Shell::Bash => write_bash(f),
+            Shell::Zsh => write_zsh(f),
+            Shell::Fish => write_fish(f),
         }
     }
 }
 
-fn write_bash<W: fmt::Write>(commands: &[Command<'_>], f: &mut Formatter<W>) -> fmt::Result {
+fn write_bash<W: fmt::Write>(f: &mut Formatter<W>) -> fmt::Result {
     f.write_str(BASH_HEAD)?;
-    f.write_str("        1:*) words=\"")?;
-    for command in commands {
-        let name = command.get_name();
-        write!(f, "{name} ")?;
+    for command in &COMMANDS {
+        write!(f, "{} ", command.name)?;
     }
     f.write_str("help --help --version\" ;;\n")?;
-    for command in commands {
+    for command in &COMMANDS {
         write_bash_command(command, f)?;
     }
     f.write_str(BASH_TAIL)
 }
 
-fn write_bash_command<W: fmt::Write>(command: &Command<'_>, f: &mut Formatter<W>) -> fmt::Result {
-    let name = command.get_name();
-    write!(f, "        *:{name}) words=\"")?;
-    for argument in command.get_arguments() {
-        match argument.get_long() {
+fn write_bash_command<W: fmt::Write>(command: &Entry, f: &mut Formatter<W>) -> fmt::Result {
+    write!(f, "        *:{}) words=\"", command.name)?;
+    for argument in command.takes {
+        match argument.long() {
             Some(long) => write!(f, "--{long} ")?,
-            None if argument.get_id() == "SHELL" => write!(f, "{SHELLS} ")?,
+            None if command.name == "completions" => write!(f, "{SHELLS} ")?,
             None => {}
         }
     }
     f.write_str("--help\" ;;\n")
 }
 
-fn write_zsh<W: fmt::Write>(commands: &[Command<'_>], f: &mut Formatter<W>) -> fmt::Result {
+fn write_zsh<W: fmt::Write>(f: &mut Formatter<W>) -> fmt::Result {
     f.write_str(ZSH_HEAD)?;
-    for command in commands {
-        let name = command.get_name();
-        let about = Quoted::new(Shell::Zsh, command.get_about());
-        writeln!(f, "        '{name}:{about}'")?;
+    for command in &COMMANDS {
+        let about = Quoted(Shell::Zsh, command.about);
+        writeln!(f, "        '{}:{about}'", command.name)?;
     }
     f.write_str(ZSH_MIDDLE)?;
-    for command in commands {
+    for command in &COMMANDS {
         write_zsh_command(command, f)?;
     }
     f.write_str(ZSH_TAIL)
 }
 
-fn write_zsh_command<W: fmt::Write>(command: &Command<'_>, f: &mut Formatter<W>) -> fmt::Result {
-    let name = command.get_name();
+fn write_zsh_command<W: fmt::Write>(command: &Entry, f: &mut Formatter<W>) -> fmt::Result {
+    let name = command.name;
     write!(f, "        {name}) _arguments '--help[Print help]'")?;
-    for argument in command.get_arguments() {
-        let Some(long) = argument.get_long() else {
-            continue;
-        };
-        let help = Quoted::new(Shell::Zsh, argument.get_help());
-        write!(f, " \\\n            '--{long}[{help}]")?;
-        f.write_str(match operand_of(argument) {
-            Operand::Nothing => "'",
-            Operand::Text => ":value:'",
-            Operand::File => ":file:_files'",
-        })?;
+    for argument in command.takes {
+        if let Some(long) = argument.long() {
+            let help = Quoted(Shell::Zsh, argument.help());
+            let value = match argument.value() {
+                None => "",
+                Some(Value::Path(_)) => ":file:_files",
+                Some(_) => ":value:",
+            };
+            write!(f, " \\\n            '--{long}[{help}]{value}'")?;
+        }
     }
     if name == "completions" {
         writeln!(f, " \\\n            '1:shell:({SHELLS})' ;;")
@@ -144,14 +133,8 @@ fn write_zsh_command<W: fmt::Write>(command: &Command<'_>, f: &mut Formatter<W>)
     }
 }
 
-fn write_fish<W: fmt::Write>(commands: &[Command<'_>], f: &mut Formatter<W>) -> fmt::Result {
-    for command in commands {
-        let name = command.get_name();
-        let about = Quoted::new(Shell::Fish, command.get_about());
-        writeln!(
-            f,
-            "complete -c itchsnap -n __fish_use_subcommand -f -a {name} -d '{about}'"
-        )?;
+fn write_fish<W: fmt::Write>(f: &mut Formatter<W>) -> fmt::Result {
+    for command in &COMMANDS {
         write_fish_command(command, f)?;
     }
     writeln!(
@@ -160,81 +143,46 @@ fn write_fish<W: fmt::Write>(commands: &[Command<'_>], f: &mut Formatter<W>) -> 
     )
 }
 
-fn write_fish_command<W: fmt::Write>(command: &Command<'_>, f: &mut Formatter<W>) -> fmt::Result {
-    let name = command.get_name();
-    for argument in command.get_arguments() {
-        let Some(long) = argument.get_long() else {
-            continue;
-        };
-        let help = Quoted::new(Shell::Fish, argument.get_help());
-        write!(
-            f,
-            "complete -c itchsnap -n '__fish_seen_subcommand_from {name}' -l {long}"
-        )?;
-        f.write_str(match operand_of(argument) {
-            Operand::Nothing => "",
-            Operand::Text => " -x",
-            Operand::File => " -r",
-        })?;
-        writeln!(f, " -d '{help}'")?;
+fn write_fish_command<W: fmt::Write>(command: &Entry, f: &mut Formatter<W>) -> fmt::Result {
+    let name = command.name;
+    let about = Quoted(Shell::Fish, command.about);
+    writeln!(
+        f,
+        "complete -c itchsnap -n __fish_use_subcommand -f -a {name} -d '{about}'"
+    )?;
+    for argument in command.takes {
+        if let Some(long) = argument.long() {
+            let help = Quoted(Shell::Fish, argument.help());
+            let value = match argument.value() {
+                None => "",
+                Some(Value::Path(_)) => " -r",
+                Some(_) => " -x",
+            };
+            writeln!(
+                f,
+                "complete -c itchsnap -n '__fish_seen_subcommand_from {name}' -l {long}{value} -d '{help}'"
+            )?;
+        }
     }
     Ok(())
 }
 
-// A text as it stands between the single quotes of a script.
+// A text as it stands between the single quotes of a shell's script.
 #[derive(Clone, Copy)]
-struct Quoted<'a> {
-    shell: Shell,
-    text: &'a str,
-}
+struct Quoted(Shell, &'static str);
 
-impl<'a> Quoted<'a> {
-    fn new(shell: Shell, text: Option<&'a str>) -> Quoted<'a> {
-        Quoted {
-            shell,
-            text: text.unwrap_or(""),
-        }
-    }
-}
-
-impl Display for Quoted<'_> {
+impl Display for Quoted {
     fn fmt<W: fmt::Write>(&self, f: &mut Formatter<W>) -> fmt::Result {
-        for letter in self.text.chars() {
-            match (self.shell, letter) {
+        for letter in self.1.chars() {
+            match (self.0, letter) {
                 (Shell::Zsh, '\'') => f.write_str("'\\''")?,
                 // A help text ends with a bracket, and a name with a colon.
-                (Shell::Zsh, '[' | ']' | ':' | '\\') | (Shell::Fish, '\'' | '\\') => write!(
-                    f,
-                    "\\{letter}"
-                )?,
+                (Shell::Zsh, '[' | ']' | ':' | '\\') | (Shell::Fish, '\'' | '\\') => {
+                    write!(f, "\\{letter}")?;
+                }
                 _ => write!(f, "{letter}")?,
             }
         }
         Ok(())
     }
-}
-
-// What stands after an option.
-enum Operand {
-    Nothing,
-    Text,
-    File,
-}
-
-fn operand_of(argument: &Arg<'_>) -> Operand {
-    if !argument.get_action().takes_values() {
-        Operand::Nothing
-    } else if is_path(argument.get_id()) {
-        Operand::File
-    } else {
-        Operand::Text
-    }
-}
-
-// Whether a path stands after this option.
-fn is_path(id: &str) -> bool {
-    matches!(
-        id,
-        "output" | "to" | "pass-file" | "feed-pass-file" | "record" | "snapshots"
-    )
 }
