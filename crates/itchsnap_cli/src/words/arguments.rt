@@ -29,7 +29,7 @@ pub const UNTIL: Argument = Argument::Optional {
 
 pub const RECORDED: Argument = Argument::Flag {
     long: "snapshot",
-    help: "Read a snapshot, and not a day file",
+    help: "Read snapshots instead of day files",
 };
 
 pub const ONLY: Argument = Argument::Optional {
@@ -46,25 +46,25 @@ pub const STOCK: Argument = Argument::Optional {
 
 pub const JSON: Argument = Argument::Flag {
     long: "json",
-    help: "Print JSON, an object a line",
+    help: "Print JSON, one object per line",
 };
 
 pub const OUTPUT: Argument = Argument::Optional {
     long: "output",
     value: Value::Path("PATH"),
-    help: "Write to this file, which gets its name once it is whole, and not to standard output",
+    help: "Write to this file instead of standard output; it appears when it is complete",
 };
 
 pub const PROGRESS: Argument = Argument::Flag {
     long: "progress",
-    help: "Show every 64 MiB, on standard error, how much was read so far",
+    help: "Report every 64 MiB, on standard error, how much has been read",
 };
 
 // The feed that is followed, and the server of snapshots.
 pub const FEED: Argument = Argument::Repeated {
     long: "feed",
     value: Value::Text("HOST:PORT"),
-    help: "The server of the live feed; repeat it for others to fall back on",
+    help: "The server of the live feed; repeat the option to name standby servers",
 };
 
 pub const FEED_SESSION: Argument = Argument::Optional {
@@ -83,19 +83,19 @@ pub const GLIMPSE_SESSION: Argument = Argument::Optional {
 pub const BIND: Argument = Argument::Optional {
     long: "bind",
     value: Value::Text("ADDRESS"),
-    help: "The IPv4 or IPv6 address to listen on, if not 127.0.0.1",
+    help: "The IPv4 or IPv6 address to listen on [default: 127.0.0.1]",
 };
 
 pub const PORT: Argument = Argument::Required {
     long: "port",
     value: Value::Range("P", 0, 65_535),
-    help: "The port to listen on; 0 takes a free one",
+    help: "The port to listen on; 0 chooses a free one",
 };
 
 pub const SESSION: Argument = Argument::Optional {
     long: "session",
     value: Value::Text("S"),
-    help: "The session that logins are accepted in, 1 to 10 printable characters",
+    help: "The session name that logins must give: 1 to 10 printable characters",
 };
 
 // The login of a server and of its client.
@@ -114,5 +114,5 @@ pub const PASSWORD: Argument = Argument::Optional {
 pub const PASSWORD_FILE: Argument = Argument::Optional {
     long: "pass-file",
     value: Value::Path("FILE"),
-    help: "A file whose first line is the password; without it and --pass, ITCHSNAP_PASS is",
+    help: "A file whose first line is the password [default: the variable ITCHSNAP_PASS]",
 };

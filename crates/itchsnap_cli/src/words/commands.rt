@@ -28,7 +28,7 @@ pub const COMMANDS: [Entry; 14] = [
             Argument::Optional {
                 long: "after",
                 value: Value::Text("N"),
-                help: "Stop after the first N messages; with --to N,.. take a snapshot after each N",
+                help: "Stop after the first N messages; with --to, N,.. takes a snapshot after each of them",
             },
             Argument::Optional {
                 long: "until",
@@ -38,7 +38,7 @@ pub const COMMANDS: [Entry; 14] = [
             Argument::Optional {
                 long: "every",
                 value: Value::Range("N", 1, MOST_COUNTED),
-                help: "With --to, take a snapshot after each N messages, and one at the end",
+                help: "With --to, take a snapshot after every N messages, and one at the end",
             },
             Argument::Optional {
                 long: "to",
@@ -126,7 +126,7 @@ pub const COMMANDS: [Entry; 14] = [
             Argument::Optional {
                 long: "from",
                 value: Value::Range("M", 1, MOST_COUNTED),
-                help: "The number in its day of the first message of FEED, if not 1",
+                help: "The sequence number of FEED's first message [default: 1]",
             },
             AFTER,
             UNTIL,
@@ -139,7 +139,7 @@ pub const COMMANDS: [Entry; 14] = [
     },
     Entry {
         name: "at",
-        about: "Write the snapshot at a point of the day, from the nearest of its snapshots",
+        about: "Write the snapshot at a point of the day, starting from the nearest stored one",
         takes: &[
             Argument::RequiredWord {
                 id: "DIR",
@@ -148,7 +148,7 @@ pub const COMMANDS: [Entry; 14] = [
             FEED_FILE,
             Argument::RequiredWord {
                 id: "POINT",
-                help: "The number of messages, or the time, such as 10:30",
+                help: "A number of messages, or a time such as 10:30",
             },
             ONLY,
             STOCK,
@@ -159,7 +159,7 @@ pub const COMMANDS: [Entry; 14] = [
     },
     Entry {
         name: "show",
-        about: "Print the messages of a file, each as a line",
+        about: "Print the messages of a file, one per line",
         takes: &[
             FILE,
             AFTER,
@@ -183,11 +183,11 @@ pub const COMMANDS: [Entry; 14] = [
             Argument::Optional {
                 long: "reference",
                 value: Value::Number("N"),
-                help: "Print only messages of this order, through its replacements",
+                help: "Print only messages of this order and of its replacements",
             },
             Argument::Flag {
                 long: "names",
-                help: "Print codes as characters, and timestamps as times of the day",
+                help: "Print codes as characters, and timestamps as times of day",
             },
             JSON,
             PROGRESS,
@@ -196,7 +196,7 @@ pub const COMMANDS: [Entry; 14] = [
     },
     Entry {
         name: "book",
-        about: "Print the price levels of locates",
+        about: "Print the price levels of the given locates",
         takes: &[
             // With `--stock` the first word is the file, so this one is not required.
             Argument::Word {
@@ -207,7 +207,7 @@ pub const COMMANDS: [Entry; 14] = [
             Argument::Optional {
                 long: "stock",
                 value: Value::Text("LIST"),
-                help: "Print the locates with these stocks, such as AAPL,MSFT; LOCATE is left out",
+                help: "Print the locates with these stocks, such as AAPL,MSFT, instead of LOCATE",
             },
             Argument::Optional {
                 long: "depth",
@@ -220,7 +220,7 @@ pub const COMMANDS: [Entry; 14] = [
             JSON,
             Argument::Flag {
                 long: "csv",
-                help: "Print comma-separated values, after a line with the names of the columns",
+                help: "Print comma-separated values, after a line of column names",
             },
             PROGRESS,
         ],
@@ -259,7 +259,7 @@ pub const COMMANDS: [Entry; 14] = [
             Argument::Optional {
                 long: "host",
                 value: Value::Text("HOST"),
-                help: "The name or the address of the server, if not 127.0.0.1",
+                help: "The name or address of the server [default: 127.0.0.1]",
             },
             Argument::Required {
                 long: "port",
@@ -272,17 +272,17 @@ pub const COMMANDS: [Entry; 14] = [
             Argument::Optional {
                 long: "session",
                 value: Value::Text("S"),
-                help: "The session, 1 to 10 printable characters, if not the current one",
+                help: "The session, 1 to 10 printable characters [default: the current one]",
             },
             Argument::Optional {
                 long: "timeout",
                 value: Value::Range("SECONDS", 1, 86_400),
-                help: "Give up if the server is silent for so long, 1 to 86400",
+                help: "Give up if the server is silent for this long, 1 to 86400",
             },
             Argument::Optional {
                 long: "from",
                 value: Value::Text("N"),
-                help: "Write the messages from number N on, as they come, and no whole snapshot",
+                help: "Write the messages from number N on as they are, instead of a whole snapshot",
             },
             OUTPUT,
         ],
@@ -290,23 +290,23 @@ pub const COMMANDS: [Entry; 14] = [
     },
     Entry {
         name: "live",
-        about: "Follow a live feed, and serve the snapshot of its present market",
+        about: "Follow a live feed, and serve snapshots of its current market",
         takes: &[
             FEED,
             Argument::Optional {
                 long: "glimpse",
                 value: Value::Text("HOST:PORT"),
-                help: "A server of snapshots to begin with, and not the feed's first message",
+                help: "A snapshot server to start from, instead of the feed's first message",
             },
             Argument::Optional {
                 long: "feed-user",
                 value: Value::Text("U"),
-                help: "The user name to the feed, if another",
+                help: "The user name for the feed, if it is different",
             },
             Argument::Optional {
                 long: "feed-pass-file",
                 value: Value::Path("FILE"),
-                help: "A file whose first line is the password to the feed, if another",
+                help: "A file whose first line is the password for the feed, if it is different",
             },
             FEED_SESSION,
             GLIMPSE_SESSION,
@@ -318,12 +318,12 @@ pub const COMMANDS: [Entry; 14] = [
             Argument::Optional {
                 long: "clients",
                 value: Value::Range("N", 1, 1_000),
-                help: "Serve N clients at a time, if not 64",
+                help: "Serve at most N clients at a time [default: 64]",
             },
             Argument::Optional {
                 long: "clients-per-address",
                 value: Value::Range("N", 1, 1_000),
-                help: "Serve at most N of them from one address [default: no limit]",
+                help: "Serve at most N clients from one address [default: no limit]",
             },
             Argument::Optional {
                 long: "snapshot-memory",
@@ -333,7 +333,7 @@ pub const COMMANDS: [Entry; 14] = [
             Argument::Optional {
                 long: "record",
                 value: Value::Path("FILE"),
-                help: "Append each message to a day file, which is replayed first",
+                help: "Append each message to a day file, which is replayed at start-up",
             },
             Argument::Optional {
                 long: "sync",
@@ -342,7 +342,7 @@ pub const COMMANDS: [Entry; 14] = [
             },
             Argument::Flag {
                 long: "record-optional",
-                help: "Serve on without the record if it cannot be written",
+                help: "Continue without the record if it cannot be written",
             },
             Argument::Optional {
                 long: "snapshots",
@@ -352,11 +352,11 @@ pub const COMMANDS: [Entry; 14] = [
             Argument::Optional {
                 long: "every",
                 value: Value::Range("N", 1, MOST_COUNTED),
-                help: "Write a snapshot after each N messages",
+                help: "Write a snapshot after every N messages",
             },
             Argument::Flag {
                 long: "stay",
-                help: "Serve on once the feed has ended its session",
+                help: "Continue to serve after the feed has ended its session",
             },
         ],
         example: "Example: itchsnap live --feed feed.example:5000 --port 5100 --user desk --pass-file pass",
@@ -369,7 +369,7 @@ pub const COMMANDS: [Entry; 14] = [
             Argument::Required {
                 long: "glimpse",
                 value: Value::Text("HOST:PORT"),
-                help: "The server of the snapshot to begin with",
+                help: "The server of the snapshot to start from",
             },
             FEED_SESSION,
             GLIMPSE_SESSION,
@@ -395,21 +395,21 @@ pub const COMMANDS: [Entry; 14] = [
             Argument::Optional {
                 long: "rate",
                 value: Value::Range("N", 1, MOST_COUNTED),
-                help: "Play N messages a second",
+                help: "Play N messages per second",
             },
             Argument::Optional {
                 long: "clock",
                 value: Value::Range("X", 1, MOST_COUNTED),
-                help: "Play by the timestamps of the messages, X times as fast",
+                help: "Play by the messages' timestamps, X times as fast",
             },
             Argument::Optional {
                 long: "count",
                 value: Value::Range("N", 1, MOST_COUNTED),
-                help: "End once N connections have ended, if not never",
+                help: "Exit after N connections have ended [default: never]",
             },
             Argument::Flag {
                 long: "stay",
-                help: "Send heartbeats after the last message, and no end",
+                help: "Send heartbeats after the last message instead of ending the session",
             },
             SESSION,
             BIND,
@@ -422,7 +422,7 @@ pub const COMMANDS: [Entry; 14] = [
     },
     Entry {
         name: "completions",
-        about: "Print the completions of these words for a shell",
+        about: "Print the completions for a shell",
         takes: &[Argument::RequiredWord {
             id: "SHELL",
             help: "The shell: bash, zsh or fish",
