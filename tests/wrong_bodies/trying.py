@@ -1,6 +1,7 @@
 """Tries edits of one crate, in rounds and then alone, as tasks that run side by side."""
 import contextlib
 import os
+import re
 import shutil
 import tempfile
 from dataclasses import dataclass
@@ -12,6 +13,10 @@ from kit import rt
 ONE_JOB = ["--jobs", "1"]
 # The lines of a crate that take about as long to check as one edit of it: a round with more edits begins earlier.
 LINES_OF_AN_EDIT = 150
+# What rattle says of a goal that has no answer, where a proof file answers others.
+UNPROVED = re.compile(r"^note: (src/\S+:\d+:\d+: it is not proved that .*)", re.MULTILINE)
+# What rattle says of a name that no function has.
+UNKNOWN = re.compile(r"has no function `([^`]+)`")
 
 
 @dataclass(frozen=True)
@@ -37,6 +42,14 @@ def in_round(crate, label, ran, together):
             if told:
                 found[edit] = Outcome(edit.name, True, f"{label}, {function}: {told[:160]}")
     return found
+
+
+def unproved(ran, edit, together):
+    """Returns the outcome of the only edit of a round, if a goal lacks its proof: whose goal it is need not be told then."""
+    goal = UNPROVED.search(ran.stdout)
+    if not goal or not reached_the_prover(ran, together.texts):
+        return {}
+    return {edit: Outcome(edit.name, True, f"alone, {edit.functions[0]}: {goal[1][:160]}")}
 
 
 def by_itself(crate, edit):
@@ -70,6 +83,7 @@ class Tries:
         self.room = tempfile.TemporaryDirectory(prefix=f"edits-{crate.name}-")
         self.seed = None
         self.files = {}
+        self.unknown = ""
 
     def tasks(self, end):
         """Returns the tasks as rt runs them side by side. The last one calls `end` with the outcomes."""
@@ -92,6 +106,7 @@ class Tries:
         if ran.returncode == 0:
             self.seed = seed
             self.files = rt.listing(seed)
+        self.unknown = next(iter(UNKNOWN.findall(ran.stdout)), "")
 
     def try_round(self, label, together):
         """Returns the outcomes of the edits that are clearly refused in this round."""
@@ -113,9 +128,13 @@ class Tries:
 
     def alone(self, edit):
         """Tries an edit in a round of its own, and by itself where that does not clearly refuse it."""
+        if self.unknown:
+            return Outcome(edit.name, False, f"not tried: an edit names {self.unknown}, which is no function")
         together = Round()
-        if edit not in self.rest and together.takes(edit, self.crate.folder):
-            found = self.try_round("alone", together)
-            if edit in found:
+        if self.seed and edit not in self.rest and together.takes(edit, self.crate.folder):
+            with copy_of(self.seed, "alone") as over:
+                ran = self.checker.checked(self.crate, together.texts, [*ONE_JOB, *only(together.functions)], over)
+            found = in_round(self.crate, "alone", ran, together) or unproved(ran, edit, together)
+            if found:
                 return found[edit]
         return by_itself(self.crate, edit)
