@@ -1,4 +1,4 @@
-"""`./install --library`, and programs that are built with what it installs.
+"""`./install --library`, and programs that are built with the installed files.
 
 RUNS has a function for each run, named for what it shows; it yields what differs.
 """
