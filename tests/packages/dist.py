@@ -1,4 +1,4 @@
-"""Runs of the packages: they are those of the release, and Debian's own checks find no error in them.
+"""The packages: they are those of the release, and lintian finds no error in them.
 
 RUNS has a function for each run, named for what it shows; it yields what differs.
 """

@@ -1,4 +1,4 @@
-"""Runs of `./install --library`, and of programs that are built with what it installed.
+"""`./install --library`, and programs that are built with the installed files.
 
 RUNS has a function for each run, named for what it shows; it yields what differs.
 """

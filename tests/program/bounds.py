@@ -1,5 +1,5 @@
-"""Runs of `live`, `feed` and `follow` at the bounds of what they take: how many clients at a time, and how long a message or a packet is; and of
-the released C library, in whose joiners more than a million messages may wait.
+"""The limits of `live`, `feed` and `follow`: how many clients at a time, and how long a message or a packet may be; and more than a million
+waiting messages in a joiner of the released C library.
 
 RUNS has a function for each run, named for what it shows; it is given the program, and yields what differs.
 """

@@ -1,4 +1,4 @@
-"""Runs of `live`, `follow` and `feed` in which each call of the system that is no read, write or allocation fails in turn (calls.c).
+"""`live`, `follow` and `feed` while each system call that is not a read, a write or an allocation fails in turn (calls.c).
 
 RUNS has a function for each run, named for what it shows; it is given the program, and yields what differs.
 """

@@ -1,4 +1,4 @@
-"""Runs of `at` with an index that does not fit the question or the feed: what the program would answer wrongly it refuses by name.
+"""`at` with an index that does not fit the point or the feed: it refuses whatever would lead to a wrong answer.
 
 RUNS has a function for each run, named for what it shows; it is given the program, and yields what differs.
 """

@@ -1,4 +1,4 @@
-"""Runs of `live` with many clients at once, with a feed that is cut at every byte, and with a reader of packets that nobody here wrote.
+"""`live` with many clients at once, with a feed that is cut at every byte, and with Wireshark's dissector, where that is installed.
 
 RUNS has a function for each run, named for what it shows; it is given the program, and yields what differs.
 """

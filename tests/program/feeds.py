@@ -1,4 +1,4 @@
-"""Runs of `feed` and `follow`, of the three in a row, and of what ends them.
+"""`feed` and `follow`, a row of `feed`, `live` and `follow`, and the reasons why each ends.
 
 RUNS has a function for each run, named for what it shows; it is given the program, and yields what differs.
 """

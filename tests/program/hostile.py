@@ -1,4 +1,4 @@
-"""Runs of `live` among clients that try to take it from the others, with side outputs that fail, and at feeds that refuse it once.
+"""`live` among clients that try to keep it from serving others, with side outputs that fail, and at feeds that reject it once.
 
 RUNS has a function for each run, named for what it shows; it is given the program, and yields what differs.
 """

@@ -1,4 +1,4 @@
-"""Runs of which day it is: sessions, records that are another day's, in use or changed, and what of a record is on disk.
+"""Sessions and records: records of another day, in use, changed or cut, and how much of a record is on disk.
 
 RUNS has a function for each run, named for what it shows; it is given the program, and yields what differs.
 """

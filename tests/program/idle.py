@@ -1,4 +1,4 @@
-"""Runs of servers that have nothing to do, or that can do nothing for a while: they take next to no processor time, and go on afterwards.
+"""Servers that have nothing to do, or that can do nothing for a while: they use next to no processor time, and continue afterwards.
 
 RUNS has a function for each run, named for what it shows; it is given the program, and yields what differs.
 """

@@ -1,4 +1,4 @@
-"""Runs of `live`: a feed that is lost and comes back, clients of all kinds, records and snapshots.
+"""`live`: a feed that is lost and comes back, clients of all kinds, records and snapshots.
 
 RUNS has a function for each run, named for what it shows; it is given the program, and yields what differs.
 """

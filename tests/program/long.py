@@ -1,4 +1,4 @@
-"""Runs with long inputs and odd words: a list of many locates, the longest message, words that are no text.
+"""Long inputs and unusual arguments: a list of many locates, the longest message, arguments that are not text.
 
 RUNS has a function for each run, named for what it shows; it is given the program, and yields what differs.
 """

@@ -1,4 +1,4 @@
-"""Runs of the program as a shell user meets it: its version, terminals, closed pipes, progress, `examples/parts`, and its manual.
+"""The program at a shell: its version, terminals, closed pipes, progress, `examples/parts`, and the manual page.
 
 RUNS has a function for each run, named for what it shows; it is given the program, and yields what differs.
 """

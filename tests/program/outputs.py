@@ -1,4 +1,4 @@
-"""Runs of the commands that write a snapshot to a file: it has its name once it is whole, and nothing is left of one that is not.
+"""Snapshots that are written to a file, a device or a pipe: the file appears only when it is complete.
 
 RUNS has a function for each run, named for what it shows; it is given the program, and yields what differs.
 """

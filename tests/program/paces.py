@@ -1,4 +1,4 @@
-"""Runs of when something comes: the pauses before a lost feed is asked again, and the messages of a feed that is played at a rate or by the clock.
+"""Times: the pauses before a lost feed is tried again, and messages that are played at a rate or by the clock.
 
 RUNS has a function for each run, named for what it shows; it is given the program, and yields what differs.
 

@@ -1,4 +1,4 @@
-"""Runs of `snap` with a folder: the snapshots of several points of a day file, written in one pass, and their index.
+"""`snap --to`: the snapshots of several points of a day file, and their index.
 
 RUNS has a function for each run, named for what it shows; it is given the program, and yields what differs.
 """

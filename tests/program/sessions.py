@@ -1,4 +1,4 @@
-"""Runs of `serve` and `fetch` in two processes, and of `serve` with peers that misbehave.
+"""`serve` and `fetch` in two processes, and `serve` with peers that misbehave.
 
 RUNS has a function for each run, named for what it shows; it is given the program, and yields what differs.
 """

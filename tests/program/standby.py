@@ -1,4 +1,4 @@
-"""Runs of `live` and `follow` with several servers of a feed, and with names that are looked up again.
+"""`live` and `follow` with several servers of a feed, and with names that are looked up again.
 
 RUNS has a function for each run, named for what it shows; it is given the program, and yields what differs.
 """

@@ -1,4 +1,4 @@
-"""Runs of `./itchsnap` and `./install` in a fresh copy of the checkout: which program they are, and what they say of it.
+"""`./itchsnap` and `./install` in a fresh copy of the checkout: which program they choose and report.
 
 RUNS has a function for each run, named for what it shows; it is given the program, and yields what differs.
 """

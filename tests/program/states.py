@@ -1,4 +1,4 @@
-"""Runs of clients in unusual states: they send no more, or have gone, before there is a market or a place; and they wait while descriptors are short.
+"""Clients that stop sending, or leave, before there is a market or a place for them, and clients that wait while descriptors are short.
 
 RUNS has a function for each run, named for what it shows; it is given the program, and yields what differs.
 """

@@ -1,4 +1,4 @@
-"""Runs with words that ask for no work over files: help with its examples, completions, usage faults, lists of locates that are none.
+"""Help with its examples, completions, and usage errors.
 
 RUNS has a function for each run, named for what it shows; it is given the program, and yields what differs.
 """

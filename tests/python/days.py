@@ -1,4 +1,4 @@
-"""Runs of `Day`: times, numbers of messages, pieces, files of all kinds, memory, threads, and what is closed.
+"""`Day`: times, numbers of messages, pieces, files of all kinds, memory, threads, and closed days.
 
 RUNS has a function for each run, named for what it shows; it yields what differs.
 """

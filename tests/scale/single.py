@@ -1,4 +1,4 @@
-"""Jobs of one day: what they make, when they make it again, and what becomes of days that are refused or cannot be read.
+"""Jobs of one day: their results, when a result is made again, and days that are refused or cannot be read.
 
 RUNS has a function for each run, named for what it shows; it is given a folder, and yields what differs.
 """
