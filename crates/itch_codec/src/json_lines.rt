@@ -1,25 +1,20 @@
 //! Messages as lines of JSON.
-ghost use Rattle.std.specs.Prelude.{◌≡◌, ◌≤◌, [], ◌∷◌, ◌++◌, length, codes};
-ghost use Rattle.std.specs.Str.{IsAscii};
-ghost use Rattle.arrayvec.specs.ArrayString.{array_string_len};
-ghost use Rattle.itch_codec.specs.Fields.{Number};
-ghost use Rattle.itch_codec.specs.Json.{json_line, members_of};
-ghost use Rattle.itch_codec.specs.Layouts.{end_of_snapshot};
-ghost use Rattle.itch_codec.specs.Messages.{Fields, Payload, shape};
-ghost use Rattle.itch_codec.specs.Names.{keys, end_of_snapshot_keys};
+ghost use Rattle.std.specs.Prelude.{◌≡◌, ◌≤◌, length};
+ghost use Rattle.itch_codec.specs.Json.{json_form, json_line};
+ghost use Rattle.itch_codec.specs.Rooms.{json_most};
 
-mod orders;
-mod stocks;
-mod trades;
 mod words;
 
+use crate::header::Stamp;
 use crate::message::Message;
 use crate::names::Key;
 use crate::number::Seq;
-use crate::pieces::push_number;
-use crate::undecoded::Undecoded;
+use crate::orders::Side;
+use crate::pieces::{push_clock, push_number, push_price};
+use crate::sink::FieldSink;
+use crate::text::Alpha;
 use std::marker::Model;
-use words::{JsonWords, put_code, put_digits, put_number};
+use words::{JsonWords, push_quoted, put_key};
 
 /// A line of JSON that shows a message, with its line feed. It is stored in the value itself and needs no allocation.
 #[derive(Drop)]
@@ -53,57 +48,96 @@ impl JsonText {
 pub fn json(number: u64, message: &Message<'_>) -> JsonText
     ensures { result ≡ json_line number message.now }
 {
-    let mut text = JsonWords::new();
-    text.push_str("{\"number\":");
-    push_number(&mut text, number);
-    put_members(message, &mut text);
-    text.push_str("}\n");
-    JsonText { text }
+    let mut line = JsonText {
+        text: JsonWords::new(),
+    };
+    line.text.push_str("{\"number\":");
+    push_number(&mut line.text, number);
+    message.write(&mut line);
+    line.text.push_str("}\n");
+    line
 }
 
-fn put_members(message: &Message<'_>, line: &mut JsonWords)
-    requires { array_string_len line.old ≤ 30 }
-    ensures bytes { line.new.bytes ≡ line.old.bytes ++ members_of (keys message.now) (shape message.now) }
-    ensures len { array_string_len line.new ≤ 646 }
-{
-    match message {
-        Message::SystemEvent(m) => stocks::system_event(line, m),
-        Message::StockDirectory(m) => stocks::stock_directory(line, m),
-        Message::TradingAction(m) => stocks::trading_action(line, m),
-        Message::RegSho(m) => stocks::reg_sho(line, m),
-        Message::Halt(m) => stocks::operational_halt(line, m),
-        Message::Position(m) => stocks::participant_position(line, m),
-        Message::AddOrder(m) => orders::add_order(line, m),
-        Message::AttributedAddOrder(m) => orders::attributed_add_order(line, m),
-        Message::OrderExecuted(m) => orders::order_executed(line, m),
-        Message::OrderExecutedWithPrice(m) => orders::order_executed_with_price(line, m),
-        Message::OrderCancel(m) => orders::order_cancel(line, m),
-        Message::OrderDelete(m) => orders::order_delete(line, m),
-        Message::OrderReplace(m) => orders::order_replace(line, m),
-        Message::Trade(m) => trades::trade(line, m),
-        Message::CrossTrade(m) => trades::cross_trade(line, m),
-        Message::BrokenTrade(m) => trades::broken_trade(line, m),
-        Message::End { next } => put_end(line, *next),
-        Message::Other(m) => put_other(line, m),
+#[tactic(auto, using(crate::proofs::Joining::joining), unfolding(crate::specs::Json::member, crate::specs::Json::times))]
+impl FieldSink for JsonText {
+    ghost form = { json_form };
+
+    ghost text = { λ bytes. bytes };
+
+    ghost len = { λ bytes. length bytes };
+
+    ghost capacity = { 648 };
+
+    ghost most = { json_most };
+
+    fn begin(&mut self, kind: u8) {
+        self.put_code(Key::Kind, kind);
     }
-}
 
-#[tactic(auto, using(crate::proofs::Joining::joining), unfolding(crate::specs::Json::members))]
-fn put_end(line: &mut JsonWords, next: Seq)
-    requires { array_string_len line.old ≤ 30 }
-    ensures bytes { line.new.bytes ≡ line.old.bytes ++ members_of end_of_snapshot_keys (Fields end_of_snapshot (Number next ∷ [])) }
-    ensures len { array_string_len line.new ≤ 646 }
-{
-    put_code(line, Key::Kind, b'G');
-    put_digits(line, Key::SequenceNumber, next.value());
-}
+    fn begin_undecoded(&mut self) {}
 
-#[tactic(auto, using(crate::proofs::Joining::joining))]
-fn put_other(line: &mut JsonWords, message: &Undecoded<'_>)
-    requires { array_string_len line.old ≤ 30 }
-    ensures bytes { line.new.bytes ≡ line.old.bytes ++ members_of [] (Payload message.now) }
-    ensures len { array_string_len line.new ≤ 646 }
-{
-    put_code(line, Key::Kind, message.kind());
-    put_number(line, Key::Length, message.payload().len() as u64);
+    fn put_u16(&mut self, key: Key, number: u16) {
+        self.put_u64(key, u64::from(number));
+    }
+
+    fn put_u32(&mut self, key: Key, number: u32) {
+        self.put_u64(key, u64::from(number));
+    }
+
+    fn put_stamp(&mut self, key: Key, stamp: Stamp) {
+        put_key(&mut self.text, key);
+        self.text.push_str("\"");
+        push_clock(&mut self.text, stamp.value());
+        self.text.push_str("\",\"ns\":");
+        push_number(&mut self.text, stamp.value());
+    }
+
+    fn put_u64(&mut self, key: Key, number: u64) {
+        put_key(&mut self.text, key);
+        push_number(&mut self.text, number);
+    }
+
+    fn put_price(&mut self, key: Key, price: u32) {
+        put_key(&mut self.text, key);
+        self.text.push_str("\"");
+        push_price(&mut self.text, price);
+        self.text.push_str("\"");
+    }
+
+    fn put_mpid(&mut self, key: Key, mpid: &Alpha<4>) {
+        put_key(&mut self.text, key);
+        push_quoted(&mut self.text, mpid.text().as_bytes());
+    }
+
+    fn put_stock(&mut self, key: Key, stock: &Alpha<8>) {
+        put_key(&mut self.text, key);
+        push_quoted(&mut self.text, stock.text().as_bytes());
+    }
+
+    fn put_side(&mut self, key: Key, side: Side) {
+        put_key(&mut self.text, key);
+        self.text.push_str(match side {
+            Side::Buy => "\"B\"",
+            Side::Sell => "\"S\"",
+        });
+    }
+
+    fn put_code(&mut self, key: Key, byte: u8) {
+        put_key(&mut self.text, key);
+        push_quoted(&mut self.text, &[byte]);
+    }
+
+    fn put_two_codes(&mut self, key: Key, bytes: &[u8; 2]) {
+        put_key(&mut self.text, key);
+        push_quoted(&mut self.text, bytes);
+    }
+
+    fn put_four_codes(&mut self, key: Key, bytes: &[u8; 4]) {
+        put_key(&mut self.text, key);
+        push_quoted(&mut self.text, bytes);
+    }
+
+    fn put_digits(&mut self, key: Key, number: Seq) {
+        self.put_u64(key, number.value());
+    }
 }
