@@ -1,6 +1,6 @@
 -- A line has room for any message.
-use Rattle.std.proofs.Common.{ℕ, ◌≤◌, arith}
-use Rattle.itch_codec.specs.Rooms.{Most, most_fields, most_shown, line_most, named_most, json_most}
+use Rattle.std.proofs.Common.{◌≤◌, arith}
+use Rattle.itch_codec.specs.Rooms.{most_fields, most_shown, line_most, named_most, json_most}
 use Rattle.itch_codec.specs.declared.message.Message.{Message}
 use Rattle.itch_codec.specs.declared.message.Message.TheVariants as is
 
