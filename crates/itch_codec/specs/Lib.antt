@@ -12,6 +12,7 @@ pub mod Names
 pub mod Shown
 pub mod Clock
 pub mod Rooms
+pub mod Sinks
 pub mod Lines
 pub mod Json
 pub mod Named

@@ -3,7 +3,7 @@ ghost use Rattle.std.specs.Prelude.{◌≡◌, ℕ, ◌<◌, ◌≤◌, ◌^◌,
 
 use crate::fields::{Buffer, put_u16, put_u48, u16_at, u48_at};
 use crate::names::Key;
-use crate::sink::FieldSink;
+use crate::sink::{Field, FieldSink};
 use std::marker::Model;
 
 /// Nanoseconds since midnight, below 2^48.
@@ -104,8 +104,8 @@ impl Header {
         ensures len { S.len sink.new ≤ S.len sink.old + (S.most.start + most_fields S.most (header_keys []) (with_header [])) }
     {
         sink.begin(kind);
-        sink.put_u16(Key::StockLocate, self.locate);
-        sink.put_u16(Key::TrackingNumber, self.tracking);
-        sink.put_stamp(Key::Time, self.stamp);
+        sink.put(Key::StockLocate, Field::U16(self.locate));
+        sink.put(Key::TrackingNumber, Field::U16(self.tracking));
+        sink.put(Key::Time, Field::Time(self.stamp.value()));
     }
 }

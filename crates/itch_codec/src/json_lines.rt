@@ -5,16 +5,12 @@ ghost use Rattle.itch_codec.specs.Rooms.{json_most};
 
 mod words;
 
-use crate::header::Stamp;
 use crate::message::Message;
 use crate::names::Key;
-use crate::number::Seq;
-use crate::orders::Side;
-use crate::pieces::{push_clock, push_number, push_price};
-use crate::sink::FieldSink;
-use crate::text::Alpha;
+use crate::pieces::push_number;
+use crate::sink::{Field, FieldSink};
 use std::marker::Model;
-use words::{JsonWords, push_quoted, put_key};
+use words::{JsonWords, push_quoted, push_quoted_price, push_side, push_times, put_key};
 
 /// A line of JSON that shows a message, with its line feed. It is stored in the value itself and needs no allocation.
 #[derive(Drop)]
@@ -58,7 +54,6 @@ pub fn json(number: u64, message: &Message<'_>) -> JsonText
     line
 }
 
-#[tactic(auto, using(crate::proofs::Joining::joining), unfolding(crate::specs::Json::member, crate::specs::Json::times))]
 impl FieldSink for JsonText {
     ghost form = { json_form };
 
@@ -71,73 +66,29 @@ impl FieldSink for JsonText {
     ghost most = { json_most };
 
     fn begin(&mut self, kind: u8) {
-        self.put_code(Key::Kind, kind);
+        self.put(Key::Kind, Field::Code(kind));
     }
 
     fn begin_undecoded(&mut self) {}
 
-    fn put_u16(&mut self, key: Key, number: u16) {
-        self.put_u64(key, u64::from(number));
-    }
-
-    fn put_u32(&mut self, key: Key, number: u32) {
-        self.put_u64(key, u64::from(number));
-    }
-
-    fn put_stamp(&mut self, key: Key, stamp: Stamp) {
-        put_key(&mut self.text, key);
-        self.text.push_str("\"");
-        push_clock(&mut self.text, stamp.value());
-        self.text.push_str("\",\"ns\":");
-        push_number(&mut self.text, stamp.value());
-    }
-
-    fn put_u64(&mut self, key: Key, number: u64) {
-        put_key(&mut self.text, key);
-        push_number(&mut self.text, number);
-    }
-
-    fn put_price(&mut self, key: Key, price: u32) {
-        put_key(&mut self.text, key);
-        self.text.push_str("\"");
-        push_price(&mut self.text, price);
-        self.text.push_str("\"");
-    }
-
-    fn put_mpid(&mut self, key: Key, mpid: &Alpha<4>) {
-        put_key(&mut self.text, key);
-        push_quoted(&mut self.text, mpid.text().as_bytes());
-    }
-
-    fn put_stock(&mut self, key: Key, stock: &Alpha<8>) {
-        put_key(&mut self.text, key);
-        push_quoted(&mut self.text, stock.text().as_bytes());
-    }
-
-    fn put_side(&mut self, key: Key, side: Side) {
-        put_key(&mut self.text, key);
-        self.text.push_str(match side {
-            Side::Buy => "\"B\"",
-            Side::Sell => "\"S\"",
-        });
-    }
-
-    fn put_code(&mut self, key: Key, byte: u8) {
-        put_key(&mut self.text, key);
-        push_quoted(&mut self.text, &[byte]);
-    }
-
-    fn put_two_codes(&mut self, key: Key, bytes: &[u8; 2]) {
-        put_key(&mut self.text, key);
-        push_quoted(&mut self.text, bytes);
-    }
-
-    fn put_four_codes(&mut self, key: Key, bytes: &[u8; 4]) {
-        put_key(&mut self.text, key);
-        push_quoted(&mut self.text, bytes);
-    }
-
-    fn put_digits(&mut self, key: Key, number: Seq) {
-        self.put_u64(key, number.value());
+    #[inline(always)]
+    #[tactic(auto, using(crate::proofs::Joining::joining), unfolding(crate::specs::Json::member, crate::specs::Json::times))]
+    fn put(&mut self, key: Key, field: Field<'_>) {
+        let text = &mut self.text;
+        put_key(text, key);
+        match field {
+            Field::U16(number) => push_number(text, u64::from(number)),
+            Field::U32(number) => push_number(text, u64::from(number)),
+            Field::U64(number) => push_number(text, number),
+            Field::Time(nanoseconds) => push_times(text, nanoseconds),
+            Field::Price(price) => push_quoted_price(text, price),
+            Field::Mpid(mpid) => push_quoted(text, mpid.text().as_bytes()),
+            Field::Stock(stock) => push_quoted(text, stock.text().as_bytes()),
+            Field::Side(side) => push_side(text, side),
+            Field::Code(byte) => push_quoted(text, &[byte]),
+            Field::TwoCodes(bytes) => push_quoted(text, bytes),
+            Field::FourCodes(bytes) => push_quoted(text, bytes),
+            Field::Digits(number) => push_number(text, number),
+        }
     }
 }

@@ -11,7 +11,7 @@ use crate::orders::{
     AddOrder, AttributedAddOrder, OrderCancel, OrderDelete, OrderExecuted, OrderExecutedWithPrice,
     OrderReplace,
 };
-use crate::sink::FieldSink;
+use crate::sink::{Field, FieldSink};
 use crate::stocks::{
     OperationalHalt, ParticipantPosition, RegSho, StockDirectory, SystemEvent, TradingAction,
 };
@@ -147,7 +147,7 @@ impl Message<'_> {
             Message::BrokenTrade(m) => m.write(sink),
             Message::End { next } => {
                 sink.begin(b'G');
-                sink.put_digits(Key::SequenceNumber, *next);
+                sink.put(Key::SequenceNumber, Field::Digits(next.value()));
             }
             Message::Other(m) => m.write(sink),
         }

@@ -17,7 +17,7 @@ use crate::fields::{
 };
 use crate::header::Header;
 use crate::names::Key;
-use crate::sink::FieldSink;
+use crate::sink::{Field, FieldSink};
 use crate::text::Alpha;
 
 /// The side of an order.
@@ -94,11 +94,11 @@ impl AddOrder {
         ensures len { S.len sink.new ≤ S.len sink.old + (S.most.start + most_fields S.most (order_keys []) (with_header (order_columns []))) }
     {
         self.header.begin_in(kind, sink);
-        sink.put_u64(Key::OrderReferenceNumber, self.reference);
-        sink.put_side(Key::BuySellIndicator, self.side);
-        sink.put_u32(Key::Shares, self.shares);
-        sink.put_stock(Key::Stock, &self.stock);
-        sink.put_price(Key::Price, self.price);
+        sink.put(Key::OrderReferenceNumber, Field::U64(self.reference));
+        sink.put(Key::BuySellIndicator, Field::Side(self.side));
+        sink.put(Key::Shares, Field::U32(self.shares));
+        sink.put(Key::Stock, Field::Stock(&self.stock));
+        sink.put(Key::Price, Field::Price(self.price));
     }
 
     /// Hands the type and the fields to a sink.
@@ -150,7 +150,7 @@ impl AttributedAddOrder {
         ensures len { S.len sink.new ≤ S.len sink.old + (S.most.start + most_fields S.most attributed_add_order_keys attributed_add_order.columns) }
     {
         self.order.write_as(b'F', sink);
-        sink.put_mpid(Key::Attribution, &self.attribution);
+        sink.put(Key::Attribution, Field::Mpid(&self.attribution));
     }
 }
 
@@ -210,9 +210,9 @@ impl OrderExecuted {
         ensures len { S.len sink.new ≤ S.len sink.old + (S.most.start + most_fields S.most (execution_keys []) (with_header (execution_columns []))) }
     {
         self.header.begin_in(kind, sink);
-        sink.put_u64(Key::OrderReferenceNumber, self.reference);
-        sink.put_u32(Key::ExecutedShares, self.shares);
-        sink.put_u64(Key::MatchNumber, self.match_number);
+        sink.put(Key::OrderReferenceNumber, Field::U64(self.reference));
+        sink.put(Key::ExecutedShares, Field::U32(self.shares));
+        sink.put(Key::MatchNumber, Field::U64(self.match_number));
     }
 
     /// Hands the type and the fields to a sink.
@@ -268,8 +268,8 @@ impl OrderExecutedWithPrice {
         ensures len { S.len sink.new ≤ S.len sink.old + (S.most.start + most_fields S.most order_executed_with_price_keys order_executed_with_price.columns) }
     {
         self.execution.write_as(b'C', sink);
-        sink.put_code(Key::Printable, self.printable);
-        sink.put_price(Key::ExecutionPrice, self.price);
+        sink.put(Key::Printable, Field::Code(self.printable));
+        sink.put(Key::ExecutionPrice, Field::Price(self.price));
     }
 }
 
@@ -314,8 +314,8 @@ impl OrderCancel {
         ensures len { S.len sink.new ≤ S.len sink.old + (S.most.start + most_fields S.most order_cancel_keys order_cancel.columns) }
     {
         self.header.begin_in(b'X', sink);
-        sink.put_u64(Key::OrderReferenceNumber, self.reference);
-        sink.put_u32(Key::CancelledShares, self.shares);
+        sink.put(Key::OrderReferenceNumber, Field::U64(self.reference));
+        sink.put(Key::CancelledShares, Field::U32(self.shares));
     }
 }
 
@@ -356,7 +356,7 @@ impl OrderDelete {
         ensures len { S.len sink.new ≤ S.len sink.old + (S.most.start + most_fields S.most order_delete_keys order_delete.columns) }
     {
         self.header.begin_in(b'D', sink);
-        sink.put_u64(Key::OrderReferenceNumber, self.reference);
+        sink.put(Key::OrderReferenceNumber, Field::U64(self.reference));
     }
 }
 
@@ -408,9 +408,9 @@ impl OrderReplace {
         ensures len { S.len sink.new ≤ S.len sink.old + (S.most.start + most_fields S.most order_replace_keys order_replace.columns) }
     {
         self.header.begin_in(b'U', sink);
-        sink.put_u64(Key::OriginalOrderReferenceNumber, self.original);
-        sink.put_u64(Key::NewOrderReferenceNumber, self.reference);
-        sink.put_u32(Key::Shares, self.shares);
-        sink.put_price(Key::Price, self.price);
+        sink.put(Key::OriginalOrderReferenceNumber, Field::U64(self.original));
+        sink.put(Key::NewOrderReferenceNumber, Field::U64(self.reference));
+        sink.put(Key::Shares, Field::U32(self.shares));
+        sink.put(Key::Price, Field::Price(self.price));
     }
 }

@@ -5,14 +5,10 @@ ghost use Rattle.arrayvec.specs.ArrayString.{array_string_len};
 ghost use Rattle.itch_codec.specs.Lines.{line_form, line_of};
 ghost use Rattle.itch_codec.specs.Rooms.{line_most};
 
-use crate::header::Stamp;
 use crate::message::Message;
 use crate::names::Key;
-use crate::number::Seq;
-use crate::orders::Side;
 use crate::pieces::{push_ascii, push_number};
-use crate::sink::FieldSink;
-use crate::text::Alpha;
+use crate::sink::{Field, FieldSink};
 use crate::words::{Words, show_code, show_codes, show_number, show_price, show_side, show_text};
 use std::alloc::{AllocError, Allocator};
 use std::marker::Model;
@@ -101,52 +97,23 @@ impl FieldSink for PlainLine {
         self.words.push_str("other");
     }
 
-    fn put_u16(&mut self, _key: Key, number: u16) {
-        show_number(&mut self.words, u64::from(number));
-    }
-
-    fn put_u32(&mut self, _key: Key, number: u32) {
-        show_number(&mut self.words, u64::from(number));
-    }
-
-    fn put_stamp(&mut self, _key: Key, stamp: Stamp) {
-        show_number(&mut self.words, stamp.value());
-    }
-
-    fn put_u64(&mut self, _key: Key, number: u64) {
-        show_number(&mut self.words, number);
-    }
-
-    fn put_price(&mut self, _key: Key, price: u32) {
-        show_price(&mut self.words, price);
-    }
-
-    fn put_mpid(&mut self, _key: Key, mpid: &Alpha<4>) {
-        show_text(&mut self.words, mpid);
-    }
-
-    fn put_stock(&mut self, _key: Key, stock: &Alpha<8>) {
-        show_text(&mut self.words, stock);
-    }
-
-    fn put_side(&mut self, _key: Key, side: Side) {
-        show_side(&mut self.words, side);
-    }
-
-    fn put_code(&mut self, _key: Key, byte: u8) {
-        show_code(&mut self.words, byte);
-    }
-
-    fn put_two_codes(&mut self, _key: Key, bytes: &[u8; 2]) {
-        show_codes(&mut self.words, bytes);
-    }
-
-    fn put_four_codes(&mut self, _key: Key, bytes: &[u8; 4]) {
-        show_codes(&mut self.words, bytes);
-    }
-
+    #[inline(always)]
     #[tactic(auto, unfolding(crate::specs::Lines::word))]
-    fn put_digits(&mut self, _key: Key, number: Seq) {
-        show_number(&mut self.words, number.value());
+    fn put(&mut self, _key: Key, field: Field<'_>) {
+        let words = &mut self.words;
+        match field {
+            Field::U16(number) => show_number(words, u64::from(number)),
+            Field::U32(number) => show_number(words, u64::from(number)),
+            Field::U64(number) => show_number(words, number),
+            Field::Time(nanoseconds) => show_number(words, nanoseconds),
+            Field::Price(price) => show_price(words, price),
+            Field::Mpid(mpid) => show_text(words, mpid),
+            Field::Stock(stock) => show_text(words, stock),
+            Field::Side(side) => show_side(words, side),
+            Field::Code(byte) => show_code(words, byte),
+            Field::TwoCodes(bytes) => show_codes(words, bytes),
+            Field::FourCodes(bytes) => show_codes(words, bytes),
+            Field::Digits(number) => show_number(words, number),
+        }
     }
 }

@@ -14,7 +14,7 @@ use crate::fault::CodecFault;
 use crate::fields::{Buffer, codes_at, put_code, put_codes, put_text, put_u32, text_at, u32_at};
 use crate::header::Header;
 use crate::names::Key;
-use crate::sink::FieldSink;
+use crate::sink::{Field, FieldSink};
 use crate::text::Alpha;
 
 /// System Event, `S` (TotalView-ITCH 5.0, "System Event Message").
@@ -54,7 +54,7 @@ impl SystemEvent {
         ensures len { S.len sink.new ≤ S.len sink.old + (S.most.start + most_fields S.most system_event_keys system_event.columns) }
     {
         self.header.begin_in(b'S', sink);
-        sink.put_code(Key::EventCode, self.code);
+        sink.put(Key::EventCode, Field::Code(self.code));
     }
 }
 
@@ -133,20 +133,32 @@ impl Directory {
         ensures bytes { S.text sink.new ≡ S.text sink.old ++ fields S.form directory_keys directory_columns (directory_values self.now) }
         ensures len { S.len sink.new ≤ S.len sink.old + most_fields S.most directory_keys directory_columns }
     {
-        sink.put_stock(Key::Stock, &self.stock);
-        sink.put_code(Key::MarketCategory, self.market_category);
-        sink.put_code(Key::FinancialStatusIndicator, self.financial_status);
-        sink.put_u32(Key::RoundLotSize, self.round_lot_size);
-        sink.put_code(Key::RoundLotsOnly, self.round_lots_only);
-        sink.put_code(Key::IssueClassification, self.issue_classification);
-        sink.put_two_codes(Key::IssueSubType, &self.issue_sub_type);
-        sink.put_code(Key::Authenticity, self.authenticity);
-        sink.put_code(Key::ShortSaleThresholdIndicator, self.short_sale_threshold);
-        sink.put_code(Key::IpoFlag, self.ipo_flag);
-        sink.put_code(Key::LuldReferencePriceTier, self.luld_price_tier);
-        sink.put_code(Key::EtpFlag, self.etp_flag);
-        sink.put_u32(Key::EtpLeverageFactor, self.etp_leverage_factor);
-        sink.put_code(Key::InverseIndicator, self.inverse_indicator);
+        sink.put(Key::Stock, Field::Stock(&self.stock));
+        sink.put(Key::MarketCategory, Field::Code(self.market_category));
+        sink.put(
+            Key::FinancialStatusIndicator,
+            Field::Code(self.financial_status),
+        );
+        sink.put(Key::RoundLotSize, Field::U32(self.round_lot_size));
+        sink.put(Key::RoundLotsOnly, Field::Code(self.round_lots_only));
+        sink.put(
+            Key::IssueClassification,
+            Field::Code(self.issue_classification),
+        );
+        sink.put(Key::IssueSubType, Field::TwoCodes(&self.issue_sub_type));
+        sink.put(Key::Authenticity, Field::Code(self.authenticity));
+        sink.put(
+            Key::ShortSaleThresholdIndicator,
+            Field::Code(self.short_sale_threshold),
+        );
+        sink.put(Key::IpoFlag, Field::Code(self.ipo_flag));
+        sink.put(
+            Key::LuldReferencePriceTier,
+            Field::Code(self.luld_price_tier),
+        );
+        sink.put(Key::EtpFlag, Field::Code(self.etp_flag));
+        sink.put(Key::EtpLeverageFactor, Field::U32(self.etp_leverage_factor));
+        sink.put(Key::InverseIndicator, Field::Code(self.inverse_indicator));
     }
 }
 
@@ -238,10 +250,10 @@ impl TradingAction {
         ensures len { S.len sink.new ≤ S.len sink.old + (S.most.start + most_fields S.most trading_action_keys trading_action.columns) }
     {
         self.header.begin_in(b'H', sink);
-        sink.put_stock(Key::Stock, &self.stock);
-        sink.put_code(Key::TradingState, self.state);
-        sink.put_code(Key::Reserved, self.reserved);
-        sink.put_four_codes(Key::Reason, &self.reason);
+        sink.put(Key::Stock, Field::Stock(&self.stock));
+        sink.put(Key::TradingState, Field::Code(self.state));
+        sink.put(Key::Reserved, Field::Code(self.reserved));
+        sink.put(Key::Reason, Field::FourCodes(&self.reason));
     }
 }
 
@@ -285,8 +297,8 @@ impl RegSho {
         ensures len { S.len sink.new ≤ S.len sink.old + (S.most.start + most_fields S.most reg_sho_keys reg_sho.columns) }
     {
         self.header.begin_in(b'Y', sink);
-        sink.put_stock(Key::Stock, &self.stock);
-        sink.put_code(Key::RegShoAction, self.action);
+        sink.put(Key::Stock, Field::Stock(&self.stock));
+        sink.put(Key::RegShoAction, Field::Code(self.action));
     }
 }
 
@@ -334,9 +346,9 @@ impl OperationalHalt {
         ensures len { S.len sink.new ≤ S.len sink.old + (S.most.start + most_fields S.most operational_halt_keys operational_halt.columns) }
     {
         self.header.begin_in(b'h', sink);
-        sink.put_stock(Key::Stock, &self.stock);
-        sink.put_code(Key::MarketCode, self.market_code);
-        sink.put_code(Key::OperationalHaltAction, self.action);
+        sink.put(Key::Stock, Field::Stock(&self.stock));
+        sink.put(Key::MarketCode, Field::Code(self.market_code));
+        sink.put(Key::OperationalHaltAction, Field::Code(self.action));
     }
 }
 
@@ -391,10 +403,13 @@ impl ParticipantPosition {
         ensures len { S.len sink.new ≤ S.len sink.old + (S.most.start + most_fields S.most participant_position_keys participant_position.columns) }
     {
         self.header.begin_in(b'L', sink);
-        sink.put_mpid(Key::Mpid, &self.mpid);
-        sink.put_stock(Key::Stock, &self.stock);
-        sink.put_code(Key::PrimaryMarketMaker, self.primary_market_maker);
-        sink.put_code(Key::MarketMakerMode, self.mode);
-        sink.put_code(Key::MarketParticipantState, self.state);
+        sink.put(Key::Mpid, Field::Mpid(&self.mpid));
+        sink.put(Key::Stock, Field::Stock(&self.stock));
+        sink.put(
+            Key::PrimaryMarketMaker,
+            Field::Code(self.primary_market_maker),
+        );
+        sink.put(Key::MarketMakerMode, Field::Code(self.mode));
+        sink.put(Key::MarketParticipantState, Field::Code(self.state));
     }
 }

@@ -16,7 +16,7 @@ use crate::fields::{
 use crate::header::Header;
 use crate::names::Key;
 use crate::orders::Side;
-use crate::sink::FieldSink;
+use crate::sink::{Field, FieldSink};
 use crate::text::Alpha;
 
 /// Trade, non-cross, `P` (TotalView-ITCH 5.0, "Trade Message (Non-Cross)").
@@ -71,12 +71,12 @@ impl Trade {
         ensures len { S.len sink.new ≤ S.len sink.old + (S.most.start + most_fields S.most trade_keys trade.columns) }
     {
         self.header.begin_in(b'P', sink);
-        sink.put_u64(Key::OrderReferenceNumber, self.reference);
-        sink.put_side(Key::BuySellIndicator, self.side);
-        sink.put_u32(Key::Shares, self.shares);
-        sink.put_stock(Key::Stock, &self.stock);
-        sink.put_price(Key::Price, self.price);
-        sink.put_u64(Key::MatchNumber, self.match_number);
+        sink.put(Key::OrderReferenceNumber, Field::U64(self.reference));
+        sink.put(Key::BuySellIndicator, Field::Side(self.side));
+        sink.put(Key::Shares, Field::U32(self.shares));
+        sink.put(Key::Stock, Field::Stock(&self.stock));
+        sink.put(Key::Price, Field::Price(self.price));
+        sink.put(Key::MatchNumber, Field::U64(self.match_number));
     }
 }
 
@@ -130,11 +130,11 @@ impl CrossTrade {
         ensures len { S.len sink.new ≤ S.len sink.old + (S.most.start + most_fields S.most cross_trade_keys cross_trade.columns) }
     {
         self.header.begin_in(b'Q', sink);
-        sink.put_u64(Key::Shares, self.shares);
-        sink.put_stock(Key::Stock, &self.stock);
-        sink.put_price(Key::CrossPrice, self.price);
-        sink.put_u64(Key::MatchNumber, self.match_number);
-        sink.put_code(Key::CrossType, self.cross_type);
+        sink.put(Key::Shares, Field::U64(self.shares));
+        sink.put(Key::Stock, Field::Stock(&self.stock));
+        sink.put(Key::CrossPrice, Field::Price(self.price));
+        sink.put(Key::MatchNumber, Field::U64(self.match_number));
+        sink.put(Key::CrossType, Field::Code(self.cross_type));
     }
 }
 
@@ -174,6 +174,6 @@ impl BrokenTrade {
         ensures len { S.len sink.new ≤ S.len sink.old + (S.most.start + most_fields S.most broken_trade_keys broken_trade.columns) }
     {
         self.header.begin_in(b'B', sink);
-        sink.put_u64(Key::MatchNumber, self.match_number);
+        sink.put(Key::MatchNumber, Field::U64(self.match_number));
     }
 }

@@ -7,7 +7,7 @@ ghost use Rattle.itch_codec.specs.Numbers.{byte_at};
 ghost use Rattle.itch_codec.specs.Layouts.{IsUndecoded};
 
 use crate::names::Key;
-use crate::sink::FieldSink;
+use crate::sink::{Field, FieldSink};
 use crate::sizes::size_of_type;
 use std::marker::Model;
 
@@ -72,8 +72,8 @@ impl<'a> Undecoded<'a> {
         ensures len { S.len sink.new ≤ S.len sink.old + most_as S.most [] (Payload self.now) }
     {
         sink.begin_undecoded();
-        sink.put_code(Key::Kind, self.kind());
-        sink.put_u64(Key::Length, self.payload.len() as u64);
+        sink.put(Key::Kind, Field::Code(self.kind()));
+        sink.put(Key::Length, Field::U64(self.payload.len() as u64));
     }
 }
 

@@ -1,12 +1,16 @@
 //! Parts of a line of JSON.
-ghost use Rattle.std.specs.Prelude.{◌≡◌, ◌+◌, ◌*◌, ◌≤◌, [], ◌∷◌, ◌++◌, length, codes};
+ghost use Rattle.std.specs.Prelude.{◌≡◌, ◌+◌, ◌*◌, ◌≤◌, [], ◌∷◌, ◌++◌, length, codes, decimal};
 ghost use Rattle.std.specs.List.{flat_map};
 ghost use Rattle.arrayvec.specs.ArrayString.{array_string_len};
+ghost use Rattle.itch_codec.specs.Clock.{clock};
+ghost use Rattle.itch_codec.specs.Fields.{side_byte};
 ghost use Rattle.itch_codec.specs.Json.{escaped, quoted};
+ghost use Rattle.itch_codec.specs.Lines.{price_text};
 ghost use Rattle.itch_codec.specs.Names.{key_text};
 
 use crate::names::Key;
-use crate::pieces::{push_ascii, push_hex};
+use crate::orders::Side;
+use crate::pieces::{push_ascii, push_clock, push_hex, push_number, push_price};
 use arrayvec::ArrayString;
 
 /// The text of a line of JSON as it is built. The longest line, of a stock directory message, has 553 bytes.
@@ -21,6 +25,43 @@ pub(super) fn put_key(line: &mut JsonWords, key: Key)
     line.push_str(",\"");
     line.push_str(key.text());
     line.push_str("\":");
+}
+
+/// Appends the time of the day as a string, and a second member with the nanoseconds since midnight.
+#[tactic(auto, using(crate::proofs::Joining::joining))]
+pub(super) fn push_times(line: &mut JsonWords, nanoseconds: u64)
+    requires { array_string_len line.old ≤ 602 }
+    ensures bytes { line.new.bytes ≡ line.old.bytes ++ codes "\"" ++ clock nanoseconds ++ codes "\",\"ns\":" ++ decimal nanoseconds }
+    ensures len { array_string_len line.new ≤ array_string_len line.old + 46 }
+{
+    line.push_str("\"");
+    push_clock(line, nanoseconds);
+    line.push_str("\",\"ns\":");
+    push_number(line, nanoseconds);
+}
+
+/// Appends a price with its four decimals as a string.
+#[tactic(auto, using(crate::proofs::Joining::joining))]
+pub(super) fn push_quoted_price(line: &mut JsonWords, price: u32)
+    requires { array_string_len line.old ≤ 621 }
+    ensures bytes { line.new.bytes ≡ line.old.bytes ++ codes "\"" ++ price_text price ++ codes "\"" }
+    ensures len { array_string_len line.new ≤ array_string_len line.old + 27 }
+{
+    line.push_str("\"");
+    push_price(line, price);
+    line.push_str("\"");
+}
+
+/// Appends the letter of a side as a string.
+pub(super) fn push_side(line: &mut JsonWords, side: Side)
+    requires { array_string_len line.old ≤ 645 }
+    ensures bytes { line.new.bytes ≡ line.old.bytes ++ codes "\"" ++ side_byte side ∷ codes "\"" }
+    ensures len { array_string_len line.new ≡ array_string_len line.old + 3 }
+{
+    line.push_str(match side {
+        Side::Buy => "\"B\"",
+        Side::Sell => "\"S\"",
+    });
 }
 
 /// Appends a string of these bytes.
