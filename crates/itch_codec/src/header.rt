@@ -95,9 +95,9 @@ impl Header {
         put_u48(out, self.stamp.value());
     }
 
-    // Hands a message's type and its header to a sink.
+    /// Hands a message's type and its header to a sink.
     #[tactic(auto, using(crate::proofs::Joining::joining), unfolding(crate::specs::Shown::fields, crate::specs::Rooms::most_fields))]
-    pub(crate) fn begin_in<S: FieldSink>(&self, kind: u8, sink: &mut S)
+    pub(crate) fn write_as<S: FieldSink>(&self, kind: u8, sink: &mut S)
         requires ascii { kind < 128 }
         requires room { S.len sink.old + (S.most.start + most_fields S.most (header_keys []) (with_header [])) ≤ S.capacity }
         ensures bytes { S.text sink.new ≡ S.text sink.old ++ S.form.kind kind ++ fields S.form (header_keys []) (with_header []) (header_values self.now []) }

@@ -121,6 +121,7 @@ impl Message<'_> {
             _ => None,
         }
     }
+
     /// Hands the type and the fields to a sink, in the order of the layout; or the type of a message that is not decoded, and its length.
     #[tactic(auto, using(crate::proofs::Joining::joining), unfolding(crate::specs::Shown::fields, crate::specs::Rooms::most_fields))]
     pub(crate) fn write<S: FieldSink>(&self, sink: &mut S)

@@ -93,7 +93,7 @@ impl AddOrder {
         ensures bytes { S.text sink.new ≡ S.text sink.old ++ S.form.kind kind ++ fields S.form (order_keys []) (with_header (order_columns [])) (order_values self.now []) }
         ensures len { S.len sink.new ≤ S.len sink.old + (S.most.start + most_fields S.most (order_keys []) (with_header (order_columns []))) }
     {
-        self.header.begin_in(kind, sink);
+        self.header.write_as(kind, sink);
         sink.put(Key::OrderReferenceNumber, Field::U64(self.reference));
         sink.put(Key::BuySellIndicator, Field::Side(self.side));
         sink.put(Key::Shares, Field::U32(self.shares));
@@ -209,7 +209,7 @@ impl OrderExecuted {
         ensures bytes { S.text sink.new ≡ S.text sink.old ++ S.form.kind kind ++ fields S.form (execution_keys []) (with_header (execution_columns [])) (execution_values self.now []) }
         ensures len { S.len sink.new ≤ S.len sink.old + (S.most.start + most_fields S.most (execution_keys []) (with_header (execution_columns []))) }
     {
-        self.header.begin_in(kind, sink);
+        self.header.write_as(kind, sink);
         sink.put(Key::OrderReferenceNumber, Field::U64(self.reference));
         sink.put(Key::ExecutedShares, Field::U32(self.shares));
         sink.put(Key::MatchNumber, Field::U64(self.match_number));
@@ -313,7 +313,7 @@ impl OrderCancel {
         ensures bytes { S.text sink.new ≡ S.text sink.old ++ shown_as S.form order_cancel_keys (Fields order_cancel (order_cancel_values self.now)) }
         ensures len { S.len sink.new ≤ S.len sink.old + (S.most.start + most_fields S.most order_cancel_keys order_cancel.columns) }
     {
-        self.header.begin_in(b'X', sink);
+        self.header.write_as(b'X', sink);
         sink.put(Key::OrderReferenceNumber, Field::U64(self.reference));
         sink.put(Key::CancelledShares, Field::U32(self.shares));
     }
@@ -355,7 +355,7 @@ impl OrderDelete {
         ensures bytes { S.text sink.new ≡ S.text sink.old ++ shown_as S.form order_delete_keys (Fields order_delete (order_delete_values self.now)) }
         ensures len { S.len sink.new ≤ S.len sink.old + (S.most.start + most_fields S.most order_delete_keys order_delete.columns) }
     {
-        self.header.begin_in(b'D', sink);
+        self.header.write_as(b'D', sink);
         sink.put(Key::OrderReferenceNumber, Field::U64(self.reference));
     }
 }
@@ -407,7 +407,7 @@ impl OrderReplace {
         ensures bytes { S.text sink.new ≡ S.text sink.old ++ shown_as S.form order_replace_keys (Fields order_replace (order_replace_values self.now)) }
         ensures len { S.len sink.new ≤ S.len sink.old + (S.most.start + most_fields S.most order_replace_keys order_replace.columns) }
     {
-        self.header.begin_in(b'U', sink);
+        self.header.write_as(b'U', sink);
         sink.put(Key::OriginalOrderReferenceNumber, Field::U64(self.original));
         sink.put(Key::NewOrderReferenceNumber, Field::U64(self.reference));
         sink.put(Key::Shares, Field::U32(self.shares));

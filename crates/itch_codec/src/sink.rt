@@ -5,7 +5,7 @@ ghost use Rattle.itch_codec.specs.Shown.{Form};
 ghost use Rattle.itch_codec.specs.Sinks.{at_field};
 
 use crate::names::Key;
-use crate::orders;
+use crate::orders::Side;
 use crate::text::Alpha;
 
 /// A field of a message: a variant for each class and width.
@@ -20,7 +20,7 @@ pub(crate) enum Field<'a> {
     Price(u32),
     Mpid(&'a Alpha<4>),
     Stock(&'a Alpha<8>),
-    Side(orders::Side),
+    Side(Side),
     Code(u8),
     TwoCodes(&'a [u8; 2]),
     FourCodes(&'a [u8; 4]),

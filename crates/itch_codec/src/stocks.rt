@@ -53,7 +53,7 @@ impl SystemEvent {
         ensures bytes { S.text sink.new ≡ S.text sink.old ++ shown_as S.form system_event_keys (Fields system_event (system_event_values self.now)) }
         ensures len { S.len sink.new ≤ S.len sink.old + (S.most.start + most_fields S.most system_event_keys system_event.columns) }
     {
-        self.header.begin_in(b'S', sink);
+        self.header.write_as(b'S', sink);
         sink.put(Key::EventCode, Field::Code(self.code));
     }
 }
@@ -197,7 +197,7 @@ impl StockDirectory {
         ensures bytes { S.text sink.new ≡ S.text sink.old ++ shown_as S.form stock_directory_keys (Fields stock_directory (stock_directory_values self.now)) }
         ensures len { S.len sink.new ≤ S.len sink.old + (S.most.start + most_fields S.most stock_directory_keys stock_directory.columns) }
     {
-        self.header.begin_in(b'R', sink);
+        self.header.write_as(b'R', sink);
         self.entry.write(sink);
     }
 }
@@ -249,7 +249,7 @@ impl TradingAction {
         ensures bytes { S.text sink.new ≡ S.text sink.old ++ shown_as S.form trading_action_keys (Fields trading_action (trading_action_values self.now)) }
         ensures len { S.len sink.new ≤ S.len sink.old + (S.most.start + most_fields S.most trading_action_keys trading_action.columns) }
     {
-        self.header.begin_in(b'H', sink);
+        self.header.write_as(b'H', sink);
         sink.put(Key::Stock, Field::Stock(&self.stock));
         sink.put(Key::TradingState, Field::Code(self.state));
         sink.put(Key::Reserved, Field::Code(self.reserved));
@@ -296,7 +296,7 @@ impl RegSho {
         ensures bytes { S.text sink.new ≡ S.text sink.old ++ shown_as S.form reg_sho_keys (Fields reg_sho (reg_sho_values self.now)) }
         ensures len { S.len sink.new ≤ S.len sink.old + (S.most.start + most_fields S.most reg_sho_keys reg_sho.columns) }
     {
-        self.header.begin_in(b'Y', sink);
+        self.header.write_as(b'Y', sink);
         sink.put(Key::Stock, Field::Stock(&self.stock));
         sink.put(Key::RegShoAction, Field::Code(self.action));
     }
@@ -345,7 +345,7 @@ impl OperationalHalt {
         ensures bytes { S.text sink.new ≡ S.text sink.old ++ shown_as S.form operational_halt_keys (Fields operational_halt (operational_halt_values self.now)) }
         ensures len { S.len sink.new ≤ S.len sink.old + (S.most.start + most_fields S.most operational_halt_keys operational_halt.columns) }
     {
-        self.header.begin_in(b'h', sink);
+        self.header.write_as(b'h', sink);
         sink.put(Key::Stock, Field::Stock(&self.stock));
         sink.put(Key::MarketCode, Field::Code(self.market_code));
         sink.put(Key::OperationalHaltAction, Field::Code(self.action));
@@ -402,7 +402,7 @@ impl ParticipantPosition {
         ensures bytes { S.text sink.new ≡ S.text sink.old ++ shown_as S.form participant_position_keys (Fields participant_position (participant_position_values self.now)) }
         ensures len { S.len sink.new ≤ S.len sink.old + (S.most.start + most_fields S.most participant_position_keys participant_position.columns) }
     {
-        self.header.begin_in(b'L', sink);
+        self.header.write_as(b'L', sink);
         sink.put(Key::Mpid, Field::Mpid(&self.mpid));
         sink.put(Key::Stock, Field::Stock(&self.stock));
         sink.put(

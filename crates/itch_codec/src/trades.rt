@@ -70,7 +70,7 @@ impl Trade {
         ensures bytes { S.text sink.new ≡ S.text sink.old ++ shown_as S.form trade_keys (Fields trade (trade_values self.now)) }
         ensures len { S.len sink.new ≤ S.len sink.old + (S.most.start + most_fields S.most trade_keys trade.columns) }
     {
-        self.header.begin_in(b'P', sink);
+        self.header.write_as(b'P', sink);
         sink.put(Key::OrderReferenceNumber, Field::U64(self.reference));
         sink.put(Key::BuySellIndicator, Field::Side(self.side));
         sink.put(Key::Shares, Field::U32(self.shares));
@@ -129,7 +129,7 @@ impl CrossTrade {
         ensures bytes { S.text sink.new ≡ S.text sink.old ++ shown_as S.form cross_trade_keys (Fields cross_trade (cross_trade_values self.now)) }
         ensures len { S.len sink.new ≤ S.len sink.old + (S.most.start + most_fields S.most cross_trade_keys cross_trade.columns) }
     {
-        self.header.begin_in(b'Q', sink);
+        self.header.write_as(b'Q', sink);
         sink.put(Key::Shares, Field::U64(self.shares));
         sink.put(Key::Stock, Field::Stock(&self.stock));
         sink.put(Key::CrossPrice, Field::Price(self.price));
@@ -173,7 +173,7 @@ impl BrokenTrade {
         ensures bytes { S.text sink.new ≡ S.text sink.old ++ shown_as S.form broken_trade_keys (Fields broken_trade (broken_trade_values self.now)) }
         ensures len { S.len sink.new ≤ S.len sink.old + (S.most.start + most_fields S.most broken_trade_keys broken_trade.columns) }
     {
-        self.header.begin_in(b'B', sink);
+        self.header.write_as(b'B', sink);
         sink.put(Key::MatchNumber, Field::U64(self.match_number));
     }
 }
