@@ -23,6 +23,8 @@ impl Model for Stamp {
 }
 
 impl Stamp {
+    ghost use Rattle.itch_codec.specs.Headers.{stamp_in};
+
     /// The number as a timestamp, if it is below 2^48.
     pub fn new(value: u64) -> Option<Stamp>
         ensures accepts { IsSome result ↔ (value < 2 ^ 48) }
@@ -32,6 +34,17 @@ impl Stamp {
             Some(Stamp { value })
         } else {
             None
+        }
+    }
+
+    /// The timestamp in a payload that has a header, for a caller who needs no other field. A payload that is too short has none.
+    pub fn of_payload(payload: &[u8]) -> Option<Stamp>
+        ensures { result ≡ stamp_in payload.now }
+    {
+        if payload.len() < 11 {
+            None
+        } else {
+            Some(Header::decode(payload).stamp)
         }
     }
 
