@@ -1,4 +1,4 @@
--- How many bytes the parts of a message take at most, in each form.
+-- The most bytes that the parts of a message take, in each form.
 use Rattle.std.specs.Prelude.{ℕ, ◌+◌, ◌*◌, ◌==◌, List, [], ◌∷◌, length, if◌then◌else◌}
 use Rattle.itch_codec.specs.Layouts.{Class, Integer, Price, Text, OneSide, Code, Codes, Digits, Column}
 use Rattle.itch_codec.specs.Messages.{Shape, Fields, Payload, shape}
@@ -7,7 +7,7 @@ use Rattle.itch_codec.specs.declared.names.Key.{Key}
 use Rattle.itch_codec.specs.declared.names.Key.TheVariants as is
 use Rattle.itch_codec.specs.declared.message.Message.{Message}
 
--- before the fields, and for a field of this key, class and width
+-- the most bytes before the fields, and of a field with this key, class and width
 pub record Most : Type 0 where
   pub start : ℕ
   pub field : Key → Class → ℕ → ℕ

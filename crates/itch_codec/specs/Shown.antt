@@ -9,7 +9,8 @@ use Rattle.itch_codec.specs.declared.names.Key.{Key}
 use Rattle.itch_codec.specs.declared.names.Key.TheVariants as key
 use Rattle.itch_codec.specs.declared.message.Message.{Message}
 
--- what is written for a type, before the type of a message that is not decoded, and for a field of this key, class, width and value
+-- a form of output: the text of a type, the text before the type of a message that is not decoded, and the text of a field with this key,
+-- class, width and value
 pub record Form : Type 0 where
   pub kind : ℕ → List ℕ
   pub undecoded : List ℕ

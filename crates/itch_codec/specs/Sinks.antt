@@ -1,11 +1,11 @@
--- What a sink is handed of a field: its class, its width and its value.
+-- A field that is written to a sink: its class, its width and its value.
 use Rattle.std.specs.Prelude.{ℕ}
 use Rattle.itch_codec.specs.Layouts.{Class, Integer, Price, Text, OneSide, Code, Codes, Digits}
 use Rattle.itch_codec.specs.Fields.{Value, Number, Bytes, TheSide}
 use Rattle.itch_codec.specs.declared.sink.Field.{Field}
 use Rattle.itch_codec.specs.declared.sink.Field.TheVariants as is
 
--- what this is at the class, the width and the value of a field
+-- a function of the class, the width and the value of a field
 abbrev pub at_field : {T : Type 0} → (Class → ℕ → Value → T) → Field → T
 at_field at (is.U16 number) = at Integer 2 (Number number)
 at_field at (is.U32 number) = at Integer 4 (Number number)

@@ -37,7 +37,7 @@ impl Stamp {
         }
     }
 
-    /// The timestamp in a payload that has a header, for a caller who needs no other field. A payload that is too short has none.
+    /// The timestamp of a payload, for a caller who needs no other field; none if the payload is too short for a header.
     pub fn of_payload(payload: &[u8]) -> Option<Stamp>
         ensures { result ≡ stamp_in payload.now }
     {
@@ -108,7 +108,7 @@ impl Header {
         put_u48(out, self.stamp.value());
     }
 
-    /// Hands a message's type and its header to a sink.
+    /// Writes a message's type and its header to a sink.
     #[tactic(auto, using(crate::proofs::Joining::joining), unfolding(crate::specs::Shown::fields, crate::specs::Rooms::most_fields))]
     pub(crate) fn write_as<S: FieldSink>(&self, kind: u8, sink: &mut S)
         requires ascii { kind < 128 }

@@ -122,7 +122,7 @@ impl Message<'_> {
         }
     }
 
-    /// Hands the type and the fields to a sink, in the order of the layout; or the type of a message that is not decoded, and its length.
+    /// Writes the type and the fields to a sink, in the order of the layout; the type and the length if the message is not decoded.
     #[tactic(auto, using(crate::proofs::Joining::joining), unfolding(crate::specs::Shown::fields, crate::specs::Rooms::most_fields))]
     pub(crate) fn write<S: FieldSink>(&self, sink: &mut S)
         requires room { S.len sink.old + most_shown S.most self.now ≤ S.capacity }

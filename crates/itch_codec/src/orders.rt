@@ -101,7 +101,7 @@ impl AddOrder {
         sink.put(Key::Price, Field::Price(self.price));
     }
 
-    /// Hands the type and the fields to a sink.
+    /// Writes the type and the fields to a sink.
     #[tactic(auto, using(crate::proofs::Joining::joining), unfolding(crate::specs::Shown::fields, crate::specs::Rooms::most_fields))]
     pub(crate) fn write<S: FieldSink>(&self, sink: &mut S)
         requires room { S.len sink.old + (S.most.start + most_fields S.most add_order_keys add_order.columns) ≤ S.capacity }
@@ -142,7 +142,7 @@ impl AttributedAddOrder {
         put_text(out, &self.attribution);
     }
 
-    /// Hands the type and the fields to a sink.
+    /// Writes the type and the fields to a sink.
     #[tactic(auto, using(crate::proofs::Joining::joining), unfolding(crate::specs::Shown::fields, crate::specs::Rooms::most_fields))]
     pub(crate) fn write<S: FieldSink>(&self, sink: &mut S)
         requires room { S.len sink.old + (S.most.start + most_fields S.most attributed_add_order_keys attributed_add_order.columns) ≤ S.capacity }
@@ -215,7 +215,7 @@ impl OrderExecuted {
         sink.put(Key::MatchNumber, Field::U64(self.match_number));
     }
 
-    /// Hands the type and the fields to a sink.
+    /// Writes the type and the fields to a sink.
     #[tactic(auto, using(crate::proofs::Joining::joining), unfolding(crate::specs::Shown::fields, crate::specs::Rooms::most_fields))]
     pub(crate) fn write<S: FieldSink>(&self, sink: &mut S)
         requires room { S.len sink.old + (S.most.start + most_fields S.most order_executed_keys order_executed.columns) ≤ S.capacity }
@@ -260,7 +260,7 @@ impl OrderExecutedWithPrice {
         put_u32(out, self.price);
     }
 
-    /// Hands the type and the fields to a sink.
+    /// Writes the type and the fields to a sink.
     #[tactic(auto, using(crate::proofs::Joining::joining), unfolding(crate::specs::Shown::fields, crate::specs::Rooms::most_fields))]
     pub(crate) fn write<S: FieldSink>(&self, sink: &mut S)
         requires room { S.len sink.old + (S.most.start + most_fields S.most order_executed_with_price_keys order_executed_with_price.columns) ≤ S.capacity }
@@ -306,7 +306,7 @@ impl OrderCancel {
         put_u32(out, self.shares);
     }
 
-    /// Hands the type and the fields to a sink.
+    /// Writes the type and the fields to a sink.
     #[tactic(auto, using(crate::proofs::Joining::joining), unfolding(crate::specs::Shown::fields, crate::specs::Rooms::most_fields))]
     pub(crate) fn write<S: FieldSink>(&self, sink: &mut S)
         requires room { S.len sink.old + (S.most.start + most_fields S.most order_cancel_keys order_cancel.columns) ≤ S.capacity }
@@ -348,7 +348,7 @@ impl OrderDelete {
         put_u64(out, self.reference);
     }
 
-    /// Hands the type and the fields to a sink.
+    /// Writes the type and the fields to a sink.
     #[tactic(auto, using(crate::proofs::Joining::joining), unfolding(crate::specs::Shown::fields, crate::specs::Rooms::most_fields))]
     pub(crate) fn write<S: FieldSink>(&self, sink: &mut S)
         requires room { S.len sink.old + (S.most.start + most_fields S.most order_delete_keys order_delete.columns) ≤ S.capacity }
@@ -400,7 +400,7 @@ impl OrderReplace {
         put_u32(out, self.price);
     }
 
-    /// Hands the type and the fields to a sink.
+    /// Writes the type and the fields to a sink.
     #[tactic(auto, using(crate::proofs::Joining::joining), unfolding(crate::specs::Shown::fields, crate::specs::Rooms::most_fields))]
     pub(crate) fn write<S: FieldSink>(&self, sink: &mut S)
         requires room { S.len sink.old + (S.most.start + most_fields S.most order_replace_keys order_replace.columns) ≤ S.capacity }

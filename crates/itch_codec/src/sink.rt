@@ -1,4 +1,4 @@
-//! What the fields of a message are handed to.
+//! The fields of a message, and the sinks that they are written to.
 ghost use Rattle.std.specs.Prelude.{◌≡◌, ℕ, ◌+◌, ◌<◌, ◌≤◌, List, ◌++◌};
 ghost use Rattle.itch_codec.specs.Rooms.{Most};
 ghost use Rattle.itch_codec.specs.Shown.{Form};
@@ -28,21 +28,21 @@ pub(crate) enum Field<'a> {
     Digits(u64),
 }
 
-/// Writes a message: its type, and its fields in the order of its layout.
+/// A form of output for messages: the type of a message, and then its fields in the order of its layout.
 pub(crate) trait FieldSink {
     // How a message is written.
     ghost form: { Form };
 
-    // The bytes that were written.
+    // The bytes written so far.
     ghost text: { Self → List ℕ };
 
-    // How many they are.
+    // Their number.
     ghost len: { Self → ℕ };
 
-    // How many there is room for.
+    // The most bytes that fit.
     ghost capacity: { ℕ };
 
-    // How many the parts of a message take at most.
+    // The most bytes that each part of a message takes.
     ghost most: { Most };
 
     /// Writes the type of a message that is decoded.
@@ -52,7 +52,7 @@ pub(crate) trait FieldSink {
         ensures bytes { text self.new ≡ text self.old ++ form.kind kind }
         ensures len { len self.new ≤ len self.old + most.start };
 
-    /// Writes what comes before the type of a message that is not decoded.
+    /// Writes the text before the type of a message that is not decoded.
     fn begin_undecoded(&mut self)
         requires room { len self.old + most.start ≤ capacity }
         ensures bytes { text self.new ≡ text self.old ++ form.undecoded }

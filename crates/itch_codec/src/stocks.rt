@@ -46,7 +46,7 @@ impl SystemEvent {
         put_code(out, self.code);
     }
 
-    /// Hands the type and the fields to a sink.
+    /// Writes the type and the fields to a sink.
     #[tactic(auto, using(crate::proofs::Joining::joining), unfolding(crate::specs::Shown::fields, crate::specs::Rooms::most_fields))]
     pub(crate) fn write<S: FieldSink>(&self, sink: &mut S)
         requires room { S.len sink.old + (S.most.start + most_fields S.most system_event_keys system_event.columns) ≤ S.capacity }
@@ -190,7 +190,7 @@ impl StockDirectory {
         self.entry.put(out);
     }
 
-    /// Hands the type and the fields to a sink.
+    /// Writes the type and the fields to a sink.
     #[tactic(auto, using(crate::proofs::Joining::joining), unfolding(crate::specs::Shown::fields, crate::specs::Rooms::most_fields))]
     pub(crate) fn write<S: FieldSink>(&self, sink: &mut S)
         requires room { S.len sink.old + (S.most.start + most_fields S.most stock_directory_keys stock_directory.columns) ≤ S.capacity }
@@ -242,7 +242,7 @@ impl TradingAction {
         put_codes(out, self.reason);
     }
 
-    /// Hands the type and the fields to a sink.
+    /// Writes the type and the fields to a sink.
     #[tactic(auto, using(crate::proofs::Joining::joining), unfolding(crate::specs::Shown::fields, crate::specs::Rooms::most_fields))]
     pub(crate) fn write<S: FieldSink>(&self, sink: &mut S)
         requires room { S.len sink.old + (S.most.start + most_fields S.most trading_action_keys trading_action.columns) ≤ S.capacity }
@@ -289,7 +289,7 @@ impl RegSho {
         put_code(out, self.action);
     }
 
-    /// Hands the type and the fields to a sink.
+    /// Writes the type and the fields to a sink.
     #[tactic(auto, using(crate::proofs::Joining::joining), unfolding(crate::specs::Shown::fields, crate::specs::Rooms::most_fields))]
     pub(crate) fn write<S: FieldSink>(&self, sink: &mut S)
         requires room { S.len sink.old + (S.most.start + most_fields S.most reg_sho_keys reg_sho.columns) ≤ S.capacity }
@@ -338,7 +338,7 @@ impl OperationalHalt {
         put_code(out, self.action);
     }
 
-    /// Hands the type and the fields to a sink.
+    /// Writes the type and the fields to a sink.
     #[tactic(auto, using(crate::proofs::Joining::joining), unfolding(crate::specs::Shown::fields, crate::specs::Rooms::most_fields))]
     pub(crate) fn write<S: FieldSink>(&self, sink: &mut S)
         requires room { S.len sink.old + (S.most.start + most_fields S.most operational_halt_keys operational_halt.columns) ≤ S.capacity }
@@ -395,7 +395,7 @@ impl ParticipantPosition {
         put_code(out, self.state);
     }
 
-    /// Hands the type and the fields to a sink.
+    /// Writes the type and the fields to a sink.
     #[tactic(auto, using(crate::proofs::Joining::joining), unfolding(crate::specs::Shown::fields, crate::specs::Rooms::most_fields))]
     pub(crate) fn write<S: FieldSink>(&self, sink: &mut S)
         requires room { S.len sink.old + (S.most.start + most_fields S.most participant_position_keys participant_position.columns) ≤ S.capacity }

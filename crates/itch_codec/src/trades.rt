@@ -63,7 +63,7 @@ impl Trade {
         put_u64(out, self.match_number);
     }
 
-    /// Hands the type and the fields to a sink.
+    /// Writes the type and the fields to a sink.
     #[tactic(auto, using(crate::proofs::Joining::joining), unfolding(crate::specs::Shown::fields, crate::specs::Rooms::most_fields))]
     pub(crate) fn write<S: FieldSink>(&self, sink: &mut S)
         requires room { S.len sink.old + (S.most.start + most_fields S.most trade_keys trade.columns) ≤ S.capacity }
@@ -122,7 +122,7 @@ impl CrossTrade {
         put_code(out, self.cross_type);
     }
 
-    /// Hands the type and the fields to a sink.
+    /// Writes the type and the fields to a sink.
     #[tactic(auto, using(crate::proofs::Joining::joining), unfolding(crate::specs::Shown::fields, crate::specs::Rooms::most_fields))]
     pub(crate) fn write<S: FieldSink>(&self, sink: &mut S)
         requires room { S.len sink.old + (S.most.start + most_fields S.most cross_trade_keys cross_trade.columns) ≤ S.capacity }
@@ -166,7 +166,7 @@ impl BrokenTrade {
         put_u64(out, self.match_number);
     }
 
-    /// Hands the type and the fields to a sink.
+    /// Writes the type and the fields to a sink.
     #[tactic(auto, using(crate::proofs::Joining::joining), unfolding(crate::specs::Shown::fields, crate::specs::Rooms::most_fields))]
     pub(crate) fn write<S: FieldSink>(&self, sink: &mut S)
         requires room { S.len sink.old + (S.most.start + most_fields S.most broken_trade_keys broken_trade.columns) ≤ S.capacity }

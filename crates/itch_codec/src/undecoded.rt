@@ -64,7 +64,7 @@ impl<'a> Undecoded<'a> {
         self.payload
     }
 
-    /// Hands the type and the length to a sink.
+    /// Writes the type and the length to a sink.
     #[tactic(auto, using(crate::proofs::Joining::joining))]
     pub(crate) fn write<S: FieldSink>(&self, sink: &mut S)
         requires room { S.len sink.old + most_as S.most [] (Payload self.now) ≤ S.capacity }
