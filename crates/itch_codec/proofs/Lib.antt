@@ -9,3 +9,4 @@ pub mod Trimming
 pub mod Hexadecimal
 pub mod LaterDigits
 pub mod OneType
+pub mod Fits

@@ -1,6 +1,6 @@
 -- A time of the day as text: hours, minutes, seconds and nine decimals, as in 09:30:00.000000001.
-use Rattle.std.specs.Prelude.{ℕ, ◌+◌, ◌/◌, ◌%◌, ◌==◌, Bool, List, [], ◌∷◌, ◌++◌}
-use Rattle.itch_codec.specs.Layouts.{Column}
+use Rattle.std.specs.Prelude.{ℕ, ◌+◌, ◌/◌, ◌%◌, ◌==◌, Bool, false, List, [], ◌∷◌, ◌++◌}
+use Rattle.itch_codec.specs.Layouts.{Class, Integer}
 
 -- the last two decimal digits of a number
 unfoldable pub two_digits : ℕ → List ℕ
@@ -18,6 +18,7 @@ clock nanoseconds =
     two_digits (nanoseconds / 3600000000000) ++ 58 ∷ two_digits (nanoseconds / 60000000000 % 60)
     ++ 58 ∷ two_digits (nanoseconds / 1000000000 % 60) ++ 46 ∷ nine_digits nanoseconds
 
--- the field is a timestamp: no other has six bytes
-abbrev pub is_timestamp : Column → Bool
-is_timestamp column = column.width == 6
+-- the field is a timestamp: no other integer has six bytes
+abbrev pub is_timestamp : Class → ℕ → Bool
+is_timestamp Integer width = width == 6
+is_timestamp class width = false

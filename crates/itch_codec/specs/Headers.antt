@@ -1,9 +1,9 @@
 -- What messages have in common: a type, a header with a time, and for some the order that they are about.
-use Rattle.std.specs.Prelude.{ℕ, Option, None, Some, option_map}
+use Rattle.std.specs.Prelude.{ℕ, nat_lt, List, length, Option, None, Some, option_map, if◌then◌else◌}
 use Rattle.itch_codec.specs.declared.header.Header.{Header}
 use Rattle.itch_codec.specs.declared.message.Message.{Message}
 use Rattle.itch_codec.specs.declared.message.Message.TheVariants as is
-use Rattle.itch_codec.specs.Numbers.{byte_at}
+use Rattle.itch_codec.specs.Numbers.{byte_at, number_at}
 use Rattle.itch_codec.specs.Messages.{Shape, Fields, Payload, shape}
 
 -- the header of a message, if it has one
@@ -30,6 +30,10 @@ header (is.Other bytes) = None
 -- when a message was made, in nanoseconds since midnight, if it says so
 abbrev pub time_of : Message → Option ℕ
 time_of message = option_map (λ (h : Header). h.stamp) (header message)
+
+-- the timestamp of a payload that has a header, if it is long enough for one
+abbrev pub stamp_in : List ℕ → Option ℕ
+stamp_in payload = if nat_lt (length payload) 11 then None else Some (number_at 5 6 payload)
 
 -- the live order that a message adds, changes or ends. A replace names its original order so, and a Trade names none
 abbrev pub reference_of : Message → Option ℕ

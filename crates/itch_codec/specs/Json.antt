@@ -1,15 +1,14 @@
 -- The line of JSON that shows a message: an object with its number, its type and its fields in order (RFC 8259).
-use Rattle.std.specs.Prelude.{ℕ, ◌/◌, ◌%◌, ◌==◌, ◌||◌, List, [], ◌∷◌, ◌++◌, length, codes, decimal, if◌then◌else◌}
+use Rattle.std.specs.Prelude.{ℕ, ◌/◌, ◌%◌, ◌==◌, ◌||◌, List, [], ◌∷◌, ◌++◌, codes, decimal, if◌then◌else◌}
 use Rattle.std.specs.List.{flat_map}
 use Rattle.itch_codec.specs.Text.{before_spaces, is_unprintable}
-use Rattle.itch_codec.specs.Layouts.{Class, Integer, Price, Text, OneSide, Code, Codes, Digits, Column}
-use Rattle.itch_codec.specs.Numbers.{byte_at}
+use Rattle.itch_codec.specs.Layouts.{Class, Integer, Price, Text, OneSide, Code, Codes, Digits}
 use Rattle.itch_codec.specs.Fields.{Value, Number, Bytes, TheSide, side_byte}
 use Rattle.itch_codec.specs.Values.{number_in}
 use Rattle.itch_codec.specs.Lines.{price_text, hex_digit}
 use Rattle.itch_codec.specs.Clock.{clock, is_timestamp}
-use Rattle.itch_codec.specs.Messages.{Shape, Fields, Payload, shape}
-use Rattle.itch_codec.specs.Names.{keys, key_text}
+use Rattle.itch_codec.specs.Shown.{Form, shown}
+use Rattle.itch_codec.specs.Names.{key_text}
 use Rattle.itch_codec.specs.declared.names.Key.{Key}
 use Rattle.itch_codec.specs.declared.names.Key.TheVariants as is
 use Rattle.itch_codec.specs.declared.message.Message.{Message}
@@ -45,23 +44,14 @@ unfoldable pub times : Key → ℕ → List ℕ
 times key nanoseconds =
     codes ",\"" ++ key_text key ++ codes "\":\"" ++ clock nanoseconds ++ codes "\",\"ns\":" ++ decimal nanoseconds
 
--- the members of a column's field
-abbrev pub members_at : Key → Column → Value → List ℕ
-members_at key column value = if is_timestamp column then times key (number_in value) else member key column.class value
+-- the members of a field with this key, class and width
+abbrev pub json_field : Key → Class → ℕ → Value → List ℕ
+json_field key class width value = if is_timestamp class width then times key (number_in value) else member key class value
 
--- the members of these columns
-unfoldable pub members : List Key → List Column → List Value → List ℕ
-members [] columns values = []
-members (key ∷ keys) [] values = []
-members (key ∷ keys) (column ∷ columns) [] = []
-members (key ∷ keys) (column ∷ columns) (value ∷ values) = members_at key column value ++ members keys columns values
-
--- what follows the number: the type, and the fields or the length of a message that is not decoded
-abbrev pub members_of : List Key → Shape → List ℕ
-members_of keys (Fields layout values) = member is.Kind Code (Number layout.kind) ++ members keys layout.columns values
-members_of keys (Payload bytes) =
-    member is.Kind Code (Number (byte_at 0 bytes)) ++ member is.Length Integer (Number (length bytes))
+-- an object after its number: the type and the fields are members
+abbrev pub json_form : Form
+json_form = record { kind = λ kind. member is.Kind Code (Number kind); undecoded = []; field = json_field }
 
 -- the line of a message with this number
 abbrev pub json_line : ℕ → Message → List ℕ
-json_line number message = codes "{\"number\":" ++ decimal number ++ members_of (keys message) (shape message) ++ codes "}\n"
+json_line number message = codes "{\"number\":" ++ decimal number ++ shown json_form message ++ codes "}\n"

@@ -7,10 +7,13 @@ pub mod Values
 pub mod Widths
 pub mod Messages
 pub mod Encoded
-pub mod Lines
 pub mod Headers
-pub mod Clock
 pub mod Names
+pub mod Shown
+pub mod Clock
+pub mod Rooms
+pub mod Sinks
+pub mod Lines
 pub mod Json
 pub mod Named
 pub mod Typed

@@ -1,10 +1,9 @@
 -- The line that shows a message: its number, the letter of its type, and its fields in order, separated by one space.
-use Rattle.std.specs.Prelude.{ℕ, ◌+◌, ◌/◌, ◌%◌, nat_lt, List, [], ◌∷◌, ◌++◌, length, codes, decimal, if◌then◌else◌}
+use Rattle.std.specs.Prelude.{ℕ, ◌+◌, ◌/◌, ◌%◌, nat_lt, List, [], ◌∷◌, ◌++◌, codes, decimal, if◌then◌else◌}
 use Rattle.itch_codec.specs.Text.{before_spaces}
-use Rattle.itch_codec.specs.Layouts.{Class, Integer, Price, Text, OneSide, Code, Codes, Digits, Column}
-use Rattle.itch_codec.specs.Numbers.{byte_at}
+use Rattle.itch_codec.specs.Layouts.{Class, Integer, Price, Text, OneSide, Code, Codes, Digits}
 use Rattle.itch_codec.specs.Fields.{Value, Number, Bytes, TheSide, side_byte}
-use Rattle.itch_codec.specs.Messages.{Shape, Fields, Payload, shape}
+use Rattle.itch_codec.specs.Shown.{Form, shown}
 use Rattle.itch_codec.specs.declared.message.Message.{Message}
 
 -- the last four decimal digits of a number
@@ -40,17 +39,10 @@ word_by class value = []
 unfoldable pub word : Class → Value → List ℕ
 word class value = codes " " ++ word_by class value
 
--- the fields of these columns
-unfoldable pub words : List Column → List Value → List ℕ
-words [] values = []
-words (column ∷ columns) [] = []
-words (column ∷ columns) (value ∷ values) = word column.class value ++ words columns values
-
--- what follows the number: the type and the fields; or the type of a message that is not decoded, and its length
-abbrev pub words_of : Shape → List ℕ
-words_of (Fields layout values) = layout.kind ∷ words layout.columns values
-words_of (Payload bytes) = codes "other " ++ hex (byte_at 0 bytes ∷ []) ++ codes " " ++ decimal (length bytes)
+-- a line: the type by its letter, and a space before each field
+abbrev pub line_form : Form
+line_form = record { kind = λ kind. kind ∷ []; undecoded = codes "other"; field = λ key class width value. word class value }
 
 -- the line of a message with this number
 abbrev pub line_of : ℕ → Message → List ℕ
-line_of number message = decimal number ++ codes " " ++ words_of (shape message) ++ codes "\n"
+line_of number message = decimal number ++ codes " " ++ shown line_form message ++ codes "\n"

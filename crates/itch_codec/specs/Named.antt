@@ -1,14 +1,13 @@
 -- The line that shows a message with its codes as characters and its time as a time of the day. All else is as in Lines.
-use Rattle.std.specs.Prelude.{ℕ, ◌/◌, ◌%◌, ◌==◌, ◌||◌, List, [], ◌∷◌, ◌++◌, length, codes, decimal, if◌then◌else◌}
+use Rattle.std.specs.Prelude.{ℕ, ◌/◌, ◌%◌, ◌==◌, ◌||◌, List, [], ◌∷◌, ◌++◌, codes, decimal, if◌then◌else◌}
 use Rattle.std.specs.List.{flat_map}
 use Rattle.itch_codec.specs.Text.{is_unprintable}
-use Rattle.itch_codec.specs.Layouts.{Class, Code, Codes, Column}
-use Rattle.itch_codec.specs.Numbers.{byte_at}
+use Rattle.itch_codec.specs.Layouts.{Class, Code, Codes}
 use Rattle.itch_codec.specs.Fields.{Value, Number, Bytes}
 use Rattle.itch_codec.specs.Values.{number_in}
 use Rattle.itch_codec.specs.Lines.{hex_digit, word}
 use Rattle.itch_codec.specs.Clock.{clock, is_timestamp}
-use Rattle.itch_codec.specs.Messages.{Shape, Fields, Payload, shape}
+use Rattle.itch_codec.specs.Shown.{Form, shown}
 use Rattle.itch_codec.specs.declared.message.Message.{Message}
 
 -- a byte as a character: after a reverse solidus if it is a single quote or one itself, and by its number if it is not printable
@@ -31,21 +30,14 @@ named_by Code (Number byte) = characters (byte ∷ [])
 named_by Codes (Bytes bytes) = characters bytes
 named_by class value = word class value
 
--- a space and the value of a column's field
-abbrev pub named_at : Column → Value → List ℕ
-named_at column value = if is_timestamp column then clock_word (number_in value) else named_by column.class value
+-- a space and a field of this class and width
+abbrev pub named_field : Class → ℕ → Value → List ℕ
+named_field class width value = if is_timestamp class width then clock_word (number_in value) else named_by class value
 
--- the fields of these columns
-unfoldable pub named_words : List Column → List Value → List ℕ
-named_words [] values = []
-named_words (column ∷ columns) [] = []
-named_words (column ∷ columns) (value ∷ values) = named_at column value ++ named_words columns values
-
--- what follows the number: the type and the fields; or the type of a message that is not decoded, and its length
-abbrev pub named_of : Shape → List ℕ
-named_of (Fields layout values) = layout.kind ∷ named_words layout.columns values
-named_of (Payload bytes) = codes "other" ++ characters (byte_at 0 bytes ∷ []) ++ codes " " ++ decimal (length bytes)
+-- a line with names: the type by its letter, and a space before each field
+abbrev pub named_form : Form
+named_form = record { kind = λ kind. kind ∷ []; undecoded = codes "other"; field = λ key class width value. named_field class width value }
 
 -- the line of a message with this number
 abbrev pub named_line : ℕ → Message → List ℕ
-named_line number message = decimal number ++ codes " " ++ named_of (shape message) ++ codes "\n"
+named_line number message = decimal number ++ codes " " ++ shown named_form message ++ codes "\n"

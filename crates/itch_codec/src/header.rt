@@ -2,7 +2,8 @@
 ghost use Rattle.std.specs.Prelude.{◌≡◌, ℕ, ◌<◌, ◌≤◌, ◌^◌, ◌↔◌, IsSome, IfSome};
 
 use crate::fields::{Buffer, put_u16, put_u48, u16_at, u48_at};
-use crate::words::{Words, show_number};
+use crate::names::Key;
+use crate::sink::{Field, FieldSink};
 use std::marker::Model;
 
 /// Nanoseconds since midnight, below 2^48.
@@ -22,6 +23,8 @@ impl Model for Stamp {
 }
 
 impl Stamp {
+    ghost use Rattle.itch_codec.specs.Headers.{stamp_in};
+
     /// The number as a timestamp, if it is below 2^48.
     pub fn new(value: u64) -> Option<Stamp>
         ensures accepts { IsSome result ↔ (value < 2 ^ 48) }
@@ -31,6 +34,17 @@ impl Stamp {
             Some(Stamp { value })
         } else {
             None
+        }
+    }
+
+    /// The timestamp of a payload, for a caller who needs no other field; none if the payload is too short for a header.
+    pub fn of_payload(payload: &[u8]) -> Option<Stamp>
+        ensures { result ≡ stamp_in payload.now }
+    {
+        if payload.len() < 11 {
+            None
+        } else {
+            Some(Header::decode(payload).stamp)
         }
     }
 
@@ -55,12 +69,13 @@ pub struct Header {
 }
 
 impl Header {
-    ghost use Rattle.std.specs.Prelude.{[], ◌∷◌, ◌++◌, length};
-    ghost use Rattle.arrayvec.specs.ArrayString.{array_string_len};
+    ghost use Rattle.std.specs.Prelude.{◌+◌, [], ◌∷◌, ◌++◌, length};
     ghost use Rattle.arrayvec.specs.ArrayVec.{array_vec_len};
     ghost use Rattle.itch_codec.specs.Layouts.{with_header};
     ghost use Rattle.itch_codec.specs.Fields.{HasAll, joined};
-    ghost use Rattle.itch_codec.specs.Lines.{words};
+    ghost use Rattle.itch_codec.specs.Names.{header_keys};
+    ghost use Rattle.itch_codec.specs.Rooms.{most_fields};
+    ghost use Rattle.itch_codec.specs.Shown.{fields};
     ghost use Rattle.itch_codec.specs.Values.{header_values};
     ghost use Rattle.itch_codec.specs.Widths.{IsHeader};
 
@@ -93,17 +108,17 @@ impl Header {
         put_u48(out, self.stamp.value());
     }
 
-    // Appends the letter of the message's type and its header to a line that has the message's number so far.
-    #[tactic(auto, using(crate::proofs::Joining::joining), unfolding(crate::specs::Lines::words))]
-    pub(crate) fn show(&self, line: &mut Words, letter: &str)
-        requires number { array_string_len line.old ≤ 21 }
-        requires letter { length letter.now ≤ 1 }
-        ensures bytes { line.new.bytes ≡ line.old.bytes ++ letter.now ++ words (with_header []) (header_values self.now []) }
-        ensures len { array_string_len line.new ≤ 85 }
+    /// Writes a message's type and its header to a sink.
+    #[tactic(auto, using(crate::proofs::Joining::joining), unfolding(crate::specs::Shown::fields, crate::specs::Rooms::most_fields))]
+    pub(crate) fn write_as<S: FieldSink>(&self, kind: u8, sink: &mut S)
+        requires ascii { kind < 128 }
+        requires room { S.len sink.old + (S.most.start + most_fields S.most (header_keys []) (with_header [])) ≤ S.capacity }
+        ensures bytes { S.text sink.new ≡ S.text sink.old ++ S.form.kind kind ++ fields S.form (header_keys []) (with_header []) (header_values self.now []) }
+        ensures len { S.len sink.new ≤ S.len sink.old + (S.most.start + most_fields S.most (header_keys []) (with_header [])) }
     {
-        line.push_str(letter);
-        show_number(line, u64::from(self.locate));
-        show_number(line, u64::from(self.tracking));
-        show_number(line, self.stamp.value());
+        sink.begin(kind);
+        sink.put(Key::StockLocate, Field::U16(self.locate));
+        sink.put(Key::TrackingNumber, Field::U16(self.tracking));
+        sink.put(Key::Time, Field::Time(self.stamp.value()));
     }
 }

@@ -1,25 +1,16 @@
 //! Messages as lines of JSON.
-ghost use Rattle.std.specs.Prelude.{◌≡◌, ◌≤◌, [], ◌∷◌, ◌++◌, length, codes};
-ghost use Rattle.std.specs.Str.{IsAscii};
-ghost use Rattle.arrayvec.specs.ArrayString.{array_string_len};
-ghost use Rattle.itch_codec.specs.Fields.{Number};
-ghost use Rattle.itch_codec.specs.Json.{json_line, members_of};
-ghost use Rattle.itch_codec.specs.Layouts.{end_of_snapshot};
-ghost use Rattle.itch_codec.specs.Messages.{Fields, Payload, shape};
-ghost use Rattle.itch_codec.specs.Names.{keys, end_of_snapshot_keys};
+ghost use Rattle.std.specs.Prelude.{◌≡◌, ◌≤◌, length};
+ghost use Rattle.itch_codec.specs.Json.{json_form, json_line};
+ghost use Rattle.itch_codec.specs.Rooms.{json_most};
 
-mod orders;
-mod stocks;
-mod trades;
 mod words;
 
 use crate::message::Message;
 use crate::names::Key;
-use crate::number::Seq;
 use crate::pieces::push_number;
-use crate::undecoded::Undecoded;
+use crate::sink::{Field, FieldSink};
 use std::marker::Model;
-use words::{JsonWords, put_code, put_digits, put_number};
+use words::{JsonWords, push_quoted, push_quoted_price, push_side, push_times, put_key};
 
 /// A line of JSON that shows a message, with its line feed. It is stored in the value itself and needs no allocation.
 #[derive(Drop)]
@@ -53,57 +44,51 @@ impl JsonText {
 pub fn json(number: u64, message: &Message<'_>) -> JsonText
     ensures { result ≡ json_line number message.now }
 {
-    let mut text = JsonWords::new();
-    text.push_str("{\"number\":");
-    push_number(&mut text, number);
-    put_members(message, &mut text);
-    text.push_str("}\n");
-    JsonText { text }
+    let mut line = JsonText {
+        text: JsonWords::new(),
+    };
+    line.text.push_str("{\"number\":");
+    push_number(&mut line.text, number);
+    message.write(&mut line);
+    line.text.push_str("}\n");
+    line
 }
 
-fn put_members(message: &Message<'_>, line: &mut JsonWords)
-    requires { array_string_len line.old ≤ 30 }
-    ensures bytes { line.new.bytes ≡ line.old.bytes ++ members_of (keys message.now) (shape message.now) }
-    ensures len { array_string_len line.new ≤ 646 }
-{
-    match message {
-        Message::SystemEvent(m) => stocks::system_event(line, m),
-        Message::StockDirectory(m) => stocks::stock_directory(line, m),
-        Message::TradingAction(m) => stocks::trading_action(line, m),
-        Message::RegSho(m) => stocks::reg_sho(line, m),
-        Message::Halt(m) => stocks::operational_halt(line, m),
-        Message::Position(m) => stocks::participant_position(line, m),
-        Message::AddOrder(m) => orders::add_order(line, m),
-        Message::AttributedAddOrder(m) => orders::attributed_add_order(line, m),
-        Message::OrderExecuted(m) => orders::order_executed(line, m),
-        Message::OrderExecutedWithPrice(m) => orders::order_executed_with_price(line, m),
-        Message::OrderCancel(m) => orders::order_cancel(line, m),
-        Message::OrderDelete(m) => orders::order_delete(line, m),
-        Message::OrderReplace(m) => orders::order_replace(line, m),
-        Message::Trade(m) => trades::trade(line, m),
-        Message::CrossTrade(m) => trades::cross_trade(line, m),
-        Message::BrokenTrade(m) => trades::broken_trade(line, m),
-        Message::End { next } => put_end(line, *next),
-        Message::Other(m) => put_other(line, m),
+impl FieldSink for JsonText {
+    ghost form = { json_form };
+
+    ghost text = { λ bytes. bytes };
+
+    ghost len = { λ bytes. length bytes };
+
+    ghost capacity = { 648 };
+
+    ghost most = { json_most };
+
+    fn begin(&mut self, kind: u8) {
+        self.put(Key::Kind, Field::Code(kind));
     }
-}
 
-#[tactic(auto, using(crate::proofs::Joining::joining), unfolding(crate::specs::Json::members))]
-fn put_end(line: &mut JsonWords, next: Seq)
-    requires { array_string_len line.old ≤ 30 }
-    ensures bytes { line.new.bytes ≡ line.old.bytes ++ members_of end_of_snapshot_keys (Fields end_of_snapshot (Number next ∷ [])) }
-    ensures len { array_string_len line.new ≤ 646 }
-{
-    put_code(line, Key::Kind, b'G');
-    put_digits(line, Key::SequenceNumber, next.value());
-}
+    fn begin_undecoded(&mut self) {}
 
-#[tactic(auto, using(crate::proofs::Joining::joining))]
-fn put_other(line: &mut JsonWords, message: &Undecoded<'_>)
-    requires { array_string_len line.old ≤ 30 }
-    ensures bytes { line.new.bytes ≡ line.old.bytes ++ members_of [] (Payload message.now) }
-    ensures len { array_string_len line.new ≤ 646 }
-{
-    put_code(line, Key::Kind, message.kind());
-    put_number(line, Key::Length, message.payload().len() as u64);
+    #[inline(always)]
+    #[tactic(auto, using(crate::proofs::Joining::joining), unfolding(crate::specs::Json::member, crate::specs::Json::times))]
+    fn put(&mut self, key: Key, field: Field<'_>) {
+        let text = &mut self.text;
+        put_key(text, key);
+        match field {
+            Field::U16(number) => push_number(text, u64::from(number)),
+            Field::U32(number) => push_number(text, u64::from(number)),
+            Field::U64(number) => push_number(text, number),
+            Field::Time(nanoseconds) => push_times(text, nanoseconds),
+            Field::Price(price) => push_quoted_price(text, price),
+            Field::Mpid(mpid) => push_quoted(text, mpid.text().as_bytes()),
+            Field::Stock(stock) => push_quoted(text, stock.text().as_bytes()),
+            Field::Side(side) => push_side(text, side),
+            Field::Code(byte) => push_quoted(text, &[byte]),
+            Field::TwoCodes(bytes) => push_quoted(text, bytes),
+            Field::FourCodes(bytes) => push_quoted(text, bytes),
+            Field::Digits(number) => push_number(text, number),
+        }
+    }
 }

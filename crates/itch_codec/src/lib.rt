@@ -33,6 +33,7 @@ mod number;
 mod orders;
 mod pieces;
 mod showing;
+mod sink;
 mod sizes;
 pub mod spaces;
 mod stocks;

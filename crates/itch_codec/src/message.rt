@@ -1,13 +1,17 @@
 //! A message of the feed or of a snapshot.
-ghost use Rattle.std.specs.Prelude.{◌≡◌};
+ghost use Rattle.std.specs.Prelude.{◌≡◌, ◌+◌, ◌≤◌, ◌++◌};
 ghost use Rattle.itch_codec.specs.Headers.{header, kind_of, reference_of, time_of};
+ghost use Rattle.itch_codec.specs.Rooms.{most_shown};
+ghost use Rattle.itch_codec.specs.Shown.{shown};
 
 use crate::header::Header;
+use crate::names::Key;
 use crate::number::Seq;
 use crate::orders::{
     AddOrder, AttributedAddOrder, OrderCancel, OrderDelete, OrderExecuted, OrderExecutedWithPrice,
     OrderReplace,
 };
+use crate::sink::{Field, FieldSink};
 use crate::stocks::{
     OperationalHalt, ParticipantPosition, RegSho, StockDirectory, SystemEvent, TradingAction,
 };
@@ -115,6 +119,38 @@ impl Message<'_> {
             Message::OrderDelete(m) => Some(m.reference),
             Message::OrderReplace(m) => Some(m.original),
             _ => None,
+        }
+    }
+
+    /// Writes the type and the fields to a sink, in the order of the layout; the type and the length if the message is not decoded.
+    #[tactic(auto, using(crate::proofs::Joining::joining), unfolding(crate::specs::Shown::fields, crate::specs::Rooms::most_fields))]
+    pub(crate) fn write<S: FieldSink>(&self, sink: &mut S)
+        requires room { S.len sink.old + most_shown S.most self.now ≤ S.capacity }
+        ensures bytes { S.text sink.new ≡ S.text sink.old ++ shown S.form self.now }
+        ensures len { S.len sink.new ≤ S.len sink.old + most_shown S.most self.now }
+    {
+        match self {
+            Message::SystemEvent(m) => m.write(sink),
+            Message::StockDirectory(m) => m.write(sink),
+            Message::TradingAction(m) => m.write(sink),
+            Message::RegSho(m) => m.write(sink),
+            Message::Halt(m) => m.write(sink),
+            Message::Position(m) => m.write(sink),
+            Message::AddOrder(m) => m.write(sink),
+            Message::AttributedAddOrder(m) => m.write(sink),
+            Message::OrderExecuted(m) => m.write(sink),
+            Message::OrderExecutedWithPrice(m) => m.write(sink),
+            Message::OrderCancel(m) => m.write(sink),
+            Message::OrderDelete(m) => m.write(sink),
+            Message::OrderReplace(m) => m.write(sink),
+            Message::Trade(m) => m.write(sink),
+            Message::CrossTrade(m) => m.write(sink),
+            Message::BrokenTrade(m) => m.write(sink),
+            Message::End { next } => {
+                sink.begin(b'G');
+                sink.put(Key::SequenceNumber, Field::Digits(next.value()));
+            }
+            Message::Other(m) => m.write(sink),
         }
     }
 }

@@ -1,23 +1,18 @@
 //! Messages as lines of text with their codes as characters.
-ghost use Rattle.std.specs.Prelude.{◌≡◌, ◌≤◌, [], ◌∷◌, ◌++◌};
+ghost use Rattle.std.specs.Prelude.{◌≡◌};
 ghost use Rattle.arrayvec.specs.ArrayString.{array_string_len};
-ghost use Rattle.itch_codec.specs.Fields.{Number};
-ghost use Rattle.itch_codec.specs.Layouts.{end_of_snapshot};
-ghost use Rattle.itch_codec.specs.Messages.{Fields, Payload, shape};
-ghost use Rattle.itch_codec.specs.Named.{named_line, named_of};
+ghost use Rattle.itch_codec.specs.Named.{named_form, named_line};
+ghost use Rattle.itch_codec.specs.Rooms.{named_most};
 
-mod orders;
-mod stocks;
-mod trades;
 mod words;
 
 use crate::message::Message;
-use crate::number::Seq;
-use crate::pieces::push_number;
+use crate::names::Key;
+use crate::pieces::{push_ascii, push_number};
 use crate::showing::LineText;
-use crate::undecoded::Undecoded;
-use crate::words::{Words, show_number};
-use words::show_character;
+use crate::sink::{Field, FieldSink};
+use crate::words::{Words, show_number, show_price, show_side, show_text};
+use words::{show_character, show_characters, show_clock, show_short};
 
 /// The line of a message as [`show`](crate::show) makes it, but with codes as characters in single quotes, and with the timestamp as a
 /// time of the day, such as `09:30:00.000000001`.
@@ -27,58 +22,58 @@ use words::show_character;
 pub fn show_named(number: u64, message: &Message<'_>) -> LineText
     ensures { result ≡ named_line number message.now }
 {
-    let mut text = Words::new();
-    push_number(&mut text, number);
-    text.push_str(" ");
-    show_fields(message, &mut text);
-    text.push_str("\n");
-    LineText::of(text)
+    let mut line = NamedLine {
+        words: Words::new(),
+    };
+    push_number(&mut line.words, number);
+    line.words.push_str(" ");
+    message.write(&mut line);
+    line.words.push_str("\n");
+    LineText::of(line.words)
 }
 
-fn show_fields(message: &Message<'_>, line: &mut Words)
-    requires { array_string_len line.old ≤ 21 }
-    ensures bytes { line.new.bytes ≡ line.old.bytes ++ named_of (shape message.now) }
-    ensures len { array_string_len line.new ≤ 191 }
-{
-    match message {
-        Message::SystemEvent(m) => stocks::system_event(line, m),
-        Message::StockDirectory(m) => stocks::stock_directory(line, m),
-        Message::TradingAction(m) => stocks::trading_action(line, m),
-        Message::RegSho(m) => stocks::reg_sho(line, m),
-        Message::Halt(m) => stocks::operational_halt(line, m),
-        Message::Position(m) => stocks::participant_position(line, m),
-        Message::AddOrder(m) => orders::add_order(line, m),
-        Message::AttributedAddOrder(m) => orders::attributed_add_order(line, m),
-        Message::OrderExecuted(m) => orders::order_executed(line, m),
-        Message::OrderExecutedWithPrice(m) => orders::order_executed_with_price(line, m),
-        Message::OrderCancel(m) => orders::order_cancel(line, m),
-        Message::OrderDelete(m) => orders::order_delete(line, m),
-        Message::OrderReplace(m) => orders::order_replace(line, m),
-        Message::Trade(m) => trades::trade(line, m),
-        Message::CrossTrade(m) => trades::cross_trade(line, m),
-        Message::BrokenTrade(m) => trades::broken_trade(line, m),
-        Message::End { next } => show_end(line, *next),
-        Message::Other(m) => show_other(line, m),
+// A line as it is built.
+#[derive(Drop)]
+struct NamedLine {
+    words: Words,
+}
+
+impl FieldSink for NamedLine {
+    ghost form = { named_form };
+
+    ghost text = { λ l. l.words.bytes };
+
+    ghost len = { λ l. array_string_len l.words };
+
+    ghost capacity = { 192 };
+
+    ghost most = { named_most };
+
+    fn begin(&mut self, kind: u8) {
+        push_ascii(&mut self.words, kind);
     }
-}
 
-#[tactic(auto, using(crate::proofs::Joining::joining), unfolding(crate::specs::Named::named_words, crate::specs::Lines::word))]
-fn show_end(line: &mut Words, next: Seq)
-    requires { array_string_len line.old ≤ 21 }
-    ensures bytes { line.new.bytes ≡ line.old.bytes ++ named_of (Fields end_of_snapshot (Number next ∷ [])) }
-    ensures len { array_string_len line.new ≤ 191 }
-{
-    line.push_str("G");
-    show_number(line, next.value());
-}
+    fn begin_undecoded(&mut self) {
+        self.words.push_str("other");
+    }
 
-#[tactic(auto, using(crate::proofs::Joining::joining), unfolding(crate::specs::Lines::word))]
-fn show_other(line: &mut Words, message: &Undecoded<'_>)
-    requires { array_string_len line.old ≤ 21 }
-    ensures bytes { line.new.bytes ≡ line.old.bytes ++ named_of (Payload message.now) }
-    ensures len { array_string_len line.new ≤ 191 }
-{
-    line.push_str("other");
-    show_character(line, message.kind());
-    show_number(line, message.payload().len() as u64);
+    #[inline(always)]
+    #[tactic(auto, unfolding(crate::specs::Lines::word))]
+    fn put(&mut self, _key: Key, field: Field<'_>) {
+        let words = &mut self.words;
+        match field {
+            Field::U16(number) => show_short(words, number),
+            Field::U32(number) => show_number(words, u64::from(number)),
+            Field::U64(number) => show_number(words, number),
+            Field::Time(nanoseconds) => show_clock(words, nanoseconds),
+            Field::Price(price) => show_price(words, price),
+            Field::Mpid(mpid) => show_text(words, mpid),
+            Field::Stock(stock) => show_text(words, stock),
+            Field::Side(side) => show_side(words, side),
+            Field::Code(byte) => show_character(words, byte),
+            Field::TwoCodes(bytes) => show_characters(words, bytes),
+            Field::FourCodes(bytes) => show_characters(words, bytes),
+            Field::Digits(number) => show_number(words, number),
+        }
+    }
 }

@@ -1,10 +1,12 @@
 //! The messages that make, change and end live orders.
-ghost use Rattle.std.specs.Prelude.{◌≡◌, ◌≤◌, [], ◌∷◌, ◌++◌, length};
-ghost use Rattle.arrayvec.specs.ArrayString.{array_string_len};
+ghost use Rattle.std.specs.Prelude.{◌≡◌, ◌+◌, ◌<◌, ◌≤◌, [], ◌∷◌, ◌++◌, length};
 ghost use Rattle.arrayvec.specs.ArrayVec.{array_vec_len};
 ghost use Rattle.itch_codec.specs.Layouts.{with_header, execution_columns, order_columns, add_order, attributed_add_order, order_executed, order_executed_with_price, order_cancel, order_delete, order_replace};
 ghost use Rattle.itch_codec.specs.Fields.{HasAll, joined, first_fault, Reads};
-ghost use Rattle.itch_codec.specs.Lines.{words};
+ghost use Rattle.itch_codec.specs.Messages.{Fields};
+ghost use Rattle.itch_codec.specs.Names.{order_keys, execution_keys, add_order_keys, attributed_add_order_keys, order_executed_keys, order_executed_with_price_keys, order_cancel_keys, order_delete_keys, order_replace_keys};
+ghost use Rattle.itch_codec.specs.Rooms.{most_fields};
+ghost use Rattle.itch_codec.specs.Shown.{fields, shown_as};
 ghost use Rattle.itch_codec.specs.Values.{order_values, execution_values, add_order_values, attributed_add_order_values, order_executed_values, order_executed_with_price_values, order_cancel_values, order_delete_values, order_replace_values};
 ghost use Rattle.itch_codec.specs.Widths.{IsAddOrder, IsAttributedAddOrder, IsOrderExecuted, IsOrderExecutedWithPrice, IsOrderCancel, IsOrderDelete, IsOrderReplace};
 
@@ -14,8 +16,9 @@ use crate::fields::{
     text_at, u32_at, u64_at,
 };
 use crate::header::Header;
+use crate::names::Key;
+use crate::sink::{Field, FieldSink};
 use crate::text::Alpha;
-use crate::words::{Words, show_code, show_number, show_price, show_side, show_text};
 
 /// The side of an order.
 #[derive(Clone, Copy, Debug, PartialEq, Eq)]
@@ -82,30 +85,30 @@ impl AddOrder {
         self.begin(b'A', out);
     }
 
-    // The fields of a new order, after the letter of its type.
-    #[tactic(auto, using(crate::proofs::Joining::joining), unfolding(crate::specs::Lines::words))]
-    fn show_as(&self, line: &mut Words, letter: &str)
-        requires number { array_string_len line.old ≤ 21 }
-        requires letter { length letter.now ≤ 1 }
-        ensures bytes { line.new.bytes ≡ line.old.bytes ++ letter.now ++ words (with_header (order_columns [])) (order_values self.now []) }
-        ensures len { array_string_len line.new ≤ 166 }
+    // The type and the fields of a new order.
+    #[tactic(auto, using(crate::proofs::Joining::joining), unfolding(crate::specs::Shown::fields, crate::specs::Rooms::most_fields))]
+    fn write_as<S: FieldSink>(&self, kind: u8, sink: &mut S)
+        requires ascii { kind < 128 }
+        requires room { S.len sink.old + (S.most.start + most_fields S.most (order_keys []) (with_header (order_columns []))) ≤ S.capacity }
+        ensures bytes { S.text sink.new ≡ S.text sink.old ++ S.form.kind kind ++ fields S.form (order_keys []) (with_header (order_columns [])) (order_values self.now []) }
+        ensures len { S.len sink.new ≤ S.len sink.old + (S.most.start + most_fields S.most (order_keys []) (with_header (order_columns []))) }
     {
-        self.header.show(line, letter);
-        show_number(line, self.reference);
-        show_side(line, self.side);
-        show_number(line, u64::from(self.shares));
-        show_text(line, &self.stock);
-        show_price(line, self.price);
+        self.header.write_as(kind, sink);
+        sink.put(Key::OrderReferenceNumber, Field::U64(self.reference));
+        sink.put(Key::BuySellIndicator, Field::Side(self.side));
+        sink.put(Key::Shares, Field::U32(self.shares));
+        sink.put(Key::Stock, Field::Stock(&self.stock));
+        sink.put(Key::Price, Field::Price(self.price));
     }
 
-    /// Appends the type and the fields to a line that has the message's number so far.
-    #[tactic(auto, using(crate::proofs::Joining::joining), unfolding(crate::specs::Lines::words))]
-    pub(crate) fn show(&self, line: &mut Words)
-        requires { array_string_len line.old ≤ 21 }
-        ensures bytes { line.new.bytes ≡ line.old.bytes ++ add_order.kind ∷ words add_order.columns (add_order_values self.now) }
-        ensures len { array_string_len line.new ≤ 191 }
+    /// Writes the type and the fields to a sink.
+    #[tactic(auto, using(crate::proofs::Joining::joining), unfolding(crate::specs::Shown::fields, crate::specs::Rooms::most_fields))]
+    pub(crate) fn write<S: FieldSink>(&self, sink: &mut S)
+        requires room { S.len sink.old + (S.most.start + most_fields S.most add_order_keys add_order.columns) ≤ S.capacity }
+        ensures bytes { S.text sink.new ≡ S.text sink.old ++ shown_as S.form add_order_keys (Fields add_order (add_order_values self.now)) }
+        ensures len { S.len sink.new ≤ S.len sink.old + (S.most.start + most_fields S.most add_order_keys add_order.columns) }
     {
-        self.show_as(line, "A");
+        self.write_as(b'A', sink);
     }
 }
 
@@ -139,15 +142,15 @@ impl AttributedAddOrder {
         put_text(out, &self.attribution);
     }
 
-    /// Appends the type and the fields to a line that has the message's number so far.
-    #[tactic(auto, using(crate::proofs::Joining::joining), unfolding(crate::specs::Lines::words))]
-    pub(crate) fn show(&self, line: &mut Words)
-        requires { array_string_len line.old ≤ 21 }
-        ensures bytes { line.new.bytes ≡ line.old.bytes ++ attributed_add_order.kind ∷ words attributed_add_order.columns (attributed_add_order_values self.now) }
-        ensures len { array_string_len line.new ≤ 191 }
+    /// Writes the type and the fields to a sink.
+    #[tactic(auto, using(crate::proofs::Joining::joining), unfolding(crate::specs::Shown::fields, crate::specs::Rooms::most_fields))]
+    pub(crate) fn write<S: FieldSink>(&self, sink: &mut S)
+        requires room { S.len sink.old + (S.most.start + most_fields S.most attributed_add_order_keys attributed_add_order.columns) ≤ S.capacity }
+        ensures bytes { S.text sink.new ≡ S.text sink.old ++ shown_as S.form attributed_add_order_keys (Fields attributed_add_order (attributed_add_order_values self.now)) }
+        ensures len { S.len sink.new ≤ S.len sink.old + (S.most.start + most_fields S.most attributed_add_order_keys attributed_add_order.columns) }
     {
-        self.order.show_as(line, "F");
-        show_text(line, &self.attribution);
+        self.order.write_as(b'F', sink);
+        sink.put(Key::Attribution, Field::Mpid(&self.attribution));
     }
 }
 
@@ -198,28 +201,28 @@ impl OrderExecuted {
         self.begin(b'E', out);
     }
 
-    // The fields of an execution, after the letter of its type.
-    #[tactic(auto, using(crate::proofs::Joining::joining), unfolding(crate::specs::Lines::words))]
-    fn show_as(&self, line: &mut Words, letter: &str)
-        requires number { array_string_len line.old ≤ 21 }
-        requires letter { length letter.now ≤ 1 }
-        ensures bytes { line.new.bytes ≡ line.old.bytes ++ letter.now ++ words (with_header (execution_columns [])) (execution_values self.now []) }
-        ensures len { array_string_len line.new ≤ 148 }
+    // The type and the fields of an execution.
+    #[tactic(auto, using(crate::proofs::Joining::joining), unfolding(crate::specs::Shown::fields, crate::specs::Rooms::most_fields))]
+    fn write_as<S: FieldSink>(&self, kind: u8, sink: &mut S)
+        requires ascii { kind < 128 }
+        requires room { S.len sink.old + (S.most.start + most_fields S.most (execution_keys []) (with_header (execution_columns []))) ≤ S.capacity }
+        ensures bytes { S.text sink.new ≡ S.text sink.old ++ S.form.kind kind ++ fields S.form (execution_keys []) (with_header (execution_columns [])) (execution_values self.now []) }
+        ensures len { S.len sink.new ≤ S.len sink.old + (S.most.start + most_fields S.most (execution_keys []) (with_header (execution_columns []))) }
     {
-        self.header.show(line, letter);
-        show_number(line, self.reference);
-        show_number(line, u64::from(self.shares));
-        show_number(line, self.match_number);
+        self.header.write_as(kind, sink);
+        sink.put(Key::OrderReferenceNumber, Field::U64(self.reference));
+        sink.put(Key::ExecutedShares, Field::U32(self.shares));
+        sink.put(Key::MatchNumber, Field::U64(self.match_number));
     }
 
-    /// Appends the type and the fields to a line that has the message's number so far.
-    #[tactic(auto, using(crate::proofs::Joining::joining), unfolding(crate::specs::Lines::words))]
-    pub(crate) fn show(&self, line: &mut Words)
-        requires { array_string_len line.old ≤ 21 }
-        ensures bytes { line.new.bytes ≡ line.old.bytes ++ order_executed.kind ∷ words order_executed.columns (order_executed_values self.now) }
-        ensures len { array_string_len line.new ≤ 191 }
+    /// Writes the type and the fields to a sink.
+    #[tactic(auto, using(crate::proofs::Joining::joining), unfolding(crate::specs::Shown::fields, crate::specs::Rooms::most_fields))]
+    pub(crate) fn write<S: FieldSink>(&self, sink: &mut S)
+        requires room { S.len sink.old + (S.most.start + most_fields S.most order_executed_keys order_executed.columns) ≤ S.capacity }
+        ensures bytes { S.text sink.new ≡ S.text sink.old ++ shown_as S.form order_executed_keys (Fields order_executed (order_executed_values self.now)) }
+        ensures len { S.len sink.new ≤ S.len sink.old + (S.most.start + most_fields S.most order_executed_keys order_executed.columns) }
     {
-        self.show_as(line, "E");
+        self.write_as(b'E', sink);
     }
 }
 
@@ -257,16 +260,16 @@ impl OrderExecutedWithPrice {
         put_u32(out, self.price);
     }
 
-    /// Appends the type and the fields to a line that has the message's number so far.
-    #[tactic(auto, using(crate::proofs::Joining::joining), unfolding(crate::specs::Lines::words))]
-    pub(crate) fn show(&self, line: &mut Words)
-        requires { array_string_len line.old ≤ 21 }
-        ensures bytes { line.new.bytes ≡ line.old.bytes ++ order_executed_with_price.kind ∷ words order_executed_with_price.columns (order_executed_with_price_values self.now) }
-        ensures len { array_string_len line.new ≤ 191 }
+    /// Writes the type and the fields to a sink.
+    #[tactic(auto, using(crate::proofs::Joining::joining), unfolding(crate::specs::Shown::fields, crate::specs::Rooms::most_fields))]
+    pub(crate) fn write<S: FieldSink>(&self, sink: &mut S)
+        requires room { S.len sink.old + (S.most.start + most_fields S.most order_executed_with_price_keys order_executed_with_price.columns) ≤ S.capacity }
+        ensures bytes { S.text sink.new ≡ S.text sink.old ++ shown_as S.form order_executed_with_price_keys (Fields order_executed_with_price (order_executed_with_price_values self.now)) }
+        ensures len { S.len sink.new ≤ S.len sink.old + (S.most.start + most_fields S.most order_executed_with_price_keys order_executed_with_price.columns) }
     {
-        self.execution.show_as(line, "C");
-        show_code(line, self.printable);
-        show_price(line, self.price);
+        self.execution.write_as(b'C', sink);
+        sink.put(Key::Printable, Field::Code(self.printable));
+        sink.put(Key::ExecutionPrice, Field::Price(self.price));
     }
 }
 
@@ -303,16 +306,16 @@ impl OrderCancel {
         put_u32(out, self.shares);
     }
 
-    /// Appends the type and the fields to a line that has the message's number so far.
-    #[tactic(auto, using(crate::proofs::Joining::joining), unfolding(crate::specs::Lines::words))]
-    pub(crate) fn show(&self, line: &mut Words)
-        requires { array_string_len line.old ≤ 21 }
-        ensures bytes { line.new.bytes ≡ line.old.bytes ++ order_cancel.kind ∷ words order_cancel.columns (order_cancel_values self.now) }
-        ensures len { array_string_len line.new ≤ 191 }
+    /// Writes the type and the fields to a sink.
+    #[tactic(auto, using(crate::proofs::Joining::joining), unfolding(crate::specs::Shown::fields, crate::specs::Rooms::most_fields))]
+    pub(crate) fn write<S: FieldSink>(&self, sink: &mut S)
+        requires room { S.len sink.old + (S.most.start + most_fields S.most order_cancel_keys order_cancel.columns) ≤ S.capacity }
+        ensures bytes { S.text sink.new ≡ S.text sink.old ++ shown_as S.form order_cancel_keys (Fields order_cancel (order_cancel_values self.now)) }
+        ensures len { S.len sink.new ≤ S.len sink.old + (S.most.start + most_fields S.most order_cancel_keys order_cancel.columns) }
     {
-        self.header.show(line, "X");
-        show_number(line, self.reference);
-        show_number(line, u64::from(self.shares));
+        self.header.write_as(b'X', sink);
+        sink.put(Key::OrderReferenceNumber, Field::U64(self.reference));
+        sink.put(Key::CancelledShares, Field::U32(self.shares));
     }
 }
 
@@ -345,15 +348,15 @@ impl OrderDelete {
         put_u64(out, self.reference);
     }
 
-    /// Appends the type and the fields to a line that has the message's number so far.
-    #[tactic(auto, using(crate::proofs::Joining::joining), unfolding(crate::specs::Lines::words))]
-    pub(crate) fn show(&self, line: &mut Words)
-        requires { array_string_len line.old ≤ 21 }
-        ensures bytes { line.new.bytes ≡ line.old.bytes ++ order_delete.kind ∷ words order_delete.columns (order_delete_values self.now) }
-        ensures len { array_string_len line.new ≤ 191 }
+    /// Writes the type and the fields to a sink.
+    #[tactic(auto, using(crate::proofs::Joining::joining), unfolding(crate::specs::Shown::fields, crate::specs::Rooms::most_fields))]
+    pub(crate) fn write<S: FieldSink>(&self, sink: &mut S)
+        requires room { S.len sink.old + (S.most.start + most_fields S.most order_delete_keys order_delete.columns) ≤ S.capacity }
+        ensures bytes { S.text sink.new ≡ S.text sink.old ++ shown_as S.form order_delete_keys (Fields order_delete (order_delete_values self.now)) }
+        ensures len { S.len sink.new ≤ S.len sink.old + (S.most.start + most_fields S.most order_delete_keys order_delete.columns) }
     {
-        self.header.show(line, "D");
-        show_number(line, self.reference);
+        self.header.write_as(b'D', sink);
+        sink.put(Key::OrderReferenceNumber, Field::U64(self.reference));
     }
 }
 
@@ -397,17 +400,17 @@ impl OrderReplace {
         put_u32(out, self.price);
     }
 
-    /// Appends the type and the fields to a line that has the message's number so far.
-    #[tactic(auto, using(crate::proofs::Joining::joining), unfolding(crate::specs::Lines::words))]
-    pub(crate) fn show(&self, line: &mut Words)
-        requires { array_string_len line.old ≤ 21 }
-        ensures bytes { line.new.bytes ≡ line.old.bytes ++ order_replace.kind ∷ words order_replace.columns (order_replace_values self.now) }
-        ensures len { array_string_len line.new ≤ 191 }
+    /// Writes the type and the fields to a sink.
+    #[tactic(auto, using(crate::proofs::Joining::joining), unfolding(crate::specs::Shown::fields, crate::specs::Rooms::most_fields))]
+    pub(crate) fn write<S: FieldSink>(&self, sink: &mut S)
+        requires room { S.len sink.old + (S.most.start + most_fields S.most order_replace_keys order_replace.columns) ≤ S.capacity }
+        ensures bytes { S.text sink.new ≡ S.text sink.old ++ shown_as S.form order_replace_keys (Fields order_replace (order_replace_values self.now)) }
+        ensures len { S.len sink.new ≤ S.len sink.old + (S.most.start + most_fields S.most order_replace_keys order_replace.columns) }
     {
-        self.header.show(line, "U");
-        show_number(line, self.original);
-        show_number(line, self.reference);
-        show_number(line, u64::from(self.shares));
-        show_price(line, self.price);
+        self.header.write_as(b'U', sink);
+        sink.put(Key::OriginalOrderReferenceNumber, Field::U64(self.original));
+        sink.put(Key::NewOrderReferenceNumber, Field::U64(self.reference));
+        sink.put(Key::Shares, Field::U32(self.shares));
+        sink.put(Key::Price, Field::Price(self.price));
     }
 }

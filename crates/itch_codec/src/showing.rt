@@ -1,17 +1,15 @@
 //! Messages as lines of text.
-ghost use Rattle.std.specs.Prelude.{◌≡◌, ◌≤◌, [], ◌∷◌, ◌++◌, length, IfOk};
+ghost use Rattle.std.specs.Prelude.{◌≡◌, ◌≤◌, length, IfOk};
 ghost use Rattle.std.specs.String.{string_bytes};
 ghost use Rattle.arrayvec.specs.ArrayString.{array_string_len};
-ghost use Rattle.itch_codec.specs.Lines.{line_of, words, words_of};
-ghost use Rattle.itch_codec.specs.Fields.{Number};
-ghost use Rattle.itch_codec.specs.Layouts.{end_of_snapshot};
-ghost use Rattle.itch_codec.specs.Messages.{Payload, shape};
+ghost use Rattle.itch_codec.specs.Lines.{line_form, line_of};
+ghost use Rattle.itch_codec.specs.Rooms.{line_most};
 
 use crate::message::Message;
-use crate::number::Seq;
-use crate::pieces::push_number;
-use crate::undecoded::Undecoded;
-use crate::words::{Words, show_code, show_number};
+use crate::names::Key;
+use crate::pieces::{push_ascii, push_number};
+use crate::sink::{Field, FieldSink};
+use crate::words::{Words, show_code, show_codes, show_number, show_price, show_side, show_text};
 use std::alloc::{AllocError, Allocator};
 use std::marker::Model;
 
@@ -53,12 +51,14 @@ impl LineText {
 pub fn show(number: u64, message: &Message<'_>) -> LineText
     ensures { result ≡ line_of number message.now }
 {
-    let mut text = Words::new();
-    push_number(&mut text, number);
-    text.push_str(" ");
-    show_words(message, &mut text);
-    text.push_str("\n");
-    LineText { text }
+    let mut line = PlainLine {
+        words: Words::new(),
+    };
+    push_number(&mut line.words, number);
+    line.words.push_str(" ");
+    message.write(&mut line);
+    line.words.push_str("\n");
+    LineText { text: line.words }
 }
 
 /// The same line as a string. The error is that memory ran out.
@@ -72,50 +72,48 @@ pub fn line<A: Allocator>(
     String::from_str(alloc, show(number, message).as_str())
 }
 
-fn show_words(message: &Message<'_>, line: &mut Words)
-    requires { array_string_len line.old ≤ 21 }
-    ensures bytes { line.new.bytes ≡ line.old.bytes ++ words_of (shape message.now) }
-    ensures len { array_string_len line.new ≤ 191 }
-{
-    match message {
-        Message::SystemEvent(m) => m.show(line),
-        Message::StockDirectory(m) => m.show(line),
-        Message::TradingAction(m) => m.show(line),
-        Message::RegSho(m) => m.show(line),
-        Message::Halt(m) => m.show(line),
-        Message::Position(m) => m.show(line),
-        Message::AddOrder(m) => m.show(line),
-        Message::AttributedAddOrder(m) => m.show(line),
-        Message::OrderExecuted(m) => m.show(line),
-        Message::OrderExecutedWithPrice(m) => m.show(line),
-        Message::OrderCancel(m) => m.show(line),
-        Message::OrderDelete(m) => m.show(line),
-        Message::OrderReplace(m) => m.show(line),
-        Message::Trade(m) => m.show(line),
-        Message::CrossTrade(m) => m.show(line),
-        Message::BrokenTrade(m) => m.show(line),
-        Message::End { next } => show_end(*next, line),
-        Message::Other(m) => show_other(m, line),
+// A line as it is built.
+#[derive(Drop)]
+struct PlainLine {
+    words: Words,
+}
+
+impl FieldSink for PlainLine {
+    ghost form = { line_form };
+
+    ghost text = { λ l. l.words.bytes };
+
+    ghost len = { λ l. array_string_len l.words };
+
+    ghost capacity = { 192 };
+
+    ghost most = { line_most };
+
+    fn begin(&mut self, kind: u8) {
+        push_ascii(&mut self.words, kind);
     }
-}
 
-#[tactic(auto, using(crate::proofs::Joining::joining), unfolding(crate::specs::Lines::words, crate::specs::Lines::word))]
-fn show_end(next: Seq, line: &mut Words)
-    requires { array_string_len line.old ≤ 21 }
-    ensures bytes { line.new.bytes ≡ line.old.bytes ++ end_of_snapshot.kind ∷ words end_of_snapshot.columns (Number next ∷ []) }
-    ensures len { array_string_len line.new ≤ 191 }
-{
-    line.push_str("G");
-    show_number(line, next.value());
-}
+    fn begin_undecoded(&mut self) {
+        self.words.push_str("other");
+    }
 
-#[tactic(auto, using(crate::proofs::Joining::joining), unfolding(crate::specs::Lines::word))]
-fn show_other(message: &Undecoded<'_>, line: &mut Words)
-    requires { array_string_len line.old ≤ 21 }
-    ensures bytes { line.new.bytes ≡ line.old.bytes ++ words_of (Payload message.now) }
-    ensures len { array_string_len line.new ≤ 191 }
-{
-    line.push_str("other");
-    show_code(line, message.kind());
-    show_number(line, message.payload().len() as u64);
+    #[inline(always)]
+    #[tactic(auto, unfolding(crate::specs::Lines::word))]
+    fn put(&mut self, _key: Key, field: Field<'_>) {
+        let words = &mut self.words;
+        match field {
+            Field::U16(number) => show_number(words, u64::from(number)),
+            Field::U32(number) => show_number(words, u64::from(number)),
+            Field::U64(number) => show_number(words, number),
+            Field::Time(nanoseconds) => show_number(words, nanoseconds),
+            Field::Price(price) => show_price(words, price),
+            Field::Mpid(mpid) => show_text(words, mpid),
+            Field::Stock(stock) => show_text(words, stock),
+            Field::Side(side) => show_side(words, side),
+            Field::Code(byte) => show_code(words, byte),
+            Field::TwoCodes(bytes) => show_codes(words, bytes),
+            Field::FourCodes(bytes) => show_codes(words, bytes),
+            Field::Digits(number) => show_number(words, number),
+        }
+    }
 }

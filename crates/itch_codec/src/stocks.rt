@@ -1,18 +1,21 @@
 //! System events and the securities' own messages.
-ghost use Rattle.std.specs.Prelude.{◌≡◌, ◌≤◌, ◌∷◌, ◌++◌, length};
-ghost use Rattle.arrayvec.specs.ArrayString.{array_string_len};
+ghost use Rattle.std.specs.Prelude.{◌≡◌, ◌+◌, ◌≤◌, ◌∷◌, ◌++◌, length};
 ghost use Rattle.arrayvec.specs.ArrayVec.{array_vec_len};
 ghost use Rattle.itch_codec.specs.Layouts.{system_event, directory_columns, stock_directory, trading_action, reg_sho, operational_halt, participant_position};
 ghost use Rattle.itch_codec.specs.Fields.{HasAll, joined, first_fault, Reads};
-ghost use Rattle.itch_codec.specs.Lines.{words};
+ghost use Rattle.itch_codec.specs.Messages.{Fields};
+ghost use Rattle.itch_codec.specs.Names.{directory_keys, system_event_keys, stock_directory_keys, trading_action_keys, reg_sho_keys, operational_halt_keys, participant_position_keys};
+ghost use Rattle.itch_codec.specs.Rooms.{most_fields};
+ghost use Rattle.itch_codec.specs.Shown.{fields, shown_as};
 ghost use Rattle.itch_codec.specs.Values.{system_event_values, directory_values, stock_directory_values, trading_action_values, reg_sho_values, operational_halt_values, participant_position_values};
 ghost use Rattle.itch_codec.specs.Widths.{IsSystemEvent, IsDirectory, IsStockDirectory, IsTradingAction, IsRegSho, IsOperationalHalt, IsParticipantPosition};
 
 use crate::fault::CodecFault;
 use crate::fields::{Buffer, codes_at, put_code, put_codes, put_text, put_u32, text_at, u32_at};
 use crate::header::Header;
+use crate::names::Key;
+use crate::sink::{Field, FieldSink};
 use crate::text::Alpha;
-use crate::words::{Words, show_code, show_codes, show_number, show_text};
 
 /// System Event, `S` (TotalView-ITCH 5.0, "System Event Message").
 #[derive(Clone, Copy, Debug, PartialEq, Eq)]
@@ -43,15 +46,15 @@ impl SystemEvent {
         put_code(out, self.code);
     }
 
-    /// Appends the type and the fields to a line that has the message's number so far.
-    #[tactic(auto, using(crate::proofs::Joining::joining), unfolding(crate::specs::Lines::words))]
-    pub(crate) fn show(&self, line: &mut Words)
-        requires { array_string_len line.old ≤ 21 }
-        ensures bytes { line.new.bytes ≡ line.old.bytes ++ system_event.kind ∷ words system_event.columns (system_event_values self.now) }
-        ensures len { array_string_len line.new ≤ 191 }
+    /// Writes the type and the fields to a sink.
+    #[tactic(auto, using(crate::proofs::Joining::joining), unfolding(crate::specs::Shown::fields, crate::specs::Rooms::most_fields))]
+    pub(crate) fn write<S: FieldSink>(&self, sink: &mut S)
+        requires room { S.len sink.old + (S.most.start + most_fields S.most system_event_keys system_event.columns) ≤ S.capacity }
+        ensures bytes { S.text sink.new ≡ S.text sink.old ++ shown_as S.form system_event_keys (Fields system_event (system_event_values self.now)) }
+        ensures len { S.len sink.new ≤ S.len sink.old + (S.most.start + most_fields S.most system_event_keys system_event.columns) }
     {
-        self.header.show(line, "S");
-        show_code(line, self.code);
+        self.header.write_as(b'S', sink);
+        sink.put(Key::EventCode, Field::Code(self.code));
     }
 }
 
@@ -123,27 +126,39 @@ impl Directory {
         put_code(out, self.inverse_indicator);
     }
 
-    // The fields of an entry, as words of a line.
-    #[tactic(auto, using(crate::proofs::Joining::joining), unfolding(crate::specs::Lines::words))]
-    fn show(&self, line: &mut Words)
-        requires { array_string_len line.old ≤ 85 }
-        ensures bytes { line.new.bytes ≡ line.old.bytes ++ words directory_columns (directory_values self.now) }
-        ensures len { array_string_len line.new ≤ 191 }
+    // The fields of an entry.
+    #[tactic(auto, using(crate::proofs::Joining::joining), unfolding(crate::specs::Shown::fields, crate::specs::Rooms::most_fields))]
+    fn write<S: FieldSink>(&self, sink: &mut S)
+        requires room { S.len sink.old + most_fields S.most directory_keys directory_columns ≤ S.capacity }
+        ensures bytes { S.text sink.new ≡ S.text sink.old ++ fields S.form directory_keys directory_columns (directory_values self.now) }
+        ensures len { S.len sink.new ≤ S.len sink.old + most_fields S.most directory_keys directory_columns }
     {
-        show_text(line, &self.stock);
-        show_code(line, self.market_category);
-        show_code(line, self.financial_status);
-        show_number(line, u64::from(self.round_lot_size));
-        show_code(line, self.round_lots_only);
-        show_code(line, self.issue_classification);
-        show_codes(line, &self.issue_sub_type);
-        show_code(line, self.authenticity);
-        show_code(line, self.short_sale_threshold);
-        show_code(line, self.ipo_flag);
-        show_code(line, self.luld_price_tier);
-        show_code(line, self.etp_flag);
-        show_number(line, u64::from(self.etp_leverage_factor));
-        show_code(line, self.inverse_indicator);
+        sink.put(Key::Stock, Field::Stock(&self.stock));
+        sink.put(Key::MarketCategory, Field::Code(self.market_category));
+        sink.put(
+            Key::FinancialStatusIndicator,
+            Field::Code(self.financial_status),
+        );
+        sink.put(Key::RoundLotSize, Field::U32(self.round_lot_size));
+        sink.put(Key::RoundLotsOnly, Field::Code(self.round_lots_only));
+        sink.put(
+            Key::IssueClassification,
+            Field::Code(self.issue_classification),
+        );
+        sink.put(Key::IssueSubType, Field::TwoCodes(&self.issue_sub_type));
+        sink.put(Key::Authenticity, Field::Code(self.authenticity));
+        sink.put(
+            Key::ShortSaleThresholdIndicator,
+            Field::Code(self.short_sale_threshold),
+        );
+        sink.put(Key::IpoFlag, Field::Code(self.ipo_flag));
+        sink.put(
+            Key::LuldReferencePriceTier,
+            Field::Code(self.luld_price_tier),
+        );
+        sink.put(Key::EtpFlag, Field::Code(self.etp_flag));
+        sink.put(Key::EtpLeverageFactor, Field::U32(self.etp_leverage_factor));
+        sink.put(Key::InverseIndicator, Field::Code(self.inverse_indicator));
     }
 }
 
@@ -175,15 +190,15 @@ impl StockDirectory {
         self.entry.put(out);
     }
 
-    /// Appends the type and the fields to a line that has the message's number so far.
-    #[tactic(auto, using(crate::proofs::Joining::joining), unfolding(crate::specs::Lines::words))]
-    pub(crate) fn show(&self, line: &mut Words)
-        requires { array_string_len line.old ≤ 21 }
-        ensures bytes { line.new.bytes ≡ line.old.bytes ++ stock_directory.kind ∷ words stock_directory.columns (stock_directory_values self.now) }
-        ensures len { array_string_len line.new ≤ 191 }
+    /// Writes the type and the fields to a sink.
+    #[tactic(auto, using(crate::proofs::Joining::joining), unfolding(crate::specs::Shown::fields, crate::specs::Rooms::most_fields))]
+    pub(crate) fn write<S: FieldSink>(&self, sink: &mut S)
+        requires room { S.len sink.old + (S.most.start + most_fields S.most stock_directory_keys stock_directory.columns) ≤ S.capacity }
+        ensures bytes { S.text sink.new ≡ S.text sink.old ++ shown_as S.form stock_directory_keys (Fields stock_directory (stock_directory_values self.now)) }
+        ensures len { S.len sink.new ≤ S.len sink.old + (S.most.start + most_fields S.most stock_directory_keys stock_directory.columns) }
     {
-        self.header.show(line, "R");
-        self.entry.show(line);
+        self.header.write_as(b'R', sink);
+        self.entry.write(sink);
     }
 }
 
@@ -227,18 +242,18 @@ impl TradingAction {
         put_codes(out, self.reason);
     }
 
-    /// Appends the type and the fields to a line that has the message's number so far.
-    #[tactic(auto, using(crate::proofs::Joining::joining), unfolding(crate::specs::Lines::words))]
-    pub(crate) fn show(&self, line: &mut Words)
-        requires { array_string_len line.old ≤ 21 }
-        ensures bytes { line.new.bytes ≡ line.old.bytes ++ trading_action.kind ∷ words trading_action.columns (trading_action_values self.now) }
-        ensures len { array_string_len line.new ≤ 191 }
+    /// Writes the type and the fields to a sink.
+    #[tactic(auto, using(crate::proofs::Joining::joining), unfolding(crate::specs::Shown::fields, crate::specs::Rooms::most_fields))]
+    pub(crate) fn write<S: FieldSink>(&self, sink: &mut S)
+        requires room { S.len sink.old + (S.most.start + most_fields S.most trading_action_keys trading_action.columns) ≤ S.capacity }
+        ensures bytes { S.text sink.new ≡ S.text sink.old ++ shown_as S.form trading_action_keys (Fields trading_action (trading_action_values self.now)) }
+        ensures len { S.len sink.new ≤ S.len sink.old + (S.most.start + most_fields S.most trading_action_keys trading_action.columns) }
     {
-        self.header.show(line, "H");
-        show_text(line, &self.stock);
-        show_code(line, self.state);
-        show_code(line, self.reserved);
-        show_codes(line, &self.reason);
+        self.header.write_as(b'H', sink);
+        sink.put(Key::Stock, Field::Stock(&self.stock));
+        sink.put(Key::TradingState, Field::Code(self.state));
+        sink.put(Key::Reserved, Field::Code(self.reserved));
+        sink.put(Key::Reason, Field::FourCodes(&self.reason));
     }
 }
 
@@ -274,16 +289,16 @@ impl RegSho {
         put_code(out, self.action);
     }
 
-    /// Appends the type and the fields to a line that has the message's number so far.
-    #[tactic(auto, using(crate::proofs::Joining::joining), unfolding(crate::specs::Lines::words))]
-    pub(crate) fn show(&self, line: &mut Words)
-        requires { array_string_len line.old ≤ 21 }
-        ensures bytes { line.new.bytes ≡ line.old.bytes ++ reg_sho.kind ∷ words reg_sho.columns (reg_sho_values self.now) }
-        ensures len { array_string_len line.new ≤ 191 }
+    /// Writes the type and the fields to a sink.
+    #[tactic(auto, using(crate::proofs::Joining::joining), unfolding(crate::specs::Shown::fields, crate::specs::Rooms::most_fields))]
+    pub(crate) fn write<S: FieldSink>(&self, sink: &mut S)
+        requires room { S.len sink.old + (S.most.start + most_fields S.most reg_sho_keys reg_sho.columns) ≤ S.capacity }
+        ensures bytes { S.text sink.new ≡ S.text sink.old ++ shown_as S.form reg_sho_keys (Fields reg_sho (reg_sho_values self.now)) }
+        ensures len { S.len sink.new ≤ S.len sink.old + (S.most.start + most_fields S.most reg_sho_keys reg_sho.columns) }
     {
-        self.header.show(line, "Y");
-        show_text(line, &self.stock);
-        show_code(line, self.action);
+        self.header.write_as(b'Y', sink);
+        sink.put(Key::Stock, Field::Stock(&self.stock));
+        sink.put(Key::RegShoAction, Field::Code(self.action));
     }
 }
 
@@ -323,17 +338,17 @@ impl OperationalHalt {
         put_code(out, self.action);
     }
 
-    /// Appends the type and the fields to a line that has the message's number so far.
-    #[tactic(auto, using(crate::proofs::Joining::joining), unfolding(crate::specs::Lines::words))]
-    pub(crate) fn show(&self, line: &mut Words)
-        requires { array_string_len line.old ≤ 21 }
-        ensures bytes { line.new.bytes ≡ line.old.bytes ++ operational_halt.kind ∷ words operational_halt.columns (operational_halt_values self.now) }
-        ensures len { array_string_len line.new ≤ 191 }
+    /// Writes the type and the fields to a sink.
+    #[tactic(auto, using(crate::proofs::Joining::joining), unfolding(crate::specs::Shown::fields, crate::specs::Rooms::most_fields))]
+    pub(crate) fn write<S: FieldSink>(&self, sink: &mut S)
+        requires room { S.len sink.old + (S.most.start + most_fields S.most operational_halt_keys operational_halt.columns) ≤ S.capacity }
+        ensures bytes { S.text sink.new ≡ S.text sink.old ++ shown_as S.form operational_halt_keys (Fields operational_halt (operational_halt_values self.now)) }
+        ensures len { S.len sink.new ≤ S.len sink.old + (S.most.start + most_fields S.most operational_halt_keys operational_halt.columns) }
     {
-        self.header.show(line, "h");
-        show_text(line, &self.stock);
-        show_code(line, self.market_code);
-        show_code(line, self.action);
+        self.header.write_as(b'h', sink);
+        sink.put(Key::Stock, Field::Stock(&self.stock));
+        sink.put(Key::MarketCode, Field::Code(self.market_code));
+        sink.put(Key::OperationalHaltAction, Field::Code(self.action));
     }
 }
 
@@ -380,18 +395,21 @@ impl ParticipantPosition {
         put_code(out, self.state);
     }
 
-    /// Appends the type and the fields to a line that has the message's number so far.
-    #[tactic(auto, using(crate::proofs::Joining::joining), unfolding(crate::specs::Lines::words))]
-    pub(crate) fn show(&self, line: &mut Words)
-        requires { array_string_len line.old ≤ 21 }
-        ensures bytes { line.new.bytes ≡ line.old.bytes ++ participant_position.kind ∷ words participant_position.columns (participant_position_values self.now) }
-        ensures len { array_string_len line.new ≤ 191 }
+    /// Writes the type and the fields to a sink.
+    #[tactic(auto, using(crate::proofs::Joining::joining), unfolding(crate::specs::Shown::fields, crate::specs::Rooms::most_fields))]
+    pub(crate) fn write<S: FieldSink>(&self, sink: &mut S)
+        requires room { S.len sink.old + (S.most.start + most_fields S.most participant_position_keys participant_position.columns) ≤ S.capacity }
+        ensures bytes { S.text sink.new ≡ S.text sink.old ++ shown_as S.form participant_position_keys (Fields participant_position (participant_position_values self.now)) }
+        ensures len { S.len sink.new ≤ S.len sink.old + (S.most.start + most_fields S.most participant_position_keys participant_position.columns) }
     {
-        self.header.show(line, "L");
-        show_text(line, &self.mpid);
-        show_text(line, &self.stock);
-        show_code(line, self.primary_market_maker);
-        show_code(line, self.mode);
-        show_code(line, self.state);
+        self.header.write_as(b'L', sink);
+        sink.put(Key::Mpid, Field::Mpid(&self.mpid));
+        sink.put(Key::Stock, Field::Stock(&self.stock));
+        sink.put(
+            Key::PrimaryMarketMaker,
+            Field::Code(self.primary_market_maker),
+        );
+        sink.put(Key::MarketMakerMode, Field::Code(self.mode));
+        sink.put(Key::MarketParticipantState, Field::Code(self.state));
     }
 }

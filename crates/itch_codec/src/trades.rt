@@ -1,9 +1,11 @@
 //! The messages about trades, which change no order.
-ghost use Rattle.std.specs.Prelude.{◌≡◌, ◌≤◌, ◌∷◌, ◌++◌, length};
-ghost use Rattle.arrayvec.specs.ArrayString.{array_string_len};
+ghost use Rattle.std.specs.Prelude.{◌≡◌, ◌+◌, ◌≤◌, ◌∷◌, ◌++◌, length};
 ghost use Rattle.itch_codec.specs.Layouts.{trade, cross_trade, broken_trade};
 ghost use Rattle.itch_codec.specs.Fields.{HasAll, joined, first_fault, Reads};
-ghost use Rattle.itch_codec.specs.Lines.{words};
+ghost use Rattle.itch_codec.specs.Messages.{Fields};
+ghost use Rattle.itch_codec.specs.Names.{trade_keys, cross_trade_keys, broken_trade_keys};
+ghost use Rattle.itch_codec.specs.Rooms.{most_fields};
+ghost use Rattle.itch_codec.specs.Shown.{shown_as};
 ghost use Rattle.itch_codec.specs.Values.{trade_values, cross_trade_values, broken_trade_values};
 ghost use Rattle.itch_codec.specs.Widths.{IsTrade, IsCrossTrade, IsBrokenTrade};
 
@@ -12,9 +14,10 @@ use crate::fields::{
     Buffer, put_code, put_side, put_text, put_u32, put_u64, side_at, text_at, u32_at, u64_at,
 };
 use crate::header::Header;
+use crate::names::Key;
 use crate::orders::Side;
+use crate::sink::{Field, FieldSink};
 use crate::text::Alpha;
-use crate::words::{Words, show_code, show_number, show_price, show_side, show_text};
 
 /// Trade, non-cross, `P` (TotalView-ITCH 5.0, "Trade Message (Non-Cross)").
 #[derive(Clone, Copy, Debug, PartialEq, Eq)]
@@ -60,20 +63,20 @@ impl Trade {
         put_u64(out, self.match_number);
     }
 
-    /// Appends the type and the fields to a line that has the message's number so far.
-    #[tactic(auto, using(crate::proofs::Joining::joining), unfolding(crate::specs::Lines::words))]
-    pub(crate) fn show(&self, line: &mut Words)
-        requires { array_string_len line.old ≤ 21 }
-        ensures bytes { line.new.bytes ≡ line.old.bytes ++ trade.kind ∷ words trade.columns (trade_values self.now) }
-        ensures len { array_string_len line.new ≤ 191 }
+    /// Writes the type and the fields to a sink.
+    #[tactic(auto, using(crate::proofs::Joining::joining), unfolding(crate::specs::Shown::fields, crate::specs::Rooms::most_fields))]
+    pub(crate) fn write<S: FieldSink>(&self, sink: &mut S)
+        requires room { S.len sink.old + (S.most.start + most_fields S.most trade_keys trade.columns) ≤ S.capacity }
+        ensures bytes { S.text sink.new ≡ S.text sink.old ++ shown_as S.form trade_keys (Fields trade (trade_values self.now)) }
+        ensures len { S.len sink.new ≤ S.len sink.old + (S.most.start + most_fields S.most trade_keys trade.columns) }
     {
-        self.header.show(line, "P");
-        show_number(line, self.reference);
-        show_side(line, self.side);
-        show_number(line, u64::from(self.shares));
-        show_text(line, &self.stock);
-        show_price(line, self.price);
-        show_number(line, self.match_number);
+        self.header.write_as(b'P', sink);
+        sink.put(Key::OrderReferenceNumber, Field::U64(self.reference));
+        sink.put(Key::BuySellIndicator, Field::Side(self.side));
+        sink.put(Key::Shares, Field::U32(self.shares));
+        sink.put(Key::Stock, Field::Stock(&self.stock));
+        sink.put(Key::Price, Field::Price(self.price));
+        sink.put(Key::MatchNumber, Field::U64(self.match_number));
     }
 }
 
@@ -119,19 +122,19 @@ impl CrossTrade {
         put_code(out, self.cross_type);
     }
 
-    /// Appends the type and the fields to a line that has the message's number so far.
-    #[tactic(auto, using(crate::proofs::Joining::joining), unfolding(crate::specs::Lines::words))]
-    pub(crate) fn show(&self, line: &mut Words)
-        requires { array_string_len line.old ≤ 21 }
-        ensures bytes { line.new.bytes ≡ line.old.bytes ++ cross_trade.kind ∷ words cross_trade.columns (cross_trade_values self.now) }
-        ensures len { array_string_len line.new ≤ 191 }
+    /// Writes the type and the fields to a sink.
+    #[tactic(auto, using(crate::proofs::Joining::joining), unfolding(crate::specs::Shown::fields, crate::specs::Rooms::most_fields))]
+    pub(crate) fn write<S: FieldSink>(&self, sink: &mut S)
+        requires room { S.len sink.old + (S.most.start + most_fields S.most cross_trade_keys cross_trade.columns) ≤ S.capacity }
+        ensures bytes { S.text sink.new ≡ S.text sink.old ++ shown_as S.form cross_trade_keys (Fields cross_trade (cross_trade_values self.now)) }
+        ensures len { S.len sink.new ≤ S.len sink.old + (S.most.start + most_fields S.most cross_trade_keys cross_trade.columns) }
     {
-        self.header.show(line, "Q");
-        show_number(line, self.shares);
-        show_text(line, &self.stock);
-        show_price(line, self.price);
-        show_number(line, self.match_number);
-        show_code(line, self.cross_type);
+        self.header.write_as(b'Q', sink);
+        sink.put(Key::Shares, Field::U64(self.shares));
+        sink.put(Key::Stock, Field::Stock(&self.stock));
+        sink.put(Key::CrossPrice, Field::Price(self.price));
+        sink.put(Key::MatchNumber, Field::U64(self.match_number));
+        sink.put(Key::CrossType, Field::Code(self.cross_type));
     }
 }
 
@@ -163,14 +166,14 @@ impl BrokenTrade {
         put_u64(out, self.match_number);
     }
 
-    /// Appends the type and the fields to a line that has the message's number so far.
-    #[tactic(auto, using(crate::proofs::Joining::joining), unfolding(crate::specs::Lines::words))]
-    pub(crate) fn show(&self, line: &mut Words)
-        requires { array_string_len line.old ≤ 21 }
-        ensures bytes { line.new.bytes ≡ line.old.bytes ++ broken_trade.kind ∷ words broken_trade.columns (broken_trade_values self.now) }
-        ensures len { array_string_len line.new ≤ 191 }
+    /// Writes the type and the fields to a sink.
+    #[tactic(auto, using(crate::proofs::Joining::joining), unfolding(crate::specs::Shown::fields, crate::specs::Rooms::most_fields))]
+    pub(crate) fn write<S: FieldSink>(&self, sink: &mut S)
+        requires room { S.len sink.old + (S.most.start + most_fields S.most broken_trade_keys broken_trade.columns) ≤ S.capacity }
+        ensures bytes { S.text sink.new ≡ S.text sink.old ++ shown_as S.form broken_trade_keys (Fields broken_trade (broken_trade_values self.now)) }
+        ensures len { S.len sink.new ≤ S.len sink.old + (S.most.start + most_fields S.most broken_trade_keys broken_trade.columns) }
     {
-        self.header.show(line, "B");
-        show_number(line, self.match_number);
+        self.header.write_as(b'B', sink);
+        sink.put(Key::MatchNumber, Field::U64(self.match_number));
     }
 }

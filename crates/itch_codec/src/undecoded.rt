@@ -6,6 +6,8 @@ ghost use Rattle.std.proofs.Common.{rules};
 ghost use Rattle.itch_codec.specs.Numbers.{byte_at};
 ghost use Rattle.itch_codec.specs.Layouts.{IsUndecoded};
 
+use crate::names::Key;
+use crate::sink::{Field, FieldSink};
 use crate::sizes::size_of_type;
 use std::marker::Model;
 
@@ -24,6 +26,11 @@ impl<'a> Model for Undecoded<'a> {
 }
 
 impl<'a> Undecoded<'a> {
+    ghost use Rattle.std.specs.Prelude.{◌+◌, ◌≤◌, [], ◌++◌};
+    ghost use Rattle.itch_codec.specs.Messages.{Payload};
+    ghost use Rattle.itch_codec.specs.Rooms.{most_as};
+    ghost use Rattle.itch_codec.specs.Shown.{shown_as};
+
     /// The payload as a message that is not decoded, if it is not empty and its first byte is not a type of the table.
     pub fn new(payload: &'a [u8]) -> Option<Undecoded<'a>>
         ensures accepts { IsSome result ↔ IsUndecoded payload.entry.now }
@@ -55,6 +62,18 @@ impl<'a> Undecoded<'a> {
         ensures undecoded { IsUndecoded self.now }
     {
         self.payload
+    }
+
+    /// Writes the type and the length to a sink.
+    #[tactic(auto, using(crate::proofs::Joining::joining))]
+    pub(crate) fn write<S: FieldSink>(&self, sink: &mut S)
+        requires room { S.len sink.old + most_as S.most [] (Payload self.now) ≤ S.capacity }
+        ensures bytes { S.text sink.new ≡ S.text sink.old ++ shown_as S.form [] (Payload self.now) }
+        ensures len { S.len sink.new ≤ S.len sink.old + most_as S.most [] (Payload self.now) }
+    {
+        sink.begin_undecoded();
+        sink.put(Key::Kind, Field::Code(self.kind()));
+        sink.put(Key::Length, Field::U64(self.payload.len() as u64));
     }
 }
 

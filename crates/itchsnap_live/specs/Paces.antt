@@ -1,6 +1,6 @@
 -- When a message of a day file that is played is due.
-use Rattle.std.specs.Prelude.{ℕ, ◌*◌, nat_le, nat_lt, Bool, true, List, length, if◌then◌else◌}
-use Rattle.itch_codec.specs.Numbers.{number_at}
+use Rattle.std.specs.Prelude.{ℕ, ◌*◌, nat_le, Bool, true, List, unwrap_or}
+use Rattle.itch_codec.specs.Headers.{stamp_in}
 use Rattle.itchsnap_live.specs.declared.pace.Pace.{Pace}
 use Rattle.itchsnap_live.specs.declared.pace.Pace.TheVariants.{Free, Rate, Clock}
 
@@ -14,4 +14,4 @@ is_due (Clock times) passed before later = nat_le later (times * 1_000_000 * pas
 
 -- the timestamp of a message; 0 where it has none
 abbrev pub timestamp : List ℕ → ℕ
-timestamp message = if nat_lt (length message) 11 then 0 else number_at 5 6 message
+timestamp message = unwrap_or (stamp_in message) 0

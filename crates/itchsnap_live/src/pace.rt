@@ -2,7 +2,7 @@
 ghost use Rattle.std.specs.Prelude.{◌≡◌, ◌*◌, nat_le};
 ghost use Rattle.itchsnap_live.specs.Paces.{is_due, timestamp};
 
-use byteorder::{BigEndian, ByteOrder};
+use itch_codec::Stamp;
 
 /// How fast a day file is played.
 #[derive(Clone, Copy, Debug, PartialEq, Eq)]
@@ -14,11 +14,6 @@ pub enum Pace {
     /// As the timestamps of its messages say, so many times as fast.
     Clock(u64),
 }
-
-/// Where a message has its timestamp, and where its header ends after that.
-const TIMESTAMP: usize = 5;
-
-const HEADER: usize = 11;
 
 /// Whether a message is due so many milliseconds after the login was accepted, of which so many messages come before it, and so many
 /// nanoseconds lie between the timestamp of the first one and its own.
@@ -50,13 +45,12 @@ fn reaches(wanted: u128, factor: u128, other: u128) -> bool
     }
 }
 
-/// The timestamp in a message's header, the nanoseconds since midnight in six bytes; 0 where it has none.
-#[tactic(auto, unfolding(itch_codec::specs::Numbers::number_at))]
+/// The timestamp in a message's header, in nanoseconds since midnight; 0 where it has none.
 pub(crate) fn timestamp(message: &[u8]) -> u64
     ensures { result ≡ timestamp message.now }
 {
-    if message.len() < HEADER {
-        return 0;
+    match Stamp::of_payload(message) {
+        Some(stamp) => stamp.value(),
+        None => 0,
     }
-    BigEndian::read_u48(&message[TIMESTAMP..HEADER])
 }

@@ -3,34 +3,18 @@ ghost use Rattle.std.specs.Prelude.{◌≡◌, ◌+◌, ◌*◌, ◌≤◌, [], 
 ghost use Rattle.std.specs.List.{flat_map};
 ghost use Rattle.arrayvec.specs.ArrayString.{array_string_len};
 ghost use Rattle.itch_codec.specs.Fields.{Number};
-ghost use Rattle.itch_codec.specs.Layouts.{Integer, with_header};
+ghost use Rattle.itch_codec.specs.Layouts.{Integer};
 ghost use Rattle.itch_codec.specs.Lines.{word};
-ghost use Rattle.itch_codec.specs.Named.{character, characters, clock_word, named_words};
-ghost use Rattle.itch_codec.specs.Values.{header_values};
+ghost use Rattle.itch_codec.specs.Named.{character, characters, clock_word};
 
-use crate::header::Header;
 use crate::pieces::{push_ascii, push_clock, push_hex};
 use crate::words::Words;
 use itoa::Buffer;
 
-/// Appends the letter of the message's type, and its header.
-#[tactic(auto, using(crate::proofs::Joining::joining), unfolding(crate::specs::Named::named_words))]
-pub(super) fn show_header(line: &mut Words, letter: &str, header: &Header)
-    requires number { array_string_len line.old ≤ 21 }
-    requires letter { length letter.now ≤ 1 }
-    ensures bytes { line.new.bytes ≡ line.old.bytes ++ letter.now ++ named_words (with_header []) (header_values header.now []) }
-    ensures len { array_string_len line.new ≤ 53 }
-{
-    line.push_str(letter);
-    show_short(line, header.locate);
-    show_short(line, header.tracking);
-    show_clock(line, header.stamp.value());
-}
-
-// A number of at most five digits leaves room for the characters of a directory entry.
+/// Appends a space and a number of at most five digits, which leaves room for the characters of a directory entry.
 #[tactic(auto, unfolding(crate::specs::Lines::word))]
-fn show_short(line: &mut Words, number: u16)
-    requires { array_string_len line.old ≤ 171 }
+pub(super) fn show_short(line: &mut Words, number: u16)
+    requires { array_string_len line.old ≤ 186 }
     ensures bytes { line.new.bytes ≡ line.old.bytes ++ word Integer (Number number) }
     ensures len { array_string_len line.new ≤ array_string_len line.old + 6 }
 {
@@ -38,9 +22,10 @@ fn show_short(line: &mut Words, number: u16)
     line.push_str(Buffer::new().format(number));
 }
 
+/// Appends a space and a time of the day.
 #[tactic(auto, unfolding(crate::specs::Named::clock_word))]
-fn show_clock(line: &mut Words, nanoseconds: u64)
-    requires { array_string_len line.old ≤ 171 }
+pub(super) fn show_clock(line: &mut Words, nanoseconds: u64)
+    requires { array_string_len line.old ≤ 173 }
     ensures bytes { line.new.bytes ≡ line.old.bytes ++ clock_word nanoseconds }
     ensures len { array_string_len line.new ≡ array_string_len line.old + 19 }
 {

@@ -1,5 +1,0 @@
--- The words of a stock directory message are those of its layout.
-use Rattle.itch_codec.proofs.showing.show_words.Goals as goal
-
-pub returns-in-StockDirectory-clause-bytes : goal.returns-in-StockDirectory-clause-bytes
-returns-in-StockDirectory-clause-bytes c = rw c.in-StockDirectory.is c.show-in-StockDirectory.ensures.bytes
