@@ -21,7 +21,7 @@ from typing import NamedTuple
 
 import large
 from common import differs, split
-from living import (BEAT, CLIENT_BEAT, ENDED, LOGIN, PATIENCE, SILENCE, Feed, acceptance, answer, connect, day_of, fetch, folder_with, live,
+from living import (BEAT, CLIENT_BEAT, ENDED, LOGIN, PATIENCE, SILENCE, Feed, acceptance, answer, block_in, connect, day_of, fetch, folder_with, live,
                     number_in, number_of, packet, plays, received, sends)
 
 ACCEPTED = len(acceptance(1))
@@ -32,6 +32,8 @@ SLACK = 1
 DESCRIPTORS = 4096
 # A client hears something each second: for how long nothing may come, on such a machine.
 PAUSE = 1.9
+# For how long a client waits for room before another one makes room.
+ROOM = 0.5
 
 # Clients that log in, take an acceptance, leave and come again, until the process is ended: of a port, and so many at a time.
 HAMMER = """
@@ -317,6 +319,43 @@ def a_snapshot_waits_for_memory(program):
             yield f"the first has {first.count} bytes, and the second {len(told.data)}"
 
 
+class Coming:
+    """A client that logs in, and is told its snapshot after some seconds."""
+
+    def __init__(self, port):
+        self.peer, self.begun = connect(port), time.monotonic()
+        self.peer.sendall(LOGIN)
+        self.accepted = received(self.peer, ACCEPTED)
+
+    def told(self):
+        """In how many seconds its snapshot began, and all that it is told."""
+        block = block_in(self.peer)
+        while block == BEAT:
+            block = block_in(self.peer)
+        seconds = time.monotonic() - self.begun
+        with contextlib.suppress(ConnectionError):
+            return seconds, self.accepted + block + received(self.peer)
+        return seconds, b""
+
+
+def the_reader_that_was_slow_for_longest_makes_room(program):
+    """There is memory for two. It is cut off once a client has waited for half a second: an earlier one, which left, does not count."""
+    with busy_server(program, "--snapshot-memory", "20M") as (server, _), contextlib.ExitStack() as held:
+        first, second = (held.enter_context(Reader(server.port, 100_000, 4096)).has_begun() for _ in range(2))
+        with Coming(server.port).peer as early:
+            early.sendall(b"\0\x01O")
+            received(early)
+        # The second one is slow by now too.
+        time.sleep(1.2)
+        seconds, told = Coming(server.port).told()
+        yield from differs("the next one is told the market", market().is_told(told), True)
+        if seconds < ROOM - 0.02:
+            yield f"it had room after {seconds:.3f} seconds"
+        first.thread.join(PATIENCE)
+        yield from differs("the first and the second are open", (first.is_open, second.is_open), (False, True))
+        yield from differs("cut off as the slowest", endings(server, "cut off as the slowest"), 1)
+
+
 def eight_slow_readers_hinder_no_other(program):
     """There is memory for the snapshot of each: the ninth is accepted at once, told each second that the server is there, and has its snapshot
     within four times what that takes alone."""
@@ -449,6 +488,53 @@ def an_output_that_nobody_takes_does_not_end_it(program):
                 end.set()
 
 
+def lines_that_nobody_takes_do_not_end_it(program):
+    """Standard error is a pipe that is full by the time its feed is lost."""
+    day, wanted = day_of(20)
+    goes, end = threading.Event(), threading.Event()
+
+    def lost(peer, login):
+        peer.sendall(acceptance(1) + b"".join(map(packet, split(day)[:10])))
+        goes.wait(PATIENCE)
+
+    with folder_with() as folder, Feed(lost, plays(day, wait=end, held=ENDED)) as feed:
+        pipe = folder / "pipe"
+        os.mkfifo(pipe)
+        reader = os.open(pipe, os.O_RDWR)
+        with live(started_by(folder, program, output=f"2>{shlex.quote(str(pipe))}"), feed.port) as server:
+            said = b""
+            while b"feed: accepted from 1\n" not in said:
+                said += os.read(reader, 4096)
+            server.port = int(said.split(b"\n")[0].rsplit(b":", 1)[1])
+            os.set_blocking(reader, False)
+            with contextlib.suppress(BlockingIOError):
+                while True:
+                    os.write(reader, bytes(4096))
+            goes.set()
+            yield from goes_on_differs(program, server, wanted)
+            os.close(reader)
+            end.set()
+
+
+def a_feed_at_full_speed_hinders_no_client(program):
+    """One that always has more to read, of messages as short as they can be: who comes is told the snapshot within a few seconds."""
+    end, piece = threading.Event(), b"\0\x02Sz" * 50_000
+
+    def endless(peer, login):
+        peer.sendall(acceptance(number_in(login)))
+        while not end.is_set():
+            peer.sendall(piece)
+
+    with Feed(endless) as feed, live(program, feed.port) as server:
+        server.said("feed: accepted")
+        for _ in range(3):
+            told = told_within(server.port, 4 * SLACK)
+            whole = told.data.startswith(acceptance(1)) and told.data.endswith(ENDED) and number_of(told.data[:-len(ENDED)]) > 1
+            if not whole or told.seconds > 3 * SLACK:
+                yield f"{told.data[:100]!r} in {told.seconds:.2f} seconds"
+        end.set()
+
+
 def a_feed_that_refuses_a_login_once_is_asked_again(program):
     """After a loss it may be another server, which is a message behind. Wrong words at the first login end it."""
     day, _ = day_of(10)
@@ -520,11 +606,14 @@ RUNS = [
     a_thousand_that_never_log_in_hinder_nobody,
     twelve_slow_readers_have_room,
     a_snapshot_waits_for_memory,
+    the_reader_that_was_slow_for_longest_makes_room,
     eight_slow_readers_hinder_no_other,
     a_slow_reader_is_not_cut_off,
     snapshots_that_cannot_be_written_do_not_end_it,
     descriptors_are_left_for_the_feed_and_for_files,
     an_output_that_nobody_takes_does_not_end_it,
+    lines_that_nobody_takes_do_not_end_it,
+    a_feed_at_full_speed_hinders_no_client,
     a_feed_that_refuses_a_login_once_is_asked_again,
     a_feed_that_ends_before_any_message_is_asked_again,
     a_feed_that_begins_later_is_a_gap,
