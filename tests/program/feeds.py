@@ -12,8 +12,9 @@ import threading
 import time
 
 from common import differs, ended_in, split
-from living import (BEAT, ENDED, LOGIN, PATIENCE, WORDS, Feed, acceptance, answer, connect, day_of, feeding, fetch, folder_with, follow,
+from living import (BEAT, ENDED, LOGIN, PATIENCE, WORDS, Feed, Running, acceptance, answer, connect, day_of, feeding, fetch, folder_with, follow,
                     live, number_of, packet, plays, received, sends, snapshot_after, told)
+from network import has_ipv6
 from standby import waits_for
 
 
@@ -202,6 +203,18 @@ def an_unknown_host_cannot_be_opened(program):
                 yield f"{words}: {status}, {output!r}, {error!r}"
 
 
+def a_feed_of_an_ipv6_address_is_followed(program):
+    if not has_ipv6():
+        print("skipped: a feed of an IPv6 address: there is no IPv6 here")
+        return
+    day, _ = day_of(20)
+    with folder_with(day=day) as folder, feeding(program, folder / "day", "--bind", "::1") as feed:
+        words = "--feed", f"[::1]:{feed.port}", "--port", "0", *WORDS, "--record", folder / "record"
+        with Running(program, "live", *words) as server:
+            yield from differs("ended", server.ended()[0], 0)
+        yield from differs("record", (folder / "record").read_bytes() == day, True)
+
+
 def words_that_do_not_go_together_are_refused(program):
     live_words = ["live", "--feed", "h:1", "--port", "0", *WORDS]
     follow_words = ["follow", "--feed", "h:1", "--glimpse", "h:2", *WORDS]
@@ -231,5 +244,6 @@ RUNS = [
     a_follower_s_closed_pipe_ends_it_quietly,
     an_address_in_use_is_a_failed_socket,
     an_unknown_host_cannot_be_opened,
+    a_feed_of_an_ipv6_address_is_followed,
     words_that_do_not_go_together_are_refused,
 ]
