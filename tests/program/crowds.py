@@ -15,9 +15,11 @@ import time
 from concurrent.futures import ThreadPoolExecutor
 from pathlib import Path
 
+import large
 from common import differs, split
-from living import (ENDED, LOGIN, Feed, acceptance, answer, connect, day_of, fetch, large_server, live, number_of, packet, plays, received, sends,
-                    told)
+from living import (ENDED, LOGIN, Feed, acceptance, answer, connect, day_of, feeding, fetch, folder_with, large_server, live, number_of, packet, plays,
+                    received, sends, told)
+from standby import waits_for
 
 PLACES = 64
 PORT = 5100
@@ -74,6 +76,16 @@ def sixty_four_clients_at_once(program):
     # One that leaves with something unread resets its connection, which is a fault of its socket.
     gone = ends.pop("left", 0) + ends.pop("fault", 0)
     yield from differs("endings", (status, gone, ends), (0, 2, collections.Counter({"accepted": fast, "cut off": 2})))
+
+
+def a_snapshot_of_a_million_messages_is_served(program):
+    """By a server that has recorded them, to two clients."""
+    day, wanted = large.queue(1_000_000)
+    with folder_with(day=day) as folder, feeding(program, folder / "day", "--stay") as feed, \
+            live(program, feed.port, "--record", folder / "record", "--stay") as server:
+        waits_for(lambda: (folder / "record").exists() and (folder / "record").stat().st_size == len(day))
+        for _ in range(2):
+            yield from differs("fetched", fetch(program, server.port) == (0, wanted, b""), True)
 
 
 def is_asked_again(program, day, scripts):
@@ -153,6 +165,7 @@ def wireshark_reads_the_packets(program):
 
 RUNS = [
     sixty_four_clients_at_once,
+    a_snapshot_of_a_million_messages_is_served,
     a_feed_is_cut_at_every_byte_of_an_acceptance,
     a_feed_is_cut_at_every_byte_of_a_packet,
     wireshark_reads_the_packets,
