@@ -8,6 +8,7 @@ import shutil
 import subprocess
 import sys
 import tempfile
+import time
 from concurrent.futures import ThreadPoolExecutor
 from pathlib import Path
 
@@ -100,6 +101,17 @@ def a_fresh_copy_takes_less_than_a_second_without_the_toolchain(_program):
         yield from differs("through two links", copy.start("check", opening, script="../again"), (0, "ok 5 messages\n", ""))
         if (copy.top / "crates/itch_tool/out").exists():
             yield "something was built"
+
+
+def the_program_takes_the_place_of_its_script(_program):
+    """So a signal to the process ends it."""
+    with checkout() as copy, subprocess.Popen([copy.top / "itchsnap", "check"], stdin=subprocess.PIPE, stdout=subprocess.PIPE) as started:
+        begun, process = time.monotonic(), Path(f"/proc/{started.pid}/exe")
+        while process.readlink() != copy.top / "release/itchsnap" and time.monotonic() < begun + 10:
+            time.sleep(0.01)
+        yield from differs("the process is", process.readlink(), copy.top / "release/itchsnap")
+        output, _ = started.communicate((TOP / "examples/opening.itch").read_bytes(), timeout=60)
+        yield from differs("ended", (started.returncode, output), (0, b"ok 5 messages\n"))
 
 
 def a_checkout_may_be_read_only(_program):
@@ -278,6 +290,7 @@ def what_cannot_be_installed_is_one_line(_program):
 
 RUNS = [
     a_fresh_copy_takes_less_than_a_second_without_the_toolchain,
+    the_program_takes_the_place_of_its_script,
     a_checkout_may_be_read_only,
     the_released_version_has_the_records_hash,
     a_changed_source_needs_the_toolchain,
