@@ -6,6 +6,7 @@ import contextlib
 import fcntl
 import functools
 import os
+import re
 import resource
 import select
 import selectors
@@ -23,6 +24,7 @@ import large
 from common import differs, split
 from living import (BEAT, CLIENT_BEAT, ENDED, LOGIN, PATIENCE, SILENCE, Feed, acceptance, answer, block_in, connect, day_of, fetch, folder_with, live,
                     number_in, number_of, packet, plays, received, sends)
+from standby import waits_for
 
 ACCEPTED = len(acceptance(1))
 ORDERS, SYMBOLS, RATE = 200_000, 1000, 20_000
@@ -32,8 +34,8 @@ SLACK = 1
 DESCRIPTORS = 4096
 # A client hears something each second: for how long nothing may come, on such a machine.
 PAUSE = 1.9
-# For how long a client waits for room before another one makes room.
-ROOM = 0.5
+# For how long a client waits for room before another one makes room, and by when one that takes 100 KB a second is slow.
+ROOM, SLOW = 0.5, 6
 
 # Clients that log in, take an acceptance, leave and come again, until the process is ended: of a port, and so many at a time.
 HAMMER = """
@@ -296,6 +298,12 @@ def endings(server, what):
     return sum(line.endswith(what) for line in b"".join(server.output).decode().splitlines())
 
 
+def lines_of(server):
+    """The number of each connection that has ended, and how, in the order of their ends."""
+    lines = b"".join(server.output).decode().splitlines()
+    return [(int(number), ending) for number, ending in (it.removeprefix("connection ").split(": ", 1) for it in lines)]
+
+
 def twelve_slow_readers_have_room(program):
     """Each has a snapshot of its own: the next client has one at once, and none is cut off for it."""
     with busy_server(program) as (server, _), contextlib.ExitStack() as held:
@@ -339,20 +347,22 @@ class Coming:
 
 
 def the_reader_that_was_slow_for_longest_makes_room(program):
-    """There is memory for two. It is cut off once a client has waited for half a second: an earlier one, which left, does not count."""
+    """There is memory for two. The first one is cut off once a client has waited for half a second."""
     with busy_server(program, "--snapshot-memory", "20M") as (server, _), contextlib.ExitStack() as held:
-        first, second = (held.enter_context(Reader(server.port, 100_000, 4096)).has_begun() for _ in range(2))
-        with Coming(server.port).peer as early:
-            early.sendall(b"\0\x01O")
-            received(early)
-        # The second one is slow by now too.
-        time.sleep(1.2)
-        seconds, told = Coming(server.port).told()
-        yield from differs("the next one is told the market", market().is_told(told), True)
+        for _ in range(2):
+            held.enter_context(Reader(server.port, 100_000, 4096)).has_begun()
+        # By now each has taken less than a megabyte a second, what the system holds for it included.
+        time.sleep(SLOW)
+        coming = Coming(server.port)
+        waits_for(lambda: endings(server, "cut off as the slowest"))
+        seconds, (_, told) = time.monotonic() - coming.begun, coming.told()
         if seconds < ROOM - 0.02:
-            yield f"it had room after {seconds:.3f} seconds"
-        first.thread.join(PATIENCE)
-        yield from differs("the first and the second are open", (first.is_open, second.is_open), (False, True))
+            yield f"the slowest is cut off after {seconds:.3f} seconds"
+        yield from differs("the next one is told the market", market().is_told(told), True)
+        coming.peer.close()
+        waits_for(lambda: lines_of(server)[-1][1].startswith("accepted at "))
+        (slowest, _), (next_one, _) = lines_of(server)[-2:]
+        yield from differs("the slowest, the other, and the next one came one after another", next_one - slowest, 2)
         yield from differs("cut off as the slowest", endings(server, "cut off as the slowest"), 1)
 
 
