@@ -1,12 +1,10 @@
 //! Parts of a day, read one after another.
 use crate::doubles::PieceReader;
-use crate::equal::{same, same_in};
+use crate::equal::{Host, TestResult, same, same_in};
 use itch_codec::{CodecFault, MOST_MESSAGES, Message};
 use itch_day::{Limit, Mark, Marked, Sink, Stop, read_further, read_part};
 use itch_frame::{BlockReader, CountedRead, FrameFault};
 use std::alloc::Allocator;
-use std::process::Abort;
-use std::test::Fail;
 
 // System events at 1, 2, 3, 3 and 4 nanoseconds after midnight, and an empty block; each message has 14 bytes with its length.
 const DAY: &[u8] =
@@ -97,7 +95,7 @@ fn further<R: CountedRead, A: Allocator>(
 
 // Each part goes on where the one before it stopped.
 fn goes_on<R: CountedRead, A: Allocator>(
-    rt: &impl Abort,
+    rt: &impl Host,
     reader: &mut BlockReader<R, A>,
     is_further: bool,
 ) {
@@ -120,7 +118,7 @@ fn goes_on<R: CountedRead, A: Allocator>(
 }
 
 #[test]
-fn a_part_goes_on_where_the_one_before_it_stopped(rt: HostRuntime) -> Result<(), Fail> {
+fn a_part_goes_on_where_the_one_before_it_stopped(rt: HostRuntime) -> TestResult {
     for piece in [1, 9, 80] {
         let mut reader = BlockReader::new(rt.alloc(), PieceReader::new(DAY, piece, None))?;
         goes_on(&rt, &mut reader, false);
@@ -131,7 +129,7 @@ fn a_part_goes_on_where_the_one_before_it_stopped(rt: HostRuntime) -> Result<(),
 }
 
 // The third message is refused twice, and then taken.
-fn refuses_twice<R: CountedRead, A: Allocator>(rt: &impl Abort, reader: &mut BlockReader<R, A>) {
+fn refuses_twice<R: CountedRead, A: Allocator>(rt: &impl Host, reader: &mut BlockReader<R, A>) {
     let mut count = 0;
     let mut sink = Picky {
         refused: 3,
@@ -156,7 +154,7 @@ fn refuses_twice<R: CountedRead, A: Allocator>(rt: &impl Abort, reader: &mut Blo
 }
 
 #[test]
-fn a_refused_message_is_left(rt: HostRuntime) -> Result<(), Fail> {
+fn a_refused_message_is_left(rt: HostRuntime) -> TestResult {
     let mut reader = BlockReader::new(rt.alloc(), PieceReader::new(DAY, 64, None))?;
     refuses_twice(&rt, &mut reader);
     Ok(())
@@ -164,7 +162,7 @@ fn a_refused_message_is_left(rt: HostRuntime) -> Result<(), Fail> {
 
 // So many messages are taken until this stops them, however often it is asked.
 fn stops<R: CountedRead, A: Allocator>(
-    rt: &impl Abort,
+    rt: &impl Host,
     reader: &mut BlockReader<R, A>,
     word: &'static str,
     taken: u64,
@@ -185,7 +183,7 @@ fn stops<R: CountedRead, A: Allocator>(
 }
 
 #[test]
-fn says_why_a_part_goes_no_further(rt: HostRuntime) -> Result<(), Fail> {
+fn says_why_a_part_goes_no_further(rt: HostRuntime) -> TestResult {
     for (bytes, word, taken) in [
         (b"".as_slice(), "end", 0),
         (b"\0\0", "end", 0),
@@ -201,7 +199,7 @@ fn says_why_a_part_goes_no_further(rt: HostRuntime) -> Result<(), Fail> {
 
 // A read fails, and then the part goes on to its end.
 fn fails_and_goes_on<R: CountedRead, A: Allocator>(
-    rt: &impl Abort,
+    rt: &impl Host,
     reader: &mut BlockReader<R, A>,
     at: u64,
 ) {
@@ -218,7 +216,7 @@ fn fails_and_goes_on<R: CountedRead, A: Allocator>(
 }
 
 #[test]
-fn nothing_is_lost_whichever_read_fails(rt: HostRuntime) -> Result<(), Fail> {
+fn nothing_is_lost_whichever_read_fails(rt: HostRuntime) -> TestResult {
     for at in 1..=72 {
         let source = PieceReader::new(DAY, 1, Some(at));
         let mut reader = BlockReader::new(rt.alloc(), source)?;
@@ -247,7 +245,7 @@ fn mark_at<R: CountedRead, A: Allocator>(reader: &mut BlockReader<R, A>, until: 
 }
 
 #[test]
-fn a_mark_is_past_what_was_taken(rt: HostRuntime) -> Result<(), Fail> {
+fn a_mark_is_past_what_was_taken(rt: HostRuntime) -> TestResult {
     for (until, count, latest) in [(1, 0, None), (3, 2, Some(2)), (9, 5, Some(4))] {
         let mut reader = BlockReader::new(rt.alloc(), PieceReader::new(DAY, 9, None))?;
         let mark = Mark {

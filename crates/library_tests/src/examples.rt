@@ -3,7 +3,7 @@
 mod best;
 
 use crate::doubles::FuseWriter;
-use crate::equal::same;
+use crate::equal::{Host, TestResult, same};
 use crate::files::{AAPL, ADD_1, are_same, market, read, write};
 use itch_book::{IndexedBook, ListBook, Order, OrderBook};
 use itch_codec::{Alpha, Message, Seq, Side, decode, encode};
@@ -11,12 +11,10 @@ use itch_frame::{BlockReader, Counted, write_block};
 use itch_join::{Joiner, Live, Snap};
 use itch_market::{Market, Refusal};
 use itch_soup::{ClientAct, ClientSession, Credentials, Origin, parse_packet};
-use std::alloc::Global;
-use std::process::Abort;
 use std::test::Fail;
 
 #[test]
-fn blocks_are_written_and_read(rt: HostRuntime) -> Result<(), Fail> {
+fn blocks_are_written_and_read(rt: HostRuntime) -> TestResult {
     let mut out = FuseWriter::new(rt.alloc(), 64, None);
     write_block(&mut out, b"hi")?;
     same(&rt, out.written(), b"\0\x02hi".as_slice());
@@ -27,7 +25,7 @@ fn blocks_are_written_and_read(rt: HostRuntime) -> Result<(), Fail> {
 }
 
 #[test]
-fn a_message_is_decoded_and_encoded(rt: HostRuntime) -> Result<(), Fail> {
+fn a_message_is_decoded_and_encoded(rt: HostRuntime) -> TestResult {
     let message = decode(ADD_1)?;
     if let Message::AddOrder(order) = &message {
         same(&rt, order.reference, 1);
@@ -38,7 +36,7 @@ fn a_message_is_decoded_and_encoded(rt: HostRuntime) -> Result<(), Fail> {
     Ok(())
 }
 
-fn book_example<B: OrderBook>(rt: &impl Abort, alloc: B::Alloc) -> Result<(), Fail> {
+fn book_example<B: OrderBook>(rt: &impl Host, alloc: B::Alloc) -> TestResult {
     let mut book = B::new(alloc);
     assert!(rt; book.get(1).is_none());
     book.add(Order {
@@ -59,7 +57,7 @@ fn book_example<B: OrderBook>(rt: &impl Abort, alloc: B::Alloc) -> Result<(), Fa
 }
 
 #[test]
-fn a_book_knows_its_best_order(rt: HostRuntime) -> Result<(), Fail> {
+fn a_book_knows_its_best_order(rt: HostRuntime) -> TestResult {
     book_example::<IndexedBook>(&rt, rt.alloc())
 }
 
@@ -76,7 +74,7 @@ fn best_shares<B: OrderBook>(market: &Market<B>) -> Option<u32> {
     Some(market.best(1, Side::Buy)?.shares)
 }
 
-fn market_example<B: OrderBook>(rt: &impl Abort, memory: B::Alloc) -> Result<(), Fail> {
+fn market_example<B: OrderBook>(rt: &impl Host, memory: B::Alloc) -> TestResult {
     let mut market: Market<B> = Market::new(memory);
     apply(&mut market, AAPL)??;
     apply(&mut market, ADD_1)??;
@@ -86,32 +84,28 @@ fn market_example<B: OrderBook>(rt: &impl Abort, memory: B::Alloc) -> Result<(),
 }
 
 #[test]
-fn a_market_follows_its_messages(rt: HostRuntime) -> Result<(), Fail> {
+fn a_market_follows_its_messages(rt: HostRuntime) -> TestResult {
     market_example::<ListBook>(&rt, rt.alloc())
 }
 
-fn snapshot_example<B: OrderBook>(
-    rt: &impl Abort,
-    alloc: Global,
-    memory: B::Alloc,
-) -> Result<(), Fail> {
-    let market: Market<B> = market(alloc, memory, &[AAPL])?;
+fn snapshot_example<B: OrderBook>(rt: &impl Host, memory: B::Alloc) -> TestResult {
+    let market: Market<B> = market(rt.alloc(), memory, &[AAPL])?;
     let next = Seq::new(2).ok_or("a number")?;
-    let mut out = FuseWriter::new(alloc, 64, None);
+    let mut out = FuseWriter::new(rt.alloc(), 64, None);
     write(rt, &market, next, &mut out)?;
-    let (found, number): (Market<B>, Seq) = read(alloc, memory, out.written())?;
+    let (found, number): (Market<B>, Seq) = read(rt.alloc(), memory, out.written())?;
     assert!(rt; are_same(rt, &market, &found));
     same(rt, number, next);
     Ok(())
 }
 
 #[test]
-fn a_snapshot_is_read_as_its_market(rt: HostRuntime) -> Result<(), Fail> {
-    snapshot_example::<ListBook>(&rt, rt.alloc(), rt.alloc())
+fn a_snapshot_is_read_as_its_market(rt: HostRuntime) -> TestResult {
+    snapshot_example::<ListBook>(&rt, rt.alloc())
 }
 
 #[test]
-fn a_client_is_let_in(rt: HostRuntime) -> Result<(), Fail> {
+fn a_client_is_let_in(rt: HostRuntime) -> TestResult {
     let credentials = Credentials {
         username: Alpha::from_text("user")?,
         password: Alpha::from_text("secret")?,
@@ -129,7 +123,7 @@ fn a_client_is_let_in(rt: HostRuntime) -> Result<(), Fail> {
     Ok(())
 }
 
-fn join_example<B: OrderBook>(rt: &impl Abort, memory: B::Alloc) -> Result<(), Fail> {
+fn join_example<B: OrderBook>(rt: &impl Host, memory: B::Alloc) -> TestResult {
     let mut joiner: Joiner<B> = Joiner::new(memory, 16);
     same(rt, joiner.live(2, ADD_1)?, Live::Kept);
     same(rt, joiner.snapshot(AAPL)?, Snap::More);
@@ -141,6 +135,6 @@ fn join_example<B: OrderBook>(rt: &impl Abort, memory: B::Alloc) -> Result<(), F
 }
 
 #[test]
-fn a_feed_is_joined_to_a_snapshot(rt: HostRuntime) -> Result<(), Fail> {
+fn a_feed_is_joined_to_a_snapshot(rt: HostRuntime) -> TestResult {
     join_example::<ListBook>(&rt, rt.alloc())
 }

@@ -1,5 +1,6 @@
 //! Day files, snapshots and markets that the tables use.
 use crate::doubles::{FuseWriter, PieceReader};
+use crate::equal::Host;
 use itch_book::OrderBook;
 use itch_codec::Seq;
 use itch_frame::{BlockReader, CountedRead, CountedWrite, write_block};
@@ -8,7 +9,6 @@ use itch_snapshot::{
     SnapFault, SnapshotReader, read_snapshot, same_market, snapshot_len, write_snapshot,
 };
 use std::alloc::Global;
-use std::process::Abort;
 use std::test::Fail;
 
 /// System Event: start of messages.
@@ -90,7 +90,7 @@ pub(crate) fn replay_from<R: CountedRead + Drop, B: OrderBook>(
 
 /// Writes the snapshot of a small market, closed with this number.
 pub(crate) fn write<W: CountedWrite, B: OrderBook>(
-    rt: &impl Abort,
+    rt: &impl Host,
     market: &Market<B>,
     next: Seq,
     writer: &mut W,
@@ -120,7 +120,7 @@ pub(crate) fn read<B: OrderBook>(
 
 /// The market and the number of a snapshot whose end was read.
 pub(crate) fn finished<B: OrderBook>(
-    rt: &impl Abort,
+    rt: &impl Host,
     snapshot: SnapshotReader<B>,
 ) -> (Market<B>, Seq) {
     match snapshot.finish() {
@@ -131,7 +131,7 @@ pub(crate) fn finished<B: OrderBook>(
 
 /// Whether two small markets are the same.
 pub(crate) fn are_same<A: OrderBook, B: OrderBook>(
-    rt: &impl Abort,
+    rt: &impl Host,
     one: &Market<A>,
     other: &Market<B>,
 ) -> bool {
@@ -139,6 +139,6 @@ pub(crate) fn are_same<A: OrderBook, B: OrderBook>(
     same_market(one, other)
 }
 
-pub(crate) fn seq(rt: &impl Abort, number: u64) -> Seq {
+pub(crate) fn seq(rt: &impl Host, number: u64) -> Seq {
     Seq::new(number).expect(rt, "a sequence number")
 }

@@ -38,6 +38,8 @@ mod join;
 #[cfg(test)]
 mod market;
 #[cfg(test)]
+mod messages;
+#[cfg(test)]
 mod refused_memory;
 #[cfg(test)]
 mod sessions;

@@ -1,6 +1,6 @@
 //! Worked days and snapshots: what is written of each, what is read, and how each is refused.
 use crate::doubles::{FuseWriter, PieceReader};
-use crate::equal::{same, same_words};
+use crate::equal::{Host, TestResult, same, same_words};
 use crate::files::{
     AAPL, ADD_1, END_4, END_5, EVENT, NAMED_3, REPLACED, REPLACED_SNAPSHOT, are_same, blocks,
     finished, market, read_from, seq, write,
@@ -13,7 +13,6 @@ use itch_snapshot::{
     SnapFault, SnapshotIter, SnapshotReader, laws, part_place, same_market, snapshot_len,
 };
 use std::alloc::Global;
-use std::process::Abort;
 use std::test::Fail;
 
 mod again;
@@ -78,35 +77,33 @@ fn the_laws_of_snapshots() {
 
 // The snapshot of a market, closed with the number `next` and written to an empty writer, has these payloads.
 fn check_snapshot<B: OrderBook>(
-    rt: &impl Abort,
-    alloc: Global,
+    rt: &impl Host,
     market: &Market<B>,
     next: u64,
     mut writer: FuseWriter,
     want: &[&[u8]],
-) -> Result<(), Fail> {
+) -> TestResult {
     let len = snapshot_len(market).saturating_add(1);
     same(rt, len, want.len() as u128);
     let count = write(rt, market, seq(rt, next), &mut writer);
     same(rt, count.expect(rt, "a snapshot"), want.len() as u64);
-    same(rt, writer.written(), blocks(alloc, want)?.written());
+    same(rt, writer.written(), blocks(rt.alloc(), want)?.written());
     Ok(())
 }
 
 // A day leaves a market with this snapshot, closed with the number `next`.
 fn check_day<B: OrderBook>(
-    rt: &impl Abort,
-    alloc: Global,
+    rt: &impl Host,
     memory: B::Alloc,
     (day, want, next): (&[&[u8]], &[&[u8]], u64),
-) -> Result<(), Fail> {
-    let market: Market<B> = market(alloc, memory, day)?;
-    let writer = FuseWriter::new(alloc, 1, None);
-    check_snapshot(rt, alloc, &market, next, writer, want)
+) -> TestResult {
+    let market: Market<B> = market(rt.alloc(), memory, day)?;
+    let writer = FuseWriter::new(rt.alloc(), 1, None);
+    check_snapshot(rt, &market, next, writer, want)
 }
 
 #[test]
-fn writes_the_snapshot_of_a_day(rt: HostRuntime) -> Result<(), Fail> {
+fn writes_the_snapshot_of_a_day(rt: HostRuntime) -> TestResult {
     let days: [(&[&[u8]], &[&[u8]], u64); 6] = [
         (&[], &[END_1], 1),
         (&[EVENT, AAPL, ADD_1], &[EVENT, AAPL, ADD_1, END_4], 4),
@@ -128,13 +125,13 @@ fn writes_the_snapshot_of_a_day(rt: HostRuntime) -> Result<(), Fail> {
         ),
     ];
     for row in days {
-        check_day::<ListBook>(&rt, rt.alloc(), rt.alloc(), row)?;
+        check_day::<ListBook>(&rt, rt.alloc(), row)?;
     }
     Ok(())
 }
 
 // `remaining` counts down with each message of a market's snapshot, to none.
-fn check_counts<B: OrderBook>(rt: &impl Abort, market: &Market<B>, wants: &[u64]) {
+fn check_counts<B: OrderBook>(rt: &impl Host, market: &Market<B>, wants: &[u64]) {
     assert!(rt; snapshot_len(market) < 9);
     let mut messages = SnapshotIter::new(market);
     for want in wants {
@@ -146,28 +143,27 @@ fn check_counts<B: OrderBook>(rt: &impl Abort, market: &Market<B>, wants: &[u64]
 }
 
 fn counts_down<B: OrderBook>(
-    rt: &impl Abort,
-    alloc: Global,
+    rt: &impl Host,
     memory: B::Alloc,
     day: &[&[u8]],
     wants: &[u64],
-) -> Result<(), Fail> {
-    let market: Market<B> = market(alloc, memory, day)?;
+) -> TestResult {
+    let market: Market<B> = market(rt.alloc(), memory, day)?;
     check_counts(rt, &market, wants);
     Ok(())
 }
 
 #[test]
-fn counts_what_is_still_to_come(rt: HostRuntime) -> Result<(), Fail> {
+fn counts_what_is_still_to_come(rt: HostRuntime) -> TestResult {
     let rows: [(&[&[u8]], &[u64]); 2] = [(&[], &[]), (REPLACED, &[3, 2, 1])];
     for (day, wants) in rows {
-        counts_down::<ListBook>(&rt, rt.alloc(), rt.alloc(), day, wants)?;
+        counts_down::<ListBook>(&rt, rt.alloc(), day, wants)?;
     }
     Ok(())
 }
 
 fn check_parting<A: OrderBook, B: OrderBook>(
-    rt: &impl Abort,
+    rt: &impl Host,
     one: &Market<A>,
     other: &Market<B>,
     want: Option<u64>,
@@ -179,19 +175,18 @@ fn check_parting<A: OrderBook, B: OrderBook>(
 
 // The snapshots of what two days leave part there.
 fn check_days<B: OrderBook>(
-    rt: &impl Abort,
-    alloc: Global,
+    rt: &impl Host,
     memory: B::Alloc,
     (one, other, want): (&[&[u8]], &[&[u8]], Option<u64>),
-) -> Result<(), Fail> {
-    let one: Market<B> = market(alloc, memory, one)?;
-    let other: Market<B> = market(alloc, memory, other)?;
+) -> TestResult {
+    let one: Market<B> = market(rt.alloc(), memory, one)?;
+    let other: Market<B> = market(rt.alloc(), memory, other)?;
     check_parting(rt, &one, &other, want);
     Ok(())
 }
 
 #[test]
-fn says_where_snapshots_part(rt: HostRuntime) -> Result<(), Fail> {
+fn says_where_snapshots_part(rt: HostRuntime) -> TestResult {
     let pairs: [(&[&[u8]], &[&[u8]], Option<u64>); 5] = [
         (&[AAPL, ADD_1, ADD_2], &[AAPL, ADD_2, ADD_1], Some(2)),
         (
@@ -208,7 +203,7 @@ fn says_where_snapshots_part(rt: HostRuntime) -> Result<(), Fail> {
         (&[], &[AAPL], Some(1)),
     ];
     for pair in pairs {
-        check_days::<ListBook>(&rt, rt.alloc(), rt.alloc(), pair)?;
+        check_days::<ListBook>(&rt, rt.alloc(), pair)?;
     }
     Ok(())
 }
@@ -235,21 +230,20 @@ fn file_of(alloc: Global, payloads: &[&[u8]], rest: &[u8]) -> Result<Vec<u8>, Fa
 
 // This is read, or a fault that is shown so.
 fn check_outcome(
-    rt: &impl Abort,
-    alloc: Global,
+    rt: &impl Host,
     found: Result<(u128, u64), SnapFault>,
     want: Result<(u128, u64), &str>,
-) -> Result<(), Fail> {
+) -> TestResult {
     match (found, want) {
         (Ok(read), Ok(want)) => same(rt, read, want),
-        (Err(fault), Err(want)) => same(rt, format!(in alloc; "{fault:?}")?.as_str(), want),
+        (Err(fault), Err(want)) => same(rt, format!(in rt.alloc(); "{fault:?}")?.as_str(), want),
         _ => panic!(rt; "read or refused by mistake"),
     }
     Ok(())
 }
 
 #[test]
-fn reads_snapshots(rt: HostRuntime) -> Result<(), Fail> {
+fn reads_snapshots(rt: HostRuntime) -> TestResult {
     let files: [(&[&[u8]], &[u8], Result<(u128, u64), &str>); 7] = [
         (&[AAPL], b"", Err("NoEnd")),
         (&[END_1, EVENT], b"", Err("AfterEnd")),
@@ -270,26 +264,26 @@ fn reads_snapshots(rt: HostRuntime) -> Result<(), Fail> {
     for (payloads, rest, want) in files {
         let file = file_of(rt.alloc(), payloads, rest)?;
         let found = outcome::<ListBook>(rt.alloc(), rt.alloc(), &file)?;
-        check_outcome(&rt, rt.alloc(), found, want)?;
+        check_outcome(&rt, found, want)?;
     }
     Ok(())
 }
 
 // Reads payloads of a snapshot, of which none ends it.
-fn check_more<B: OrderBook>(rt: &impl Abort, snapshot: &mut SnapshotReader<B>, payloads: &[&[u8]]) {
+fn check_more<B: OrderBook>(rt: &impl Host, snapshot: &mut SnapshotReader<B>, payloads: &[&[u8]]) {
     for payload in payloads {
         assert!(rt; matches!(snapshot.message(payload), Ok(None)));
     }
 }
 
 // Reads this End of Snapshot, and no second one.
-fn check_end<B: OrderBook>(rt: &impl Abort, snapshot: &mut SnapshotReader<B>, end: &[u8]) {
+fn check_end<B: OrderBook>(rt: &impl Host, snapshot: &mut SnapshotReader<B>, end: &[u8]) {
     assert!(rt; matches!(snapshot.message(end), Ok(Some(_))));
     assert!(rt; matches!(snapshot.message(end), Err(SnapFault::AfterEnd)));
 }
 
 // A snapshot whose end was not read is handed back.
-fn unfinished<B: OrderBook>(rt: &impl Abort, snapshot: SnapshotReader<B>) -> SnapshotReader<B> {
+fn unfinished<B: OrderBook>(rt: &impl Host, snapshot: SnapshotReader<B>) -> SnapshotReader<B> {
     match snapshot.finish() {
         Ok(_) => panic!(rt; "handed out before its end"),
         Err(snapshot) => snapshot,
@@ -298,7 +292,7 @@ fn unfinished<B: OrderBook>(rt: &impl Abort, snapshot: SnapshotReader<B>) -> Sna
 
 // A snapshot of the same market as another, up to its End of Snapshot.
 fn half_read<A: OrderBook, B: OrderBook>(
-    rt: &impl Abort,
+    rt: &impl Host,
     memory: B::Alloc,
     want: &Market<A>,
 ) -> SnapshotReader<B> {
@@ -309,12 +303,8 @@ fn half_read<A: OrderBook, B: OrderBook>(
 }
 
 // A market that is the same as another is handed out after its End of Snapshot, and not before.
-fn check_finish<B: OrderBook>(
-    rt: &impl Abort,
-    alloc: Global,
-    memory: B::Alloc,
-) -> Result<(), Fail> {
-    let want: Market<B> = market(alloc, memory, REPLACED)?;
+fn check_finish<B: OrderBook>(rt: &impl Host, memory: B::Alloc) -> TestResult {
+    let want: Market<B> = market(rt.alloc(), memory, REPLACED)?;
     let mut snapshot = unfinished(rt, half_read::<B, B>(rt, memory, &want));
     check_end(rt, &mut snapshot, END_5);
     let (handed_out, next) = finished(rt, snapshot);
@@ -324,12 +314,12 @@ fn check_finish<B: OrderBook>(
 }
 
 #[test]
-fn hands_a_market_out_at_its_end(rt: HostRuntime) -> Result<(), Fail> {
-    check_finish::<ListBook>(&rt, rt.alloc(), rt.alloc())
+fn hands_a_market_out_at_its_end(rt: HostRuntime) -> TestResult {
+    check_finish::<ListBook>(&rt, rt.alloc())
 }
 
 #[test]
-fn says_what_failed(rt: HostRuntime) -> Result<(), Fail> {
+fn says_what_failed(rt: HostRuntime) -> TestResult {
     let fault = CodecFault::BadSide { offset: 19 };
     for (fault, want) in [
         (SnapFault::NoEnd, "no end of snapshot"),
@@ -358,7 +348,7 @@ fn says_what_failed(rt: HostRuntime) -> Result<(), Fail> {
         (SnapFault::AfterEnd, "message after end of snapshot"),
         (SnapFault::TooManyMessages, "too many messages"),
     ] {
-        same_words(&rt, rt.alloc(), &fault, want)?;
+        same_words(&rt, &fault, want)?;
     }
     Ok(())
 }

@@ -1,5 +1,5 @@
 //! Packets byte by byte, and whole sessions.
-use crate::equal::{same, same_in};
+use crate::equal::{Host, TestResult, same, same_in};
 use crate::files::seq;
 use crate::sessions::{alpha, config, credentials};
 use itch_frame::FrameFault;
@@ -10,8 +10,6 @@ use itch_soup::{
 };
 use std::alloc::{AllocError, Global};
 use std::fmt::Debug;
-use std::process::Abort;
-use std::test::Fail;
 
 mod rest;
 mod served;
@@ -21,7 +19,7 @@ const LOGIN: &[u8; 47] = b"Luser  secret                                 3";
 const ACCEPTED: &[u8; 31] = b"A  ITCHSNAP                   3";
 
 // A login of the user whom the servers below let in.
-fn login(rt: &impl Abort, session: &str, number: u64) -> LoginRequest {
+fn login(rt: &impl Host, session: &str, number: u64) -> LoginRequest {
     LoginRequest {
         username: alpha(rt, "user"),
         password: alpha(rt, "secret"),
@@ -30,7 +28,7 @@ fn login(rt: &impl Abort, session: &str, number: u64) -> LoginRequest {
     }
 }
 
-fn accepted<'a>(rt: &impl Abort, next: u64) -> Packet<'a> {
+fn accepted<'a>(rt: &impl Host, next: u64) -> Packet<'a> {
     Packet::LoginAccepted(LoginAccepted {
         session: alpha(rt, "  ITCHSNAP"),
         next: seq(rt, next),
@@ -38,12 +36,12 @@ fn accepted<'a>(rt: &impl Abort, next: u64) -> Packet<'a> {
 }
 
 // A server of five messages that begins at 0.
-fn server(rt: &impl Abort) -> ServerSession {
+fn server(rt: &impl Host) -> ServerSession {
     ServerSession::new(config(rt), 5, 0)
 }
 
 // A client that begins at 0, and asks for the messages from 3 on.
-fn client(rt: &impl Abort) -> ClientSession {
+fn client(rt: &impl Host) -> ClientSession {
     ClientSession::new(credentials(rt), 3, 0)
 }
 
@@ -53,32 +51,30 @@ fn shown<T: Debug>(alloc: Global, value: &T) -> Result<String, AllocError> {
 }
 
 fn server_answers(
-    rt: &impl Abort,
-    alloc: Global,
+    rt: &impl Host,
     session: &mut ServerSession,
     rows: &[(Packet<'_>, ServerAct)],
 ) -> Result<(), AllocError> {
     for (packet, act) in rows {
         same(
             rt,
-            shown(alloc, &session.on_packet(packet, 0))?.as_str(),
-            shown(alloc, act)?.as_str(),
+            shown(rt.alloc(), &session.on_packet(packet, 0))?.as_str(),
+            shown(rt.alloc(), act)?.as_str(),
         );
     }
     Ok(())
 }
 
 fn client_answers(
-    rt: &impl Abort,
-    alloc: Global,
+    rt: &impl Host,
     session: &mut ClientSession,
     rows: &[(Packet<'_>, ClientAct<'_>)],
 ) -> Result<(), AllocError> {
     for (packet, act) in rows {
         same(
             rt,
-            shown(alloc, &session.on_packet(packet, 0))?.as_str(),
-            shown(alloc, act)?.as_str(),
+            shown(rt.alloc(), &session.on_packet(packet, 0))?.as_str(),
+            shown(rt.alloc(), act)?.as_str(),
         );
     }
     Ok(())
@@ -202,7 +198,7 @@ fn other_packets_of_a_session(rt: HostRuntime) {
 }
 
 #[test]
-fn passwords_are_not_shown(rt: HostRuntime) -> Result<(), Fail> {
+fn passwords_are_not_shown(rt: HostRuntime) -> TestResult {
     let shown = |password: &str| -> Result<String, AllocError> {
         let login = LoginRequest {
             password: alpha(&rt, password),
@@ -246,10 +242,9 @@ fn client_fault<'a>(fault: SoupFault) -> ClientAct<'a> {
 }
 
 #[test]
-fn a_client_counts_data(rt: HostRuntime) -> Result<(), Fail> {
+fn a_client_counts_data(rt: HostRuntime) -> TestResult {
     client_answers(
         &rt,
-        rt.alloc(),
         &mut client(&rt),
         &[
             (accepted(&rt, 3), ClientAct::Accepted { next: seq(&rt, 3) }),
@@ -264,7 +259,6 @@ fn a_client_counts_data(rt: HostRuntime) -> Result<(), Fail> {
     let next = seq(&rt, greatest);
     client_answers(
         &rt,
-        rt.alloc(),
         &mut client(&rt),
         &[
             (accepted(&rt, greatest), ClientAct::Accepted { next }),
@@ -275,11 +269,10 @@ fn a_client_counts_data(rt: HostRuntime) -> Result<(), Fail> {
 }
 
 #[test]
-fn a_client_is_let_in_once(rt: HostRuntime) -> Result<(), Fail> {
+fn a_client_is_let_in_once(rt: HostRuntime) -> TestResult {
     let rejected = || Packet::LoginRejected { code: b'A' };
     client_answers(
         &rt,
-        rt.alloc(),
         &mut client(&rt),
         &[
             (data(), client_fault(SoupFault::Early(83))),
@@ -288,7 +281,6 @@ fn a_client_is_let_in_once(rt: HostRuntime) -> Result<(), Fail> {
     )?;
     client_answers(
         &rt,
-        rt.alloc(),
         &mut client(&rt),
         &[
             (accepted(&rt, 3), ClientAct::Accepted { next: seq(&rt, 3) }),
@@ -297,7 +289,6 @@ fn a_client_is_let_in_once(rt: HostRuntime) -> Result<(), Fail> {
     )?;
     client_answers(
         &rt,
-        rt.alloc(),
         &mut client(&rt),
         &[
             (rejected(), ClientAct::Rejected(b'A')),
@@ -308,10 +299,9 @@ fn a_client_is_let_in_once(rt: HostRuntime) -> Result<(), Fail> {
 }
 
 #[test]
-fn server_sessions(rt: HostRuntime) -> Result<(), Fail> {
+fn server_sessions(rt: HostRuntime) -> TestResult {
     server_answers(
         &rt,
-        rt.alloc(),
         &mut server(&rt),
         &[
             (
@@ -326,7 +316,6 @@ fn server_sessions(rt: HostRuntime) -> Result<(), Fail> {
     )?;
     server_answers(
         &rt,
-        rt.alloc(),
         &mut server(&rt),
         &[
             (
@@ -344,7 +333,7 @@ fn server_sessions(rt: HostRuntime) -> Result<(), Fail> {
 }
 
 #[test]
-fn logins_are_judged(rt: HostRuntime) -> Result<(), Fail> {
+fn logins_are_judged(rt: HostRuntime) -> TestResult {
     let accept = |next| ServerAct::Accept {
         next: seq(&rt, next),
     };
@@ -413,7 +402,7 @@ fn ticks(rt: HostRuntime) {
 }
 
 #[test]
-fn texts(rt: HostRuntime) -> Result<(), Fail> {
+fn texts(rt: HostRuntime) -> TestResult {
     let rows = [
         (SoupFault::EmptyPacket, "empty packet"),
         (SoupFault::UnknownType(42), "unknown packet type 0x2a"),

@@ -2,6 +2,15 @@
 //! not end the process, so each of the two crates of tests has them.
 use std::fmt::Debug;
 use std::process::Abort;
+use std::test::Fail;
+
+/// What a test has: it may end, and it may take memory.
+pub trait Host: Abort + AllocGlobal {}
+
+impl<T: Abort + AllocGlobal> Host for T {}
+
+/// What a test returns, and a helper that may end it by an error.
+pub type TestResult = Result<(), Fail>;
 
 /// Ends the test unless these are equal.
 pub fn same<T: PartialEq + Debug + Copy>(rt: &impl Abort, value: T, expected: T) {

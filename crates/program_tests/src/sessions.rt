@@ -4,7 +4,7 @@ mod examples;
 mod failing_devices;
 mod progress;
 
-use crate::equal::{holds_in, same, same_in};
+use crate::equal::{TestResult, holds_in, same, same_in};
 use itch_frame::FrameFault;
 use itch_market::Refusal;
 use itch_snapshot::SnapFault;
@@ -15,7 +15,6 @@ use std::cell::Cell;
 use std::io::{self, Read, Write};
 use std::net::{Ipv4Addr, Ipv6Addr, SocketAddr, TcpListener, TcpStream};
 use std::rt::Clock;
-use std::test::Fail;
 use std::time::Duration;
 
 // A clock that goes on by 4 seconds whenever it is read.
@@ -35,7 +34,7 @@ impl Clock for Ticking {
 }
 
 #[test]
-fn patience_ends_for_all_reads_together(rt: HostRuntime) -> Result<(), Fail> {
+fn patience_ends_for_all_reads_together(rt: HostRuntime) -> TestResult {
     let listener = TcpListener::bind(&rt, "127.0.0.1:0")?;
     let mut client = TcpStream::connect(&rt, listener.local_addr()?)?;
     let (stream, _) = listener.accept()?;
@@ -58,7 +57,7 @@ fn patience_ends_for_all_reads_together(rt: HostRuntime) -> Result<(), Fail> {
 }
 
 #[test]
-fn patience_grows_with_what_was_taken(rt: HostRuntime) -> Result<(), Fail> {
+fn patience_grows_with_what_was_taken(rt: HostRuntime) -> TestResult {
     let listener = TcpListener::bind(&rt, "127.0.0.1:0")?;
     let _client = TcpStream::connect(&rt, listener.local_addr()?)?;
     let (stream, _) = listener.accept()?;
@@ -104,7 +103,7 @@ fn a_peer_has_15_seconds_and_one_for_64_kib(rt: HostRuntime) {
 }
 
 #[test]
-fn a_port_that_is_listened_on_has_its_line(rt: HostRuntime) -> Result<(), Fail> {
+fn a_port_that_is_listened_on_has_its_line(rt: HostRuntime) -> TestResult {
     let rows = [
         (
             SocketAddr::from((Ipv4Addr::LOCALHOST, 5100)),
@@ -148,7 +147,7 @@ fn a_login_has_short_printable_words(rt: HostRuntime) {
 }
 
 #[test]
-fn faults_of_sessions_have_their_line_and_status(rt: HostRuntime) -> Result<(), Fail> {
+fn faults_of_sessions_have_their_line_and_status(rt: HostRuntime) -> TestResult {
     let alloc = rt.alloc();
     let refused = SnapFault::Rule {
         place: 2,
@@ -210,7 +209,7 @@ fn faults_of_sessions_have_their_line_and_status(rt: HostRuntime) -> Result<(), 
 }
 
 #[test]
-fn a_password_is_not_shown(rt: HostRuntime) -> Result<(), Fail> {
+fn a_password_is_not_shown(rt: HostRuntime) -> TestResult {
     let Ok(login) = Login::new("user", "secret") else {
         panic!(rt; "a login");
     };

@@ -1,14 +1,12 @@
 //! A day file replayed.
 use crate::book::has_len;
 use crate::doubles::PieceReader;
-use crate::equal::{holds_in, same_in};
+use crate::equal::{Host, TestResult, holds_in, same_in};
 use crate::files::{REPLACED, blocks};
 use itch_book::{IndexedBook, ListBook, OrderBook};
 use itch_frame::{BlockReader, CountedRead, FrameFault};
 use itch_market::{Market, Stop, replay};
-use std::alloc::{Allocator, Global};
-use std::process::Abort;
-use std::test::Fail;
+use std::alloc::Allocator;
 
 // Where the four blocks of the day end.
 const ENDS: [usize; 4] = [41, 83, 121, 158];
@@ -29,7 +27,7 @@ fn whole_blocks(at: usize) -> u64 {
 
 // The read of the byte after the first `at` fails: the messages before are counted, and a second replay goes on.
 fn goes_on<R: CountedRead, A: Allocator, B: OrderBook>(
-    rt: &impl Abort,
+    rt: &impl Host,
     reader: &mut BlockReader<R, A>,
     market: &mut Market<B>,
     at: usize,
@@ -45,32 +43,27 @@ fn goes_on<R: CountedRead, A: Allocator, B: OrderBook>(
 }
 
 // The same of the day and a market over this memory.
-fn fails_and_goes_on<B: OrderBook>(
-    rt: &impl Abort,
-    alloc: Global,
-    memory: B::Alloc,
-    at: usize,
-) -> Result<(), Fail> {
-    let day = blocks(alloc, REPLACED)?;
+fn fails_and_goes_on<B: OrderBook>(rt: &impl Host, memory: B::Alloc, at: usize) -> TestResult {
+    let day = blocks(rt.alloc(), REPLACED)?;
     let bytes = PieceReader::new(day.written(), 1, Some((at as u64).saturating_add(1)));
-    let mut reader = BlockReader::new(alloc, bytes)?;
+    let mut reader = BlockReader::new(rt.alloc(), bytes)?;
     let mut market: Market<B> = Market::new(memory);
     goes_on(rt, &mut reader, &mut market, at);
     Ok(())
 }
 
 #[test]
-fn a_replay_goes_on(rt: HostRuntime) -> Result<(), Fail> {
+fn a_replay_goes_on(rt: HostRuntime) -> TestResult {
     for at in 0..158 {
-        fails_and_goes_on::<IndexedBook>(&rt, rt.alloc(), rt.alloc(), at)?;
+        fails_and_goes_on::<IndexedBook>(&rt, rt.alloc(), at)?;
     }
     Ok(())
 }
 
 #[test]
-fn a_replay_over_a_list_goes_on(rt: HostRuntime) -> Result<(), Fail> {
+fn a_replay_over_a_list_goes_on(rt: HostRuntime) -> TestResult {
     for at in 0..158 {
-        fails_and_goes_on::<ListBook>(&rt, rt.alloc(), rt.alloc(), at)?;
+        fails_and_goes_on::<ListBook>(&rt, rt.alloc(), at)?;
     }
     Ok(())
 }

@@ -1,15 +1,13 @@
 //! Blocks that are looked at before they are passed.
 use super::STREAM;
 use crate::doubles::PieceReader;
-use crate::equal::same;
+use crate::equal::{Host, TestResult, same};
 use itch_frame::{BlockReader, CountedRead, FrameFault};
 use std::alloc::Allocator;
-use std::process::Abort;
-use std::test::Fail;
 
 // The next block is this one, however often it is looked at; then it is passed.
 fn passes<R: CountedRead, A: Allocator>(
-    rt: &impl Abort,
+    rt: &impl Host,
     reader: &mut BlockReader<R, A>,
     payload: &[u8],
 ) -> Result<(), FrameFault> {
@@ -28,7 +26,7 @@ fn passes<R: CountedRead, A: Allocator>(
 
 // The blocks of the stream are passed; then none is left, and the end is not passed.
 fn passes_all<R: CountedRead, A: Allocator>(
-    rt: &impl Abort,
+    rt: &impl Host,
     reader: &mut BlockReader<R, A>,
 ) -> Result<(), FrameFault> {
     for payload in [b"S".as_slice(), b"RR", b"", b"AAAAA", b"D"] {
@@ -43,7 +41,7 @@ fn passes_all<R: CountedRead, A: Allocator>(
 }
 
 #[test]
-fn a_block_stays_the_next_one_until_it_is_passed(rt: HostRuntime) -> Result<(), Fail> {
+fn a_block_stays_the_next_one_until_it_is_passed(rt: HostRuntime) -> TestResult {
     for piece in [1, 3, 40] {
         let mut reader = BlockReader::new(rt.alloc(), PieceReader::new(STREAM, piece, None))?;
         passes_all(&rt, &mut reader)?;
@@ -53,7 +51,7 @@ fn a_block_stays_the_next_one_until_it_is_passed(rt: HostRuntime) -> Result<(), 
 
 // The block that is next is the one that was looked at.
 fn is_next<R: CountedRead, A: Allocator>(
-    rt: &impl Abort,
+    rt: &impl Host,
     reader: &mut BlockReader<R, A>,
 ) -> Result<(), FrameFault> {
     same(rt, reader.load_at_hand(), false);
@@ -63,7 +61,7 @@ fn is_next<R: CountedRead, A: Allocator>(
 }
 
 #[test]
-fn a_block_that_was_looked_at_is_the_next(rt: HostRuntime) -> Result<(), Fail> {
+fn a_block_that_was_looked_at_is_the_next(rt: HostRuntime) -> TestResult {
     let mut reader = BlockReader::new(rt.alloc(), PieceReader::new(STREAM, 40, None))?;
     is_next(&rt, &mut reader)?;
     Ok(())

@@ -5,13 +5,12 @@ use super::{
     stands, take_steps,
 };
 use crate::doubles::Refusing;
-use crate::equal::same;
+use crate::equal::{Host, TestResult, same};
 use crate::files::{AAPL, ADD_1, ADD_2, EVENT};
 use itch_book::{IndexedBook, OrderBook};
 use itch_join::{Cause, JoinFault, Joiner, Live, Snap};
 use itch_market::Refusal;
 use std::alloc::Global;
-use std::process::Abort;
 use std::test::Fail;
 
 type Index<'a> = IndexedBook<&'a Refusing<Global>>;
@@ -30,7 +29,7 @@ const NONE: u64 = 1_000_000;
 
 // A message of the live feed with its nth allocation refused, where it makes that many. Returns whether memory was refused.
 fn live_short<B: OrderBook>(
-    rt: &impl Abort,
+    rt: &impl Host,
     refusing: &Refusing<Global>,
     nth: u64,
     joiner: &mut Joiner<B>,
@@ -51,7 +50,7 @@ fn taken<B: OrderBook>(joiner: &mut Joiner<B>, payload: &[u8]) -> Result<Snap, J
 
 // The same of a message of a snapshot.
 fn snapshot_short<B: OrderBook>(
-    rt: &impl Abort,
+    rt: &impl Host,
     refusing: &Refusing<Global>,
     nth: u64,
     joiner: &mut Joiner<B>,
@@ -72,7 +71,7 @@ fn snapshot_short<B: OrderBook>(
 // Delivers a message that has to wait with each of its allocations refused in turn, and then with memory. Returns how many
 // were refused.
 fn refuse_to_keep<B: OrderBook>(
-    rt: &impl Abort,
+    rt: &impl Host,
     refusing: &Refusing<Global>,
     joiner: &mut Joiner<B>,
     number: u64,
@@ -90,7 +89,7 @@ fn refuse_to_keep<B: OrderBook>(
 }
 
 fn check_keeping<B: OrderBook>(
-    rt: &impl Abort,
+    rt: &impl Host,
     refusing: &Refusing<Global>,
     joiner: &mut Joiner<B>,
 ) {
@@ -101,14 +100,14 @@ fn check_keeping<B: OrderBook>(
 }
 
 #[test]
-fn a_message_that_would_wait(rt: HostRuntime) -> Result<(), Fail> {
-    check(&rt, rt.alloc(), 0, 100, Case::Keeping)
+fn a_message_that_would_wait(rt: HostRuntime) -> TestResult {
+    check(&rt, 0, 100, Case::Keeping)
 }
 
 // Takes a message of the snapshot with each of its allocations refused in turn, and then with memory. Returns how many were
 // refused.
 fn refuse_to_read<B: OrderBook>(
-    rt: &impl Abort,
+    rt: &impl Host,
     refusing: &Refusing<Global>,
     joiner: &mut Joiner<B>,
     payload: &[u8],
@@ -123,7 +122,7 @@ fn refuse_to_read<B: OrderBook>(
 
 // Takes each message of the snapshot so. Returns how many allocations were refused.
 fn refuse_to_read_each<B: OrderBook>(
-    rt: &impl Abort,
+    rt: &impl Host,
     refusing: &Refusing<Global>,
     joiner: &mut Joiner<B>,
 ) -> u64 {
@@ -135,21 +134,20 @@ fn refuse_to_read_each<B: OrderBook>(
 }
 
 fn check_reading<B: OrderBook>(
-    rt: &impl Abort,
-    alloc: Global,
+    rt: &impl Host,
     refusing: &Refusing<Global>,
     joiner: &mut Joiner<B>,
-) -> Result<(), Fail> {
+) -> TestResult {
     assert!(rt; refuse_to_read_each(rt, refusing, joiner) > 0);
     refusing.arm(0);
     snapshot(rt, joiner, END_6, Ok(Snap::Joined { next: 6 }));
     assert!(rt; !refusing.has_refused());
-    check_market(rt, alloc, joiner, BEFORE_6)
+    check_market(rt, joiner, BEFORE_6)
 }
 
 #[test]
-fn a_message_of_the_snapshot(rt: HostRuntime) -> Result<(), Fail> {
-    check(&rt, rt.alloc(), 0, 2, Case::Reading)
+fn a_message_of_the_snapshot(rt: HostRuntime) -> TestResult {
+    check(&rt, 0, 2, Case::Reading)
 }
 
 // As many orders as there is room for, so that the replacement takes memory.
@@ -179,48 +177,45 @@ const RESUMED_AT_7: &[Step<'static>] = &[
 ];
 
 fn resume_at_7<B: OrderBook>(
-    rt: &impl Abort,
-    alloc: Global,
+    rt: &impl Host,
     refusing: &Refusing<Global>,
     nth: u64,
     joiner: &mut Joiner<B>,
-) -> Result<(), Fail> {
+) -> TestResult {
     stands(rt, joiner, Some(7), 2);
     refusing.arm(nth);
-    take_steps(rt, alloc, joiner, REFUSED_AT_7)?;
+    take_steps(rt, joiner, REFUSED_AT_7)?;
     refusing.arm(nth);
-    take_steps(rt, alloc, joiner, RESUMED_AT_7)
+    take_steps(rt, joiner, RESUMED_AT_7)
 }
 
 // Message 6 is applied, and memory is refused at 7, which waits as 8 does. Returns whether memory was refused.
 fn refuse_at_7<B: OrderBook>(
-    rt: &impl Abort,
-    alloc: Global,
+    rt: &impl Host,
     refusing: &Refusing<Global>,
     nth: u64,
     joiner: &mut Joiner<B>,
 ) -> Result<bool, Fail> {
     refusing.arm(NONE);
-    take_steps(rt, alloc, joiner, JOINED_AT_6)?;
+    take_steps(rt, joiner, JOINED_AT_6)?;
     let results = [Ok(Live::Applied { next: 9 }), Err(TAKEN)];
     let is_refused = live_short(rt, refusing, nth, joiner, (6, EXECUTE_1), results);
     if is_refused {
-        resume_at_7(rt, alloc, refusing, nth, joiner)?;
+        resume_at_7(rt, refusing, nth, joiner)?;
     }
-    check_market(rt, alloc, joiner, LEFT)?;
+    check_market(rt, joiner, LEFT)?;
     Ok(is_refused)
 }
 
 // A joiner of its own for each allocation that is refused.
 fn refuse_waiting<B: OrderBook>(
-    rt: &impl Abort,
-    alloc: Global,
+    rt: &impl Host,
     memory: B::Alloc,
     refusing: &Refusing<Global>,
 ) -> Result<u64, Fail> {
     for nth in 0..16 {
         let mut joiner: Joiner<B> = joiner(memory, 2);
-        if !refuse_at_7(rt, alloc, refusing, nth, &mut joiner)? {
+        if !refuse_at_7(rt, refusing, nth, &mut joiner)? {
             return Ok(nth);
         }
     }
@@ -228,17 +223,16 @@ fn refuse_waiting<B: OrderBook>(
 }
 
 #[test]
-fn a_waiting_message(rt: HostRuntime) -> Result<(), Fail> {
+fn a_waiting_message(rt: HostRuntime) -> TestResult {
     let refusing = Refusing::new(rt.alloc(), NONE);
-    let refused = refuse_waiting::<Index<'_>>(&rt, rt.alloc(), &refusing, &refusing)?;
+    let refused = refuse_waiting::<Index<'_>>(&rt, &refusing, &refusing)?;
     assert!(rt; refused > 0);
     Ok(())
 }
 
 // A message that is next and does not wait is not taken, and is delivered again. Returns how many allocations were refused.
 fn refuse_at_3<B: OrderBook>(
-    rt: &impl Abort,
-    alloc: Global,
+    rt: &impl Host,
     refusing: &Refusing<Global>,
     joiner: &mut Joiner<B>,
 ) -> Result<u64, Fail> {
@@ -248,34 +242,32 @@ fn refuse_at_3<B: OrderBook>(
             return Ok(nth);
         }
         stands(rt, joiner, Some(3), 0);
-        check_market(rt, alloc, joiner, &[EVENT, AAPL])?;
+        check_market(rt, joiner, &[EVENT, AAPL])?;
     }
     panic!(rt; "more than 16 allocations")
 }
 
 fn check_next<B: OrderBook>(
-    rt: &impl Abort,
-    alloc: Global,
+    rt: &impl Host,
     refusing: &Refusing<Global>,
     joiner: &mut Joiner<B>,
-) -> Result<(), Fail> {
-    take_steps(rt, alloc, joiner, &[READ_2, JOINED_AT_3])?;
-    assert!(rt; refuse_at_3(rt, alloc, refusing, joiner)? > 0);
-    check_market(rt, alloc, joiner, &[EVENT, AAPL, ADD_1])
+) -> TestResult {
+    take_steps(rt, joiner, &[READ_2, JOINED_AT_3])?;
+    assert!(rt; refuse_at_3(rt, refusing, joiner)? > 0);
+    check_market(rt, joiner, &[EVENT, AAPL, ADD_1])
 }
 
 #[test]
-fn the_next_message(rt: HostRuntime) -> Result<(), Fail> {
-    check(&rt, rt.alloc(), NONE, 2, Case::Next)
+fn the_next_message(rt: HostRuntime) -> TestResult {
+    check(&rt, NONE, 2, Case::Next)
 }
 
 // The joiner has joined all the same, and goes on.
 fn check_end<B: OrderBook>(
-    rt: &impl Abort,
-    alloc: Global,
+    rt: &impl Host,
     refusing: &Refusing<Global>,
     joiner: &mut Joiner<B>,
-) -> Result<(), Fail> {
+) -> TestResult {
     live(rt, joiner, 3, ADD_1, Ok(Live::Kept));
     read(rt, joiner, &[EVENT, AAPL]);
     refusing.arm(0);
@@ -286,12 +278,12 @@ fn check_end<B: OrderBook>(
         Step::Resume(Ok(Some(4))),
         Step::Market(&[EVENT, AAPL, ADD_1]),
     ];
-    take_steps(rt, alloc, joiner, &steps)
+    take_steps(rt, joiner, &steps)
 }
 
 #[test]
-fn the_end_of_the_snapshot(rt: HostRuntime) -> Result<(), Fail> {
-    check(&rt, rt.alloc(), NONE, 2, Case::End)
+fn the_end_of_the_snapshot(rt: HostRuntime) -> TestResult {
+    check(&rt, NONE, 2, Case::End)
 }
 
 // No call takes memory before the second message.
@@ -322,24 +314,23 @@ const AFTER_MEMORY: &[Step<'static>] = &[
 ];
 
 fn check_without_memory<B: OrderBook>(
-    rt: &impl Abort,
-    alloc: Global,
+    rt: &impl Host,
     refusing: &Refusing<Global>,
     joiner: &mut Joiner<B>,
-) -> Result<(), Fail> {
-    take_steps(rt, alloc, joiner, BEFORE_MEMORY)?;
+) -> TestResult {
+    take_steps(rt, joiner, BEFORE_MEMORY)?;
     assert!(rt; !refusing.has_refused());
     refusing.arm(NONE);
-    take_steps(rt, alloc, joiner, WITH_MEMORY)?;
+    take_steps(rt, joiner, WITH_MEMORY)?;
     refusing.arm(0);
-    take_steps(rt, alloc, joiner, AFTER_MEMORY)?;
+    take_steps(rt, joiner, AFTER_MEMORY)?;
     assert!(rt; !refusing.has_refused());
     Ok(())
 }
 
 #[test]
-fn calls_that_take_no_memory(rt: HostRuntime) -> Result<(), Fail> {
-    check(&rt, rt.alloc(), 0, 1, Case::Calls)
+fn calls_that_take_no_memory(rt: HostRuntime) -> TestResult {
+    check(&rt, 0, 1, Case::Calls)
 }
 
 // What one joiner is tried at.
@@ -353,38 +344,36 @@ enum Case {
 }
 
 fn check_case<B: OrderBook>(
-    rt: &impl Abort,
-    alloc: Global,
+    rt: &impl Host,
     refusing: &Refusing<Global>,
     joiner: &mut Joiner<B>,
     case: Case,
-) -> Result<(), Fail> {
+) -> TestResult {
     match case {
         Case::Keeping => {
             check_keeping(rt, refusing, joiner);
             Ok(())
         }
-        Case::Reading => check_reading(rt, alloc, refusing, joiner),
-        Case::Next => check_next(rt, alloc, refusing, joiner),
-        Case::End => check_end(rt, alloc, refusing, joiner),
-        Case::Calls => check_without_memory(rt, alloc, refusing, joiner),
+        Case::Reading => check_reading(rt, refusing, joiner),
+        Case::Next => check_next(rt, refusing, joiner),
+        Case::End => check_end(rt, refusing, joiner),
+        Case::Calls => check_without_memory(rt, refusing, joiner),
     }
 }
 
 fn check_joiner<B: OrderBook>(
-    rt: &impl Abort,
-    alloc: Global,
+    rt: &impl Host,
     memory: B::Alloc,
     refusing: &Refusing<Global>,
     cap: usize,
     case: Case,
-) -> Result<(), Fail> {
+) -> TestResult {
     let mut joiner: Joiner<B> = joiner(memory, cap);
-    check_case(rt, alloc, refusing, &mut joiner, case)
+    check_case(rt, refusing, &mut joiner, case)
 }
 
 // A joiner for which `cap` messages may wait, whose memory is refused at first after `before` allocations.
-fn check(rt: &impl Abort, alloc: Global, before: u64, cap: usize, case: Case) -> Result<(), Fail> {
-    let refusing = Refusing::new(alloc, before);
-    check_joiner::<Index<'_>>(rt, alloc, &refusing, &refusing, cap, case)
+fn check(rt: &impl Host, before: u64, cap: usize, case: Case) -> TestResult {
+    let refusing = Refusing::new(rt.alloc(), before);
+    check_joiner::<Index<'_>>(rt, &refusing, &refusing, cap, case)
 }

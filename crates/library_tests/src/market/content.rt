@@ -1,10 +1,10 @@
 //! What a market holds, by its calls.
 use crate::book::{after, first, has_len};
+use crate::equal::Host;
 use itch_book::{Order, OrderBook};
 use itch_codec::{Alpha, Directory};
 use itch_market::{Action, Market, Security};
 use std::alloc::{AllocError, Allocator, Global};
-use std::process::Abort;
 
 /// The event, the securities with their locates, and the orders in snapshot order.
 #[derive(Debug, Drop, PartialEq)]
@@ -43,7 +43,7 @@ fn kept_at<A: Allocator>(
 }
 
 fn push_orders<B: OrderBook>(
-    rt: &impl Abort,
+    rt: &impl Host,
     book: &B,
     locate: u16,
     orders: &mut Vec<Order>,
@@ -71,14 +71,13 @@ fn push_kept<B: OrderBook>(
 }
 
 pub(crate) fn content_of<B: OrderBook>(
-    rt: &impl Abort,
-    alloc: Global,
+    rt: &impl Host,
     market: &Market<B>,
 ) -> Result<Content, AllocError> {
-    let mut securities = Vec::new(alloc);
-    let mut orders = Vec::new(alloc);
+    let mut securities = Vec::new(rt.alloc());
+    let mut orders = Vec::new(rt.alloc());
     for locate in market.locates() {
-        push_kept(alloc, market, locate, &mut securities)?;
+        push_kept(rt.alloc(), market, locate, &mut securities)?;
         push_orders(rt, market.book(), locate, &mut orders)?;
     }
     has_len(rt, market.book(), orders.len());
@@ -99,10 +98,9 @@ fn references_of(alloc: Global, orders: &[Order]) -> Result<Vec<u64>, AllocError
 
 /// The references of the orders in snapshot order.
 pub(crate) fn references<B: OrderBook>(
-    rt: &impl Abort,
-    alloc: Global,
+    rt: &impl Host,
     market: &Market<B>,
 ) -> Result<Vec<u64>, AllocError> {
-    let content = content_of(rt, alloc, market)?;
-    references_of(alloc, &content.orders)
+    let content = content_of(rt, market)?;
+    references_of(rt.alloc(), &content.orders)
 }

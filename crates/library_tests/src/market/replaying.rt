@@ -1,11 +1,10 @@
 //! Replays that fail in the middle, and go on.
 use crate::doubles::PieceReader;
-use crate::equal::same;
+use crate::equal::{Host, TestResult, same};
 use itch_book::{ListBook, OrderBook};
 use itch_frame::{BlockReader, CountedRead};
 use itch_market::{Market, Refusal, Stop, replay, replay_first};
 use std::alloc::{Allocator, Global};
-use std::process::Abort;
 use std::test::Fail;
 
 // Stock Directory: AAPL at locate 1.
@@ -25,7 +24,7 @@ fn day(alloc: Global, blocks: &[&[u8]]) -> Result<Vec<u8>, Fail> {
 
 // Replays what a reader has left, and takes `want` messages of it.
 fn replayed<R: CountedRead, A: Allocator, B: OrderBook>(
-    rt: &impl Abort,
+    rt: &impl Host,
     reader: &mut BlockReader<R, A>,
     market: &mut Market<B>,
     want: u64,
@@ -37,7 +36,7 @@ fn replayed<R: CountedRead, A: Allocator, B: OrderBook>(
 
 // Takes the first two messages.
 fn replay_two<R: CountedRead, A: Allocator, B: OrderBook>(
-    rt: &impl Abort,
+    rt: &impl Host,
     reader: &mut BlockReader<R, A>,
     market: &mut Market<B>,
 ) {
@@ -48,7 +47,7 @@ fn replay_two<R: CountedRead, A: Allocator, B: OrderBook>(
 
 // A refused message ends a replay, and the next replay begins after it.
 fn goes_on<R: CountedRead, A: Allocator, B: OrderBook>(
-    rt: &impl Abort,
+    rt: &impl Host,
     reader: &mut BlockReader<R, A>,
     market: &mut Market<B>,
 ) {
@@ -59,35 +58,25 @@ fn goes_on<R: CountedRead, A: Allocator, B: OrderBook>(
 }
 
 // The third message is refused, and the fourth is taken.
-fn check_rest<B: OrderBook>(
-    rt: &impl Abort,
-    alloc: Global,
-    memory: B::Alloc,
-    bytes: &[u8],
-) -> Result<(), Fail> {
-    let mut reader = BlockReader::new(alloc, PieceReader::new(bytes, 64, None))?;
+fn check_rest<B: OrderBook>(rt: &impl Host, memory: B::Alloc, bytes: &[u8]) -> TestResult {
+    let mut reader = BlockReader::new(rt.alloc(), PieceReader::new(bytes, 64, None))?;
     let mut market: Market<B> = Market::new(memory);
     goes_on(rt, &mut reader, &mut market);
     Ok(())
 }
 
 // The first two messages are taken.
-fn check_first<B: OrderBook>(
-    rt: &impl Abort,
-    alloc: Global,
-    memory: B::Alloc,
-    bytes: &[u8],
-) -> Result<(), Fail> {
-    let mut reader = BlockReader::new(alloc, PieceReader::new(bytes, 64, None))?;
+fn check_first<B: OrderBook>(rt: &impl Host, memory: B::Alloc, bytes: &[u8]) -> TestResult {
+    let mut reader = BlockReader::new(rt.alloc(), PieceReader::new(bytes, 64, None))?;
     let mut market: Market<B> = Market::new(memory);
     replay_two(rt, &mut reader, &mut market);
     Ok(())
 }
 
 #[test]
-fn a_refused_message_is_read_and_not_counted(rt: HostRuntime) -> Result<(), Fail> {
+fn a_refused_message_is_read_and_not_counted(rt: HostRuntime) -> TestResult {
     let alloc = rt.alloc();
     let bytes = day(alloc, &[AAPL, BUY_2, BUY_2, AAPL])?;
-    check_rest::<ListBook>(&rt, alloc, alloc, bytes.as_slice())?;
-    check_first::<ListBook>(&rt, alloc, alloc, bytes.as_slice())
+    check_rest::<ListBook>(&rt, alloc, bytes.as_slice())?;
+    check_first::<ListBook>(&rt, alloc, bytes.as_slice())
 }

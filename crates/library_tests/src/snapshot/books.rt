@@ -5,13 +5,10 @@ use super::{
     TRADES_X, check_snapshot, file_of,
 };
 use crate::doubles::{FuseWriter, PieceReader};
-use crate::equal::{same, same_words};
+use crate::equal::{Host, TestResult, same, same_words};
 use crate::files::{AAPL, ADD_1, END_4, END_5, EVENT, replay_from};
 use itch_book::{IndexedBook, ListBook, OrderBook};
 use itch_market::Market;
-use std::alloc::Global;
-use std::process::Abort;
-use std::test::Fail;
 
 const MAX: &[u8] = b"R\xff\xff\0\0\0\0\0\0\0\0MAX     QN\0\0\0dNCZ PNN1N\0\0\0\0N";
 
@@ -70,40 +67,33 @@ struct File<'a> {
 
 // A replay of a file says what it has to.
 fn check_replay<B: OrderBook>(
-    rt: &impl Abort,
-    alloc: Global,
+    rt: &impl Host,
     market: &mut Market<B>,
     file: File<'_>,
-) -> Result<(), Fail> {
-    let bytes = file_of(alloc, file.payloads, file.rest)?;
-    let end = replay_from(alloc, PieceReader::new(&bytes, 1, None), market)?;
+) -> TestResult {
+    let bytes = file_of(rt.alloc(), file.payloads, file.rest)?;
+    let end = replay_from(rt.alloc(), PieceReader::new(&bytes, 1, None), market)?;
     same(rt, end.count, file.count);
-    same_words(rt, alloc, &end.stop, file.stop)?;
+    same_words(rt, &end.stop, file.stop)?;
     Ok(())
 }
 
 // A market with nothing in it is left by a file as it has to be.
 fn check_market<B: OrderBook>(
-    rt: &impl Abort,
-    alloc: Global,
+    rt: &impl Host,
     market: &mut Market<B>,
     file: File<'_>,
-) -> Result<(), Fail> {
-    check_replay(rt, alloc, market, file)?;
+) -> TestResult {
+    check_replay(rt, market, file)?;
     let next = file.count.saturating_add(1);
-    let writer = FuseWriter::new(alloc, 64, None);
-    check_snapshot(rt, alloc, market, next, writer, file.snapshot)
+    let writer = FuseWriter::new(rt.alloc(), 64, None);
+    check_snapshot(rt, market, next, writer, file.snapshot)
 }
 
 // Checks a file over a book whose memory comes from `memory`.
-fn check<B: OrderBook>(
-    rt: &impl Abort,
-    alloc: Global,
-    memory: B::Alloc,
-    file: File<'_>,
-) -> Result<(), Fail> {
+fn check<B: OrderBook>(rt: &impl Host, memory: B::Alloc, file: File<'_>) -> TestResult {
     let mut market: Market<B> = Market::new(memory);
-    check_market(rt, alloc, &mut market, file)
+    check_market(rt, &mut market, file)
 }
 
 // Files that end, what stands after them, and their snapshots.
@@ -153,7 +143,7 @@ const WHOLE: [(&[&[u8]], &[u8], &[&[u8]]); 14] = [
 ];
 
 // Checks the files that end.
-fn check_whole<B: OrderBook>(rt: &impl Abort, alloc: Global, memory: B::Alloc) -> Result<(), Fail> {
+fn check_whole<B: OrderBook>(rt: &impl Host, memory: B::Alloc) -> TestResult {
     for (payloads, rest, snapshot) in WHOLE {
         let (count, stop) = (payloads.len() as u64, "end of input");
         let file = File {
@@ -163,7 +153,7 @@ fn check_whole<B: OrderBook>(rt: &impl Abort, alloc: Global, memory: B::Alloc) -
             stop,
             snapshot,
         };
-        check::<B>(rt, alloc, memory, file)?;
+        check::<B>(rt, memory, file)?;
     }
     Ok(())
 }
@@ -194,11 +184,7 @@ const REFUSED: [(&[&[u8]], &str, &[&[u8]]); 5] = [
 ];
 
 // Checks the files whose last message is refused, or is no message.
-fn check_refused<B: OrderBook>(
-    rt: &impl Abort,
-    alloc: Global,
-    memory: B::Alloc,
-) -> Result<(), Fail> {
+fn check_refused<B: OrderBook>(rt: &impl Host, memory: B::Alloc) -> TestResult {
     for (message, stop) in [
         (EXECUTE_AT_2, "locate mismatch"),
         (REPLACE_BY_ITSELF, "duplicate reference"),
@@ -216,7 +202,7 @@ fn check_refused<B: OrderBook>(
             stop,
             snapshot: &[AAPL, ADD_1, MSFT, END_4],
         };
-        check::<B>(rt, alloc, memory, file)?;
+        check::<B>(rt, memory, file)?;
     }
     for (payloads, stop, snapshot) in REFUSED {
         let count = (payloads.len() as u64).saturating_sub(1);
@@ -227,19 +213,19 @@ fn check_refused<B: OrderBook>(
             stop,
             snapshot,
         };
-        check::<B>(rt, alloc, memory, file)?;
+        check::<B>(rt, memory, file)?;
     }
     Ok(())
 }
 
 #[test]
-fn the_list_book_gives_the_worked_files(rt: HostRuntime) -> Result<(), Fail> {
-    check_whole::<ListBook>(&rt, rt.alloc(), rt.alloc())?;
-    check_refused::<ListBook>(&rt, rt.alloc(), rt.alloc())
+fn the_list_book_gives_the_worked_files(rt: HostRuntime) -> TestResult {
+    check_whole::<ListBook>(&rt, rt.alloc())?;
+    check_refused::<ListBook>(&rt, rt.alloc())
 }
 
 #[test]
-fn the_indexed_book_gives_the_worked_files(rt: HostRuntime) -> Result<(), Fail> {
-    check_whole::<IndexedBook>(&rt, rt.alloc(), rt.alloc())?;
-    check_refused::<IndexedBook>(&rt, rt.alloc(), rt.alloc())
+fn the_indexed_book_gives_the_worked_files(rt: HostRuntime) -> TestResult {
+    check_whole::<IndexedBook>(&rt, rt.alloc())?;
+    check_refused::<IndexedBook>(&rt, rt.alloc())
 }

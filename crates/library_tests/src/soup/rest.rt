@@ -1,20 +1,13 @@
 //! The rest of a served session fetched over memory, row by row.
 use crate::doubles::{FuseWriter, PieceReader};
-use crate::equal::same;
+use crate::equal::{Host, TestResult, same};
 use crate::sessions::{FROM_1, FROM_3, REST_3, fetch_third, third_fetched};
 use itch_frame::{BlockReader, CountedRead, FrameFault};
-use std::alloc::{Allocator, Global};
-use std::process::Abort;
-use std::test::Fail;
+use std::alloc::Allocator;
 
 // This reader gives these blocks from the third message on.
-fn check_rest(
-    rt: &impl Abort,
-    alloc: Global,
-    reader: PieceReader<'_>,
-    want: &[u8],
-) -> Result<(), Fail> {
-    match third_fetched(rt, alloc, alloc, reader)? {
+fn check_rest(rt: &impl Host, reader: PieceReader<'_>, want: &[u8]) -> TestResult {
+    match third_fetched(rt, rt.alloc(), reader)? {
         Ok(rest) => same(rt, rest.bytes(), want),
         Err(fault) => panic!(rt; "{fault}"),
     }
@@ -22,14 +15,9 @@ fn check_rest(
 }
 
 #[test]
-fn a_rest_is_fetched(rt: HostRuntime) -> Result<(), Fail> {
+fn a_rest_is_fetched(rt: HostRuntime) -> TestResult {
     for piece in [1, 64] {
-        check_rest(
-            &rt,
-            rt.alloc(),
-            PieceReader::new(FROM_3, piece, None),
-            REST_3,
-        )?;
+        check_rest(&rt, PieceReader::new(FROM_3, piece, None), REST_3)?;
     }
     Ok(())
 }
@@ -37,18 +25,18 @@ fn a_rest_is_fetched(rt: HostRuntime) -> Result<(), Fail> {
 // An order that is not there is deleted, and a message of a type that is not decoded follows. Between them are packets that mean
 // nothing, and nothing after the End of Snapshot is looked at.
 #[test]
-fn a_rest_follows_no_rule(rt: HostRuntime) -> Result<(), Fail> {
+fn a_rest_follows_no_rule(rt: HostRuntime) -> TestResult {
     let answer = b"\0\x03+up\0\x1fA  ITCHSNAP                   3\
         \0\x14SD\0\x01\0\0\0\0\0\0\0\0\0\0\0\0\0\0\0\x01\0\x01H\0\x02Sx\
         \0\x16SG                   9\0\0";
     let want = b"\0\x13D\0\x01\0\0\0\0\0\0\0\0\0\0\0\0\0\0\0\x01\0\x01x\
         \0\x15G                   9";
-    check_rest(&rt, rt.alloc(), PieceReader::new(answer, 7, None), want)
+    check_rest(&rt, PieceReader::new(answer, 7, None), want)
 }
 
 // The next block is this one.
 fn gives<R: CountedRead, A: Allocator>(
-    rt: &impl Abort,
+    rt: &impl Host,
     reader: &mut BlockReader<R, A>,
     want: &[u8],
 ) -> Result<(), FrameFault> {
@@ -57,7 +45,7 @@ fn gives<R: CountedRead, A: Allocator>(
 }
 
 #[test]
-fn nothing_is_read_after_the_end_of_a_rest(rt: HostRuntime) -> Result<(), Fail> {
+fn nothing_is_read_after_the_end_of_a_rest(rt: HostRuntime) -> TestResult {
     let mut reader = BlockReader::new(rt.alloc(), PieceReader::new(FROM_3, 64, None))?;
     let mut writer = FuseWriter::new(rt.alloc(), 64, None);
     if let Err(fault) = fetch_third(&rt, rt.alloc(), &mut reader, &mut writer) {
@@ -68,15 +56,15 @@ fn nothing_is_read_after_the_end_of_a_rest(rt: HostRuntime) -> Result<(), Fail> 
 }
 
 // The fetch of this input has this fault.
-fn check_fault(rt: &impl Abort, alloc: Global, input: &[u8], want: &str) -> Result<(), Fail> {
-    let fault = third_fetched(rt, alloc, alloc, PieceReader::new(input, 5, None))?.err();
+fn check_fault(rt: &impl Host, input: &[u8], want: &str) -> TestResult {
+    let fault = third_fetched(rt, rt.alloc(), PieceReader::new(input, 5, None))?.err();
     let fault = fault.expect(rt, "a fault");
-    same(rt, fault.to_string(alloc)?.as_str(), want);
+    same(rt, fault.to_string(rt.alloc())?.as_str(), want);
     Ok(())
 }
 
 #[test]
-fn other_answers_to_a_third_are_faults(rt: HostRuntime) -> Result<(), Fail> {
+fn other_answers_to_a_third_are_faults(rt: HostRuntime) -> TestResult {
     let rows: [(&[u8], &str); 8] = [
         (FROM_1, "accepted from 1, not from 3"),
         (b"\0\x02JS", "login rejected with S"),
@@ -97,7 +85,7 @@ fn other_answers_to_a_third_are_faults(rt: HostRuntime) -> Result<(), Fail> {
         ),
     ];
     for (input, want) in rows {
-        check_fault(&rt, rt.alloc(), input, want)?;
+        check_fault(&rt, input, want)?;
     }
     Ok(())
 }

@@ -1,6 +1,6 @@
 //! One served and one fetched session over memory, row by row.
 use crate::doubles::{FuseWriter, PieceReader};
-use crate::equal::{same, same_in};
+use crate::equal::{Host, TestResult, same, same_in};
 use crate::files::seq;
 use crate::sessions::{
     FROM_1, FROM_3, LOGIN_1, LOGIN_3, fetch, fetch_fault, fetched, is_served_market, serve,
@@ -10,9 +10,7 @@ use itch_book::{ListBook, OrderBook};
 use itch_frame::{BlockReader, CountedRead, FrameFault};
 use itch_market::Market;
 use itch_soup::{Served, SoupFault, laws, write_data};
-use std::alloc::{Allocator, Global};
-use std::process::Abort;
-use std::test::Fail;
+use std::alloc::Allocator;
 
 const FROM_6: &[u8] = b"\0\x1fA  ITCHSNAP                   6\0\x01Z";
 
@@ -80,90 +78,74 @@ fn the_laws_of_sessions() {
 
 // A login that comes in pieces of this length is served so, and answered by these bytes.
 fn check_answer<B: OrderBook>(
-    rt: &impl Abort,
-    alloc: Global,
+    rt: &impl Host,
     market: &Market<B>,
     input: &[u8],
     piece: usize,
     want: &Served,
     bytes: &[u8],
-) -> Result<(), Fail> {
+) -> TestResult {
     assert!(rt; piece > 0);
-    let mut writer = FuseWriter::new(alloc, piece, None);
+    let mut writer = FuseWriter::new(rt.alloc(), piece, None);
     let reader = PieceReader::new(input, piece, None);
-    let served = serve_from(rt, alloc, reader, &mut writer, market)?;
+    let served = serve_from(rt, reader, &mut writer, market)?;
     same_in(rt, input, &served.expect(rt, "an answer"), want);
     same(rt, writer.written(), bytes);
     Ok(())
 }
 
 fn check_login<B: OrderBook>(
-    rt: &impl Abort,
-    alloc: Global,
+    rt: &impl Host,
     market: &Market<B>,
     input: &[u8],
     want: &Served,
     bytes: &[u8],
-) -> Result<(), Fail> {
+) -> TestResult {
     for piece in [1, 64] {
-        check_answer(rt, alloc, market, input, piece, want, bytes)?;
+        check_answer(rt, market, input, piece, want, bytes)?;
     }
     Ok(())
 }
 
-fn check_logins<B: OrderBook>(
-    rt: &impl Abort,
-    alloc: Global,
-    market: &Market<B>,
-) -> Result<(), Fail> {
+fn check_logins<B: OrderBook>(rt: &impl Host, market: &Market<B>) -> TestResult {
     for (input, from, packets, bytes) in ACCEPTED {
         let from = seq(rt, from);
         let want = Served::Accepted { from, packets };
-        check_login(rt, alloc, market, input, &want, bytes)?;
+        check_login(rt, market, input, &want, bytes)?;
     }
     for (input, want, bytes) in NOT_ACCEPTED {
-        check_login(rt, alloc, market, input, &want, bytes)?;
+        check_login(rt, market, input, &want, bytes)?;
     }
     Ok(())
 }
 
 #[test]
-fn logins_are_served(rt: HostRuntime) -> Result<(), Fail> {
-    check_logins(&rt, rt.alloc(), &served_market(rt.alloc())?)
+fn logins_are_served(rt: HostRuntime) -> TestResult {
+    check_logins(&rt, &served_market(rt.alloc())?)
 }
 
 // This input has a fault, and is not answered.
 fn check_fault<B: OrderBook>(
-    rt: &impl Abort,
-    alloc: Global,
+    rt: &impl Host,
     market: &Market<B>,
     input: &[u8],
     want: &str,
-) -> Result<(), Fail> {
-    let mut writer = FuseWriter::new(alloc, 64, None);
+) -> TestResult {
+    let mut writer = FuseWriter::new(rt.alloc(), 64, None);
     let reader = PieceReader::new(input, 5, None);
-    let fault = serve_from(rt, alloc, reader, &mut writer, market)?.err();
+    let fault = serve_from(rt, reader, &mut writer, market)?.err();
     same(rt, writer.written(), b"".as_slice());
-    same_text(rt, alloc, fault, want)
+    same_text(rt, fault, want)
 }
 
 // There is a fault with these words.
-fn same_text(
-    rt: &impl Abort,
-    alloc: Global,
-    fault: Option<SoupFault>,
-    want: &str,
-) -> Result<(), Fail> {
+fn same_text(rt: &impl Host, fault: Option<SoupFault>, want: &str) -> TestResult {
     let fault = fault.expect(rt, "a fault");
-    same(rt, fault.to_string(alloc)?.as_str(), want);
+    same(rt, fault.to_string(rt.alloc())?.as_str(), want);
     Ok(())
 }
 
-fn check_faults<B: OrderBook>(
-    rt: &impl Abort,
-    alloc: Global,
-    market: &Market<B>,
-) -> Result<(), Fail> {
+fn check_faults<B: OrderBook>(rt: &impl Host, market: &Market<B>) -> TestResult {
     let rows: [(&[u8], &str); 5] = [
         (b"\0\0", "empty packet"),
         (b"\0\x01R\0\x01*", "unknown packet type 0x2a"),
@@ -172,19 +154,19 @@ fn check_faults<B: OrderBook>(
         (b"\0\x01R\0\x2fLuser", "truncated, 7 bytes held"),
     ];
     for (input, want) in rows {
-        check_fault(rt, alloc, market, input, want)?;
+        check_fault(rt, market, input, want)?;
     }
     Ok(())
 }
 
 #[test]
-fn faults_before_a_login_are_not_answered(rt: HostRuntime) -> Result<(), Fail> {
-    check_faults(&rt, rt.alloc(), &served_market(rt.alloc())?)
+fn faults_before_a_login_are_not_answered(rt: HostRuntime) -> TestResult {
+    check_faults(&rt, &served_market(rt.alloc())?)
 }
 
 // The next block is this one.
 fn gives<R: CountedRead, A: Allocator>(
-    rt: &impl Abort,
+    rt: &impl Host,
     reader: &mut BlockReader<R, A>,
     want: &[u8],
 ) -> Result<(), FrameFault> {
@@ -194,51 +176,49 @@ fn gives<R: CountedRead, A: Allocator>(
 
 // Serves the login of this input, after which the next block is this one.
 fn check_after_login<B: OrderBook>(
-    rt: &impl Abort,
-    alloc: Global,
+    rt: &impl Host,
     market: &Market<B>,
     input: &[u8],
     want: &[u8],
-) -> Result<(), Fail> {
-    let mut reader = BlockReader::new(alloc, PieceReader::new(input, 64, None))?;
-    let mut writer = FuseWriter::new(alloc, 64, None);
+) -> TestResult {
+    let mut reader = BlockReader::new(rt.alloc(), PieceReader::new(input, 64, None))?;
+    let mut writer = FuseWriter::new(rt.alloc(), 64, None);
     serve(rt, &mut reader, &mut writer, market).expect(rt, "an answer");
     gives(rt, &mut reader, want)?;
     Ok(())
 }
 
 #[test]
-fn nothing_is_read_after_the_login(rt: HostRuntime) -> Result<(), Fail> {
+fn nothing_is_read_after_the_login(rt: HostRuntime) -> TestResult {
     let input = b"\0\x2fLuser  secret                                 3\0\x01O";
     let market = served_market(rt.alloc())?;
-    check_after_login(&rt, rt.alloc(), &market, input, b"O")
+    check_after_login(&rt, &market, input, b"O")
 }
 
 // The market that was served is fetched over this reader.
 fn check_fetched<B: OrderBook>(
-    rt: &impl Abort,
-    alloc: Global,
+    rt: &impl Host,
     memory: B::Alloc,
     reader: PieceReader<'_>,
-) -> Result<(), Fail> {
-    match fetched::<_, B>(rt, alloc, memory, reader)? {
-        Ok((found, next)) => is_served_market(rt, alloc, &found, next),
+) -> TestResult {
+    match fetched::<_, B>(rt, memory, reader)? {
+        Ok((found, next)) => is_served_market(rt, &found, next),
         Err(fault) => panic!(rt; "{fault}"),
     }
 }
 
 #[test]
-fn answers_are_fetched(rt: HostRuntime) -> Result<(), Fail> {
+fn answers_are_fetched(rt: HostRuntime) -> TestResult {
     for piece in [1, 64] {
         let reader = PieceReader::new(FROM_1, piece, None);
-        check_fetched::<ListBook>(&rt, rt.alloc(), rt.alloc(), reader)?;
+        check_fetched::<ListBook>(&rt, rt.alloc(), reader)?;
     }
     Ok(())
 }
 
 // Fetches a market, after which the next block is this one.
 fn check_after_fetch<R: CountedRead, A: Allocator, B: OrderBook>(
-    rt: &impl Abort,
+    rt: &impl Host,
     memory: B::Alloc,
     reader: &mut BlockReader<R, A>,
     writer: &mut FuseWriter,
@@ -251,7 +231,7 @@ fn check_after_fetch<R: CountedRead, A: Allocator, B: OrderBook>(
 }
 
 #[test]
-fn nothing_is_read_after_the_end_of_snapshot(rt: HostRuntime) -> Result<(), Fail> {
+fn nothing_is_read_after_the_end_of_snapshot(rt: HostRuntime) -> TestResult {
     let mut reader = BlockReader::new(rt.alloc(), PieceReader::new(FROM_1, 64, None))?;
     let mut writer = FuseWriter::new(rt.alloc(), 64, None);
     check_after_fetch::<_, _, ListBook>(&rt, rt.alloc(), &mut reader, &mut writer, b"Z")?;
@@ -259,13 +239,13 @@ fn nothing_is_read_after_the_end_of_snapshot(rt: HostRuntime) -> Result<(), Fail
 }
 
 // The fetch of this input has this fault.
-fn check_fetch_fault(rt: &impl Abort, alloc: Global, input: &[u8], want: &str) -> Result<(), Fail> {
-    let fault = fetch_fault(rt, alloc, PieceReader::new(input, 5, None))?;
-    same_text(rt, alloc, fault, want)
+fn check_fetch_fault(rt: &impl Host, input: &[u8], want: &str) -> TestResult {
+    let fault = fetch_fault(rt, PieceReader::new(input, 5, None))?;
+    same_text(rt, fault, want)
 }
 
 #[test]
-fn other_answers_are_faults(rt: HostRuntime) -> Result<(), Fail> {
+fn other_answers_are_faults(rt: HostRuntime) -> TestResult {
     let rows: [(&[u8], &str); 10] = [
         (FROM_3, "accepted from 3, not from 1"),
         (b"\0\x02JA", "login rejected with A"),
@@ -288,13 +268,13 @@ fn other_answers_are_faults(rt: HostRuntime) -> Result<(), Fail> {
         ),
     ];
     for (input, want) in rows {
-        check_fetch_fault(&rt, rt.alloc(), input, want)?;
+        check_fetch_fault(&rt, input, want)?;
     }
     Ok(())
 }
 
 #[test]
-fn data_is_written(rt: HostRuntime) -> Result<(), Fail> {
+fn data_is_written(rt: HostRuntime) -> TestResult {
     let mut writer = FuseWriter::new(rt.alloc(), 64, None);
     write_data(&mut writer, b"GG")?;
     write_data(&mut writer, b"")?;

@@ -2,7 +2,7 @@
 
 use super::blocks::*;
 use super::files::file;
-use crate::equal::{holds_in, same_in};
+use crate::equal::{TestResult, holds_in, same_in};
 use itch_commands::join::{join, join_blocks};
 use itch_commands::{Book, FeedPart, Limit, laws};
 use itch_frame::{BlockReader, CountedRead, CountedWrite};
@@ -54,7 +54,7 @@ fn the_laws_of_what_is_read_with_a_set() {
 }
 
 #[test]
-fn join_goes_on_after_a_snapshot(rt: HostRuntime) -> Result<(), Fail> {
+fn join_goes_on_after_a_snapshot(rt: HostRuntime) -> TestResult {
     let alloc = rt.alloc();
     for (case, (snapshot, feed, wanted)) in JOINED.iter().enumerate() {
         let snapshot = file(alloc, snapshot)?;
@@ -113,7 +113,7 @@ const JOINED_IN_PART: [(&[&str], &[&str], &[&str]); 3] = [
 ];
 
 #[test]
-fn join_goes_to_a_message_of_the_day(rt: HostRuntime) -> Result<(), Fail> {
+fn join_goes_to_a_message_of_the_day(rt: HostRuntime) -> TestResult {
     let alloc = rt.alloc();
     for (case, (snapshot, feed, wanted)) in JOINED_IN_PART.iter().enumerate() {
         let snapshot = file(alloc, snapshot)?;

@@ -1,7 +1,7 @@
 //! A pass over a day file, with a snapshot at each of its points.
 use super::blocks::*;
 use super::files::file;
-use crate::equal::{holds_in, same};
+use crate::equal::{TestResult, holds_in, same};
 use itch_commands::snap::{Mark, Pass};
 use itch_commands::{Book, Limit};
 use itch_frame::{BlockReader, Counted, CountedRead};
@@ -34,7 +34,7 @@ fn read_more<R: CountedRead, A: Allocator>(
 }
 
 #[test]
-fn a_pass_stands_at_each_point(rt: HostRuntime) -> Result<(), Fail> {
+fn a_pass_stands_at_each_point(rt: HostRuntime) -> TestResult {
     let alloc = rt.alloc();
     let day = file(alloc, &[START_STAMPED, AAPL_LATE, BUY_1_STAMPED])?;
     let reader = BlockReader::new(alloc, Counted::new(day.as_slice()))?;

@@ -1,6 +1,6 @@
 //! The line and the status of each fault.
 
-use crate::equal::{same, same_in};
+use crate::equal::{TestResult, same, same_in};
 use itch_codec::CodecFault;
 use itch_commands::snap::{Latest, Mark};
 use itch_commands::{
@@ -14,7 +14,7 @@ use std::io;
 use std::test::Fail;
 
 #[test]
-fn every_fault_has_its_line_and_status(rt: HostRuntime) -> Result<(), Fail> {
+fn every_fault_has_its_line_and_status(rt: HostRuntime) -> TestResult {
     let alloc = rt.alloc();
     let error = io::Error::from(io::ErrorKind::Other);
     let want_of_memory = ReplayEnd {
@@ -118,7 +118,7 @@ fn difference(
 }
 
 #[test]
-fn a_file_is_as_expected_or_not(rt: HostRuntime) -> Result<(), Fail> {
+fn a_file_is_as_expected_or_not(rt: HostRuntime) -> TestResult {
     let exactly = |count, end| Expected { count, end };
     let cases = [
         (exactly(None, false), 0, None, "none"),
@@ -186,7 +186,7 @@ fn want_of_memory_has_its_own_fault(rt: HostRuntime) {
 }
 
 #[test]
-fn faults_of_snapshots_have_their_lines_and_statuses(rt: HostRuntime) -> Result<(), Fail> {
+fn faults_of_snapshots_have_their_lines_and_statuses(rt: HostRuntime) -> TestResult {
     let alloc = rt.alloc();
     let error = io::Error::from(io::ErrorKind::Other);
     let cases = [

@@ -2,7 +2,7 @@
 
 use super::blocks::*;
 use super::files::file;
-use crate::equal::{holds_in, same, same_in};
+use crate::equal::{TestResult, holds_in, same, same_in};
 use itch_commands::read_locates;
 use itch_commands::snap::snap;
 use itch_frame::{CountedRead, CountedWrite};
@@ -72,7 +72,7 @@ fn is_snapped<R: CountedRead + Drop, W: CountedWrite>(
 }
 
 #[test]
-fn snap_of_all_locates_is_the_whole(rt: HostRuntime) -> Result<(), Fail> {
+fn snap_of_all_locates_is_the_whole(rt: HostRuntime) -> TestResult {
     let alloc = rt.alloc();
     let all = LocateSet::all(alloc);
     for (case, (day, wanted)) in ROWS.iter().enumerate() {
@@ -87,7 +87,7 @@ fn snap_of_all_locates_is_the_whole(rt: HostRuntime) -> Result<(), Fail> {
 }
 
 #[test]
-fn lists_are_read(rt: HostRuntime) -> Result<(), Fail> {
+fn lists_are_read(rt: HostRuntime) -> TestResult {
     let cases: [(&str, &[u16], u16); 5] = [
         ("1", &[1], 0),
         ("0", &[0], 1),
@@ -107,7 +107,7 @@ fn lists_are_read(rt: HostRuntime) -> Result<(), Fail> {
 
 // Each allocation of a list that is read is refused in turn.
 #[test]
-fn list_without_memory(rt: HostRuntime) -> Result<(), Fail> {
+fn list_without_memory(rt: HostRuntime) -> TestResult {
     for nth in 0..64 {
         let refusing = Refusing::new(rt.alloc(), nth);
         let set = read_locates(

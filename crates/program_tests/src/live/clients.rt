@@ -5,13 +5,11 @@ use super::messages::{
     SNAPSHOT_2, SNAPSHOT_4, WELCOME,
 };
 use super::steps::{Brought, Standing, Step, UNKNOWN, check, desk_of, take_steps};
-use crate::equal::same_in;
+use crate::equal::{TestResult, same_in};
 use itch_book::{IndexedBook, OrderBook};
 use itch_live::{Desk, Gone, laws};
 use library_tests::doubles::FuseWriter;
 use std::alloc::Global;
-use std::process::Abort;
-use std::test::Fail;
 
 type Index = IndexedBook<Global>;
 
@@ -71,8 +69,8 @@ const TWO_CLIENTS: &[Step<'static>] = &[
 ];
 
 #[test]
-fn two_clients(rt: HostRuntime) -> Result<(), Fail> {
-    check::<Index>(&rt, rt.alloc(), rt.alloc(), false, TWO_CLIENTS)
+fn two_clients(rt: HostRuntime) -> TestResult {
+    check::<Index>(&rt, rt.alloc(), false, TWO_CLIENTS)
 }
 
 // A login waits until there is a market.
@@ -94,8 +92,8 @@ const EARLY: &[Step<'static>] = &[
 ];
 
 #[test]
-fn before_the_market(rt: HostRuntime) -> Result<(), Fail> {
-    check::<Index>(&rt, rt.alloc(), rt.alloc(), true, EARLY)
+fn before_the_market(rt: HostRuntime) -> TestResult {
+    check::<Index>(&rt, rt.alloc(), true, EARLY)
 }
 
 // While a login waits, its client is sent a heartbeat a second, and is not cut off while it takes them, also where no moment was told
@@ -155,8 +153,8 @@ const WAITING: &[Step<'static>] = &[
 ];
 
 #[test]
-fn heartbeats_while_waiting(rt: HostRuntime) -> Result<(), Fail> {
-    check::<Index>(&rt, rt.alloc(), rt.alloc(), true, WAITING)
+fn heartbeats_while_waiting(rt: HostRuntime) -> TestResult {
+    check::<Index>(&rt, rt.alloc(), true, WAITING)
 }
 
 // A login that is refused is told so, whatever follows it, and what is no login cuts off.
@@ -206,8 +204,8 @@ const REFUSED: &[Step<'static>] = &[
 ];
 
 #[test]
-fn refused(rt: HostRuntime) -> Result<(), Fail> {
-    check::<Index>(&rt, rt.alloc(), rt.alloc(), false, REFUSED)
+fn refused(rt: HostRuntime) -> TestResult {
+    check::<Index>(&rt, rt.alloc(), false, REFUSED)
 }
 
 // 15 seconds without a word before the login, without taking the answer, and after the last byte of it: these cut off. Heartbeats do not help one
@@ -252,8 +250,8 @@ const CUT_OFF: &[Step<'static>] = &[
 ];
 
 #[test]
-fn cut_off(rt: HostRuntime) -> Result<(), Fail> {
-    check::<Index>(&rt, rt.alloc(), rt.alloc(), false, CUT_OFF)
+fn cut_off(rt: HostRuntime) -> TestResult {
+    check::<Index>(&rt, rt.alloc(), false, CUT_OFF)
 }
 
 // The snapshot after two system events.
@@ -302,7 +300,7 @@ const WITHIN: &[Step<'static>] = &[
 ];
 
 #[test]
-fn snapshots_within_a_limit(rt: HostRuntime) -> Result<(), Fail> {
+fn snapshots_within_a_limit(rt: HostRuntime) -> TestResult {
     let mut desk: Desk<Index> = desk_of(&rt, rt.alloc(), UNKNOWN, false, 3)?;
     let mut record = FuseWriter::new(rt.alloc(), 5, None);
     take_steps(&rt, &mut desk, &mut record, WITHIN)

@@ -4,13 +4,12 @@ use super::messages::{
     FEED_FROM_1, FEED_FROM_3, FEED_FROM_5, HEARTBEAT, MONDAY_FROM_1, REJECTED,
 };
 use super::steps::{Brought, Step, check, desk, take_steps};
+use crate::equal::{Host, TestResult};
 use itch_book::{IndexedBook, OrderBook};
 use itch_live::Desk;
 use itch_soup::Tick;
 use library_tests::doubles::FuseWriter;
 use std::alloc::Global;
-use std::process::Abort;
-use std::test::Fail;
 
 type Index = IndexedBook<Global>;
 
@@ -36,8 +35,8 @@ const LOST: &[Step<'static>] = &[
 ];
 
 #[test]
-fn lost_in_a_message(rt: HostRuntime) -> Result<(), Fail> {
-    check::<Index>(&rt, rt.alloc(), rt.alloc(), false, LOST)
+fn lost_in_a_message(rt: HostRuntime) -> TestResult {
+    check::<Index>(&rt, rt.alloc(), false, LOST)
 }
 
 // The next day's server accepts the login in its own name: nothing of that connection is taken, though its numbers would do. The same
@@ -68,8 +67,8 @@ const NEXT_DAY: &[Step<'static>] = &[
 ];
 
 #[test]
-fn the_next_day(rt: HostRuntime) -> Result<(), Fail> {
-    check::<Index>(&rt, rt.alloc(), rt.alloc(), false, NEXT_DAY)
+fn the_next_day(rt: HostRuntime) -> TestResult {
+    check::<Index>(&rt, rt.alloc(), false, NEXT_DAY)
 }
 
 // A feed that begins lower than it was asked to repeats messages, and one that begins higher is not taken.
@@ -96,8 +95,8 @@ const ELSEWHERE: &[Step<'static>] = &[
 ];
 
 #[test]
-fn begun_elsewhere(rt: HostRuntime) -> Result<(), Fail> {
-    check::<Index>(&rt, rt.alloc(), rt.alloc(), false, ELSEWHERE)
+fn begun_elsewhere(rt: HostRuntime) -> TestResult {
+    check::<Index>(&rt, rt.alloc(), false, ELSEWHERE)
 }
 
 // The snapshot of a GLIMPSE server, lost once, and then the feed from its number on, in the session that the GLIMPSE server named.
@@ -121,8 +120,8 @@ const GLIMPSE: &[Step<'static>] = &[
 ];
 
 #[test]
-fn begun_with_a_snapshot(rt: HostRuntime) -> Result<(), Fail> {
-    check::<Index>(&rt, rt.alloc(), rt.alloc(), true, GLIMPSE)
+fn begun_with_a_snapshot(rt: HostRuntime) -> TestResult {
+    check::<Index>(&rt, rt.alloc(), true, GLIMPSE)
 }
 
 const SILENT: &[Step<'static>] = &[
@@ -140,8 +139,8 @@ const SILENT: &[Step<'static>] = &[
 ];
 
 #[test]
-fn silent(rt: HostRuntime) -> Result<(), Fail> {
-    check::<Index>(&rt, rt.alloc(), rt.alloc(), false, SILENT)
+fn silent(rt: HostRuntime) -> TestResult {
+    check::<Index>(&rt, rt.alloc(), false, SILENT)
 }
 
 // A packet of no type, and an order at a locate that the feed has not named: the joiner refuses it for good.
@@ -156,8 +155,8 @@ const BROKEN: &[Step<'static>] = &[
 ];
 
 #[test]
-fn broken(rt: HostRuntime) -> Result<(), Fail> {
-    check::<Index>(&rt, rt.alloc(), rt.alloc(), false, BROKEN)
+fn broken(rt: HostRuntime) -> TestResult {
+    check::<Index>(&rt, rt.alloc(), false, BROKEN)
 }
 
 // The second write fails, that of the payload: the market has the message, and the record its length alone.
@@ -169,17 +168,13 @@ const UNRECORDED: &[Step<'static>] = &[
     Step::Recorded(b"\0\x0c"),
 ];
 
-fn check_unrecorded<B: OrderBook>(
-    rt: &impl Abort,
-    alloc: Global,
-    memory: B::Alloc,
-) -> Result<(), Fail> {
+fn check_unrecorded<B: OrderBook>(rt: &impl Host, memory: B::Alloc) -> TestResult {
     let mut desk: Desk<B> = desk(rt, memory, false)?;
-    let mut record = FuseWriter::new(alloc, 5, Some(2));
+    let mut record = FuseWriter::new(rt.alloc(), 5, Some(2));
     take_steps(rt, &mut desk, &mut record, UNRECORDED)
 }
 
 #[test]
-fn unrecorded(rt: HostRuntime) -> Result<(), Fail> {
-    check_unrecorded::<Index>(&rt, rt.alloc(), rt.alloc())
+fn unrecorded(rt: HostRuntime) -> TestResult {
+    check_unrecorded::<Index>(&rt, rt.alloc())
 }

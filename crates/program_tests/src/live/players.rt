@@ -1,12 +1,10 @@
 //! A client of a played feed: what it is sent, byte by byte, and when it is cut off.
 use super::messages::{CLIENT_HEARTBEAT, LOGIN, LOGIN_2, LOGIN_OTHER, LOGIN_WRONG, LOGOUT};
 use super::steps::{Standing, config, how_it_stands};
-use crate::equal::{holds_in, same_in};
+use crate::equal::{Host, TestResult, holds_in, same_in};
 use itch_live::{Gone, Player, laws};
 use library_tests::doubles::Refusing;
 use std::alloc::{Allocator, Global};
-use std::process::Abort;
-use std::test::Fail;
 
 /// What is done, and what has to come of it.
 #[derive(Clone, Copy)]
@@ -68,7 +66,7 @@ fn take<A: Allocator>(player: &mut Player<A>, count: usize, now: u64) -> bool {
 }
 
 fn take_turn<A: Allocator>(
-    rt: &impl Abort,
+    rt: &impl Host,
     player: &mut Player<A>,
     (at, now): (usize, u64),
     turn: Turn<'_>,
@@ -96,7 +94,7 @@ fn take_turn<A: Allocator>(
 }
 
 // A client of a feed of three messages, taken through these turns.
-fn check<A: Allocator + Copy>(rt: &impl Abort, memory: A, turns: &[Turn<'_>]) -> Result<(), Fail> {
+fn check<A: Allocator + Copy>(rt: &impl Host, memory: A, turns: &[Turn<'_>]) -> TestResult {
     let mut player = Player::new(memory, config(rt), 3, 0)?;
     let mut now = 0;
     for at in 0..turns.len() {
@@ -155,7 +153,7 @@ const ALL: &[Turn<'static>] = &[
 ];
 
 #[test]
-fn all_messages(rt: HostRuntime) -> Result<(), Fail> {
+fn all_messages(rt: HostRuntime) -> TestResult {
     check(&rt, rt.alloc(), ALL)
 }
 
@@ -201,7 +199,7 @@ const FROM_4: &[Turn<'static>] = &[
 ];
 
 #[test]
-fn from_a_number_on(rt: HostRuntime) -> Result<(), Fail> {
+fn from_a_number_on(rt: HostRuntime) -> TestResult {
     check(&rt, rt.alloc(), FROM_3)?;
     check(&rt, rt.alloc(), FROM_4)
 }
@@ -243,7 +241,7 @@ const NONSENSE: &[Turn<'static>] = &[
 ];
 
 #[test]
-fn refused(rt: HostRuntime) -> Result<(), Fail> {
+fn refused(rt: HostRuntime) -> TestResult {
     check(&rt, rt.alloc(), WRONG)?;
     check(&rt, rt.alloc(), BEYOND)?;
     check(&rt, rt.alloc(), OTHER)?;
@@ -292,7 +290,7 @@ const LEFT: &[Turn<'static>] = &[
 ];
 
 #[test]
-fn cut_off(rt: HostRuntime) -> Result<(), Fail> {
+fn cut_off(rt: HostRuntime) -> TestResult {
     check(&rt, rt.alloc(), SILENT)?;
     check(&rt, rt.alloc(), NO_LOGIN)?;
     check(&rt, rt.alloc(), LEFT)
@@ -318,7 +316,7 @@ const FULL: &[Turn<'static>] = &[
 ];
 
 #[test]
-fn full(rt: HostRuntime) -> Result<(), Fail> {
+fn full(rt: HostRuntime) -> TestResult {
     check(&rt, rt.alloc(), FULL)
 }
 
@@ -328,7 +326,7 @@ fn played_in_order() {
 }
 
 // A client with each of its allocations refused in turn; with memory it takes none later.
-fn refuse<A: Allocator + Copy>(rt: &impl Abort, memory: A, refusing: &Refusing<Global>) -> u64 {
+fn refuse<A: Allocator + Copy>(rt: &impl Host, memory: A, refusing: &Refusing<Global>) -> u64 {
     for nth in 0..16 {
         refusing.arm(nth);
         let made = Player::new(memory, config(rt), 3, 0);

@@ -4,13 +4,11 @@ use super::messages::{
     WELCOME,
 };
 use super::steps::{Brought, Standing, Step, desk, take_steps};
-use crate::equal::{holds_in, same_in};
+use crate::equal::{Host, TestResult, holds_in, same_in};
 use itch_book::{IndexedBook, OrderBook};
 use itch_live::Desk;
 use library_tests::doubles::{FuseWriter, Refusing};
 use std::alloc::Global;
-use std::process::Abort;
-use std::test::Fail;
 
 type Index<'a> = IndexedBook<&'a Refusing<Global>>;
 
@@ -25,11 +23,7 @@ const TWO_MESSAGES: &[Step<'static>] = &[
 ];
 
 // A desk with each of its allocations refused in turn. Returns how many were refused.
-fn refuse_desk<B: OrderBook>(
-    rt: &impl Abort,
-    memory: B::Alloc,
-    refusing: &Refusing<Global>,
-) -> u64 {
+fn refuse_desk<B: OrderBook>(rt: &impl Host, memory: B::Alloc, refusing: &Refusing<Global>) -> u64 {
     for nth in 0..16 {
         refusing.arm(nth);
         let made = desk::<B>(rt, memory, false).is_ok();
@@ -43,7 +37,7 @@ fn refuse_desk<B: OrderBook>(
 
 // A client is admitted so.
 fn refuse_client<B: OrderBook>(
-    rt: &impl Abort,
+    rt: &impl Host,
     refusing: &Refusing<Global>,
     desk: &mut Desk<B>,
 ) -> u64 {
@@ -61,7 +55,7 @@ fn refuse_client<B: OrderBook>(
 
 // It is answered so.
 fn refuse_answer<B: OrderBook>(
-    rt: &impl Abort,
+    rt: &impl Host,
     refusing: &Refusing<Global>,
     desk: &mut Desk<B>,
 ) -> u64 {
@@ -79,13 +73,12 @@ fn refuse_answer<B: OrderBook>(
 }
 
 fn check_clients<B: OrderBook>(
-    rt: &impl Abort,
-    alloc: Global,
+    rt: &impl Host,
     memory: B::Alloc,
     refusing: &Refusing<Global>,
-) -> Result<(), Fail> {
+) -> TestResult {
     let mut desk: Desk<B> = desk(rt, memory, false)?;
-    let mut record = FuseWriter::new(alloc, 5, None);
+    let mut record = FuseWriter::new(rt.alloc(), 5, None);
     take_steps(rt, &mut desk, &mut record, TWO_MESSAGES)?;
     holds_in(rt, 3, refuse_client(rt, refusing, &mut desk) > 0);
     refusing.arm(0);
@@ -108,11 +101,11 @@ fn check_clients<B: OrderBook>(
 }
 
 #[test]
-fn a_desk_and_its_clients(rt: HostRuntime) -> Result<(), Fail> {
+fn a_desk_and_its_clients(rt: HostRuntime) -> TestResult {
     let refusing = Refusing::new(rt.alloc(), NONE);
     assert!(rt; refuse_desk::<Index<'_>>(&rt, &refusing, &refusing) > 1);
     refusing.arm(NONE);
-    check_clients::<Index<'_>>(&rt, rt.alloc(), &refusing, &refusing)
+    check_clients::<Index<'_>>(&rt, &refusing, &refusing)
 }
 
 // A message for which memory is refused is asked for again.
@@ -126,20 +119,19 @@ const REFUSED_AT_3: &[Step<'static>] = &[
 ];
 
 fn check_feed<B: OrderBook>(
-    rt: &impl Abort,
-    alloc: Global,
+    rt: &impl Host,
     memory: B::Alloc,
     refusing: &Refusing<Global>,
-) -> Result<(), Fail> {
+) -> TestResult {
     let mut desk: Desk<B> = desk(rt, memory, false)?;
-    let mut record = FuseWriter::new(alloc, 5, None);
+    let mut record = FuseWriter::new(rt.alloc(), 5, None);
     take_steps(rt, &mut desk, &mut record, TWO_MESSAGES)?;
     refusing.arm(0);
     take_steps(rt, &mut desk, &mut record, REFUSED_AT_3)
 }
 
 #[test]
-fn a_message_of_the_feed(rt: HostRuntime) -> Result<(), Fail> {
+fn a_message_of_the_feed(rt: HostRuntime) -> TestResult {
     let refusing = Refusing::new(rt.alloc(), NONE);
-    check_feed::<Index<'_>>(&rt, rt.alloc(), &refusing, &refusing)
+    check_feed::<Index<'_>>(&rt, &refusing, &refusing)
 }

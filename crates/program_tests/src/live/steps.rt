@@ -1,13 +1,12 @@
 //! A desk that is taken through steps, each at its moment.
-use crate::equal::{holds_in, same_in};
+use crate::equal::{Host, TestResult, holds_in, same_in};
 use itch_book::OrderBook;
 use itch_codec::Alpha;
 use itch_join::{JoinFault, Joiner};
 use itch_live::{Desk, Follower, Gone, News, Sessions};
 use itch_soup::{Credentials, ServerConfig, Tick};
 use library_tests::doubles::FuseWriter;
-use std::alloc::{AllocError, Global};
-use std::process::Abort;
+use std::alloc::AllocError;
 use std::test::Fail;
 
 /// What is done, and what has to come of it.
@@ -96,11 +95,11 @@ pub(crate) fn what_came(news: &News) -> Brought {
     }
 }
 
-fn alpha<const N: usize>(rt: &impl Abort, text: &str) -> Alpha<N> {
+fn alpha<const N: usize>(rt: &impl Host, text: &str) -> Alpha<N> {
     Alpha::from_text(text).expect(rt, "a text that fits")
 }
 
-pub(crate) fn config(rt: &impl Abort) -> ServerConfig {
+pub(crate) fn config(rt: &impl Host) -> ServerConfig {
     ServerConfig {
         username: alpha(rt, "user"),
         password: alpha(rt, "secret"),
@@ -108,7 +107,7 @@ pub(crate) fn config(rt: &impl Abort) -> ServerConfig {
     }
 }
 
-pub(crate) fn credentials(rt: &impl Abort) -> Credentials {
+pub(crate) fn credentials(rt: &impl Host) -> Credentials {
     Credentials {
         username: alpha(rt, "user"),
         password: alpha(rt, "secret"),
@@ -123,7 +122,7 @@ pub(crate) const UNKNOWN: Sessions = Sessions {
 };
 
 /// These sessions are known beforehand.
-pub(crate) fn known(rt: &impl Abort, feed: Option<&str>, glimpse: Option<&str>) -> Sessions {
+pub(crate) fn known(rt: &impl Host, feed: Option<&str>, glimpse: Option<&str>) -> Sessions {
     Sessions {
         feed: feed.map(|name| alpha(rt, name)),
         glimpse: glimpse.map(|name| alpha(rt, name)),
@@ -132,7 +131,7 @@ pub(crate) fn known(rt: &impl Abort, feed: Option<&str>, glimpse: Option<&str>) 
 
 /// A desk with two places, whose market is that of no messages, or none yet where it begins with a GLIMPSE server.
 pub(crate) fn desk<B: OrderBook>(
-    rt: &impl Abort,
+    rt: &impl Host,
     memory: B::Alloc,
     glimpse: bool,
 ) -> Result<Desk<B>, AllocError> {
@@ -141,7 +140,7 @@ pub(crate) fn desk<B: OrderBook>(
 
 /// The same with so many places, and with these sessions.
 pub(crate) fn desk_of<B: OrderBook>(
-    rt: &impl Abort,
+    rt: &impl Host,
     memory: B::Alloc,
     sessions: Sessions,
     glimpse: bool,
@@ -153,7 +152,7 @@ pub(crate) fn desk_of<B: OrderBook>(
 
 /// What follows a feed with these sessions, whose market is that of no messages, or none yet.
 pub(crate) fn follower_of<B: OrderBook>(
-    rt: &impl Abort,
+    rt: &impl Host,
     memory: B::Alloc,
     sessions: Sessions,
     glimpse: bool,
@@ -247,7 +246,7 @@ fn take<B: OrderBook>(desk: &mut Desk<B>, place: usize, count: usize, now: u64) 
 
 /// Takes a step of a desk at this moment. Returns the moment from then on.
 pub(crate) fn take_step<B: OrderBook>(
-    rt: &impl Abort,
+    rt: &impl Host,
     desk: &mut Desk<B>,
     record: &mut FuseWriter,
     (at, now): (usize, u64),
@@ -284,11 +283,11 @@ pub(crate) fn take_step<B: OrderBook>(
 
 /// Takes a desk through these steps, from moment 0 on.
 pub(crate) fn take_steps<B: OrderBook>(
-    rt: &impl Abort,
+    rt: &impl Host,
     desk: &mut Desk<B>,
     record: &mut FuseWriter,
     steps: &[Step<'_>],
-) -> Result<(), Fail> {
+) -> TestResult {
     let mut now = 0;
     for at in 0..steps.len() {
         now = take_step(rt, desk, record, (at, now), steps[at])?;
@@ -298,13 +297,12 @@ pub(crate) fn take_steps<B: OrderBook>(
 
 /// A desk of its own for these steps.
 pub(crate) fn check<B: OrderBook>(
-    rt: &impl Abort,
-    alloc: Global,
+    rt: &impl Host,
     memory: B::Alloc,
     glimpse: bool,
     steps: &[Step<'_>],
-) -> Result<(), Fail> {
+) -> TestResult {
     let mut desk: Desk<B> = desk(rt, memory, glimpse)?;
-    let mut record = FuseWriter::new(alloc, 5, None);
+    let mut record = FuseWriter::new(rt.alloc(), 5, None);
     take_steps(rt, &mut desk, &mut record, steps)
 }

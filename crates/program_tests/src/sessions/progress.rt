@@ -1,13 +1,12 @@
 //! What passes through a reader that is watched.
 
-use crate::equal::{same, same_in};
+use crate::equal::{TestResult, same, same_in};
 use itchsnap_cli::input::{Amount, Progress, Tally, Watched};
 use std::io::Read;
-use std::test::Fail;
 use std::time::Duration;
 
 #[test]
-fn messages_are_counted_in_pieces(rt: HostRuntime) -> Result<(), Fail> {
+fn messages_are_counted_in_pieces(rt: HostRuntime) -> TestResult {
     let stream = [0, 2, 7, 7, 0, 0, 0, 1, 9, 1, 0];
     for length in 1..stream.len() {
         let mut tally = Tally::new();
@@ -20,7 +19,7 @@ fn messages_are_counted_in_pieces(rt: HostRuntime) -> Result<(), Fail> {
 }
 
 #[test]
-fn a_watched_reader_reads_what_is_inside(rt: HostRuntime) -> Result<(), Fail> {
+fn a_watched_reader_reads_what_is_inside(rt: HostRuntime) -> TestResult {
     let stream = [0, 1, 9, 0];
     let progress = Progress::begin(&rt);
     let mut reader = Watched::new(&stream[..], progress.as_ref());
@@ -33,7 +32,7 @@ fn a_watched_reader_reads_what_is_inside(rt: HostRuntime) -> Result<(), Fail> {
 }
 
 #[test]
-fn an_amount_has_its_line(rt: HostRuntime) -> Result<(), Fail> {
+fn an_amount_has_its_line(rt: HostRuntime) -> TestResult {
     let alloc = rt.alloc();
     let rows = [
         (
