@@ -71,7 +71,7 @@ pub(super) fn delete<B: OrderBook>(rt: &impl Host, book: &mut B, reference: u64)
 }
 
 // Replaces an order, by a place that may not be its own.
-fn replace_at<B: OrderBook>(
+pub(super) fn replace_at<B: OrderBook>(
     rt: &impl Host,
     book: &mut B,
     original: u64,

@@ -4,11 +4,11 @@ use crate::equal::Host;
 use itch_book::OrderBook;
 use itch_codec::Seq;
 use itch_frame::{BlockReader, CountedRead, CountedWrite, write_block};
-use itch_market::{Market, ReplayEnd, replay};
+use itch_market::{Market, ReplayEnd, Stop, replay};
 use itch_snapshot::{
     SnapFault, SnapshotReader, read_snapshot, same_market, snapshot_len, write_snapshot,
 };
-use std::alloc::Global;
+use std::alloc::{Allocator, Global};
 use std::test::Fail;
 
 /// System Event: start of messages.
@@ -86,6 +86,15 @@ pub(crate) fn replay_from<R: CountedRead + Drop, B: OrderBook>(
 ) -> Result<ReplayEnd, Fail> {
     let mut reader = BlockReader::new(alloc, reader)?;
     Ok(replay(&mut reader, market))
+}
+
+/// Replays what a reader has left, and returns how many messages were applied, and why no further one was.
+pub(crate) fn replayed<R: CountedRead, A: Allocator, B: OrderBook>(
+    reader: &mut BlockReader<R, A>,
+    market: &mut Market<B>,
+) -> (u64, Stop) {
+    let end = replay(reader, market);
+    (end.count, end.stop)
 }
 
 /// Writes the snapshot of a small market, closed with this number.

@@ -83,7 +83,7 @@ fn cuts_a_stream_the_same_in_any_pieces(rt: HostRuntime) -> TestResult {
 }
 
 // The next block is this one, or there is none.
-fn gives<R: CountedRead, A: Allocator>(
+pub(crate) fn gives<R: CountedRead, A: Allocator>(
     rt: &impl Host,
     reader: &mut BlockReader<R, A>,
     want: Option<&[u8]>,

@@ -2,23 +2,14 @@
 use crate::book::has_len;
 use crate::doubles::PieceReader;
 use crate::equal::{Host, TestResult, holds_in, same_in};
-use crate::files::{REPLACED, blocks};
+use crate::files::{REPLACED, blocks, replayed};
 use itch_book::{IndexedBook, ListBook, OrderBook};
 use itch_frame::{BlockReader, CountedRead, FrameFault};
-use itch_market::{Market, Stop, replay};
+use itch_market::{Market, Stop};
 use std::alloc::Allocator;
 
 // Where the four blocks of the day end.
 const ENDS: [usize; 4] = [41, 83, 121, 158];
-
-// Replays what a reader has left, and returns how many messages were applied, and why no further one was.
-fn replayed<R: CountedRead, A: Allocator, B: OrderBook>(
-    reader: &mut BlockReader<R, A>,
-    market: &mut Market<B>,
-) -> (u64, Stop) {
-    let end = replay(reader, market);
-    (end.count, end.stop)
-}
 
 // How many blocks of the day end in its first `at` bytes.
 fn whole_blocks(at: usize) -> u64 {

@@ -1,42 +1,28 @@
 //! Orders added and replaced.
-use crate::book::{after, first, has_len, live, next_price, total};
+use crate::book::{add, after, first, has_len, live, next_price, order, replace_at, total};
 use crate::doubles::Refusing;
 use crate::equal::{Host, TestResult, same};
 use itch_book::{IndexedBook, ListBook, Order, OrderBook, SettledBook};
 use itch_codec::Side;
 use std::alloc::{AllocError, Global};
 
-// An order to buy at locate 1.
-fn bid(reference: u64, shares: u32, price: u32) -> Order {
-    Order {
-        reference,
-        locate: 1,
-        side: Side::Buy,
-        shares,
-        price,
-        mpid: None,
-    }
-}
-
-// A call that may grow a book.
-#[derive(Clone, Copy)]
-struct Growth {
-    // The order that is replaced, or none where one is added.
+// A call that may grow a book: it adds an order, or replaces one by it.
+fn call<B: OrderBook>(
+    rt: &impl Host,
+    book: &mut B,
     original: Option<u64>,
     order: Order,
-}
-
-impl Growth {
-    fn call<B: OrderBook>(&self, rt: &impl Host, book: &mut B) -> Result<(), AllocError> {
-        let order = self.order;
-        assert!(rt; order.shares > 0);
-        assert!(rt; book.get(order.reference).is_none());
-        match self.original {
-            None => book.add(order),
-            Some(original) => {
-                assert!(rt; book.get(original).is_some());
-                book.replace(original, 0, order.reference, order.shares, order.price)
-            }
+) -> Result<(), AllocError> {
+    match original {
+        None => add(rt, book, order),
+        Some(original) => {
+            let Order {
+                reference,
+                shares,
+                price,
+                ..
+            } = order;
+            replace_at(rt, book, original, 0, reference, shares, price)
         }
     }
 }
@@ -73,20 +59,18 @@ fn refuse_one<B: OrderBook>(
     rt: &impl Host,
     refusing: &Refusing<Global>,
     book: &mut B,
-    growth: &Growth,
+    (original, order): (Option<u64>, Order),
     nth: u64,
 ) -> bool {
-    let order = growth.order;
-    let reference = order.reference;
     refusing.arm(nth);
-    if growth.call(rt, book).is_ok() {
-        assert!(rt; !refusing.has_refused());
-        same(rt, live(book, reference), Some(order));
-        return false;
-    }
-    assert!(rt; refusing.has_refused());
-    assert!(rt; live(book, reference).is_none());
-    true
+    let is_done = call(rt, book, original, order).is_ok();
+    same(rt, refusing.has_refused(), !is_done);
+    same(
+        rt,
+        live(book, order.reference),
+        Some(order).filter(|_| is_done),
+    );
+    !is_done
 }
 
 // Makes a call with each of its allocations refused in turn, and then with memory. Returns how many were refused.
@@ -94,48 +78,19 @@ fn refuse_each<B: OrderBook>(
     rt: &impl Host,
     refusing: &Refusing<Global>,
     book: &mut B,
-    growth: Growth,
+    original: Option<u64>,
+    order: Order,
 ) -> Result<u64, AllocError> {
     let orders = listed(rt, book)?;
-    let before = level(book, &growth.order);
+    let before = level(book, &order);
     for nth in 0..16 {
-        if !refuse_one(rt, refusing, book, &growth, nth) {
+        if !refuse_one(rt, refusing, book, (original, order), nth) {
             return Ok(nth);
         }
         has_orders(rt, book, &orders)?;
-        same(rt, &level(book, &growth.order), &before);
+        same(rt, &level(book, &order), &before);
     }
     panic!(rt; "more than 16 allocations")
-}
-
-// Adds an order at a price, and returns how many allocations were refused.
-fn add_one<B: OrderBook>(
-    rt: &impl Host,
-    refusing: &Refusing<Global>,
-    book: &mut B,
-    (number, price): (u64, u32),
-) -> Result<u64, AllocError> {
-    let added = Growth {
-        original: None,
-        order: bid(number, 10, price),
-    };
-    refuse_each(rt, refusing, book, added)
-}
-
-// Replaces an order by one at a price, and returns how many allocations were refused.
-fn replace_one<B: OrderBook>(
-    rt: &impl Host,
-    refusing: &Refusing<Global>,
-    book: &mut B,
-    (number, price): (u64, u32),
-) -> Result<u64, AllocError> {
-    let replaced = Growth {
-        original: Some(number),
-        order: bid(number.wrapping_add(100), 20, price),
-    };
-    let refused = refuse_each(rt, refusing, book, replaced)?;
-    assert!(rt; live(book, number).is_none());
-    Ok(refused)
 }
 
 // Adds forty orders, each so far above the price before, and replaces every `every`-th by one as far above it.
@@ -144,31 +99,35 @@ fn grow<B: OrderBook>(
     rt: &impl Host,
     refusing: &Refusing<Global>,
     book: &mut B,
-    step: u32,
-    every: u64,
+    (step, every): (u32, u64),
 ) -> Result<(u64, u64), AllocError> {
     let mut additions = 0u64;
     let mut replacements = 0u64;
     for number in 1..41u64 {
         let price = 1500000u32.wrapping_add(step.wrapping_mul(2 * number as u32));
-        let refused = add_one(rt, refusing, book, (number, price))?;
+        let added = order(number, Side::Buy, 10, price);
+        let refused = refuse_each(rt, refusing, book, None, added)?;
         additions = additions.saturating_add(refused);
         if number.checked_rem(every) == Some(0) {
-            let price = price.wrapping_add(step);
-            let refused = replace_one(rt, refusing, book, (number, price))?;
+            let replacement = order(number + 100, Side::Buy, 20, price.wrapping_add(step));
+            let refused = refuse_each(rt, refusing, book, Some(number), replacement)?;
             replacements = replacements.saturating_add(refused);
+            assert!(rt; live(book, number).is_none());
         }
     }
     has_len(rt, book, 40);
     Ok((additions, replacements))
 }
 
+// How far apart the prices are, and which orders are replaced.
+const WAYS: [(u32, u64); 4] = [(0, 1), (0, 3), (100, 1), (100, 3)];
+
 #[test]
 fn a_list_book_stays_as_it_was(rt: HostRuntime) -> TestResult {
-    for (step, every) in [(0, 1), (0, 3), (100, 1), (100, 3)] {
+    for (step, every) in WAYS {
         let refusing = Refusing::new(rt.alloc(), 0);
         let mut book: ListBook<&Refusing<Global>> = ListBook::new(&refusing);
-        let (additions, replacements) = grow(&rt, &refusing, &mut book, step, every)?;
+        let (additions, replacements) = grow(&rt, &refusing, &mut book, (step, every))?;
         assert!(rt; additions > 1);
         // The order that is replaced leaves room.
         same(&rt, replacements, 0);
@@ -180,10 +139,10 @@ fn a_list_book_stays_as_it_was(rt: HostRuntime) -> TestResult {
 // order takes the allocations that follow, a replacement of every third leaves them to the additions.
 #[test]
 fn an_indexed_book_stays_as_it_was(rt: HostRuntime) -> TestResult {
-    for (step, every) in [(0, 1), (0, 3), (100, 1), (100, 3)] {
+    for (step, every) in WAYS {
         let refusing = Refusing::new(rt.alloc(), 0);
         let mut book: IndexedBook<&Refusing<Global>> = IndexedBook::new(&refusing);
-        let (additions, replacements) = grow(&rt, &refusing, &mut book, step, every)?;
+        let (additions, replacements) = grow(&rt, &refusing, &mut book, (step, every))?;
         assert!(rt; additions >= 3);
         assert!(rt; additions > 3 || every == 1);
         assert!(rt; replacements > 3 || every == 3);
@@ -194,11 +153,11 @@ fn an_indexed_book_stays_as_it_was(rt: HostRuntime) -> TestResult {
 // Adds three hundred levels, which are more than one line of an indexed book takes.
 fn fill_line<B: OrderBook>(rt: &impl Host, book: &mut B) -> Result<(), AllocError> {
     for number in 1000..1300u32 {
-        let added = Growth {
-            original: None,
-            order: bid(u64::from(number), 10, 1000000 + number),
-        };
-        added.call(rt, book)?;
+        add(
+            rt,
+            book,
+            order(u64::from(number), Side::Buy, 10, 1000000 + number),
+        )?;
     }
     Ok(())
 }
@@ -212,7 +171,8 @@ fn an_indexed_book_with_a_full_line_stays_as_it_was(rt: HostRuntime) -> TestResu
     let mut refused = 0u64;
     for number in 1..21u32 {
         for price in [1000000 + number, 1002000 + number] {
-            let added = add_one(&rt, &refusing, &mut book, (u64::from(price), price))?;
+            let added = order(u64::from(price), Side::Buy, 10, price);
+            let added = refuse_each(&rt, &refusing, &mut book, None, added)?;
             refused = refused.saturating_add(added);
         }
     }
@@ -223,10 +183,10 @@ fn an_indexed_book_with_a_full_line_stays_as_it_was(rt: HostRuntime) -> TestResu
 
 #[test]
 fn a_settled_book_stays_as_it_was(rt: HostRuntime) -> TestResult {
-    for (step, every) in [(0, 1), (0, 3), (100, 1), (100, 3)] {
+    for (step, every) in WAYS {
         let refusing = Refusing::new(rt.alloc(), 0);
         let mut book: SettledBook<&Refusing<Global>> = SettledBook::new(&refusing);
-        let (additions, replacements) = grow(&rt, &refusing, &mut book, step, every)?;
+        let (additions, replacements) = grow(&rt, &refusing, &mut book, (step, every))?;
         assert!(rt; additions > 1);
         assert!(rt; replacements > 0 || every == 3);
     }
@@ -238,7 +198,7 @@ fn a_settled_book_stays_as_it_was(rt: HostRuntime) -> TestResult {
 fn a_book_is_settled_without_memory(rt: HostRuntime) -> TestResult {
     let refusing = Refusing::new(rt.alloc(), 0);
     let mut book: SettledBook<&Refusing<Global>> = SettledBook::new(&refusing);
-    grow(&rt, &refusing, &mut book, 100, 3)?;
+    grow(&rt, &refusing, &mut book, (100, 3))?;
     let orders = listed(&rt, &book)?;
     refusing.arm(0);
     book.settle();

@@ -2,7 +2,8 @@
 use crate::book::has_len;
 use crate::doubles::{PieceReader, Refusing};
 use crate::equal::{Host, TestResult, same};
-use crate::files::{REPLACED, blocks};
+use crate::files::{AAPL, REPLACED, blocks, replayed};
+use crate::frame::gives;
 use crate::market::content::{Content, content_of};
 use itch_book::{IndexedBook, ListBook, OrderBook};
 use itch_codec::{Message, decode};
@@ -23,12 +24,13 @@ fn refuse_one<B: OrderBook>(
 ) -> bool {
     refusing.arm(nth);
     let result = market.apply(message);
-    if refusing.has_refused() {
-        same(rt, result, Err(Refusal::OutOfMemory));
-    } else {
-        same(rt, result, Ok(()));
-    }
-    refusing.has_refused()
+    let is_refused = refusing.has_refused();
+    same(
+        rt,
+        result.err(),
+        Some(Refusal::OutOfMemory).filter(|_| is_refused),
+    );
+    is_refused
 }
 
 // The market holds this.
@@ -81,9 +83,6 @@ fn refuse_forty<B: OrderBook>(
     Ok(refused)
 }
 
-// Directory entries of locates 2 to 41.
-const LISTS: &[u8] = b"R\0\x01\0\0\0\0\0\0\0\0AAPL    QN\0\0\0dNCZ PNN1N\0\0\0\0N";
-
 // Orders 1 to 40 at as many prices, and with attribution 65 to 104.
 const ADDS: &[u8] = b"A\0\x02\0\0\0\0\0\0\0\0\0\0\0\0\0\0\0\0B\0\0\0dAAPL    \0\x16\xe3\0";
 
@@ -105,7 +104,8 @@ fn refuse_each_growth<B: OrderBook>(
     market: &mut Market<B>,
 ) -> Result<u64, Fail> {
     for (payload, places, grows) in [
-        (LISTS, [2].as_slice(), true),
+        // Directory entries of locates 2 to 41.
+        (AAPL, [2].as_slice(), true),
         (HALTS, &[19], true),
         // What is there already takes none.
         (HALTS, &[19], false),
@@ -195,25 +195,6 @@ fn a_set_of_locates_stays_as_it_was(rt: HostRuntime) -> TestResult {
     Ok(())
 }
 
-// Replays what a reader has left, and returns how many messages were applied, and why no further one was.
-fn replayed<R: CountedRead, A: Allocator, B: OrderBook>(
-    reader: &mut BlockReader<R, A>,
-    market: &mut Market<B>,
-) -> (u64, Stop) {
-    let end = replay(reader, market);
-    (end.count, end.stop)
-}
-
-// The next block is this one, or there is none.
-fn gives<R: CountedRead, A: Allocator>(
-    rt: &impl Host,
-    reader: &mut BlockReader<R, A>,
-    want: Option<&[u8]>,
-) -> Result<(), FrameFault> {
-    same(rt, reader.next_block()?, want);
-    Ok(())
-}
-
 // A replay of the day into an empty market, whose memory is refused once, stops there, with the message read and not counted.
 // Returns whether it was.
 fn stops_at_the_message<R: CountedRead, A: Allocator, B: OrderBook>(
@@ -247,11 +228,15 @@ fn refuse_to_replay<B: OrderBook>(
     Ok(stops_at_the_message(rt, refusing, &mut reader, &mut market)?)
 }
 
-#[test]
-fn a_replay_stops_at_the_message(rt: HostRuntime) -> TestResult {
+// Each allocation of a replay is refused in turn.
+fn refuse_each_replay<B: OrderBook>(
+    rt: &impl Host,
+    refusing: &Refusing<Global>,
+    memory: B::Alloc,
+) -> TestResult {
     for nth in 0..16 {
-        let refusing = Refusing::new(rt.alloc(), nth);
-        if !refuse_to_replay::<IndexedBook<Refused<'_>>>(&rt, &refusing, &refusing)? {
+        refusing.arm(nth);
+        if !refuse_to_replay::<B>(rt, refusing, memory)? {
             assert!(rt; nth > 1);
             return Ok(());
         }
@@ -260,13 +245,13 @@ fn a_replay_stops_at_the_message(rt: HostRuntime) -> TestResult {
 }
 
 #[test]
+fn a_replay_stops_at_the_message(rt: HostRuntime) -> TestResult {
+    let refusing = Refusing::new(rt.alloc(), 0);
+    refuse_each_replay::<IndexedBook<Refused<'_>>>(&rt, &refusing, &refusing)
+}
+
+#[test]
 fn a_replay_over_a_list_stops_at_the_message(rt: HostRuntime) -> TestResult {
-    for nth in 0..16 {
-        let refusing = Refusing::new(rt.alloc(), nth);
-        if !refuse_to_replay::<ListBook<Refused<'_>>>(&rt, &refusing, &refusing)? {
-            assert!(rt; nth > 1);
-            return Ok(());
-        }
-    }
-    panic!(rt; "more than 16 allocations")
+    let refusing = Refusing::new(rt.alloc(), 0);
+    refuse_each_replay::<ListBook<Refused<'_>>>(&rt, &refusing, &refusing)
 }

@@ -40,11 +40,15 @@ fn refuse_to_fetch<B: OrderBook>(
     Ok(refusing.has_refused())
 }
 
-#[test]
-fn no_market_is_fetched(rt: HostRuntime) -> TestResult {
+// Each allocation of a fetch is refused in turn.
+fn refuse_each_fetch<B: OrderBook>(
+    rt: &impl Host,
+    refusing: &Refusing<Global>,
+    memory: B::Alloc,
+) -> TestResult {
     for nth in 0..16 {
-        let refusing = Refusing::new(rt.alloc(), nth);
-        if !refuse_to_fetch::<IndexedBook<Refused<'_>>>(&rt, &refusing, &refusing)? {
+        refusing.arm(nth);
+        if !refuse_to_fetch::<B>(rt, refusing, memory)? {
             assert!(rt; nth > 1);
             return Ok(());
         }
@@ -53,15 +57,15 @@ fn no_market_is_fetched(rt: HostRuntime) -> TestResult {
 }
 
 #[test]
+fn no_market_is_fetched(rt: HostRuntime) -> TestResult {
+    let refusing = Refusing::new(rt.alloc(), 0);
+    refuse_each_fetch::<IndexedBook<Refused<'_>>>(&rt, &refusing, &refusing)
+}
+
+#[test]
 fn no_market_is_fetched_over_a_list(rt: HostRuntime) -> TestResult {
-    for nth in 0..16 {
-        let refusing = Refusing::new(rt.alloc(), nth);
-        if !refuse_to_fetch::<ListBook<Refused<'_>>>(&rt, &refusing, &refusing)? {
-            assert!(rt; nth > 1);
-            return Ok(());
-        }
-    }
-    panic!(rt; "more than 16 allocations")
+    let refusing = Refusing::new(rt.alloc(), 0);
+    refuse_each_fetch::<ListBook<Refused<'_>>>(&rt, &refusing, &refusing)
 }
 
 // Fetches a rest with one allocation refused. Returns whether it was.

@@ -95,44 +95,45 @@ fn refuse_to_read<B: OrderBook>(
 ) -> Result<bool, Fail> {
     let file = blocks(rt.alloc(), REPLACED_SNAPSHOT)?;
     let reader = PieceReader::new(file.written(), 64, None);
-    match read_from::<_, B>(rt.alloc(), memory, reader)? {
+    let read = read_from::<_, B>(rt.alloc(), memory, reader)?;
+    same(rt, read.is_err(), refusing.has_refused());
+    match read {
         Ok((market, next)) => {
-            assert!(rt; !refusing.has_refused());
             assert!(rt; snapshot_len(&market) < 10);
             same(rt, next.value(), 5);
-            Ok(false)
         }
-        Err(fault) => {
-            assert!(rt; refusing.has_refused());
-            let reason = Refusal::OutOfMemory;
-            assert!(rt; matches!(fault, SnapFault::Rule { reason: found, .. } if found == reason));
-            Ok(true)
+        Err(SnapFault::Rule { reason, .. }) => same(rt, reason, Refusal::OutOfMemory),
+        Err(_) => panic!(rt; "another fault"),
+    }
+    Ok(refusing.has_refused())
+}
+
+// Each allocation of a read is refused in turn.
+fn refuse_each_read<B: OrderBook>(
+    rt: &impl Host,
+    refusing: &Refusing<Global>,
+    memory: B::Alloc,
+) -> TestResult {
+    for nth in 0..16 {
+        refusing.arm(nth);
+        if !refuse_to_read::<B>(rt, refusing, memory)? {
+            assert!(rt; nth > 1);
+            return Ok(());
         }
     }
+    panic!(rt; "more than 16 allocations")
 }
 
 #[test]
 fn no_market_is_handed_out(rt: HostRuntime) -> TestResult {
-    for nth in 0..16 {
-        let refusing = Refusing::new(rt.alloc(), nth);
-        if !refuse_to_read::<IndexedBook<Refused<'_>>>(&rt, &refusing, &refusing)? {
-            assert!(rt; nth > 1);
-            return Ok(());
-        }
-    }
-    panic!(rt; "more than 16 allocations")
+    let refusing = Refusing::new(rt.alloc(), 0);
+    refuse_each_read::<IndexedBook<Refused<'_>>>(&rt, &refusing, &refusing)
 }
 
 #[test]
 fn no_market_is_handed_out_over_a_list(rt: HostRuntime) -> TestResult {
-    for nth in 0..16 {
-        let refusing = Refusing::new(rt.alloc(), nth);
-        if !refuse_to_read::<ListBook<Refused<'_>>>(&rt, &refusing, &refusing)? {
-            assert!(rt; nth > 1);
-            return Ok(());
-        }
-    }
-    panic!(rt; "more than 16 allocations")
+    let refusing = Refusing::new(rt.alloc(), 0);
+    refuse_each_read::<ListBook<Refused<'_>>>(&rt, &refusing, &refusing)
 }
 
 // Writes a snapshot into this memory, and compares the market with itself, with every allocation refused.

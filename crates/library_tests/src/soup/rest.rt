@@ -1,6 +1,7 @@
 //! The rest of a served session fetched over memory, row by row.
 use crate::doubles::{FuseWriter, PieceReader};
 use crate::equal::{Host, TestResult, same};
+use crate::frame::gives;
 use crate::sessions::{FROM_1, FROM_3, REST_3, fetch_third, third_fetched};
 use itch_frame::{BlockReader, CountedRead, FrameFault};
 use std::alloc::Allocator;
@@ -34,16 +35,6 @@ fn a_rest_follows_no_rule(rt: HostRuntime) -> TestResult {
     check_rest(&rt, PieceReader::new(answer, 7, None), want)
 }
 
-// The next block is this one.
-fn gives<R: CountedRead, A: Allocator>(
-    rt: &impl Host,
-    reader: &mut BlockReader<R, A>,
-    want: &[u8],
-) -> Result<(), FrameFault> {
-    same(rt, reader.next_block()?, Some(want));
-    Ok(())
-}
-
 #[test]
 fn nothing_is_read_after_the_end_of_a_rest(rt: HostRuntime) -> TestResult {
     let mut reader = BlockReader::new(rt.alloc(), PieceReader::new(FROM_3, 64, None))?;
@@ -51,7 +42,7 @@ fn nothing_is_read_after_the_end_of_a_rest(rt: HostRuntime) -> TestResult {
     if let Err(fault) = fetch_third(&rt, rt.alloc(), &mut reader, &mut writer) {
         panic!(&rt; "{fault}");
     }
-    gives(&rt, &mut reader, b"Z")?;
+    gives(&rt, &mut reader, Some(b"Z"))?;
     Ok(())
 }
 

@@ -2,6 +2,7 @@
 use crate::doubles::{FuseWriter, PieceReader};
 use crate::equal::{Host, TestResult, same, same_in};
 use crate::files::seq;
+use crate::frame::gives;
 use crate::sessions::{
     FROM_1, FROM_3, LOGIN_1, LOGIN_3, fetch, fetch_fault, fetched, is_served_market, serve,
     serve_from, served_market,
@@ -164,16 +165,6 @@ fn faults_before_a_login_are_not_answered(rt: HostRuntime) -> TestResult {
     check_faults(&rt, &served_market(rt.alloc())?)
 }
 
-// The next block is this one.
-fn gives<R: CountedRead, A: Allocator>(
-    rt: &impl Host,
-    reader: &mut BlockReader<R, A>,
-    want: &[u8],
-) -> Result<(), FrameFault> {
-    same(rt, reader.next_block()?, Some(want));
-    Ok(())
-}
-
 // Serves the login of this input, after which the next block is this one.
 fn check_after_login<B: OrderBook>(
     rt: &impl Host,
@@ -184,7 +175,7 @@ fn check_after_login<B: OrderBook>(
     let mut reader = BlockReader::new(rt.alloc(), PieceReader::new(input, 64, None))?;
     let mut writer = FuseWriter::new(rt.alloc(), 64, None);
     serve(rt, &mut reader, &mut writer, market).expect(rt, "an answer");
-    gives(rt, &mut reader, want)?;
+    gives(rt, &mut reader, Some(want))?;
     Ok(())
 }
 
@@ -225,7 +216,7 @@ fn check_after_fetch<R: CountedRead, A: Allocator, B: OrderBook>(
     want: &[u8],
 ) -> Result<(), FrameFault> {
     match fetch::<R, A, B>(rt, memory, reader, writer) {
-        Ok(_) => gives(rt, reader, want),
+        Ok(_) => gives(rt, reader, Some(want)),
         Err(fault) => panic!(rt; "{fault}"),
     }
 }

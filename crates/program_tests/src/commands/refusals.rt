@@ -25,39 +25,23 @@ fn every_fault_has_its_line_and_status(rt: HostRuntime) -> TestResult {
         count: 9_999_999_999_999_999_999,
         stop: Stop::TooManyMessages,
     };
+    let stopped = |file, end| ToolFault::Stopped { file, end };
+    let short = |file, count| ToolFault::Short { file, count };
+    let before = u64::MAX;
+    let file = Source::Second;
     let cases = [
         (
-            ToolFault::Stopped {
-                file: Source::Only,
-                end: want_of_memory,
-            },
+            stopped(Source::Only, want_of_memory),
             "message 2: out of memory",
             4,
         ),
         (
-            ToolFault::Stopped {
-                file: Source::First,
-                end: too_many,
-            },
+            stopped(Source::First, too_many),
             "first: message 10000000000000000000: too many messages",
             1,
         ),
-        (
-            ToolFault::Short {
-                file: Source::Only,
-                count: 3,
-            },
-            "only 3 messages",
-            1,
-        ),
-        (
-            ToolFault::Short {
-                file: Source::Second,
-                count: 0,
-            },
-            "second: only 0 messages",
-            1,
-        ),
+        (short(Source::Only, 3), "only 3 messages", 1),
+        (short(Source::Second, 0), "second: only 0 messages", 1),
         (
             ToolFault::Unmet(Unmet::More { expected: 2 }),
             "more than 2 messages",
@@ -65,10 +49,7 @@ fn every_fault_has_its_line_and_status(rt: HostRuntime) -> TestResult {
         ),
         (ToolFault::Unmet(Unmet::NoEnd), "no end of messages", 1),
         (
-            ToolFault::Misfit(Misfit::Gap {
-                next: 5,
-                before: u64::MAX,
-            }),
+            ToolFault::Misfit(Misfit::Gap { next: 5, before }),
             "gap: message 5 is next, and the feed begins with 18446744073709551616",
             1,
         ),
@@ -84,14 +65,7 @@ fn every_fault_has_its_line_and_status(rt: HostRuntime) -> TestResult {
         ),
         (ToolFault::Write(error), "write failed", 3),
         (ToolFault::OutOfMemory, "out of memory", 4),
-        (
-            ToolFault::Open {
-                file: Source::Second,
-                error,
-            },
-            "cannot open",
-            3,
-        ),
+        (ToolFault::Open { file, error }, "cannot open", 3),
     ];
     for (fault, reason, wanted) in cases.iter() {
         let line = format!(in alloc; "itchsnap: {reason}")?;

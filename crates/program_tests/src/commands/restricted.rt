@@ -1,7 +1,6 @@
 //! Lists of locates, and `snap` for the set of all.
 
-use super::blocks::*;
-use super::files::file;
+use super::blocks::file;
 use crate::equal::{TestResult, holds_in, same, same_in};
 use itch_commands::read_locates;
 use itch_commands::snap::snap;

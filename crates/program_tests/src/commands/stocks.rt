@@ -1,7 +1,6 @@
 //! Stocks that are looked up by their names.
 
-use super::blocks::*;
-use super::files::file;
+use super::blocks::file;
 use crate::equal::{TestResult, holds_in, same, same_in};
 use itch_codec::Seq;
 use itch_commands::{Book, FileKind, Limit, Source, ToolFault, file_market, stock_locates};
@@ -26,7 +25,7 @@ fn looked_up<A: Allocator + Copy>(
 #[test]
 fn stocks_are_looked_up(rt: HostRuntime) -> TestResult {
     let alloc = rt.alloc();
-    let day = file(alloc, &[AAPL, MSFT, MAX, AAPL_AT_3])?;
+    let day = file(alloc, "AAPL MSFT MAX AAPL_AT_3")?;
     let cases: [(&str, &[u16], &[u16]); 5] = [
         ("AAPL", &[1, 3], &[0, 2, 65535]),
         ("MSFT", &[2], &[1, 3]),
@@ -49,7 +48,7 @@ fn stocks_are_looked_up(rt: HostRuntime) -> TestResult {
 #[test]
 fn other_names_are_unknown(rt: HostRuntime) -> TestResult {
     let alloc = rt.alloc();
-    let day = file(alloc, &[AAPL, MSFT])?;
+    let day = file(alloc, "AAPL MSFT")?;
     for names in [
         "",
         ",",
@@ -83,7 +82,7 @@ fn other_names_are_unknown(rt: HostRuntime) -> TestResult {
 #[test]
 fn stocks_without_memory(rt: HostRuntime) -> TestResult {
     let alloc = rt.alloc();
-    let day = file(alloc, &[AAPL, MSFT, MAX])?;
+    let day = file(alloc, "AAPL MSFT MAX")?;
     for nth in 0..64 {
         let refusing = Refusing::new(alloc, nth);
         let set = looked_up(&refusing, day.as_slice(), "MSFT,AAPL,MAX");

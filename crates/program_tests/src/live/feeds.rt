@@ -15,16 +15,14 @@ type Index = IndexedBook<Global>;
 
 // The connection ends in the middle of message 3, which is asked for again, in the session that was named first.
 const LOST: &[Step<'static>] = &[
-    Step::Connect(FEED_FROM_1),
-    Step::Feed(ACCEPTED_1, Brought::Accepted(1)),
+    Step::Begin,
     Step::Feed(EVENT, Brought::Taken(2)),
     Step::Feed(HEARTBEAT, Brought::Nothing),
     Step::Feed(AAPL, Brought::Taken(3)),
     Step::Feed(b"\0\x25SA\0\x01\0\0\0", Brought::Nothing),
     Step::Next(Some(3)),
     Step::At(2_000),
-    Step::Connect(FEED_FROM_3),
-    Step::Feed(ACCEPTED_3, Brought::Accepted(3)),
+    Step::GoOn,
     Step::Feed(ADD_1, Brought::Taken(4)),
     Step::Feed(ADD_2, Brought::Taken(5)),
     Step::Feed(ENDED, Brought::Ended),
@@ -42,8 +40,7 @@ fn lost_in_a_message(rt: HostRuntime) -> TestResult {
 // The next day's server accepts the login in its own name: nothing of that connection is taken, though its numbers would do. The same
 // name padded elsewhere is the same.
 const NEXT_DAY: &[Step<'static>] = &[
-    Step::Connect(FEED_FROM_1),
-    Step::Feed(ACCEPTED_1, Brought::Accepted(1)),
+    Step::Begin,
     Step::Feed(EVENT, Brought::Taken(2)),
     Step::Feed(AAPL, Brought::Taken(3)),
     Step::Connect(FEED_FROM_3),
@@ -73,8 +70,7 @@ fn the_next_day(rt: HostRuntime) -> TestResult {
 
 // A feed that begins lower than it was asked to repeats messages, and one that begins higher is not taken.
 const ELSEWHERE: &[Step<'static>] = &[
-    Step::Connect(FEED_FROM_1),
-    Step::Feed(ACCEPTED_1, Brought::Accepted(1)),
+    Step::Begin,
     Step::Feed(EVENT, Brought::Taken(2)),
     Step::Feed(AAPL, Brought::Taken(3)),
     Step::Connect(FEED_FROM_3),
@@ -102,8 +98,7 @@ fn begun_elsewhere(rt: HostRuntime) -> TestResult {
 // The snapshot of a GLIMPSE server, lost once, and then the feed from its number on, in the session that the GLIMPSE server named.
 const GLIMPSE: &[Step<'static>] = &[
     Step::Next(None),
-    Step::Connect(FEED_FROM_1),
-    Step::Feed(ACCEPTED_1, Brought::Accepted(1)),
+    Step::Begin,
     Step::Feed(EVENT, Brought::Nothing),
     Step::Connect(MONDAY_FROM_1),
     Step::Feed(ACCEPTED_1, Brought::Accepted(1)),
@@ -111,8 +106,7 @@ const GLIMPSE: &[Step<'static>] = &[
     Step::Feed(AAPL, Brought::Nothing),
     Step::Feed(END_3, Brought::Joined(3)),
     Step::Next(Some(3)),
-    Step::Connect(FEED_FROM_3),
-    Step::Feed(ACCEPTED_3, Brought::Accepted(3)),
+    Step::GoOn,
     Step::Feed(ADD_1, Brought::Taken(4)),
     Step::Feed(ADD_2, Brought::Taken(5)),
     Step::Recorded(DAY_FROM_3),
@@ -128,14 +122,10 @@ const SILENT: &[Step<'static>] = &[
     Step::Connect(FEED_FROM_1),
     Step::FeedTick(Tick::Nothing),
     Step::Feed(ACCEPTED_1, Brought::Accepted(1)),
-    Step::At(1_000),
-    Step::FeedTick(Tick::Nothing),
-    Step::At(1_001),
-    Step::FeedTick(Tick::Heartbeat),
-    Step::At(14_999),
-    Step::FeedTick(Tick::Heartbeat),
-    Step::At(15_000),
-    Step::FeedTick(Tick::Lost),
+    Step::FeedTickAt(1_000, Tick::Nothing),
+    Step::FeedTickAt(1_001, Tick::Heartbeat),
+    Step::FeedTickAt(14_999, Tick::Heartbeat),
+    Step::FeedTickAt(15_000, Tick::Lost),
 ];
 
 #[test]
@@ -147,8 +137,7 @@ fn silent(rt: HostRuntime) -> TestResult {
 const BROKEN: &[Step<'static>] = &[
     Step::Connect(FEED_FROM_1),
     Step::Feed(b"\0\x01Q", Brought::Broken),
-    Step::Connect(FEED_FROM_1),
-    Step::Feed(ACCEPTED_1, Brought::Accepted(1)),
+    Step::Begin,
     Step::Feed(ADD_AT_9, Brought::Refused),
     Step::Next(Some(1)),
     Step::Recorded(b""),
@@ -161,8 +150,7 @@ fn broken(rt: HostRuntime) -> TestResult {
 
 // The second write fails, that of the payload: the market has the message, and the record its length alone.
 const UNRECORDED: &[Step<'static>] = &[
-    Step::Connect(FEED_FROM_1),
-    Step::Feed(ACCEPTED_1, Brought::Accepted(1)),
+    Step::Begin,
     Step::Feed(EVENT, Brought::Unrecorded),
     Step::Next(Some(2)),
     Step::Recorded(b"\0\x0c"),

@@ -20,6 +20,8 @@ enum Turn<'a> {
     PlayLong(usize),
     End,
     Tick,
+    /// The same at this moment, which is that from here on.
+    TickAt(u64),
     /// Exactly this is pending.
     Pending(&'a [u8]),
     /// So many bytes are pending.
@@ -79,6 +81,10 @@ fn take_turn<A: Allocator>(
         Turn::PlayLong(count) => holds_in(rt, at, play(player, &LONG[..count.min(65_534)], now)),
         Turn::End => player.end(now),
         Turn::Tick => player.tick(now),
+        Turn::TickAt(now) => {
+            player.tick(now);
+            return now;
+        }
         Turn::Pending(want) => same_in(rt, at, player.pending(), want),
         Turn::Waits(want) => same_in(rt, at, player.pending().len(), want),
         Turn::Take(count) => holds_in(rt, at, take(player, count, now)),
@@ -117,15 +123,12 @@ const ALL: &[Turn<'static>] = &[
     Turn::Pending(b"\0\x1fA  ITCHSNAP                   1\0\x04Sone"),
     Turn::Take(34),
     Turn::Pending(b"\x04Sone"),
-    Turn::At(2_000),
-    Turn::Tick,
+    Turn::TickAt(2_000),
     Turn::Pending(b"\x04Sone"),
     Turn::Take(5),
-    Turn::At(3_000),
-    Turn::Tick,
+    Turn::TickAt(3_000),
     Turn::Pending(b""),
-    Turn::At(3_001),
-    Turn::Tick,
+    Turn::TickAt(3_001),
     Turn::Pending(b"\0\x01H"),
     Turn::Play(b""),
     Turn::End,
@@ -139,16 +142,13 @@ const ALL: &[Turn<'static>] = &[
     Turn::Take(17),
     Turn::Stands(Standing::Closing),
     Turn::From(Some(1)),
-    Turn::At(9_000),
-    Turn::Tick,
+    Turn::TickAt(9_000),
     Turn::Hear(LOGIN),
     Turn::Pending(b""),
     Turn::Stands(Standing::Closing),
-    Turn::At(18_000),
-    Turn::Tick,
+    Turn::TickAt(18_000),
     Turn::Stands(Standing::Closing),
-    Turn::At(18_001),
-    Turn::Tick,
+    Turn::TickAt(18_001),
     Turn::Stands(Standing::Gone(Gone::Silent)),
 ];
 
@@ -185,14 +185,12 @@ const FROM_4: &[Turn<'static>] = &[
     Turn::Pending(b"\0\x1fA  ITCHSNAP                   4"),
     Turn::Wanted(None),
     Turn::Take(33),
-    Turn::At(1_001),
-    Turn::Tick,
+    Turn::TickAt(1_001),
     Turn::Pending(b"\0\x01H"),
     Turn::Tick,
     Turn::Pending(b"\0\x01H"),
     Turn::Take(3),
-    Turn::At(2_002),
-    Turn::Tick,
+    Turn::TickAt(2_002),
     Turn::Pending(b"\0\x01H"),
     Turn::Hear(LOGIN),
     Turn::Stands(Standing::Gone(Gone::Fault)),
@@ -211,15 +209,13 @@ const WRONG: &[Turn<'static>] = &[
     Turn::Hear(LOGIN),
     Turn::Wanted(None),
     Turn::End,
-    Turn::At(1_001),
-    Turn::Tick,
+    Turn::TickAt(1_001),
     Turn::Pending(b"\0\x02JA"),
     Turn::Take(4),
     Turn::Stands(Standing::Closing),
     Turn::Rejected(Some(b'A')),
     Turn::From(None),
-    Turn::At(3_000),
-    Turn::Tick,
+    Turn::TickAt(3_000),
     Turn::Pending(b""),
 ];
 
@@ -250,22 +246,17 @@ fn refused(rt: HostRuntime) -> TestResult {
 
 // 15 seconds without a word before the login; then with neither a word nor a byte taken. Each is a sign of life.
 const SILENT: &[Turn<'static>] = &[
-    Turn::At(14_999),
-    Turn::Tick,
+    Turn::TickAt(14_999),
     Turn::Hear(LOGIN_2),
-    Turn::At(29_998),
-    Turn::Tick,
+    Turn::TickAt(29_998),
     Turn::Stands(Standing::There),
     Turn::Take(1),
-    Turn::At(44_997),
-    Turn::Tick,
+    Turn::TickAt(44_997),
     Turn::Stands(Standing::There),
     Turn::Hear(CLIENT_HEARTBEAT),
-    Turn::At(59_996),
-    Turn::Tick,
+    Turn::TickAt(59_996),
     Turn::Stands(Standing::There),
-    Turn::At(59_997),
-    Turn::Tick,
+    Turn::TickAt(59_997),
     Turn::Stands(Standing::Gone(Gone::Silent)),
     Turn::Leave,
     Turn::Stands(Standing::Gone(Gone::Silent)),
@@ -273,8 +264,7 @@ const SILENT: &[Turn<'static>] = &[
 ];
 
 const NO_LOGIN: &[Turn<'static>] = &[
-    Turn::At(15_000),
-    Turn::Tick,
+    Turn::TickAt(15_000),
     Turn::Stands(Standing::Gone(Gone::Silent)),
 ];
 
@@ -282,8 +272,7 @@ const LEFT: &[Turn<'static>] = &[
     Turn::Hear(LOGIN),
     Turn::Leave,
     Turn::Stands(Standing::Gone(Gone::Left)),
-    Turn::At(15_000),
-    Turn::Tick,
+    Turn::TickAt(15_000),
     Turn::Stands(Standing::Gone(Gone::Left)),
     Turn::Wanted(None),
     Turn::Pending(b""),

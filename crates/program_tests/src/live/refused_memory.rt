@@ -1,8 +1,5 @@
 //! Each allocation refused in turn: what was there before is there still, and the same call succeeds with memory.
-use super::messages::{
-    AAPL, ACCEPTED_1, ACCEPTED_3, ADD_1, EVENT, FEED_FROM_1, FEED_FROM_3, LOGIN, SNAPSHOT_2,
-    WELCOME,
-};
+use super::messages::{AAPL, ADD_1, EVENT, LOGIN, SNAPSHOT_2, WELCOME};
 use super::steps::{Brought, Standing, Step, desk, take_steps};
 use crate::equal::{Host, TestResult, holds_in, same_in};
 use itch_book::{IndexedBook, OrderBook};
@@ -16,8 +13,7 @@ type Index<'a> = IndexedBook<&'a Refusing<Global>>;
 const NONE: u64 = 1_000_000;
 
 const TWO_MESSAGES: &[Step<'static>] = &[
-    Step::Connect(FEED_FROM_1),
-    Step::Feed(ACCEPTED_1, Brought::Accepted(1)),
+    Step::Begin,
     Step::Feed(EVENT, Brought::Taken(2)),
     Step::Feed(AAPL, Brought::Taken(3)),
 ];
@@ -112,8 +108,7 @@ fn a_desk_and_its_clients(rt: HostRuntime) -> TestResult {
 const REFUSED_AT_3: &[Step<'static>] = &[
     Step::Feed(ADD_1, Brought::NoMemory),
     Step::Next(Some(3)),
-    Step::Connect(FEED_FROM_3),
-    Step::Feed(ACCEPTED_3, Brought::Accepted(3)),
+    Step::GoOn,
     Step::Feed(ADD_1, Brought::Taken(4)),
     Step::Next(Some(4)),
 ];

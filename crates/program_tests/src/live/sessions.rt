@@ -52,8 +52,7 @@ fn known_beforehand(rt: HostRuntime) -> TestResult {
 // The session that a server of snapshots names first is the feed's: a feed of another day is not joined to the snapshot.
 const NAMED_BY_THE_SNAPSHOT: &[Step<'static>] = &[
     Step::Session(None),
-    Step::Connect(FEED_FROM_1),
-    Step::Feed(ACCEPTED_1, Brought::Accepted(1)),
+    Step::Begin,
     Step::Session(Some(b"    MONDAY")),
     Step::Feed(EVENT, Brought::Nothing),
     Step::Feed(AAPL, Brought::Nothing),
