@@ -1,10 +1,10 @@
 //! Parts of a day, read one after another.
 use crate::doubles::PieceReader;
 use crate::equal::{Host, TestResult, same, same_in};
+use crate::files::Blocks;
 use itch_codec::{CodecFault, MOST_MESSAGES, Message};
 use itch_day::{Limit, Mark, Marked, Sink, Stop, read_further, read_part};
-use itch_frame::{BlockReader, CountedRead, FrameFault};
-use std::alloc::Allocator;
+use itch_frame::{BlockReader, FrameFault};
 
 // System events at 1, 2, 3, 3 and 4 nanoseconds after midnight, and an empty block; each message has 14 bytes with its length.
 const DAY: &[u8] =
@@ -68,12 +68,7 @@ fn word(stop: &Stop<u64>) -> &'static str {
 }
 
 // Reads a part of a day after so many messages, and returns why it goes no further.
-fn part<R: CountedRead, A: Allocator>(
-    reader: &mut BlockReader<R, A>,
-    count: &mut u64,
-    sink: &mut Picky,
-    limit: Limit,
-) -> &'static str {
+fn part(reader: &mut Blocks<'_>, count: &mut u64, sink: &mut Picky, limit: Limit) -> &'static str {
     let mut at = (*count).min(MOST_MESSAGES);
     let stop = read_part(reader, &mut at, sink, limit);
     *count = at;
@@ -81,8 +76,8 @@ fn part<R: CountedRead, A: Allocator>(
 }
 
 // The same after a part that went before.
-fn further<R: CountedRead, A: Allocator>(
-    reader: &mut BlockReader<R, A>,
+fn further(
+    reader: &mut Blocks<'_>,
     count: &mut u64,
     sink: &mut Picky,
     limit: Limit,
@@ -94,11 +89,7 @@ fn further<R: CountedRead, A: Allocator>(
 }
 
 // Each part goes on where the one before it stopped.
-fn goes_on<R: CountedRead, A: Allocator>(
-    rt: &impl Host,
-    reader: &mut BlockReader<R, A>,
-    is_further: bool,
-) {
+fn goes_on(rt: &impl Host, reader: &mut Blocks<'_>, is_further: bool) {
     let mut count = 0;
     let mut sink = Picky {
         refused: 0,
@@ -129,7 +120,7 @@ fn a_part_goes_on_where_the_one_before_it_stopped(rt: HostRuntime) -> TestResult
 }
 
 // The third message is refused twice, and then taken.
-fn refuses_twice<R: CountedRead, A: Allocator>(rt: &impl Host, reader: &mut BlockReader<R, A>) {
+fn refuses_twice(rt: &impl Host, reader: &mut Blocks<'_>) {
     let mut count = 0;
     let mut sink = Picky {
         refused: 3,
@@ -161,12 +152,7 @@ fn a_refused_message_is_left(rt: HostRuntime) -> TestResult {
 }
 
 // So many messages are taken until this stops them, however often it is asked.
-fn stops<R: CountedRead, A: Allocator>(
-    rt: &impl Host,
-    reader: &mut BlockReader<R, A>,
-    word: &'static str,
-    taken: u64,
-) {
+fn stops(rt: &impl Host, reader: &mut Blocks<'_>, word: &'static str, taken: u64) {
     let mut count = 0;
     let mut sink = Picky {
         refused: 0,
@@ -198,11 +184,7 @@ fn says_why_a_part_goes_no_further(rt: HostRuntime) -> TestResult {
 }
 
 // A read fails, and then the part goes on to its end.
-fn fails_and_goes_on<R: CountedRead, A: Allocator>(
-    rt: &impl Host,
-    reader: &mut BlockReader<R, A>,
-    at: u64,
-) {
+fn fails_and_goes_on(rt: &impl Host, reader: &mut Blocks<'_>, at: u64) {
     let mut count = 0;
     let mut sink = Picky {
         refused: 0,
@@ -226,7 +208,7 @@ fn nothing_is_lost_whichever_read_fails(rt: HostRuntime) -> TestResult {
 }
 
 // The mark after the messages before a time.
-fn mark_at<R: CountedRead, A: Allocator>(reader: &mut BlockReader<R, A>, until: u64) -> Mark {
+fn mark_at(reader: &mut Blocks<'_>, until: u64) -> Mark {
     let sink = Picky {
         refused: 0,
         taken: 0,

@@ -4,7 +4,8 @@ mod best;
 
 use crate::doubles::FuseWriter;
 use crate::equal::{Host, TestResult, same};
-use crate::files::{AAPL, ADD_1, are_same, market, read, write};
+use crate::files::{are_same, market, read, write};
+use crate::payloads::*;
 use itch_book::{IndexedBook, ListBook, Order, OrderBook};
 use itch_codec::{Alpha, Message, Seq, Side, decode, encode};
 use itch_frame::{BlockReader, Counted, write_block};

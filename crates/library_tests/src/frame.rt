@@ -1,6 +1,7 @@
 //! Worked cases, and each failure in turn.
 use crate::doubles::{FuseWriter, PieceReader};
 use crate::equal::{Host, TestResult, holds_in, same, same_in, same_words};
+use crate::files::Blocks;
 use itch_frame::{
     BlockReader, Buffered, Counted, CountedRead, CountedWrite, FrameFault, Splitter, laws,
     write_block,
@@ -175,9 +176,9 @@ fn reads_on_after_a_failure(rt: HostRuntime) -> TestResult {
 }
 
 // The next message is this one, or the messages end.
-fn gives_message<R: CountedRead, A: Allocator>(
+fn gives_message(
     rt: &impl Host,
-    reader: &mut BlockReader<R, A>,
+    reader: &mut Blocks<'_>,
     want: Option<&[u8]>,
 ) -> Result<(), FrameFault> {
     same(rt, reader.next_message()?, want);
@@ -185,10 +186,7 @@ fn gives_message<R: CountedRead, A: Allocator>(
 }
 
 // The messages of the stream, which end twice.
-fn gives_messages<R: CountedRead, A: Allocator>(
-    rt: &impl Host,
-    reader: &mut BlockReader<R, A>,
-) -> Result<(), FrameFault> {
+fn gives_messages(rt: &impl Host, reader: &mut Blocks<'_>) -> Result<(), FrameFault> {
     for want in [
         Some(b"S".as_slice()),
         Some(b"RR"),
@@ -210,14 +208,11 @@ fn messages_end_at_an_empty_block_and_at_the_end(rt: HostRuntime) -> TestResult 
     Ok(())
 }
 
-fn fails_message<R: CountedRead, A: Allocator>(rt: &impl Host, reader: &mut BlockReader<R, A>) {
+fn fails_message(rt: &impl Host, reader: &mut Blocks<'_>) {
     assert!(rt; matches!(reader.next_message(), Err(FrameFault::Read(_))));
 }
 
-fn is_truncated_message<R: CountedRead, A: Allocator>(
-    rt: &impl Host,
-    reader: &mut BlockReader<R, A>,
-) {
+fn is_truncated_message(rt: &impl Host, reader: &mut Blocks<'_>) {
     assert!(rt;
         matches!(
             reader.next_message(),
@@ -227,10 +222,7 @@ fn is_truncated_message<R: CountedRead, A: Allocator>(
 }
 
 // A read fails, then there is a message, and then a truncated block.
-fn gives_one_message<R: CountedRead, A: Allocator>(
-    rt: &impl Host,
-    reader: &mut BlockReader<R, A>,
-) -> Result<(), FrameFault> {
+fn gives_one_message(rt: &impl Host, reader: &mut Blocks<'_>) -> Result<(), FrameFault> {
     fails_message(rt, reader);
     gives_message(rt, reader, Some(b"z"))?;
     is_truncated_message(rt, reader);

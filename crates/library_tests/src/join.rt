@@ -1,6 +1,6 @@
 //! Joins by what their calls return and the markets that they lead to. The helpers take a joiner over any book.
 use crate::equal::{Host, TestResult, same, same_in, same_words};
-use crate::files::{AAPL, ADD_1, ADD_2, EVENT};
+use crate::payloads::*;
 use itch_book::{IndexedBook, ListBook, OrderBook};
 use itch_codec::{CodecFault, Message, encode};
 use itch_join::{Cause, JoinFault, Joiner, Live, Snap, laws};
@@ -13,37 +13,8 @@ mod refused_memory;
 mod restricted;
 mod sink;
 
-const CLOSES: &[u8] = b"S\0\0\0\0\0\0\0\0\0\0C";
-
-// The same at a locate that is not in the directory.
-const ADD_1_AT_9: &[u8] =
-    b"A\0\x09\0\0\0\0\0\0\0\0\0\0\0\0\0\0\0\x01B\0\0\0\x01AAPL    \0\x16\xe3\x60";
-
-const ADD_3: &[u8] =
-    b"A\0\x01\0\0\0\0\0\0\0\0\0\0\0\0\0\0\0\x03S\0\0\x01\x2cAAPL    \0\x16\xe3\xc4";
-
-const ADD_4: &[u8] = b"A\0\x01\0\0\0\0\0\0\0\0\0\0\0\0\0\0\0\x04B\0\0\0\x46AAPL    \0\x16\xe3\x60";
-
-const EXECUTE_1: &[u8] = b"E\0\x01\0\0\0\0\0\0\0\0\0\0\0\0\0\0\0\x01\0\0\0\x32\0\0\0\0\0\0\0\x01";
-// Order 4 of 70 shares in place of order 1.
-const REPLACE_1: &[u8] =
-    b"U\0\x01\0\0\0\0\0\0\0\0\0\0\0\0\0\0\0\x01\0\0\0\0\0\0\0\x04\0\0\0\x46\0\x16\xe3\x60";
-
-const DELETE_3: &[u8] = b"D\0\x01\0\0\0\0\0\0\0\0\0\0\0\0\0\0\0\x03";
-
-const NAMED_5: &[u8] =
-    b"F\0\x01\0\0\0\0\0\0\0\0\0\0\0\0\0\0\0\x05S\0\0\0\x0aAAPL    \0\x16\xe4\x28ABCD";
-
-const BROKEN_TRADE: &[u8] = b"B\0\x01\0\0\0\0\0\0\0\0\0\0\0\0\0\0\0\x01";
-
-const END_1: &[u8] = b"G                   1";
-
-const END_3: &[u8] = b"G                   3";
-
-const END_6: &[u8] = b"G                   6";
-
 // The snapshot of the messages before the sixth, without its End of Snapshot.
-const BEFORE_6: &[&[u8]] = &[EVENT, AAPL, ADD_1, ADD_2, ADD_3];
+const BEFORE_6: &[&[u8]] = &[EVENT, AAPL, ADD_1, ADD_2, SELL_3];
 
 // A joiner for which `cap` messages may wait. This helper and those of one call and its result have no contract, so that a proof of
 // a test need not carry what each call leaves.
@@ -193,7 +164,7 @@ fn check_indexed(rt: &impl Host, cap: usize, steps: &[Step<'_>]) -> TestResult {
 // Messages 7 and 8 come before the snapshot of the first five, and 9 when there is room for it.
 const JOINS_LATE: &[Step<'static>] = &[
     Step::Live(8, DELETE_3, Ok(Live::Kept)),
-    Step::Live(7, REPLACE_1, Ok(Live::Kept)),
+    Step::Live(7, REPLACE_1_BY_4, Ok(Live::Kept)),
     Step::Live(9, NAMED_5, Err(JoinFault::Full { cap: 2 })),
     Step::Read(BEFORE_6),
     Step::Stands(None, 2),

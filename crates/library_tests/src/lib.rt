@@ -40,6 +40,8 @@ mod market;
 #[cfg(test)]
 mod messages;
 #[cfg(test)]
+mod payloads;
+#[cfg(test)]
 mod refused_memory;
 #[cfg(test)]
 mod sessions;

@@ -1,7 +1,8 @@
 //! A served session that the tables use: its login, its answers, and both of its ends over memory.
 use crate::doubles::{FuseWriter, PieceReader};
 use crate::equal::{Host, TestResult, same};
-use crate::files::{AAPL, ADD_1, ADD_2, EVENT, are_same, market, seq};
+use crate::files::{Blocks, are_same, market, seq};
+use crate::payloads::*;
 use itch_book::{ListBook, OrderBook};
 use itch_codec::{Alpha, Seq};
 use itch_frame::{BlockReader, CountedRead, CountedWrite};
@@ -78,10 +79,10 @@ pub(crate) fn serve<R: CountedRead, A: Allocator, W: CountedWrite, B: OrderBook>
 }
 
 /// Serves one session of what this reader gives.
-pub(crate) fn serve_from<R: CountedRead + Drop, W: CountedWrite, B: OrderBook>(
+pub(crate) fn serve_from<B: OrderBook>(
     rt: &impl Host,
-    reader: R,
-    writer: &mut W,
+    reader: PieceReader<'_>,
+    writer: &mut FuseWriter,
     market: &Market<B>,
 ) -> Result<Result<Served, SoupFault>, Fail> {
     let mut reader = BlockReader::new(rt.alloc(), reader)?;
@@ -89,10 +90,10 @@ pub(crate) fn serve_from<R: CountedRead + Drop, W: CountedWrite, B: OrderBook>(
 }
 
 /// Fetches over a reader and a writer, and logs in for all messages.
-pub(crate) fn fetch<R: CountedRead, A: Allocator, B: OrderBook>(
+pub(crate) fn fetch<B: OrderBook>(
     rt: &impl Host,
     memory: B::Alloc,
-    reader: &mut BlockReader<R, A>,
+    reader: &mut Blocks<'_>,
     writer: &mut FuseWriter,
 ) -> Result<(Market<B>, Seq), SoupFault> {
     fetch_one(memory, reader, writer, &credentials(rt))
@@ -102,10 +103,10 @@ pub(crate) fn fetch<R: CountedRead, A: Allocator, B: OrderBook>(
 pub(crate) type Fetched<B> = Result<(Market<B>, Seq), SoupFault>;
 
 /// A fetch of what this reader gives, which logs in for all messages.
-pub(crate) fn fetched<R: CountedRead + Drop, B: OrderBook>(
+pub(crate) fn fetched<B: OrderBook>(
     rt: &impl Host,
     memory: B::Alloc,
-    reader: R,
+    reader: PieceReader<'_>,
 ) -> Result<Fetched<B>, Fail> {
     let mut reader = BlockReader::new(rt.alloc(), reader)?;
     let mut writer = FuseWriter::new(rt.alloc(), 64, None);
@@ -114,37 +115,37 @@ pub(crate) fn fetched<R: CountedRead + Drop, B: OrderBook>(
     Ok(result)
 }
 
-fn fault_over<R: CountedRead + Drop, B: OrderBook>(
+fn fault_over<B: OrderBook>(
     rt: &impl Host,
     memory: B::Alloc,
-    reader: R,
+    reader: PieceReader<'_>,
 ) -> Result<Option<SoupFault>, Fail> {
-    Ok(fetched::<R, B>(rt, memory, reader)?.err())
+    Ok(fetched::<B>(rt, memory, reader)?.err())
 }
 
 /// The fault of a fetch, if it has one.
-pub(crate) fn fetch_fault<R: CountedRead + Drop>(
+pub(crate) fn fetch_fault(
     rt: &impl Host,
-    reader: R,
+    reader: PieceReader<'_>,
 ) -> Result<Option<SoupFault>, Fail> {
-    fault_over::<R, ListBook>(rt, rt.alloc(), reader)
+    fault_over::<ListBook>(rt, rt.alloc(), reader)
 }
 
 /// Fetches the messages from the third on over a reader and a writer.
-pub(crate) fn fetch_third<R: CountedRead, A: Allocator, M: Allocator>(
+pub(crate) fn fetch_third<M: Allocator>(
     rt: &impl Host,
     memory: M,
-    reader: &mut BlockReader<R, A>,
+    reader: &mut Blocks<'_>,
     writer: &mut FuseWriter,
 ) -> Result<Rest<M>, SoupFault> {
     fetch_rest(memory, reader, writer, &credentials(rt), seq(rt, 3))
 }
 
 /// What this reader gives from the third message on, after a login for it.
-pub(crate) fn third_fetched<R: CountedRead + Drop, M: Allocator>(
+pub(crate) fn third_fetched<M: Allocator>(
     rt: &impl Host,
     memory: M,
-    reader: R,
+    reader: PieceReader<'_>,
 ) -> Result<Result<Rest<M>, SoupFault>, Fail> {
     let mut reader = BlockReader::new(rt.alloc(), reader)?;
     let mut writer = FuseWriter::new(rt.alloc(), 64, None);

@@ -2,9 +2,9 @@
 use crate::doubles::{FuseWriter, PieceReader};
 use crate::equal::{Host, TestResult, same, same_words};
 use crate::files::{
-    AAPL, ADD_1, END_4, END_5, EVENT, NAMED_3, REPLACED, REPLACED_SNAPSHOT, are_same, blocks,
-    finished, market, read_from, seq, write,
+    REPLACED, REPLACED_SNAPSHOT, are_same, blocks, finished, market, read_from, seq, write,
 };
+use crate::payloads::*;
 use itch_book::{ListBook, OrderBook};
 use itch_codec::CodecFault;
 use itch_frame::FrameFault;
@@ -18,51 +18,6 @@ use std::test::Fail;
 mod again;
 mod books;
 mod partial;
-
-// The same at the ninth nanosecond.
-const AAPL_LATER: &[u8] = b"R\0\x01\0\0\0\0\0\0\0\x09AAPL    QN\0\0\0dNCZ PNN1N\0\0\0\0N";
-
-const MSFT_AT_1: &[u8] = b"R\0\x01\0\0\0\0\0\0\0\0MSFT    QN\0\0\0dNCZ PNN1N\0\0\0\0N";
-
-const MSFT: &[u8] = b"R\0\x02\0\0\0\0\0\0\0\0MSFT    QN\0\0\0dNCZ PNN1N\0\0\0\0N";
-
-const TRADES: &[u8] = b"H\0\x01\0\0\0\0\0\0\0\0AAPL    T     ";
-// The same with other reserved bytes.
-const TRADES_0: &[u8] = b"H\0\x01\0\0\0\0\0\0\0\0AAPL    T\0    ";
-
-const TRADES_X: &[u8] = b"H\0\x01\0\0\0\0\0\0\0\0AAPL    TX    ";
-
-const RESTRICTS: &[u8] = b"Y\0\x01\0\0\0\0\0\0\0\0AAPL    0";
-
-const ADD_2: &[u8] = b"A\0\x01\0\0\0\0\0\0\0\0\0\0\0\0\0\0\0\x02B\0\0\0dAAPL    \0\x16\xe3\x60";
-
-const ADD_2_OF_200: &[u8] =
-    b"A\0\x01\0\0\0\0\0\0\0\0\0\0\0\0\0\0\0\x02B\0\0\0\xc8AAPL    \0\x16\xe3\x60";
-
-const ADD_2_HIGHER: &[u8] =
-    b"A\0\x01\0\0\0\0\0\0\0\0\0\0\0\0\0\0\0\x02B\0\0\0\xc8AAPL    \0\x16\xe3\xc4";
-
-const ADD_3: &[u8] =
-    b"A\0\x01\0\0\0\0\0\0\0\0\0\0\0\0\0\0\0\x03B\0\0\x01\x2cAAPL    \0\x16\xe3\x60";
-
-const ADD_4_HIGHER: &[u8] =
-    b"A\0\x01\0\0\0\0\0\0\0\0\0\0\0\0\0\0\0\x04B\0\0\x01\x90AAPL    \0\x16\xe3\xc4";
-
-const ADD_7: &[u8] =
-    b"A\0\x01\0\0\0\0\0\0\0\x05\0\0\0\0\0\0\0\x07B\0\0\x01\x2cAAPL    \0\x16\xe3\x60";
-
-const ADD_7_OF_150: &[u8] =
-    b"A\0\x01\0\0\0\0\0\0\0\0\0\0\0\0\0\0\0\x07B\0\0\0\x96AAPL    \0\x16\xe3\x60";
-
-const EXECUTE_7: &[u8] = b"E\0\x01\0\0\0\0\0\0\0\x06\0\0\0\0\0\0\0\x07\0\0\0d\0\0\0\0\0\0\0\x01";
-
-const CANCEL_7: &[u8] = b"X\0\x01\0\0\0\0\0\0\0\x07\0\0\0\0\0\0\0\x07\0\0\0\x32";
-
-const END_1: &[u8] = b"G                   1";
-
-const END_3: &[u8] = b"G                   3";
-
-const END_6: &[u8] = b"G                   6";
 
 #[test]
 fn the_laws_of_snapshots() {
@@ -188,7 +143,11 @@ fn check_days<B: OrderBook>(
 #[test]
 fn says_where_snapshots_part(rt: HostRuntime) -> TestResult {
     let pairs: [(&[&[u8]], &[&[u8]], Option<u64>); 5] = [
-        (&[AAPL, ADD_1, ADD_2], &[AAPL, ADD_2, ADD_1], Some(2)),
+        (
+            &[AAPL, ADD_1, ADD_2_OF_100],
+            &[AAPL, ADD_2_OF_100, ADD_1],
+            Some(2),
+        ),
         (
             &[AAPL, ADD_1, ADD_2_HIGHER, ADD_3, ADD_4_HIGHER],
             &[AAPL, ADD_2_HIGHER, ADD_4_HIGHER, ADD_1, ADD_3],
@@ -214,7 +173,7 @@ fn outcome<B: OrderBook>(
     memory: B::Alloc,
     bytes: &[u8],
 ) -> Result<Result<(u128, u64), SnapFault>, Fail> {
-    match read_from::<_, B>(alloc, memory, PieceReader::new(bytes, 1, None))? {
+    match read_from::<B>(alloc, memory, PieceReader::new(bytes, 1, None))? {
         Ok((market, next)) => Ok(Ok((snapshot_len(&market), next.value()))),
         Err(fault) => Ok(Err(fault)),
     }
@@ -297,7 +256,7 @@ fn half_read<A: OrderBook, B: OrderBook>(
     want: &Market<A>,
 ) -> SnapshotReader<B> {
     let mut snapshot = SnapshotReader::new(memory);
-    check_more(rt, &mut snapshot, &[AAPL, ADD_2_OF_200, NAMED_3]);
+    check_more(rt, &mut snapshot, &[AAPL, ADD_2, NAMED_3]);
     assert!(rt; are_same(rt, want, snapshot.market()));
     snapshot
 }

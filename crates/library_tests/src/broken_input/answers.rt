@@ -1,14 +1,14 @@
 //! Broken answers to a fetch: each beginning of a served session, and each of its bytes at each value.
 use crate::doubles::{FuseWriter, PieceReader};
 use crate::equal::{Host, TestResult, same};
-use crate::files::{are_same, read};
+use crate::files::{Blocks, are_same, read};
 use crate::sessions::{FROM_1, fetch_fault, fetched};
 use itch_book::{ListBook, OrderBook};
 use itch_codec::Seq;
-use itch_frame::{BlockReader, CountedRead, FrameFault, write_block};
+use itch_frame::{BlockReader, FrameFault, write_block};
 use itch_market::Market;
 use itch_soup::SoupFault;
-use std::alloc::{Allocator, Global};
+use std::alloc::Global;
 use std::test::Fail;
 
 // Where the blocks of the answer begin, and where the last one that is read ends.
@@ -51,18 +51,15 @@ fn each_beginning_of_an_answer(rt: HostRuntime) -> TestResult {
 }
 
 // Writes the payload of the next packet in its block, if the packet is sequenced data.
-fn copy_payload<R: CountedRead, A: Allocator>(
-    reader: &mut BlockReader<R, A>,
-    file: &mut FuseWriter,
-) -> Result<(), FrameFault> {
+fn copy_payload(reader: &mut Blocks<'_>, file: &mut FuseWriter) -> Result<(), FrameFault> {
     match reader.next_block()? {
         Some([b'S', payload @ ..]) => write_block(file, payload),
         _ => Ok(()),
     }
 }
 
-fn copy_payloads<R: CountedRead, A: Allocator>(
-    reader: &mut BlockReader<R, A>,
+fn copy_payloads(
+    reader: &mut Blocks<'_>,
     file: &mut FuseWriter,
     packets: usize,
 ) -> Result<(), FrameFault> {
@@ -101,7 +98,7 @@ fn gives_market<B: OrderBook>(
     memory: B::Alloc,
     answer: &[u8],
 ) -> Result<bool, Fail> {
-    match fetched::<_, B>(rt, memory, PieceReader::new(answer, 64, None))? {
+    match fetched::<B>(rt, memory, PieceReader::new(answer, 64, None))? {
         Ok((market, next)) => {
             is_spelled(rt, memory, answer, &market, next)?;
             Ok(true)

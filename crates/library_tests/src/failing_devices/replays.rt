@@ -2,11 +2,10 @@
 use crate::book::has_len;
 use crate::doubles::PieceReader;
 use crate::equal::{Host, TestResult, holds_in, same_in};
-use crate::files::{REPLACED, blocks, replayed};
+use crate::files::{Blocks, REPLACED, blocks, replayed};
 use itch_book::{IndexedBook, ListBook, OrderBook};
-use itch_frame::{BlockReader, CountedRead, FrameFault};
+use itch_frame::{BlockReader, FrameFault};
 use itch_market::{Market, Stop};
-use std::alloc::Allocator;
 
 // Where the four blocks of the day end.
 const ENDS: [usize; 4] = [41, 83, 121, 158];
@@ -17,9 +16,9 @@ fn whole_blocks(at: usize) -> u64 {
 }
 
 // The read of the byte after the first `at` fails: the messages before are counted, and a second replay goes on.
-fn goes_on<R: CountedRead, A: Allocator, B: OrderBook>(
+fn goes_on<B: OrderBook>(
     rt: &impl Host,
-    reader: &mut BlockReader<R, A>,
+    reader: &mut Blocks<'_>,
     market: &mut Market<B>,
     at: usize,
 ) {

@@ -1,23 +1,23 @@
 //! One session served and fetched.
 use crate::doubles::{FuseWriter, PieceReader};
 use crate::equal::{Host, TestResult, same};
+use crate::files::Blocks;
 use crate::sessions::{
     FROM_1, FROM_3, LOGIN_1, LOGIN_3, fetch, fetch_fault, serve, serve_from, served_market,
     third_fetched,
 };
 use itch_book::{ListBook, OrderBook};
-use itch_frame::{BlockReader, CountedRead, FrameFault};
+use itch_frame::{BlockReader, FrameFault};
 use itch_market::Market;
 use itch_soup::{Served, SoupFault};
-use std::alloc::Allocator;
 
 // A login is read in the length and, by sevens, the 47 bytes.
 const LOGIN_READS: u64 = 1 + 7;
 
 // Serves a login one read of which may fail: nothing was written, and a second call goes on.
-fn serve_again<R: CountedRead, A: Allocator, B: OrderBook>(
+fn serve_again<B: OrderBook>(
     rt: &impl Host,
-    reader: &mut BlockReader<R, A>,
+    reader: &mut Blocks<'_>,
     writer: &mut FuseWriter,
     market: &Market<B>,
     nth: u64,
@@ -123,20 +123,17 @@ fn an_answer_is_written_in_part(rt: HostRuntime) -> TestResult {
 }
 
 // The fault of a fetch, if it has one.
-fn fault_of<R: CountedRead, A: Allocator, B: OrderBook>(
+fn fault_of<B: OrderBook>(
     rt: &impl Host,
     memory: B::Alloc,
-    reader: &mut BlockReader<R, A>,
+    reader: &mut Blocks<'_>,
     writer: &mut FuseWriter,
 ) -> Option<SoupFault> {
-    fetch::<R, A, B>(rt, memory, reader, writer).err()
+    fetch::<B>(rt, memory, reader, writer).err()
 }
 
 // The length of the block that comes next.
-fn next_len<R: CountedRead, A: Allocator>(
-    rt: &impl Host,
-    reader: &mut BlockReader<R, A>,
-) -> Result<usize, FrameFault> {
+fn next_len(rt: &impl Host, reader: &mut Blocks<'_>) -> Result<usize, FrameFault> {
     Ok(reader.next_block()?.expect(rt, "a block").len())
 }
 
@@ -144,7 +141,7 @@ fn next_len<R: CountedRead, A: Allocator>(
 fn logged_in_in_part<B: OrderBook>(rt: &impl Host, memory: B::Alloc, nth: u64) -> TestResult {
     let mut reader = BlockReader::new(rt.alloc(), PieceReader::new(FROM_1, 64, None))?;
     let mut writer = FuseWriter::new(rt.alloc(), 7, Some(nth));
-    let fault = fault_of::<_, _, B>(rt, memory, &mut reader, &mut writer);
+    let fault = fault_of::<B>(rt, memory, &mut reader, &mut writer);
     same(rt, fault.is_some(), nth <= LOGIN_READS);
     if fault.is_some() {
         assert!(rt; matches!(fault, Some(SoupFault::Frame(FrameFault::Write { .. }))));

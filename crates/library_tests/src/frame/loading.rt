@@ -2,15 +2,11 @@
 use super::STREAM;
 use crate::doubles::PieceReader;
 use crate::equal::{Host, TestResult, same};
-use itch_frame::{BlockReader, CountedRead, FrameFault};
-use std::alloc::Allocator;
+use crate::files::Blocks;
+use itch_frame::{BlockReader, FrameFault};
 
 // The next block is this one, however often it is looked at; then it is passed.
-fn passes<R: CountedRead, A: Allocator>(
-    rt: &impl Host,
-    reader: &mut BlockReader<R, A>,
-    payload: &[u8],
-) -> Result<(), FrameFault> {
+fn passes(rt: &impl Host, reader: &mut Blocks<'_>, payload: &[u8]) -> Result<(), FrameFault> {
     for _ in 0..2 {
         if !reader.load()? {
             same(rt, payload, b"a block");
@@ -25,10 +21,7 @@ fn passes<R: CountedRead, A: Allocator>(
 }
 
 // The blocks of the stream are passed; then none is left, and the end is not passed.
-fn passes_all<R: CountedRead, A: Allocator>(
-    rt: &impl Host,
-    reader: &mut BlockReader<R, A>,
-) -> Result<(), FrameFault> {
+fn passes_all(rt: &impl Host, reader: &mut Blocks<'_>) -> Result<(), FrameFault> {
     for payload in [b"S".as_slice(), b"RR", b"", b"AAAAA", b"D"] {
         passes(rt, reader, payload)?;
     }
@@ -50,10 +43,7 @@ fn a_block_stays_the_next_one_until_it_is_passed(rt: HostRuntime) -> TestResult 
 }
 
 // The block that is next is the one that was looked at.
-fn is_next<R: CountedRead, A: Allocator>(
-    rt: &impl Host,
-    reader: &mut BlockReader<R, A>,
-) -> Result<(), FrameFault> {
+fn is_next(rt: &impl Host, reader: &mut Blocks<'_>) -> Result<(), FrameFault> {
     same(rt, reader.load_at_hand(), false);
     same(rt, reader.load()?, true);
     same(rt, reader.next_block()?, Some(b"S".as_slice()));

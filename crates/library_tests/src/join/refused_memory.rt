@@ -1,12 +1,11 @@
 //! Each growth of a joiner refused in turn, and the calls that take no memory.
 use super::{
-    ADD_1_AT_9, ADD_3, ADD_4, BEFORE_6, BROKEN_TRADE, CLOSES, DELETE_3, END_3, END_6, EXECUTE_1,
-    JOINED_AT_3, NAMED_5, READ_2, REPLACE_1, Step, check_market, joiner, live, read, snapshot,
-    stands, take_steps,
+    BEFORE_6, JOINED_AT_3, READ_2, Step, check_market, joiner, live, read, snapshot, stands,
+    take_steps,
 };
 use crate::doubles::Refusing;
 use crate::equal::{Host, TestResult, same};
-use crate::files::{AAPL, ADD_1, ADD_2, EVENT};
+use crate::payloads::*;
 use itch_book::{IndexedBook, OrderBook};
 use itch_join::{Cause, JoinFault, Joiner, Live, Snap};
 use itch_market::Refusal;
@@ -151,21 +150,21 @@ fn a_message_of_the_snapshot(rt: HostRuntime) -> TestResult {
 }
 
 // As many orders as there is room for, so that the replacement takes memory.
-const FOUR_ORDERS: &[&[u8]] = &[AAPL, ADD_1, ADD_2, ADD_3, NAMED_5];
+const FOUR_ORDERS: &[&[u8]] = &[AAPL, ADD_1, ADD_2, SELL_3, NAMED_5];
 
 const LEFT: &[&[u8]] = &[AAPL, ADD_2, ADD_4, NAMED_5];
 
 // The seventh and the eighth message wait, and five are in the snapshot.
 const JOINED_AT_6: &[Step<'static>] = &[
     Step::Live(8, DELETE_3, Ok(Live::Kept)),
-    Step::Live(7, REPLACE_1, Ok(Live::Kept)),
+    Step::Live(7, REPLACE_1_BY_4, Ok(Live::Kept)),
     Step::Read(FOUR_ORDERS),
     Step::Snapshot(END_6, Ok(Snap::Joined { next: 6 })),
 ];
 
 // Message 7, which waits already, is refused when it comes again, and then taken by `resume`.
 const REFUSED_AT_7: &[Step<'static>] = &[
-    Step::Live(7, REPLACE_1, Err(TAKEN)),
+    Step::Live(7, REPLACE_1_BY_4, Err(TAKEN)),
     Step::Stands(Some(7), 2),
 ];
 

@@ -1,13 +1,11 @@
 //! Joiners restricted to a set of locates.
-use super::{ADD_1_AT_9, END_3, END_6, Step, take_steps};
+use super::{Step, take_steps};
 use crate::equal::{Host, TestResult};
-use crate::files::{AAPL, ADD_1, ADD_2, EVENT};
+use crate::payloads::*;
 use itch_book::{IndexedBook, OrderBook};
 use itch_codec::CodecFault;
 use itch_join::{Cause, JoinFault, Joiner, Live, Snap};
 use itch_market::{LocateSet, Refusal};
-
-const MSFT: &[u8] = b"R\0\x02\0\0\0\0\0\0\0\0MSFT    QN\0\0\0dNCZ PNN1N\0\0\0\0N";
 
 // A joiner of locate 1 for which `cap` messages may wait takes these steps.
 fn check<B: OrderBook>(

@@ -1,17 +1,14 @@
 //! Joiners that take the messages of a day.
-use super::{
-    ADD_1_AT_9, BEFORE_6, CLOSES, DELETE_3, END_3, END_6, check_market, joiner, read, snapshot,
-    stands,
-};
+use super::{BEFORE_6, check_market, joiner, read, snapshot, stands};
 use crate::doubles::PieceReader;
 use crate::equal::{Host, TestResult, same};
-use crate::files::{AAPL, ADD_1, ADD_2, EVENT, blocks};
+use crate::files::{Blocks, blocks};
+use crate::payloads::*;
 use itch_book::{IndexedBook, OrderBook};
 use itch_day::{Limit, Stop, read_part};
-use itch_frame::{BlockReader, CountedRead};
+use itch_frame::BlockReader;
 use itch_join::{Joiner, Snap};
 use itch_market::{Refusal, Refused};
-use std::alloc::Allocator;
 
 // An Add Order without its fields, which is no message.
 const NOTHING: &[u8] = b"A";
@@ -31,8 +28,8 @@ fn word(stop: &Stop<Refused>) -> &'static str {
 }
 
 // A joiner takes the messages of a day from the first one on, if it may. Returns what stops it, and after how many.
-fn take_part<R: CountedRead, A: Allocator, B: OrderBook>(
-    reader: &mut BlockReader<R, A>,
+fn take_part<B: OrderBook>(
+    reader: &mut Blocks<'_>,
     joiner: &mut Joiner<B>,
     limit: Limit,
 ) -> (&'static str, u64) {

@@ -1,10 +1,11 @@
 //! Replays that fail in the middle, and go on.
 use crate::doubles::PieceReader;
 use crate::equal::{Host, TestResult, same};
+use crate::files::Blocks;
 use itch_book::{ListBook, OrderBook};
-use itch_frame::{BlockReader, CountedRead};
+use itch_frame::BlockReader;
 use itch_market::{Market, Refusal, Stop, replay, replay_first};
-use std::alloc::{Allocator, Global};
+use std::alloc::Global;
 use std::test::Fail;
 
 // Stock Directory: AAPL at locate 1.
@@ -23,9 +24,9 @@ fn day(alloc: Global, blocks: &[&[u8]]) -> Result<Vec<u8>, Fail> {
 }
 
 // Replays what a reader has left, and takes `want` messages of it.
-fn replayed<R: CountedRead, A: Allocator, B: OrderBook>(
+fn replayed<B: OrderBook>(
     rt: &impl Host,
-    reader: &mut BlockReader<R, A>,
+    reader: &mut Blocks<'_>,
     market: &mut Market<B>,
     want: u64,
 ) -> Stop {
@@ -35,22 +36,14 @@ fn replayed<R: CountedRead, A: Allocator, B: OrderBook>(
 }
 
 // Takes the first two messages.
-fn replay_two<R: CountedRead, A: Allocator, B: OrderBook>(
-    rt: &impl Host,
-    reader: &mut BlockReader<R, A>,
-    market: &mut Market<B>,
-) {
+fn replay_two<B: OrderBook>(rt: &impl Host, reader: &mut Blocks<'_>, market: &mut Market<B>) {
     let (count, stop) = replay_first(reader, market, 2);
     same(rt, count, 2);
     assert!(rt; stop.is_none());
 }
 
 // A refused message ends a replay, and the next replay begins after it.
-fn goes_on<R: CountedRead, A: Allocator, B: OrderBook>(
-    rt: &impl Host,
-    reader: &mut BlockReader<R, A>,
-    market: &mut Market<B>,
-) {
+fn goes_on<B: OrderBook>(rt: &impl Host, reader: &mut Blocks<'_>, market: &mut Market<B>) {
     let stop = replayed(rt, reader, market, 2);
     assert!(rt; matches!(stop, Stop::Rule(Refusal::DuplicateRef)));
     let stop = replayed(rt, reader, market, 1);

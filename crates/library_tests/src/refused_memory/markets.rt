@@ -2,13 +2,14 @@
 use crate::book::has_len;
 use crate::doubles::{PieceReader, Refusing};
 use crate::equal::{Host, TestResult, same};
-use crate::files::{AAPL, REPLACED, blocks, replayed};
+use crate::files::{Blocks, REPLACED, blocks, replayed};
 use crate::frame::gives;
 use crate::market::content::{Content, content_of};
+use crate::payloads::*;
 use itch_book::{IndexedBook, ListBook, OrderBook};
 use itch_codec::{Message, decode};
-use itch_frame::{BlockReader, CountedRead, FrameFault};
-use itch_market::{LocateSet, Market, Refusal, Stop, replay};
+use itch_frame::{BlockReader, FrameFault};
+use itch_market::{LocateSet, Market, Refusal, Stop};
 use std::alloc::{AllocError, Allocator, Global};
 use std::test::Fail;
 
@@ -197,10 +198,10 @@ fn a_set_of_locates_stays_as_it_was(rt: HostRuntime) -> TestResult {
 
 // A replay of the day into an empty market, whose memory is refused once, stops there, with the message read and not counted.
 // Returns whether it was.
-fn stops_at_the_message<R: CountedRead, A: Allocator, B: OrderBook>(
+fn stops_at_the_message<B: OrderBook>(
     rt: &impl Host,
     refusing: &Refusing<Global>,
-    reader: &mut BlockReader<R, A>,
+    reader: &mut Blocks<'_>,
     market: &mut Market<B>,
 ) -> Result<bool, FrameFault> {
     let (count, stop) = replayed(reader, market);

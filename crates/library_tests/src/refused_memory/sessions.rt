@@ -33,7 +33,7 @@ fn refuse_to_fetch<B: OrderBook>(
     refusing: &Refusing<Global>,
     memory: B::Alloc,
 ) -> Result<bool, Fail> {
-    match fetched::<_, B>(rt, memory, PieceReader::new(FROM_1, 64, None))? {
+    match fetched::<B>(rt, memory, PieceReader::new(FROM_1, 64, None))? {
         Ok((found, next)) => is_served_market(rt, &found, next)?,
         Err(fault) => assert!(rt; refusing.has_refused() && wants_memory(&fault)),
     }

@@ -95,7 +95,7 @@ fn refuse_to_read<B: OrderBook>(
 ) -> Result<bool, Fail> {
     let file = blocks(rt.alloc(), REPLACED_SNAPSHOT)?;
     let reader = PieceReader::new(file.written(), 64, None);
-    let read = read_from::<_, B>(rt.alloc(), memory, reader)?;
+    let read = read_from::<B>(rt.alloc(), memory, reader)?;
     same(rt, read.is_err(), refusing.has_refused());
     match read {
         Ok((market, next)) => {

@@ -1,11 +1,9 @@
 //! Snapshots written, read and written again, and a day cut at each of its messages.
-use super::{
-    AAPL_LATER, ADD_2_OF_200, ADD_7_OF_150, END_1, END_6, MSFT, REPLACED_SNAPSHOT, RESTRICTS,
-    TRADES, TRADES_X, are_same, blocks, market, seq, write,
-};
+use super::{REPLACED_SNAPSHOT, are_same, blocks, market, seq, write};
 use crate::doubles::{FuseWriter, PieceReader};
 use crate::equal::{Host, TestResult, same};
-use crate::files::{AAPL, END_4, EVENT, NAMED_1, REPLACE_1, read, replay_from};
+use crate::files::{read, replay_from};
+use crate::payloads::*;
 use itch_book::{ListBook, OrderBook};
 use itch_codec::Seq;
 use itch_market::{Market, Stop};
@@ -139,14 +137,7 @@ fn check_cuts<B: OrderBook>(rt: &impl Host, memory: B::Alloc, day: &[&[u8]]) -> 
 #[test]
 fn a_snapshot_stands_for_the_messages_before_it(rt: HostRuntime) -> TestResult {
     let day: [&[u8]; 8] = [
-        EVENT,
-        AAPL,
-        NAMED_1,
-        ADD_2_OF_200,
-        REPLACE_1,
-        RESTRICTS,
-        TRADES,
-        MSFT,
+        EVENT, AAPL, NAMED_1, ADD_2, REPLACE_1, RESTRICTS, TRADES, MSFT,
     ];
     check_cuts::<ListBook>(&rt, rt.alloc(), &day)
 }

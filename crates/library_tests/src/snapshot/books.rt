@@ -1,58 +1,11 @@
 //! The worked files over both books: what a replay says of each, and the snapshot of what it leaves.
-use super::{
-    AAPL_LATER, ADD_2_HIGHER, ADD_3, ADD_4_HIGHER, ADD_7, ADD_7_OF_150, CANCEL_7, END_1, END_3,
-    END_6, EXECUTE_7, MSFT, MSFT_AT_1, REPLACED, REPLACED_SNAPSHOT, RESTRICTS, TRADES, TRADES_0,
-    TRADES_X, check_snapshot, file_of,
-};
+use super::{REPLACED, REPLACED_SNAPSHOT, check_snapshot, file_of};
 use crate::doubles::{FuseWriter, PieceReader};
 use crate::equal::{Host, TestResult, same, same_words};
-use crate::files::{AAPL, ADD_1, END_4, END_5, EVENT, replay_from};
+use crate::files::replay_from;
+use crate::payloads::*;
 use itch_book::{IndexedBook, ListBook, OrderBook};
 use itch_market::Market;
-
-const MAX: &[u8] = b"R\xff\xff\0\0\0\0\0\0\0\0MAX     QN\0\0\0dNCZ PNN1N\0\0\0\0N";
-
-const SELL_MAX: &[u8] =
-    b"A\xff\xff\0\0\0\0\0\0\0\0\xff\xff\xff\xff\xff\xff\xff\xffS\xff\xff\xff\xffMAX     \xff\xff\xff\xff";
-
-const AAPL_OF_200: &[u8] = b"R\0\x01\0\0\0\0\0\0\0\0AAPL    QN\0\0\0\xc8NCZ PNN1N\0\0\0\0N";
-
-const ADD_0: &[u8] = b"A\0\x01\0\0\0\0\0\0\0\0\0\0\0\0\0\0\0\x01B\0\0\0\0AAPL    \0\x16\xe3\x60";
-
-const ADD_1_OF_60: &[u8] =
-    b"A\0\x01\0\0\0\0\0\0\0\0\0\0\0\0\0\0\0\x01B\0\0\0<AAPL    \0\x16\xe3\x60";
-
-const ADD_9_AT_3: &[u8] =
-    b"A\0\x03\0\0\0\0\0\0\0\0\0\0\0\0\0\0\0\x09B\0\0\0\x01AAPL    \0\x16\xe3\x60";
-
-const EXECUTE_0: &[u8] = b"E\0\x01\0\0\0\0\0\0\0\0\0\0\0\0\0\0\0\x01\0\0\0\0\0\0\0\0\0\0\0\x01";
-
-const EXECUTE_100: &[u8] = b"E\0\x01\0\0\0\0\0\0\0\0\0\0\0\0\0\0\0\x01\0\0\0d\0\0\0\0\0\0\0\x01";
-
-const EXECUTE_101: &[u8] = b"E\0\x01\0\0\0\0\0\0\0\0\0\0\0\0\0\0\0\x01\0\0\0e\0\0\0\0\0\0\0\x01";
-
-const EXECUTE_AT_2: &[u8] =
-    b"E\0\x02\0\0\0\0\0\0\0\0\0\0\0\0\0\0\0\x01\0\0\0\x0a\0\0\0\0\0\0\0\x01";
-
-const CANCEL_40: &[u8] = b"X\0\x01\0\0\0\0\0\0\0\0\0\0\0\0\0\0\0\x01\0\0\0(";
-
-const PRICED_61: &[u8] =
-    b"C\0\x01\0\0\0\0\0\0\0\0\0\0\0\0\0\0\0\x01\0\0\0=\0\0\0\0\0\0\0\x01Y\0\x16\xe3\x60";
-
-const DELETE_1: &[u8] = b"D\0\x01\0\0\0\0\0\0\0\0\0\0\0\0\0\0\0\x01";
-
-const DELETE_9: &[u8] = b"D\0\x01\0\0\0\0\0\0\0\0\0\0\0\0\0\0\0\x09";
-
-const REPLACE_BY_ITSELF: &[u8] =
-    b"U\0\x01\0\0\0\0\0\0\0\0\0\0\0\0\0\0\0\x01\0\0\0\0\0\0\0\x01\0\0\0\x32\0\x16\xe3\x60";
-
-const REPLACE_BY_0: &[u8] =
-    b"U\0\x01\0\0\0\0\0\0\0\0\0\0\0\0\0\0\0\x01\0\0\0\0\0\0\0\x01\0\0\0\0\0\x16\xe3\x60";
-
-const REPLACE_AT_2: &[u8] =
-    b"U\0\x02\0\0\0\0\0\0\0\0\0\0\0\0\0\0\0\x01\0\0\0\0\0\0\0\x05\0\0\0\0\0\x16\xe3\x60";
-
-const END_2: &[u8] = b"G                   2";
 
 // A file, what a replay says of it, and the snapshot of what it leaves.
 #[derive(Clone, Copy)]

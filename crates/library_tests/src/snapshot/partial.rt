@@ -2,20 +2,16 @@
 ghost use Rattle.std.specs.Prelude.{◌<◌, ◌^◌, length};
 ghost use Rattle.itch_snapshot.specs.Snapshot.{snap};
 
-use super::{END_3, END_6, MSFT, MSFT_AT_1, blocks, market};
+use super::{blocks, market};
 use crate::doubles::FuseWriter;
 use crate::equal::{Host, TestResult, same, same_words};
-use crate::files::{AAPL, ADD_1, END_4, EVENT, REPLACE_1};
+use crate::payloads::*;
 use itch_book::{ListBook, OrderBook};
 use itch_codec::Seq;
 use itch_market::{LocateSet, Market};
 use itch_snapshot::{SnapFault, SnapshotIter, SnapshotReader, laws, snapshot_len, write_partial};
 use std::alloc::{AllocError, Allocator};
 use std::test::Fail;
-
-// An add order message at locate 2.
-const ADD_2_OF_MSFT: &[u8] =
-    b"A\0\x02\0\0\0\0\0\0\0\0\0\0\0\0\0\0\0\x02B\0\0\0\x0aMSFT    \0\x16\xe3\x60";
 
 const WHOLE: &[&[u8]] = &[EVENT, AAPL, ADD_1, MSFT, ADD_2_OF_MSFT];
 

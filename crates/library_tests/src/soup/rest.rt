@@ -3,8 +3,7 @@ use crate::doubles::{FuseWriter, PieceReader};
 use crate::equal::{Host, TestResult, same};
 use crate::frame::gives;
 use crate::sessions::{FROM_1, FROM_3, REST_3, fetch_third, third_fetched};
-use itch_frame::{BlockReader, CountedRead, FrameFault};
-use std::alloc::Allocator;
+use itch_frame::BlockReader;
 
 // This reader gives these blocks from the third message on.
 fn check_rest(rt: &impl Host, reader: PieceReader<'_>, want: &[u8]) -> TestResult {

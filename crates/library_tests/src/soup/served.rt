@@ -1,17 +1,16 @@
 //! One served and one fetched session over memory, row by row.
 use crate::doubles::{FuseWriter, PieceReader};
 use crate::equal::{Host, TestResult, same, same_in};
-use crate::files::seq;
+use crate::files::{Blocks, seq};
 use crate::frame::gives;
 use crate::sessions::{
     FROM_1, FROM_3, LOGIN_1, LOGIN_3, fetch, fetch_fault, fetched, is_served_market, serve,
     serve_from, served_market,
 };
 use itch_book::{ListBook, OrderBook};
-use itch_frame::{BlockReader, CountedRead, FrameFault};
+use itch_frame::{BlockReader, FrameFault};
 use itch_market::Market;
 use itch_soup::{Served, SoupFault, laws, write_data};
-use std::alloc::Allocator;
 
 const FROM_6: &[u8] = b"\0\x1fA  ITCHSNAP                   6\0\x01Z";
 
@@ -192,7 +191,7 @@ fn check_fetched<B: OrderBook>(
     memory: B::Alloc,
     reader: PieceReader<'_>,
 ) -> TestResult {
-    match fetched::<_, B>(rt, memory, reader)? {
+    match fetched::<B>(rt, memory, reader)? {
         Ok((found, next)) => is_served_market(rt, &found, next),
         Err(fault) => panic!(rt; "{fault}"),
     }
@@ -208,14 +207,14 @@ fn answers_are_fetched(rt: HostRuntime) -> TestResult {
 }
 
 // Fetches a market, after which the next block is this one.
-fn check_after_fetch<R: CountedRead, A: Allocator, B: OrderBook>(
+fn check_after_fetch<B: OrderBook>(
     rt: &impl Host,
     memory: B::Alloc,
-    reader: &mut BlockReader<R, A>,
+    reader: &mut Blocks<'_>,
     writer: &mut FuseWriter,
     want: &[u8],
 ) -> Result<(), FrameFault> {
-    match fetch::<R, A, B>(rt, memory, reader, writer) {
+    match fetch::<B>(rt, memory, reader, writer) {
         Ok(_) => gives(rt, reader, Some(want)),
         Err(fault) => panic!(rt; "{fault}"),
     }
@@ -225,7 +224,7 @@ fn check_after_fetch<R: CountedRead, A: Allocator, B: OrderBook>(
 fn nothing_is_read_after_the_end_of_snapshot(rt: HostRuntime) -> TestResult {
     let mut reader = BlockReader::new(rt.alloc(), PieceReader::new(FROM_1, 64, None))?;
     let mut writer = FuseWriter::new(rt.alloc(), 64, None);
-    check_after_fetch::<_, _, ListBook>(&rt, rt.alloc(), &mut reader, &mut writer, b"Z")?;
+    check_after_fetch::<ListBook>(&rt, rt.alloc(), &mut reader, &mut writer, b"Z")?;
     Ok(())
 }
 
