@@ -5,7 +5,7 @@ mod plain;
 mod replaying;
 
 use self::content::references;
-use crate::book::{has_len, live, next_price, reference, total};
+use crate::book::{has_len, live, next_price, order, reference, total};
 use crate::equal::{Host, TestResult, same, same_words};
 use crate::messages::{
     add, attributed, cancel, delete, directory, end, event, executed, executed_with_price, halt,
@@ -53,54 +53,29 @@ fn best<B: OrderBook>(market: &Market<B>, locate: u16, side: Side) -> Option<Ord
     market.best(locate, side).copied()
 }
 
-fn check_largest<B: OrderBook>(rt: &impl Host, alloc: B::Alloc) -> TestResult {
+fn check_largest<B: OrderBook>(rt: &impl Host, memory: B::Alloc) -> TestResult {
     let messages = [
         directory(65535, "MAX", 100),
         add(65535, u64::MAX, Side::Sell, u32::MAX, "MAX", u32::MAX),
     ];
-    let market: Market<B> = market_of(alloc, &messages)?;
-    check_last_security(rt, &market)?;
-    check_largest_order(rt, &market);
-    Ok(())
-}
-
-fn check_last_security<B: OrderBook>(rt: &impl Host, market: &Market<B>) -> TestResult {
-    let last = security(market, 65535).ok_or("a security")?;
+    let market: Market<B> = market_of(memory, &messages)?;
+    let last = security(&market, 65535).ok_or("a security")?;
     same(rt, Some(last.entry.stock), stock("MAX"));
-    assert!(rt; security(market, 0).is_none());
-    Ok(())
-}
-
-fn check_largest_order<B: OrderBook>(rt: &impl Host, market: &Market<B>) {
+    assert!(rt; security(&market, 0).is_none());
     let largest = Order {
-        reference: u64::MAX,
         locate: 65535,
-        side: Side::Sell,
-        shares: u32::MAX,
-        price: u32::MAX,
-        mpid: None,
+        ..order(u64::MAX, Side::Sell, u32::MAX, u32::MAX)
     };
-    same(rt, best(market, 65535, Side::Sell), Some(largest));
-    assert!(rt; best(market, 65535, Side::Buy).is_none());
+    same(rt, best(&market, 65535, Side::Sell), Some(largest));
+    assert!(rt; best(&market, 65535, Side::Buy).is_none());
     let level = total(market.book(), 65535, Side::Sell, u32::MAX);
     same(rt, level, (4294967295, 1));
+    Ok(())
 }
 
 #[test]
 fn takes_the_largest_values(rt: HostRuntime) -> TestResult {
     check_largest::<ListBook>(&rt, rt.alloc())
-}
-
-// Orders of two prices, in the order of their references.
-fn of_two_prices<B: OrderBook>(alloc: B::Alloc) -> Result<Market<B>, Fail> {
-    let messages = [
-        directory(1, "AAPL", 100),
-        add(1, 1, Side::Buy, 100, "AAPL", 1500000),
-        add(1, 2, Side::Buy, 200, "AAPL", 1500100),
-        add(1, 3, Side::Buy, 300, "AAPL", 1500000),
-        add(1, 4, Side::Buy, 400, "AAPL", 1500100),
-    ];
-    market_of(alloc, &messages)
 }
 
 // The orders have these references, in snapshot order.
@@ -122,13 +97,17 @@ fn check_levels<B: OrderBook>(rt: &impl Host, book: &B) {
     }
 }
 
-fn check_best<B: OrderBook>(rt: &impl Host, market: &Market<B>, want: u64) {
-    same(rt, reference(best(market, 1, Side::Buy).as_ref()), want);
-}
-
+// Orders of two prices, in the order of their references.
 fn check_priority<B: OrderBook>(rt: &impl Host, memory: B::Alloc) -> TestResult {
-    let market: Market<B> = of_two_prices(memory)?;
-    check_best(rt, &market, 2);
+    let messages = [
+        directory(1, "AAPL", 100),
+        add(1, 1, Side::Buy, 100, "AAPL", 1500000),
+        add(1, 2, Side::Buy, 200, "AAPL", 1500100),
+        add(1, 3, Side::Buy, 300, "AAPL", 1500000),
+        add(1, 4, Side::Buy, 400, "AAPL", 1500100),
+    ];
+    let market: Market<B> = market_of(memory, &messages)?;
+    same(rt, reference(best(&market, 1, Side::Buy).as_ref()), 2);
     check_levels(rt, market.book());
     check_references(rt, &market, &[2, 4, 1, 3])
 }
@@ -139,47 +118,23 @@ fn keeps_price_and_time_priority(rt: HostRuntime) -> TestResult {
 }
 
 // An attributed order is replaced by order 3, after order 2.
-fn with_replacement<B: OrderBook>(alloc: B::Alloc) -> Result<Market<B>, Fail> {
+fn check_replacement<B: OrderBook>(rt: &impl Host, memory: B::Alloc) -> TestResult {
     let messages = [
         directory(1, "AAPL", 100),
         attributed(1, 100, 1500000),
         add(1, 2, Side::Buy, 200, "AAPL", 1500000),
         replace(1, 1, 3, 100, 1500000),
     ];
-    market_of(alloc, &messages)
-}
-
-fn check_attribution<B: OrderBook>(rt: &impl Host, book: &B) -> TestResult {
-    let replaced = live(book, 3).ok_or("the replacement")?;
-    let attribution: Alpha<4> = Alpha::from_text("ABCD")?;
-    same(rt, replaced.mpid, Some(attribution));
+    let market: Market<B> = market_of(memory, &messages)?;
+    let replaced = live(market.book(), 3).ok_or("the replacement")?;
+    same(rt, replaced.mpid, Alpha::from_text("ABCD").ok());
     same(rt, replaced.shares, 100);
-    Ok(())
-}
-
-fn check_replacement<B: OrderBook>(rt: &impl Host, memory: B::Alloc) -> TestResult {
-    let market: Market<B> = with_replacement(memory)?;
-    check_attribution(rt, market.book())?;
     check_references(rt, &market, &[2, 3])
 }
 
 #[test]
 fn replaces_an_attributed_order(rt: HostRuntime) -> TestResult {
     check_replacement::<ListBook>(&rt, rt.alloc())
-}
-
-// A market with the trading states of a security, and an order, whose directory message came twice.
-fn with_states<B: OrderBook>(alloc: B::Alloc) -> Result<Market<B>, Fail> {
-    let messages = [
-        directory(2, "MSFT", 100),
-        event(b'O'),
-        directory(1, "AAPL", 100),
-        reg_sho(1, "AAPL", b'0'),
-        trading_action(1, "AAPL", b'T'),
-        add(1, 1, Side::Buy, 100, "AAPL", 1500000),
-        directory(1, "AAPL", 200),
-    ];
-    market_of(alloc, &messages)
 }
 
 fn locates_of<B: OrderBook>(alloc: Global, market: &Market<B>) -> Result<Vec<u16>, AllocError> {
@@ -196,12 +151,6 @@ fn check_states<A: Allocator>(rt: &impl Host, security: &Security<A>) {
     same(rt, security.sho, Some(b'0'));
 }
 
-fn check_locates<B: OrderBook>(rt: &impl Host, market: &Market<B>, want: &[u16]) -> TestResult {
-    let locates = locates_of(rt.alloc(), market)?;
-    same(rt, locates.as_slice(), want);
-    Ok(())
-}
-
 fn check_phase<B: OrderBook>(rt: &impl Host, market: &Market<B>, want: Option<u8>) {
     same(rt, market.phase(), want);
 }
@@ -216,12 +165,24 @@ fn an_empty_market_has_no_phase(rt: HostRuntime) {
     check_empty::<ListBook>(&rt, rt.alloc());
 }
 
+// A market with the trading states of a security, and an order, whose directory message came twice.
 fn check_states_and_orders<B: OrderBook>(rt: &impl Host, memory: B::Alloc) -> TestResult {
-    let market: Market<B> = with_states(memory)?;
+    let messages = [
+        directory(2, "MSFT", 100),
+        event(b'O'),
+        directory(1, "AAPL", 100),
+        reg_sho(1, "AAPL", b'0'),
+        trading_action(1, "AAPL", b'T'),
+        add(1, 1, Side::Buy, 100, "AAPL", 1500000),
+        directory(1, "AAPL", 200),
+    ];
+    let market: Market<B> = market_of(memory, &messages)?;
     check_phase(rt, &market, Some(b'O'));
     has_len(rt, market.book(), 1);
     check_states(rt, security(&market, 1).ok_or("a security")?);
-    check_locates(rt, &market, &[1, 2])
+    let locates = locates_of(rt.alloc(), &market)?;
+    same(rt, locates.as_slice(), [1, 2].as_slice());
+    Ok(())
 }
 
 // A second directory message of a locate sets the entry alone.
@@ -230,8 +191,25 @@ fn keeps_states_and_orders(rt: HostRuntime) -> TestResult {
     check_states_and_orders::<ListBook>(&rt, rt.alloc())
 }
 
+fn check_halts<A: Allocator>(rt: &impl Host, security: &Security<A>) -> TestResult {
+    same(rt, security.halts_len(), 2);
+    let halts: Vec<(u8, u8)> = security.halts().clone()?.collect(rt.alloc())?;
+    let want = [(b'Q', b'H'), (b'X', b'T')];
+    same(rt, halts.as_slice(), want.as_slice());
+    Ok(())
+}
+
+fn check_positions<A: Allocator>(rt: &impl Host, security: &Security<A>) -> TestResult {
+    same(rt, security.positions_len(), 2);
+    let (first, last) = (Alpha::from_text("ABCD")?, Alpha::from_text("ZZZZ")?);
+    let positions: Vec<(Alpha<4>, [u8; 3])> = security.positions().clone()?.collect(rt.alloc())?;
+    let want = [(first, *b"NNS"), (last, *b"NND")];
+    same(rt, positions.as_slice(), want.as_slice());
+    Ok(())
+}
+
 // A market of one security with halts and positions, whose directory message came twice.
-fn with_halts_and_positions<B: OrderBook>(alloc: B::Alloc) -> Result<Market<B>, Fail> {
+fn check_halts_and_positions<B: OrderBook>(rt: &impl Host, memory: B::Alloc) -> TestResult {
     let messages = [
         directory(1, "AAPL", 100),
         position(1, "ZZZZ", "AAPL", b'A'),
@@ -242,49 +220,7 @@ fn with_halts_and_positions<B: OrderBook>(alloc: B::Alloc) -> Result<Market<B>, 
         position(1, "ZZZZ", "AAPL", b'D'),
         directory(1, "AAPL", 200),
     ];
-    market_of(alloc, &messages)
-}
-
-fn halts_of<A: Allocator>(
-    alloc: Global,
-    security: &Security<A>,
-) -> Result<Vec<(u8, u8)>, AllocError> {
-    security.halts().clone()?.collect(alloc)
-}
-
-fn positions_of<A: Allocator>(
-    alloc: Global,
-    security: &Security<A>,
-) -> Result<Vec<(Alpha<4>, [u8; 3])>, AllocError> {
-    security.positions().clone()?.collect(alloc)
-}
-
-fn check_halts<A: Allocator>(rt: &impl Host, security: &Security<A>) -> TestResult {
-    same(rt, security.halts_len(), 2);
-    let halts = halts_of(rt.alloc(), security)?;
-    same(
-        rt,
-        halts.as_slice(),
-        [(b'Q', b'H'), (b'X', b'T')].as_slice(),
-    );
-    Ok(())
-}
-
-fn check_positions<A: Allocator>(rt: &impl Host, security: &Security<A>) -> TestResult {
-    same(rt, security.positions_len(), 2);
-    let first = Alpha::from_text("ABCD")?;
-    let last = Alpha::from_text("ZZZZ")?;
-    let positions = positions_of(rt.alloc(), security)?;
-    same(
-        rt,
-        positions.as_slice(),
-        [(first, *b"NNS"), (last, *b"NND")].as_slice(),
-    );
-    Ok(())
-}
-
-fn check_halts_and_positions<B: OrderBook>(rt: &impl Host, memory: B::Alloc) -> TestResult {
-    let market: Market<B> = with_halts_and_positions(memory)?;
+    let market: Market<B> = market_of(memory, &messages)?;
     let security = security(&market, 1).ok_or("a security")?;
     check_halts(rt, security)?;
     check_positions(rt, security)
@@ -306,11 +242,6 @@ fn begun<B: OrderBook>(alloc: B::Alloc) -> Result<Market<B>, Fail> {
     market_of(alloc, &messages)
 }
 
-// Why a market refuses a message.
-fn refusal<B: OrderBook>(market: &mut Market<B>, message: &Message<'_>) -> Result<Refusal, Fail> {
-    Ok(market.apply(message).err().ok_or("a refusal")?)
-}
-
 // That market over any book refuses a message for this reason, and stays as it was.
 fn check_refusal<B: OrderBook>(
     rt: &impl Host,
@@ -319,7 +250,7 @@ fn check_refusal<B: OrderBook>(
     want: &str,
 ) -> TestResult {
     let mut market: Market<B> = begun(memory)?;
-    let why = refusal(&mut market, message)?;
+    let why = apply(&mut market, message).err().ok_or("a refusal")?;
     same_words(rt, &why, want)?;
     has_len(rt, market.book(), 1);
     Ok(())
@@ -388,18 +319,13 @@ fn refuses<B: OrderBook>(
     Ok(())
 }
 
-// An order keeps its price whatever it is executed at.
-fn take_some<B: OrderBook>(rt: &impl Host, market: &mut Market<B>) -> TestResult {
+// An order keeps its price whatever it is executed at, and is gone with its last share.
+fn take_shares<B: OrderBook>(rt: &impl Host, market: &mut Market<B>) -> TestResult {
     apply_all(market, &[executed(1, 1, 0), cancel(1, 1, 40)])?;
     let most = Refusal::TooManyShares { remain: 60 };
     refuses(rt, market, executed_with_price(1, 1, 61, 1500100), most)?;
     apply_all(market, &[executed_with_price(1, 1, 20, 1500100)])?;
     same(rt, total(market.book(), 1, Side::Buy, 1500000), (40, 1));
-    Ok(())
-}
-
-// An order is gone with its last share.
-fn take_the_rest<B: OrderBook>(rt: &impl Host, market: &mut Market<B>) -> TestResult {
     apply_all(market, &[executed(1, 1, 40)])?;
     refuses(rt, market, delete(1, 1), Refusal::UnknownRef)?;
     let sale = add(1, 1, Side::Sell, 5, "AAPL", 1500000);
@@ -408,13 +334,12 @@ fn take_the_rest<B: OrderBook>(rt: &impl Host, market: &mut Market<B>) -> TestRe
     Ok(())
 }
 
-fn take_shares<B: OrderBook>(rt: &impl Host, memory: B::Alloc) -> TestResult {
+fn check_shares<B: OrderBook>(rt: &impl Host, memory: B::Alloc) -> TestResult {
     let mut market: Market<B> = begun(memory)?;
-    take_some(rt, &mut market)?;
-    take_the_rest(rt, &mut market)
+    take_shares(rt, &mut market)
 }
 
 #[test]
 fn takes_shares(rt: HostRuntime) -> TestResult {
-    take_shares::<ListBook>(&rt, rt.alloc())
+    check_shares::<ListBook>(&rt, rt.alloc())
 }

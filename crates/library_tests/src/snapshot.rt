@@ -46,45 +46,6 @@ fn check_snapshot<B: OrderBook>(
     Ok(())
 }
 
-// A day leaves a market with this snapshot, closed with the number `next`.
-fn check_day<B: OrderBook>(
-    rt: &impl Host,
-    memory: B::Alloc,
-    (day, want, next): (&[&[u8]], &[&[u8]], u64),
-) -> TestResult {
-    let market: Market<B> = market(rt.alloc(), memory, day)?;
-    let writer = FuseWriter::new(rt.alloc(), 1, None);
-    check_snapshot(rt, &market, next, writer, want)
-}
-
-#[test]
-fn writes_the_snapshot_of_a_day(rt: HostRuntime) -> TestResult {
-    let days: [(&[&[u8]], &[&[u8]], u64); 6] = [
-        (&[], &[END_1], 1),
-        (&[EVENT, AAPL, ADD_1], &[EVENT, AAPL, ADD_1, END_4], 4),
-        (REPLACED, REPLACED_SNAPSHOT, 5),
-        (
-            &[AAPL, TRADES_0, ADD_7, EXECUTE_7, CANCEL_7],
-            &[AAPL, TRADES, ADD_7_OF_150, END_6],
-            6,
-        ),
-        (
-            &[AAPL_LATER, TRADES_X, ADD_7_OF_150],
-            &[AAPL, TRADES, ADD_7_OF_150, END_4],
-            4,
-        ),
-        (
-            &[MSFT, EVENT, AAPL, RESTRICTS, TRADES],
-            &[EVENT, AAPL, TRADES, RESTRICTS, MSFT, END_6],
-            6,
-        ),
-    ];
-    for row in days {
-        check_day::<ListBook>(&rt, rt.alloc(), row)?;
-    }
-    Ok(())
-}
-
 // `remaining` counts down with each message of a market's snapshot, to none.
 fn check_counts<B: OrderBook>(rt: &impl Host, market: &Market<B>, wants: &[u64]) {
     assert!(rt; snapshot_len(market) < 9);
@@ -97,6 +58,7 @@ fn check_counts<B: OrderBook>(rt: &impl Host, market: &Market<B>, wants: &[u64])
     assert!(rt; messages.next().is_none());
 }
 
+// Those of what a day leaves.
 fn counts_down<B: OrderBook>(
     rt: &impl Host,
     memory: B::Alloc,
@@ -110,11 +72,8 @@ fn counts_down<B: OrderBook>(
 
 #[test]
 fn counts_what_is_still_to_come(rt: HostRuntime) -> TestResult {
-    let rows: [(&[&[u8]], &[u64]); 2] = [(&[], &[]), (REPLACED, &[3, 2, 1])];
-    for (day, wants) in rows {
-        counts_down::<ListBook>(&rt, rt.alloc(), day, wants)?;
-    }
-    Ok(())
+    counts_down::<ListBook>(&rt, rt.alloc(), &[], &[])?;
+    counts_down::<ListBook>(&rt, rt.alloc(), REPLACED, &[3, 2, 1])
 }
 
 fn check_parting<A: OrderBook, B: OrderBook>(
@@ -279,31 +238,17 @@ fn hands_a_market_out_at_its_end(rt: HostRuntime) -> TestResult {
 
 #[test]
 fn says_what_failed(rt: HostRuntime) -> TestResult {
+    let rule = |reason| SnapFault::Rule { place: 2, reason };
+    let most = Refusal::TooManyShares { remain: 60 };
     let fault = CodecFault::BadSide { offset: 19 };
+    let bad_side = SnapFault::Codec { place: 3, fault };
+    let truncated = SnapFault::Frame(FrameFault::Truncated { held: 1 });
     for (fault, want) in [
         (SnapFault::NoEnd, "no end of snapshot"),
-        (
-            SnapFault::Frame(FrameFault::Truncated { held: 1 }),
-            "truncated, 1 bytes held",
-        ),
-        (
-            SnapFault::Codec { place: 3, fault },
-            "message 3: bad side at 19",
-        ),
-        (
-            SnapFault::Rule {
-                place: 2,
-                reason: Refusal::TooManyShares { remain: 60 },
-            },
-            "message 2: too many shares, 60 remain",
-        ),
-        (
-            SnapFault::Rule {
-                place: 2,
-                reason: Refusal::OutOfMemory,
-            },
-            "out of memory",
-        ),
+        (truncated, "truncated, 1 bytes held"),
+        (bad_side, "message 3: bad side at 19"),
+        (rule(most), "message 2: too many shares, 60 remain"),
+        (rule(Refusal::OutOfMemory), "out of memory"),
         (SnapFault::AfterEnd, "message after end of snapshot"),
         (SnapFault::TooManyMessages, "too many messages"),
     ] {

@@ -32,28 +32,24 @@ fn goes_on<B: OrderBook>(
     has_len(rt, market.book(), 2);
 }
 
-// The same of the day and a market over this memory.
-fn fails_and_goes_on<B: OrderBook>(rt: &impl Host, memory: B::Alloc, at: usize) -> TestResult {
+// The same of each byte of the day, and a market over this memory.
+fn check_each<B: OrderBook>(rt: &impl Host, memory: B::Alloc) -> TestResult {
     let day = blocks(rt.alloc(), REPLACED)?;
-    let bytes = PieceReader::new(day.written(), 1, Some((at as u64).saturating_add(1)));
-    let mut reader = BlockReader::new(rt.alloc(), bytes)?;
-    let mut market: Market<B> = Market::new(memory);
-    goes_on(rt, &mut reader, &mut market, at);
+    for at in 0..158usize {
+        let bytes = PieceReader::new(day.written(), 1, Some(at as u64 + 1));
+        let mut reader = BlockReader::new(rt.alloc(), bytes)?;
+        let mut market: Market<B> = Market::new(memory);
+        goes_on(rt, &mut reader, &mut market, at);
+    }
     Ok(())
 }
 
 #[test]
 fn a_replay_goes_on(rt: HostRuntime) -> TestResult {
-    for at in 0..158 {
-        fails_and_goes_on::<IndexedBook>(&rt, rt.alloc(), at)?;
-    }
-    Ok(())
+    check_each::<IndexedBook>(&rt, rt.alloc())
 }
 
 #[test]
 fn a_replay_over_a_list_goes_on(rt: HostRuntime) -> TestResult {
-    for at in 0..158 {
-        fails_and_goes_on::<ListBook>(&rt, rt.alloc(), at)?;
-    }
-    Ok(())
+    check_each::<ListBook>(&rt, rt.alloc())
 }

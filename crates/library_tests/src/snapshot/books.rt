@@ -1,8 +1,9 @@
 //! The worked files over both books: what a replay says of each, and the snapshot of what it leaves.
-use super::{REPLACED, REPLACED_SNAPSHOT, check_snapshot, file_of};
+
+use super::{check_snapshot, file_of};
 use crate::doubles::{FuseWriter, PieceReader};
 use crate::equal::{Host, TestResult, same, same_words};
-use crate::files::replay_from;
+use crate::files::{REPLACED, REPLACED_SNAPSHOT, replay_from};
 use crate::payloads::*;
 use itch_book::{IndexedBook, ListBook, OrderBook};
 use itch_market::Market;
@@ -13,22 +14,10 @@ struct File<'a> {
     payloads: &'a [&'a [u8]],
     // The bytes after their blocks.
     rest: &'a [u8],
-    count: u64,
+    // Why no further message is applied, and how many messages of the file are not.
     stop: &'a str,
+    left: u64,
     snapshot: &'a [&'a [u8]],
-}
-
-// A replay of a file says what it has to.
-fn check_replay<B: OrderBook>(
-    rt: &impl Host,
-    market: &mut Market<B>,
-    file: File<'_>,
-) -> TestResult {
-    let bytes = file_of(rt.alloc(), file.payloads, file.rest)?;
-    let end = replay_from(rt.alloc(), PieceReader::new(&bytes, 1, None), market)?;
-    same(rt, end.count, file.count);
-    same_words(rt, &end.stop, file.stop)?;
-    Ok(())
 }
 
 // A market with nothing in it is left by a file as it has to be.
@@ -37,10 +26,25 @@ fn check_market<B: OrderBook>(
     market: &mut Market<B>,
     file: File<'_>,
 ) -> TestResult {
-    check_replay(rt, market, file)?;
-    let next = file.count.saturating_add(1);
-    let writer = FuseWriter::new(rt.alloc(), 64, None);
-    check_snapshot(rt, market, next, writer, file.snapshot)
+    let bytes = file_of(rt.alloc(), file.payloads, file.rest)?;
+    let end = replay_from(rt.alloc(), PieceReader::new(&bytes, 1, None), market)?;
+    same(
+        rt,
+        end.count,
+        (file.payloads.len() as u64).saturating_sub(file.left),
+    );
+    same_words(rt, &end.stop, file.stop)?;
+    for piece in [1, 64] {
+        let writer = FuseWriter::new(rt.alloc(), piece, None);
+        check_snapshot(
+            rt,
+            market,
+            end.count.saturating_add(1),
+            writer,
+            file.snapshot,
+        )?;
+    }
+    Ok(())
 }
 
 // Checks a file over a book whose memory comes from `memory`.
@@ -49,121 +53,121 @@ fn check<B: OrderBook>(rt: &impl Host, memory: B::Alloc, file: File<'_>) -> Test
     check_market(rt, &mut market, file)
 }
 
-// Files that end, what stands after them, and their snapshots.
-const WHOLE: [(&[&[u8]], &[u8], &[&[u8]]); 14] = [
-    (&[], b"", &[END_1]),
-    (&[EVENT, AAPL, ADD_1], b"", &[EVENT, AAPL, ADD_1, END_4]),
-    (
-        &[EVENT, AAPL, ADD_1],
-        b"\0\0\xde\xad\xbe\xef\x01",
-        &[EVENT, AAPL, ADD_1, END_4],
-    ),
-    (&[MAX, SELL_MAX], b"", &[MAX, SELL_MAX, END_3]),
+// Files that end, and their snapshots.
+const WHOLE: [(&[&[u8]], &[&[u8]]); 13] = [
+    (&[], &[END_1]),
+    (&[EVENT, AAPL, ADD_1], &[EVENT, AAPL, ADD_1, END_4]),
+    (&[MAX, SELL_MAX], &[MAX, SELL_MAX, END_3]),
     (
         &[AAPL, ADD_1, ADD_2_HIGHER, ADD_3, ADD_4_HIGHER],
-        b"",
         &[AAPL, ADD_2_HIGHER, ADD_4_HIGHER, ADD_1, ADD_3, END_6],
     ),
     (
         &[AAPL, ADD_2_HIGHER, ADD_4_HIGHER, ADD_1, ADD_3],
-        b"",
         &[AAPL, ADD_2_HIGHER, ADD_4_HIGHER, ADD_1, ADD_3, END_6],
     ),
     (
         &[AAPL, TRADES_0, ADD_7, EXECUTE_7, CANCEL_7],
-        b"",
         &[AAPL, TRADES, ADD_7_OF_150, END_6],
     ),
     (
         &[AAPL_LATER, TRADES_X, ADD_7_OF_150],
-        b"",
         &[AAPL, TRADES, ADD_7_OF_150, END_4],
     ),
-    (REPLACED, b"", REPLACED_SNAPSHOT),
-    (&[AAPL, ADD_1, DELETE_1, ADD_1], b"", &[AAPL, ADD_1, END_5]),
-    (&[AAPL, ADD_1, EXECUTE_0], b"", &[AAPL, ADD_1, END_4]),
-    (&[AAPL, ADD_1, EXECUTE_100], b"", &[AAPL, END_4]),
-    (
-        &[AAPL, ADD_1, AAPL_OF_200],
-        b"",
-        &[AAPL_OF_200, ADD_1, END_4],
-    ),
+    (REPLACED, REPLACED_SNAPSHOT),
+    (&[AAPL, ADD_1, DELETE_1, ADD_1], &[AAPL, ADD_1, END_5]),
+    (&[AAPL, ADD_1, EXECUTE_0], &[AAPL, ADD_1, END_4]),
+    (&[AAPL, ADD_1, EXECUTE_100], &[AAPL, END_4]),
+    (&[AAPL, ADD_1, AAPL_OF_200], &[AAPL_OF_200, ADD_1, END_4]),
     (
         &[MSFT, EVENT, AAPL, RESTRICTS, TRADES],
-        b"",
         &[EVENT, AAPL, TRADES, RESTRICTS, MSFT, END_6],
     ),
 ];
 
-// Checks the files that end.
+// Checks the files that end, and what stands after an end.
 fn check_whole<B: OrderBook>(rt: &impl Host, memory: B::Alloc) -> TestResult {
-    for (payloads, rest, snapshot) in WHOLE {
-        let (count, stop) = (payloads.len() as u64, "end of input");
-        let file = File {
-            payloads,
-            rest,
-            count,
-            stop,
-            snapshot,
-        };
+    let mut file = File {
+        payloads: &[EVENT, AAPL, ADD_1],
+        rest: b"\0\0\xde\xad\xbe\xef\x01",
+        stop: "end of input",
+        left: 0,
+        snapshot: &[EVENT, AAPL, ADD_1, END_4],
+    };
+    check::<B>(rt, memory, file)?;
+    file.rest = b"";
+    for (payloads, snapshot) in WHOLE {
+        (file.payloads, file.snapshot) = (payloads, snapshot);
         check::<B>(rt, memory, file)?;
     }
     Ok(())
 }
 
-// Files whose last message is refused, why, and the snapshots of those before.
-const REFUSED: [(&[&[u8]], &str, &[&[u8]]); 5] = [
+// Files whose last message is refused or is no message, why, and the snapshots of those before.
+const REFUSED: [(&str, &[&[u8]], &[&[u8]]); 13] = [
+    ("duplicate reference", &[AAPL, ADD_1, ADD_1], ONE_ORDER_3),
     (
-        &[AAPL, ADD_1, ADD_1],
-        "duplicate reference",
-        &[AAPL, ADD_1, END_3],
-    ),
-    (
-        &[AAPL, ADD_1, EXECUTE_100, DELETE_1],
         "unknown reference",
+        &[AAPL, ADD_1, EXECUTE_100, DELETE_1],
         &[AAPL, END_4],
     ),
     (
-        &[AAPL, ADD_1, EXECUTE_101],
         "too many shares, 100 remain",
-        &[AAPL, ADD_1, END_3],
+        &[AAPL, ADD_1, EXECUTE_101],
+        ONE_ORDER_3,
     ),
     (
-        &[AAPL, ADD_1, CANCEL_40, PRICED_61],
         "too many shares, 60 remain",
+        &[AAPL, ADD_1, CANCEL_40, PRICED_61],
         &[AAPL, ADD_1_OF_60, END_4],
     ),
-    (&[AAPL, MSFT_AT_1], "stock mismatch", &[AAPL, END_2]),
+    ("stock mismatch", &[AAPL, MSFT_AT_1], &[AAPL, END_2]),
+    (
+        "locate mismatch",
+        &[AAPL, MSFT, ADD_1, EXECUTE_AT_2],
+        TWO_STOCKS,
+    ),
+    (
+        "duplicate reference",
+        &[AAPL, MSFT, ADD_1, REPLACE_BY_ITSELF],
+        TWO_STOCKS,
+    ),
+    (
+        "zero shares",
+        &[AAPL, MSFT, ADD_1, REPLACE_BY_0],
+        TWO_STOCKS,
+    ),
+    (
+        "locate mismatch",
+        &[AAPL, MSFT, ADD_1, REPLACE_AT_2],
+        TWO_STOCKS,
+    ),
+    ("zero shares", &[AAPL, MSFT, ADD_1, ADD_0], TWO_STOCKS),
+    (
+        "unknown locate",
+        &[AAPL, MSFT, ADD_1, ADD_9_AT_3],
+        TWO_STOCKS,
+    ),
+    (
+        "unknown reference",
+        &[AAPL, MSFT, ADD_1, DELETE_9],
+        TWO_STOCKS,
+    ),
+    ("unexpected end", &[AAPL, MSFT, ADD_1, END_4], TWO_STOCKS),
 ];
 
-// Checks the files whose last message is refused, or is no message.
+const ONE_ORDER_3: &[&[u8]] = &[AAPL, ADD_1, END_3];
+
+const TWO_STOCKS: &[&[u8]] = &[AAPL, ADD_1, MSFT, END_4];
+
+// Checks the files whose last message is refused.
 fn check_refused<B: OrderBook>(rt: &impl Host, memory: B::Alloc) -> TestResult {
-    for (message, stop) in [
-        (EXECUTE_AT_2, "locate mismatch"),
-        (REPLACE_BY_ITSELF, "duplicate reference"),
-        (REPLACE_BY_0, "zero shares"),
-        (REPLACE_AT_2, "locate mismatch"),
-        (ADD_0, "zero shares"),
-        (ADD_9_AT_3, "unknown locate"),
-        (DELETE_9, "unknown reference"),
-        (END_4, "unexpected end"),
-    ] {
-        let file = File {
-            payloads: &[AAPL, MSFT, ADD_1, message],
-            rest: b"",
-            count: 3,
-            stop,
-            snapshot: &[AAPL, ADD_1, MSFT, END_4],
-        };
-        check::<B>(rt, memory, file)?;
-    }
-    for (payloads, stop, snapshot) in REFUSED {
-        let count = (payloads.len() as u64).saturating_sub(1);
+    for (stop, payloads, snapshot) in REFUSED {
         let file = File {
             payloads,
             rest: b"",
-            count,
             stop,
+            left: 1,
             snapshot,
         };
         check::<B>(rt, memory, file)?;
