@@ -30,6 +30,12 @@ struct Picky {
     taken: u64,
 }
 
+impl Picky {
+    fn refusing(refused: u64) -> Picky {
+        Picky { refused, taken: 0 }
+    }
+}
+
 impl Sink for Picky {
     type Fault = u64;
 
@@ -67,41 +73,36 @@ fn word(stop: &Stop<u64>) -> &'static str {
     }
 }
 
-// Reads a part of a day after so many messages, and returns why it goes no further.
-fn part(reader: &mut Blocks<'_>, count: &mut u64, sink: &mut Picky, limit: Limit) -> &'static str {
-    let mut at = (*count).min(MOST_MESSAGES);
-    let stop = read_part(reader, &mut at, sink, limit);
-    *count = at;
-    word(&stop)
-}
-
-// The same after a part that went before.
-fn further(
+// Reads a part of a day after so many messages, or a further one, and returns why it goes no further.
+fn read(
     reader: &mut Blocks<'_>,
     count: &mut u64,
     sink: &mut Picky,
     limit: Limit,
+    is_further: bool,
 ) -> &'static str {
     let mut at = (*count).min(MOST_MESSAGES);
-    let stop = read_further(reader, &mut at, sink, limit);
+    let stop = if is_further {
+        read_further(reader, &mut at, sink, limit)
+    } else {
+        read_part(reader, &mut at, sink, limit)
+    };
     *count = at;
     word(&stop)
+}
+
+// Reads a day to its end after so many messages.
+fn rest(reader: &mut Blocks<'_>, count: &mut u64, sink: &mut Picky) -> &'static str {
+    read(reader, count, sink, Limit::whole(), false)
 }
 
 // Each part goes on where the one before it stopped.
 fn goes_on(rt: &impl Host, reader: &mut Blocks<'_>, is_further: bool) {
     let mut count = 0;
-    let mut sink = Picky {
-        refused: 0,
-        taken: 0,
-    };
+    let mut sink = Picky::refusing(0);
     for (after, until, word, taken) in PARTS {
         let limit = Limit { after, until };
-        let stop = if is_further {
-            further(reader, &mut count, &mut sink, limit)
-        } else {
-            part(reader, &mut count, &mut sink, limit)
-        };
+        let stop = read(reader, &mut count, &mut sink, limit, is_further);
         same_in(rt, (after, until), stop, word);
         same_in(rt, (after, until), count, taken);
         same_in(rt, (after, until), sink.taken, taken);
@@ -122,25 +123,14 @@ fn a_part_goes_on_where_the_one_before_it_stopped(rt: HostRuntime) -> TestResult
 // The third message is refused twice, and then taken.
 fn refuses_twice(rt: &impl Host, reader: &mut Blocks<'_>) {
     let mut count = 0;
-    let mut sink = Picky {
-        refused: 3,
-        taken: 0,
-    };
+    let mut sink = Picky::refusing(3);
     for _ in 0..2 {
-        same(
-            rt,
-            part(reader, &mut count, &mut sink, Limit::whole()),
-            "refused",
-        );
+        same(rt, rest(reader, &mut count, &mut sink), "refused");
         same(rt, count, 2);
         same(rt, sink.taken, 2);
     }
     sink.refused = 0;
-    same(
-        rt,
-        part(reader, &mut count, &mut sink, Limit::whole()),
-        "end",
-    );
+    same(rt, rest(reader, &mut count, &mut sink), "end");
     same(rt, count, 5);
 }
 
@@ -154,16 +144,9 @@ fn a_refused_message_is_left(rt: HostRuntime) -> TestResult {
 // So many messages are taken until this stops them, however often it is asked.
 fn stops(rt: &impl Host, reader: &mut Blocks<'_>, word: &'static str, taken: u64) {
     let mut count = 0;
-    let mut sink = Picky {
-        refused: 0,
-        taken: 0,
-    };
+    let mut sink = Picky::refusing(0);
     for _ in 0..2 {
-        same(
-            rt,
-            part(reader, &mut count, &mut sink, Limit::whole()),
-            word,
-        );
+        same(rt, rest(reader, &mut count, &mut sink), word);
         same(rt, count, taken);
     }
 }
@@ -186,13 +169,10 @@ fn says_why_a_part_goes_no_further(rt: HostRuntime) -> TestResult {
 // A read fails, and then the part goes on to its end.
 fn fails_and_goes_on(rt: &impl Host, reader: &mut Blocks<'_>, at: u64) {
     let mut count = 0;
-    let mut sink = Picky {
-        refused: 0,
-        taken: 0,
-    };
-    let first = part(reader, &mut count, &mut sink, Limit::whole());
+    let mut sink = Picky::refusing(0);
+    let first = rest(reader, &mut count, &mut sink);
     same_in(rt, at, first, "failed");
-    let second = part(reader, &mut count, &mut sink, Limit::whole());
+    let second = rest(reader, &mut count, &mut sink);
     same_in(rt, at, second, "end");
     same_in(rt, at, count, 5);
 }
@@ -209,14 +189,9 @@ fn nothing_is_lost_whichever_read_fails(rt: HostRuntime) -> TestResult {
 
 // The mark after the messages before a time.
 fn mark_at(reader: &mut Blocks<'_>, until: u64) -> Mark {
-    let sink = Picky {
-        refused: 0,
-        taken: 0,
-    };
-    let mut marked = Marked {
-        sink,
-        mark: Mark::new(),
-    };
+    let sink = Picky::refusing(0);
+    let mark = Mark::new();
+    let mut marked = Marked { sink, mark };
     let mut count = 0;
     let limit = Limit {
         after: None,

@@ -110,14 +110,6 @@ fn is_truncated<R: CountedRead, A: Allocator>(
     }
 }
 
-// A writer that has the block of the longest payload takes none that is longer.
-fn is_too_long(rt: &impl Host, writer: &mut FuseWriter, payload: &[u8]) {
-    same(rt, writer.written().len(), 65_537);
-    assert!(rt; writer.written().starts_with(&[0xff, 0xff, 0x7a]));
-    assert!(rt; matches!(write_block(writer, payload), Err(FrameFault::TooLong)));
-    same(rt, writer.written().len(), 65_537);
-}
-
 // Writes a block.
 fn write<W: CountedWrite>(writer: &mut W, payload: &[u8]) -> Result<(), FrameFault> {
     write_block(writer, payload)
@@ -136,7 +128,10 @@ fn holds_block(rt: &impl Host, written: &[u8], payload: &[u8]) -> TestResult {
 fn writes_longest(rt: &impl Host, longest: &[u8], long: &[u8]) -> TestResult {
     let mut writer = FuseWriter::new(rt.alloc(), 70_000, None);
     write(&mut writer, longest)?;
-    is_too_long(rt, &mut writer, long);
+    same(rt, writer.written().len(), 65_537);
+    assert!(rt; writer.written().starts_with(&[0xff, 0xff, 0x7a]));
+    assert!(rt; matches!(write_block(&mut writer, long), Err(FrameFault::TooLong)));
+    same(rt, writer.written().len(), 65_537);
     holds_block(rt, writer.written(), longest)
 }
 
@@ -175,28 +170,11 @@ fn reads_on_after_a_failure(rt: HostRuntime) -> TestResult {
     Ok(())
 }
 
-// The next message is this one, or the messages end.
-fn gives_message(
-    rt: &impl Host,
-    reader: &mut Blocks<'_>,
-    want: Option<&[u8]>,
-) -> Result<(), FrameFault> {
-    same(rt, reader.next_message()?, want);
-    Ok(())
-}
-
-// The messages of the stream, which end twice.
+// The messages of the stream, which end twice, shown as an empty one.
 fn gives_messages(rt: &impl Host, reader: &mut Blocks<'_>) -> Result<(), FrameFault> {
-    for want in [
-        Some(b"S".as_slice()),
-        Some(b"RR"),
-        None,
-        Some(b"AAAAA"),
-        Some(b"D"),
-        None,
-        None,
-    ] {
-        gives_message(rt, reader, want)?;
+    for want in [b"S".as_slice(), b"RR", b"", b"AAAAA", b"D", b"", b""] {
+        let want = Some(want).filter(|it| !it.is_empty());
+        same(rt, reader.next_message()?, want);
     }
     Ok(())
 }
@@ -208,32 +186,18 @@ fn messages_end_at_an_empty_block_and_at_the_end(rt: HostRuntime) -> TestResult 
     Ok(())
 }
 
-fn fails_message(rt: &impl Host, reader: &mut Blocks<'_>) {
-    assert!(rt; matches!(reader.next_message(), Err(FrameFault::Read(_))));
-}
-
-fn is_truncated_message(rt: &impl Host, reader: &mut Blocks<'_>) {
-    assert!(rt;
-        matches!(
-            reader.next_message(),
-            Err(FrameFault::Truncated { held: 1 })
-        )
-    );
-}
-
 // A read fails, then there is a message, and then a truncated block.
 fn gives_one_message(rt: &impl Host, reader: &mut Blocks<'_>) -> Result<(), FrameFault> {
-    fails_message(rt, reader);
-    gives_message(rt, reader, Some(b"z"))?;
-    is_truncated_message(rt, reader);
+    assert!(rt; matches!(reader.next_message(), Err(FrameFault::Read(_))));
+    same(rt, reader.next_message()?, Some(b"z".as_slice()));
+    let end = reader.next_message();
+    assert!(rt; matches!(end, Err(FrameFault::Truncated { held: 1 })));
     is_truncated(rt, reader, 1);
     Ok(())
 }
 
 #[test]
-fn a_message_comes_after_a_failed_read_and_none_of_a_truncated_block(
-    rt: HostRuntime,
-) -> TestResult {
+fn a_message_comes_after_a_failed_read(rt: HostRuntime) -> TestResult {
     let source = PieceReader::new(b"\x00\x01z\x00", 1, Some(2));
     let mut reader = BlockReader::new(rt.alloc(), source)?;
     gives_one_message(&rt, &mut reader)?;
@@ -356,25 +320,21 @@ fn counts_the_failures_of_standard_writers(rt: HostRuntime) {
     same(&rt, room, *b"\x00\x03ab");
 }
 
-// A reader of these bytes begins with a block.
-fn begins_with<R: CountedRead + Drop>(rt: &impl Host, source: R, block: &[u8]) -> TestResult {
+// A reader of this begins with a block, or else with a failure.
+fn begins<R: CountedRead + Drop>(rt: &impl Host, source: R, block: Option<&[u8]>) -> TestResult {
     let mut reader = BlockReader::new(rt.alloc(), source)?;
-    gives(rt, &mut reader, Some(block))?;
-    Ok(())
-}
-
-// A reader of these bytes begins with a failure.
-fn begins_with_failure<R: CountedRead + Drop>(rt: &impl Host, source: R) -> TestResult {
-    let mut reader = BlockReader::new(rt.alloc(), source)?;
-    fails(rt, &mut reader);
+    match block {
+        Some(_) => gives(rt, &mut reader, block)?,
+        None => fails(rt, &mut reader),
+    }
     Ok(())
 }
 
 #[test]
 fn counts_the_failures_of_standard_readers(rt: HostRuntime) -> TestResult {
-    begins_with(&rt, Counted::new(STREAM), b"S")?;
+    begins(&rt, Counted::new(STREAM), Some(b"S"))?;
     let folder = File::open(&rt, "/")?;
-    begins_with_failure(&rt, Counted::new(folder))
+    begins(&rt, Counted::new(folder), None)
 }
 
 #[test]

@@ -41,18 +41,6 @@ fn snapshot<B: OrderBook>(
     same(rt, joiner.snapshot(payload), want);
 }
 
-fn resume<B: OrderBook>(
-    rt: &impl Host,
-    joiner: &mut Joiner<B>,
-    want: Result<Option<u64>, JoinFault>,
-) {
-    same(rt, joiner.resume(), want);
-}
-
-fn restart<B: OrderBook>(joiner: &mut Joiner<B>) {
-    joiner.restart();
-}
-
 // The number that comes next, which there is once there is a market, and how many messages wait.
 fn stands<B: OrderBook>(rt: &impl Host, joiner: &Joiner<B>, next: Option<u64>, waiting: usize) {
     same(rt, joiner.next(), next);
@@ -67,40 +55,28 @@ fn read<B: OrderBook>(rt: &impl Host, joiner: &mut Joiner<B>, payloads: &[&[u8]]
     }
 }
 
-// The payloads of the snapshot of a joiner's market, one after another.
-fn spelled<B: OrderBook>(alloc: Global, joiner: &Joiner<B>) -> Result<Vec<u8>, Fail> {
-    let market = joiner.market().ok_or("a market")?;
+// The payloads of a market's snapshot, one after another.
+fn spelled<B: OrderBook>(alloc: Global, market: &Market<B>) -> Result<Vec<u8>, AllocError> {
     let mut bytes = Vec::new(alloc);
-    push_all(&mut bytes, market)?;
-    Ok(bytes)
-}
-
-fn push_all<B: OrderBook>(bytes: &mut Vec<u8>, market: &Market<B>) -> Result<(), AllocError> {
     for message in SnapshotIter::new(market) {
-        push(bytes, &message)?;
+        push(&mut bytes, &message)?;
     }
-    Ok(())
+    Ok(bytes)
 }
 
 fn push(bytes: &mut Vec<u8>, message: &Message<'_>) -> Result<(), AllocError> {
     bytes.extend_from_slice(encode(message).bytes())
 }
 
-fn joined_up(alloc: Global, payloads: &[&[u8]]) -> Result<Vec<u8>, AllocError> {
-    let mut bytes = Vec::new(alloc);
-    for payload in payloads {
-        bytes.extend_from_slice(payload)?;
-    }
-    Ok(bytes)
-}
-
 // The snapshot of the joiner's market has these messages.
 fn check_market<B: OrderBook>(rt: &impl Host, joiner: &Joiner<B>, want: &[&[u8]]) -> TestResult {
-    same(
-        rt,
-        spelled(rt.alloc(), joiner)?.as_slice(),
-        joined_up(rt.alloc(), want)?.as_slice(),
-    );
+    let market = joiner.market().ok_or("a market")?;
+    let found = spelled(rt.alloc(), market)?;
+    let mut bytes = Vec::new(rt.alloc());
+    for payload in want {
+        bytes.extend_from_slice(payload)?;
+    }
+    same(rt, found.as_slice(), bytes.as_slice());
     Ok(())
 }
 
@@ -125,8 +101,8 @@ fn take_step<B: OrderBook>(rt: &impl Host, joiner: &mut Joiner<B>, step: Step<'_
         Step::Live(number, payload, want) => live(rt, joiner, number, payload, want),
         Step::Snapshot(payload, want) => snapshot(rt, joiner, payload, want),
         Step::Read(payloads) => read(rt, joiner, payloads),
-        Step::Resume(want) => resume(rt, joiner, want),
-        Step::Restart => restart(joiner),
+        Step::Resume(want) => same(rt, joiner.resume(), want),
+        Step::Restart => joiner.restart(),
         Step::Stands(next, waiting) => stands(rt, joiner, next, waiting),
         Step::Waiting(want) => same(rt, joiner.waiting(), want),
         Step::Market(want) => check_market(rt, joiner, want)?,
@@ -323,7 +299,9 @@ fn a_snapshot_without_its_end(rt: HostRuntime) -> TestResult {
 #[test]
 fn faults_have_words(rt: HostRuntime) -> TestResult {
     let cause = Cause::Rule(Refusal::StockMismatch);
-    let rows = [
+    let bad = |place, cause| JoinFault::BadSnapshot { place, cause };
+    let (number, taken) = (3, true);
+    for (fault, words) in [
         (JoinFault::Full { cap: 2 }, "2 messages wait already"),
         (
             JoinFault::Conflict { number: 7 },
@@ -331,27 +309,20 @@ fn faults_have_words(rt: HostRuntime) -> TestResult {
         ),
         (JoinFault::BadNumber, "bad message number"),
         (
-            JoinFault::Halted { number: 3, cause },
+            JoinFault::Halted { number, cause },
             "message 3: stock mismatch",
         ),
-        (JoinFault::OutOfMemory { taken: true }, "out of memory"),
+        (JoinFault::OutOfMemory { taken }, "out of memory"),
         (JoinFault::Joined, "joined already"),
         (
-            JoinFault::BadSnapshot {
-                place: 1,
-                cause: Cause::Codec(CodecFault::Empty),
-            },
+            bad(1, Cause::Codec(CodecFault::Empty)),
             "snapshot message 1: empty message",
         ),
         (
-            JoinFault::BadSnapshot {
-                place: 2,
-                cause: Cause::TooMany,
-            },
+            bad(2, Cause::TooMany),
             "snapshot message 2: too many messages",
         ),
-    ];
-    for (fault, words) in rows {
+    ] {
         same_words(&rt, &fault, words)?;
     }
     Ok(())

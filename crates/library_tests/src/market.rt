@@ -7,10 +7,7 @@ mod replaying;
 use self::content::references;
 use crate::book::{has_len, live, next_price, order, reference, total};
 use crate::equal::{Host, TestResult, same, same_words};
-use crate::messages::{
-    add, attributed, cancel, delete, directory, end, event, executed, executed_with_price, halt,
-    made, position, reg_sho, replace, stock, trading_action,
-};
+use crate::messages::*;
 use itch_book::{ListBook, Order, OrderBook};
 use itch_codec::{Alpha, Message, Side};
 use itch_market::{Action, Market, Refusal, Security};
@@ -23,10 +20,7 @@ fn apply<B: OrderBook>(market: &mut Market<B>, message: &Message<'_>) -> Result<
 }
 
 // Applies messages. One that is refused ends the test, as one that cannot be made does.
-fn apply_all<B: OrderBook>(
-    market: &mut Market<B>,
-    messages: &[Option<Message<'static>>],
-) -> TestResult {
+fn apply_all<B: OrderBook>(market: &mut Market<B>, messages: &[Made]) -> TestResult {
     for message in messages {
         apply(market, made(message)?)?;
     }
@@ -34,10 +28,7 @@ fn apply_all<B: OrderBook>(
 }
 
 // A market that took these messages.
-fn market_of<B: OrderBook>(
-    alloc: B::Alloc,
-    messages: &[Option<Message<'static>>],
-) -> Result<Market<B>, Fail> {
+fn market_of<B: OrderBook>(alloc: B::Alloc, messages: &[Made]) -> Result<Market<B>, Fail> {
     let mut market = Market::new(alloc);
     apply_all(&mut market, messages)?;
     Ok(market)
@@ -259,7 +250,7 @@ fn check_refusal<B: OrderBook>(
 fn check_refusals<B: OrderBook>(
     rt: &impl Host,
     memory: B::Alloc,
-    rows: &[(Option<Message<'static>>, &str)],
+    rows: &[(Made, &str)],
 ) -> TestResult {
     for (message, want) in rows {
         check_refusal::<B>(rt, memory, made(message)?, want)?;
@@ -312,7 +303,7 @@ fn want_of_memory_has_words(rt: HostRuntime) -> TestResult {
 fn refuses<B: OrderBook>(
     rt: &impl Host,
     market: &mut Market<B>,
-    message: Option<Message<'static>>,
+    message: Made,
     want: Refusal,
 ) -> TestResult {
     same(rt, apply(market, made(&message)?), Err(want));

@@ -6,10 +6,11 @@ use itch_codec::{
     TradingAction,
 };
 
+/// A message, unless a field does not fit.
+pub(crate) type Made = Option<Message<'static>>;
+
 /// A message that was made, or else an error.
-pub(crate) fn made<'a>(
-    message: &'a Option<Message<'static>>,
-) -> Result<&'a Message<'static>, &'static str> {
+pub(crate) fn made(message: &Made) -> Result<&Message<'static>, &'static str> {
     message.as_ref().ok_or("a message that can be made")
 }
 
@@ -25,14 +26,14 @@ pub(crate) fn header(locate: u16) -> Option<Header> {
     })
 }
 
-pub(crate) fn event(code: u8) -> Option<Message<'static>> {
+pub(crate) fn event(code: u8) -> Made {
     Some(Message::SystemEvent(SystemEvent {
         header: header(0)?,
         code,
     }))
 }
 
-pub(crate) fn directory(locate: u16, text: &str, lot: u32) -> Option<Message<'static>> {
+pub(crate) fn directory(locate: u16, text: &str, lot: u32) -> Made {
     Some(Message::StockDirectory(StockDirectory {
         header: header(locate)?,
         entry: Directory {
@@ -54,7 +55,7 @@ pub(crate) fn directory(locate: u16, text: &str, lot: u32) -> Option<Message<'st
     }))
 }
 
-pub(crate) fn trading_action(locate: u16, text: &str, state: u8) -> Option<Message<'static>> {
+pub(crate) fn trading_action(locate: u16, text: &str, state: u8) -> Made {
     Some(Message::TradingAction(TradingAction {
         header: header(locate)?,
         stock: stock(text)?,
@@ -64,7 +65,7 @@ pub(crate) fn trading_action(locate: u16, text: &str, state: u8) -> Option<Messa
     }))
 }
 
-pub(crate) fn reg_sho(locate: u16, text: &str, action: u8) -> Option<Message<'static>> {
+pub(crate) fn reg_sho(locate: u16, text: &str, action: u8) -> Made {
     Some(Message::RegSho(RegSho {
         header: header(locate)?,
         stock: stock(text)?,
@@ -72,12 +73,7 @@ pub(crate) fn reg_sho(locate: u16, text: &str, action: u8) -> Option<Message<'st
     }))
 }
 
-pub(crate) fn halt(
-    locate: u16,
-    text: &str,
-    market_code: u8,
-    action: u8,
-) -> Option<Message<'static>> {
+pub(crate) fn halt(locate: u16, text: &str, market_code: u8, action: u8) -> Made {
     Some(Message::Halt(OperationalHalt {
         header: header(locate)?,
         stock: stock(text)?,
@@ -86,7 +82,7 @@ pub(crate) fn halt(
     }))
 }
 
-pub(crate) fn position(locate: u16, mpid: &str, text: &str, state: u8) -> Option<Message<'static>> {
+pub(crate) fn position(locate: u16, mpid: &str, text: &str, state: u8) -> Made {
     Some(Message::Position(ParticipantPosition {
         header: header(locate)?,
         mpid: Alpha::from_text(mpid).ok()?,
@@ -122,12 +118,12 @@ pub(crate) fn add(
     shares: u32,
     text: &str,
     price: u32,
-) -> Option<Message<'static>> {
+) -> Made {
     Some(Message::AddOrder(add_order(locate, reference, side, shares, text, price)?))
 }
 
 /// An order of AAPL at locate 1 to buy, attributed to ABCD.
-pub(crate) fn attributed(reference: u64, shares: u32, price: u32) -> Option<Message<'static>> {
+pub(crate) fn attributed(reference: u64, shares: u32, price: u32) -> Made {
     Some(Message::AttributedAddOrder(AttributedAddOrder {
         order: add_order(1, reference, Side::Buy, shares, "AAPL", price)?,
         attribution: Alpha::from_text("ABCD").ok()?,
@@ -143,16 +139,11 @@ fn execution(locate: u16, reference: u64, shares: u32) -> Option<OrderExecuted> 
     })
 }
 
-pub(crate) fn executed(locate: u16, reference: u64, shares: u32) -> Option<Message<'static>> {
+pub(crate) fn executed(locate: u16, reference: u64, shares: u32) -> Made {
     Some(Message::OrderExecuted(execution(locate, reference, shares)?))
 }
 
-pub(crate) fn executed_with_price(
-    locate: u16,
-    reference: u64,
-    shares: u32,
-    price: u32,
-) -> Option<Message<'static>> {
+pub(crate) fn executed_with_price(locate: u16, reference: u64, shares: u32, price: u32) -> Made {
     Some(Message::OrderExecutedWithPrice(OrderExecutedWithPrice {
         execution: execution(locate, reference, shares)?,
         printable: b'Y',
@@ -160,7 +151,7 @@ pub(crate) fn executed_with_price(
     }))
 }
 
-pub(crate) fn cancel(locate: u16, reference: u64, shares: u32) -> Option<Message<'static>> {
+pub(crate) fn cancel(locate: u16, reference: u64, shares: u32) -> Made {
     Some(Message::OrderCancel(OrderCancel {
         header: header(locate)?,
         reference,
@@ -168,20 +159,14 @@ pub(crate) fn cancel(locate: u16, reference: u64, shares: u32) -> Option<Message
     }))
 }
 
-pub(crate) fn delete(locate: u16, reference: u64) -> Option<Message<'static>> {
+pub(crate) fn delete(locate: u16, reference: u64) -> Made {
     Some(Message::OrderDelete(OrderDelete {
         header: header(locate)?,
         reference,
     }))
 }
 
-pub(crate) fn replace(
-    locate: u16,
-    original: u64,
-    reference: u64,
-    shares: u32,
-    price: u32,
-) -> Option<Message<'static>> {
+pub(crate) fn replace(locate: u16, original: u64, reference: u64, shares: u32, price: u32) -> Made {
     Some(Message::OrderReplace(OrderReplace {
         header: header(locate)?,
         original,
@@ -192,7 +177,7 @@ pub(crate) fn replace(
 }
 
 /// Order 1 of AAPL at locate 1, to buy 100 at 150.0000, is executed unseen.
-pub(crate) fn trade() -> Option<Message<'static>> {
+pub(crate) fn trade() -> Made {
     let order = add_order(1, 1, Side::Buy, 100, "AAPL", 1_500_000)?;
     Some(Message::Trade(Trade {
         header: order.header,
@@ -206,7 +191,7 @@ pub(crate) fn trade() -> Option<Message<'static>> {
 }
 
 /// A cross of 200 of AAPL at locate 1 at 150.0000.
-pub(crate) fn cross_trade() -> Option<Message<'static>> {
+pub(crate) fn cross_trade() -> Made {
     Some(Message::CrossTrade(CrossTrade {
         header: header(1)?,
         shares: 200,
@@ -217,14 +202,14 @@ pub(crate) fn cross_trade() -> Option<Message<'static>> {
     }))
 }
 
-pub(crate) fn broken_trade(locate: u16, match_number: u64) -> Option<Message<'static>> {
+pub(crate) fn broken_trade(locate: u16, match_number: u64) -> Made {
     Some(Message::BrokenTrade(BrokenTrade {
         header: header(locate)?,
         match_number,
     }))
 }
 
-pub(crate) fn end(next: u64) -> Option<Message<'static>> {
+pub(crate) fn end(next: u64) -> Made {
     Some(Message::End {
         next: Seq::new(next)?,
     })

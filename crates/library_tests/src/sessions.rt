@@ -115,20 +115,12 @@ pub(crate) fn fetched<B: OrderBook>(
     Ok(result)
 }
 
-fn fault_over<B: OrderBook>(
-    rt: &impl Host,
-    memory: B::Alloc,
-    reader: PieceReader<'_>,
-) -> Result<Option<SoupFault>, Fail> {
-    Ok(fetched::<B>(rt, memory, reader)?.err())
-}
-
 /// The fault of a fetch, if it has one.
 pub(crate) fn fetch_fault(
     rt: &impl Host,
     reader: PieceReader<'_>,
 ) -> Result<Option<SoupFault>, Fail> {
-    fault_over::<ListBook>(rt, rt.alloc(), reader)
+    Ok(fetched::<ListBook>(rt, rt.alloc(), reader)?.err())
 }
 
 /// Fetches the messages from the third on over a reader and a writer.

@@ -10,29 +10,19 @@ use itch_soup::{Served, SoupFault};
 use std::alloc::{AllocError, Global};
 use std::test::Fail;
 
-// The answer to these bytes, of a server with five messages. Only an answer to a login writes.
-fn answer<B: OrderBook>(
-    rt: &impl Host,
-    market: &Market<B>,
-    input: &[u8],
-) -> Result<Result<Served, SoupFault>, Fail> {
-    let mut writer = FuseWriter::new(rt.alloc(), 64, None);
-    let reader = PieceReader::new(input, 64, None);
-    let served = serve_from(rt, reader, &mut writer, market)?;
-    let is_silent = !matches!(served, Ok(Served::Accepted { .. } | Served::Rejected(_)));
-    same(rt, writer.written().is_empty(), is_silent);
-    Ok(served)
-}
-
-// These bytes are answered so.
+// These bytes are answered so, by a server with five messages. Only an answer to a login writes.
 fn is_answered<B: OrderBook>(
     rt: &impl Host,
     market: &Market<B>,
     input: &[u8],
     want: &Result<Served, SoupFault>,
 ) -> TestResult {
-    let found = answer(rt, market, input)?;
-    same_shown(rt, input, &found, want)?;
+    let mut writer = FuseWriter::new(rt.alloc(), 64, None);
+    let reader = PieceReader::new(input, 64, None);
+    let served = serve_from(rt, reader, &mut writer, market)?;
+    let is_silent = !matches!(served, Ok(Served::Accepted { .. } | Served::Rejected(_)));
+    same(rt, writer.written().is_empty(), is_silent);
+    same_shown(rt, input, &served, want)?;
     Ok(())
 }
 

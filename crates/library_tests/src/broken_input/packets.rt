@@ -3,7 +3,7 @@ use crate::equal::{Host, TestResult, same_shown};
 use itch_soup::{Origin, SoupFault, parse_packet};
 
 // A block from this side has this fault.
-fn is_fault(rt: &impl Host, block: &[u8], from: Origin, want: SoupFault) -> TestResult {
+fn is_fault(rt: &impl Host, from: Origin, block: &[u8], want: SoupFault) -> TestResult {
     let found = parse_packet(block, from).err().expect(rt, "a fault");
     same_shown(rt, block, &found, &want)?;
     Ok(())
@@ -22,31 +22,37 @@ fn wrong_length(kind: u8, want: usize, got: usize) -> SoupFault {
 
 #[test]
 fn from_a_client(rt: HostRuntime) -> TestResult {
-    let (alloc, from) = (rt.alloc(), Origin::Client);
-    is_fault(&rt, b"", from, SoupFault::EmptyPacket)?;
-    is_fault(&rt, b"*", from, SoupFault::UnknownType(42))?;
-    is_fault(&rt, b"S", from, SoupFault::WrongSide(83))?;
-    is_fault(&rt, b"L", from, wrong_length(b'L', 47, 1))?;
-    is_fault(&rt, b"RR", from, wrong_length(b'R', 1, 2))
+    let rows: [(&[u8], SoupFault); 5] = [
+        (b"", SoupFault::EmptyPacket),
+        (b"*", SoupFault::UnknownType(42)),
+        (b"S", SoupFault::WrongSide(83)),
+        (b"L", wrong_length(b'L', 47, 1)),
+        (b"RR", wrong_length(b'R', 1, 2)),
+    ];
+    for (block, fault) in rows {
+        is_fault(&rt, Origin::Client, block, fault)?;
+    }
+    Ok(())
 }
 
 #[test]
 fn logins_from_a_client(rt: HostRuntime) -> TestResult {
-    let (alloc, from) = (rt.alloc(), Origin::Client);
-    is_fault(&rt, UNPRINTABLE, from, SoupFault::BadText { offset: 1 })?;
-    is_fault(&rt, LETTER, from, SoupFault::BadNumber { offset: 27 })?;
-    is_fault(&rt, NINES, from, SoupFault::BadNumber { offset: 27 })
+    let bad_number = SoupFault::BadNumber { offset: 27 };
+    let bad_text = SoupFault::BadText { offset: 1 };
+    is_fault(&rt, Origin::Client, UNPRINTABLE, bad_text)?;
+    is_fault(&rt, Origin::Client, LETTER, bad_number)?;
+    is_fault(&rt, Origin::Client, NINES, bad_number)
 }
 
 #[test]
 fn from_a_server(rt: HostRuntime) -> TestResult {
-    let (alloc, from) = (rt.alloc(), Origin::Server);
-    is_fault(&rt, b"R", from, SoupFault::WrongSide(82))?;
-    is_fault(&rt, b"J  ", from, wrong_length(b'J', 2, 3))?;
+    let from = Origin::Server;
+    is_fault(&rt, from, b"R", SoupFault::WrongSide(82))?;
+    is_fault(&rt, from, b"J  ", wrong_length(b'J', 2, 3))?;
     let zero = b"A  ITCHSNAP                   0";
-    is_fault(&rt, zero, from, SoupFault::BadNumber { offset: 11 })?;
+    is_fault(&rt, from, zero, SoupFault::BadNumber { offset: 11 })?;
     let tab = b"A\t ITCHSNAP                   x";
-    is_fault(&rt, tab, from, SoupFault::BadText { offset: 1 })?;
+    is_fault(&rt, from, tab, SoupFault::BadText { offset: 1 })?;
     assert!(rt; parse_packet(b"UA", from).is_ok());
     Ok(())
 }

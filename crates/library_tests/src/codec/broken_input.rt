@@ -62,8 +62,8 @@ fn each_byte_at_each_value(rt: HostRuntime) {
         18 * 255 + 245 + 247,
         0,
     ];
-    for (vector, faults) in VECTORS.iter().zip(rows) {
-        same(&rt, faults_of_bytes(&rt, vector), faults);
+    for (vector, faults) in VECTORS.iter().zip(rows.iter()) {
+        same(&rt, faults_of_bytes(&rt, vector), *faults);
     }
 }
 

@@ -32,17 +32,13 @@ fn serve_again<B: OrderBook>(
     assert!(rt; matches!(served, Ok(Served::Accepted { packets: 3, .. })));
 }
 
-fn served_again<B: OrderBook>(rt: &impl Host, market: &Market<B>, nth: u64) -> TestResult {
-    let mut reader = BlockReader::new(rt.alloc(), PieceReader::new(LOGIN_3, 7, Some(nth)))?;
-    let mut writer = FuseWriter::new(rt.alloc(), 64, None);
-    serve_again(rt, &mut reader, &mut writer, market, nth);
-    same(rt, writer.written(), FROM_3);
-    Ok(())
-}
-
 fn each_is_served_again<B: OrderBook>(rt: &impl Host, market: &Market<B>) -> TestResult {
     for nth in 1..20 {
-        served_again(rt, market, nth)?;
+        let reader = PieceReader::new(LOGIN_3, 7, Some(nth));
+        let mut reader = BlockReader::new(rt.alloc(), reader)?;
+        let mut writer = FuseWriter::new(rt.alloc(), 64, None);
+        serve_again(rt, &mut reader, &mut writer, market, nth);
+        same(rt, writer.written(), FROM_3);
     }
     Ok(())
 }
@@ -55,28 +51,31 @@ fn a_login_is_read_again(rt: HostRuntime) -> TestResult {
 // The length of each packet, and by sevens its 31, 13, 40, 37, 37 and 22 bytes.
 const ANSWER_READS: u64 = 6 + 5 + 2 + 6 + 6 + 6 + 4;
 
+// The length of each packet, and by sevens its 31, 37, 37 and 22 bytes.
+const REST_READS: u64 = 4 + 5 + 6 + 6 + 4;
+
+// A fetch fails if one of its reads does.
+fn has_failed(rt: &impl Host, fault: Option<SoupFault>, nth: u64, reads: u64) {
+    let has_failed = matches!(fault, Some(SoupFault::Frame(FrameFault::Read(_))));
+    same(rt, has_failed, nth <= reads);
+    same(rt, fault.is_some(), has_failed);
+}
+
 #[test]
 fn an_answer_is_not_read(rt: HostRuntime) -> TestResult {
     for nth in 1..60 {
-        let fault = fetch_fault(&rt, PieceReader::new(FROM_1, 7, Some(nth)))?;
-        let has_failed = matches!(fault, Some(SoupFault::Frame(FrameFault::Read(_))));
-        same(&rt, has_failed, nth <= ANSWER_READS);
-        same(&rt, fault.is_some(), has_failed);
+        let reader = PieceReader::new(FROM_1, 7, Some(nth));
+        has_failed(&rt, fetch_fault(&rt, reader)?, nth, ANSWER_READS);
     }
     Ok(())
 }
-
-// The length of each packet, and by sevens its 31, 37, 37 and 22 bytes.
-const REST_READS: u64 = 4 + 5 + 6 + 6 + 4;
 
 #[test]
 fn a_rest_is_not_read(rt: HostRuntime) -> TestResult {
     for nth in 1..40 {
         let reader = PieceReader::new(FROM_3, 7, Some(nth));
         let fault = third_fetched(&rt, rt.alloc(), reader)?.err();
-        let has_failed = matches!(fault, Some(SoupFault::Frame(FrameFault::Read(_))));
-        same(&rt, has_failed, nth <= REST_READS);
-        same(&rt, fault.is_some(), has_failed);
+        has_failed(&rt, fault, nth, REST_READS);
     }
     Ok(())
 }
@@ -101,18 +100,13 @@ fn is_written_up_to(rt: &impl Host, fault: Option<SoupFault>, written: &[u8]) {
     }
 }
 
-fn served_in_part<B: OrderBook>(rt: &impl Host, market: &Market<B>, nth: u64) -> TestResult {
-    let mut writer = FuseWriter::new(rt.alloc(), 7, Some(nth));
-    let reader = PieceReader::new(LOGIN_3, 64, None);
-    let served = serve_from(rt, reader, &mut writer, market)?;
-    same(rt, served.is_err(), nth <= ANSWER_WRITES);
-    is_written_up_to(rt, served.err(), writer.written());
-    Ok(())
-}
-
 fn each_is_served_in_part<B: OrderBook>(rt: &impl Host, market: &Market<B>) -> TestResult {
     for nth in 1..50 {
-        served_in_part(rt, market, nth)?;
+        let mut writer = FuseWriter::new(rt.alloc(), 7, Some(nth));
+        let reader = PieceReader::new(LOGIN_3, 64, None);
+        let served = serve_from(rt, reader, &mut writer, market)?;
+        same(rt, served.is_err(), nth <= ANSWER_WRITES);
+        is_written_up_to(rt, served.err(), writer.written());
     }
     Ok(())
 }
@@ -120,16 +114,6 @@ fn each_is_served_in_part<B: OrderBook>(rt: &impl Host, market: &Market<B>) -> T
 #[test]
 fn an_answer_is_written_in_part(rt: HostRuntime) -> TestResult {
     each_is_served_in_part(&rt, &served_market(rt.alloc())?)
-}
-
-// The fault of a fetch, if it has one.
-fn fault_of<B: OrderBook>(
-    rt: &impl Host,
-    memory: B::Alloc,
-    reader: &mut Blocks<'_>,
-    writer: &mut FuseWriter,
-) -> Option<SoupFault> {
-    fetch::<B>(rt, memory, reader, writer).err()
 }
 
 // The length of the block that comes next.
@@ -141,7 +125,7 @@ fn next_len(rt: &impl Host, reader: &mut Blocks<'_>) -> Result<usize, FrameFault
 fn logged_in_in_part<B: OrderBook>(rt: &impl Host, memory: B::Alloc, nth: u64) -> TestResult {
     let mut reader = BlockReader::new(rt.alloc(), PieceReader::new(FROM_1, 64, None))?;
     let mut writer = FuseWriter::new(rt.alloc(), 7, Some(nth));
-    let fault = fault_of::<B>(rt, memory, &mut reader, &mut writer);
+    let fault = fetch::<B>(rt, memory, &mut reader, &mut writer).err();
     same(rt, fault.is_some(), nth <= LOGIN_READS);
     if fault.is_some() {
         assert!(rt; matches!(fault, Some(SoupFault::Frame(FrameFault::Write { .. }))));

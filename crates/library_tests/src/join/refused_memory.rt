@@ -42,31 +42,6 @@ fn live_short<B: OrderBook>(
     is_refused
 }
 
-// What a message of a snapshot leads to.
-fn taken<B: OrderBook>(joiner: &mut Joiner<B>, payload: &[u8]) -> Result<Snap, JoinFault> {
-    joiner.snapshot(payload)
-}
-
-// The same of a message of a snapshot.
-fn snapshot_short<B: OrderBook>(
-    rt: &impl Host,
-    refusing: &Refusing<Global>,
-    nth: u64,
-    joiner: &mut Joiner<B>,
-    payload: &[u8],
-) -> bool {
-    refusing.arm(nth);
-    let result = taken(joiner, payload);
-    let is_refused = refusing.has_refused();
-    let want = if is_refused {
-        Err(NOT_TAKEN)
-    } else {
-        Ok(Snap::More)
-    };
-    same(rt, result, want);
-    is_refused
-}
-
 // Delivers a message that has to wait with each of its allocations refused in turn, and then with memory. Returns how many
 // were refused.
 fn refuse_to_keep<B: OrderBook>(
@@ -87,20 +62,18 @@ fn refuse_to_keep<B: OrderBook>(
     panic!(rt; "more than 16 allocations")
 }
 
-fn check_keeping<B: OrderBook>(
-    rt: &impl Host,
-    refusing: &Refusing<Global>,
-    joiner: &mut Joiner<B>,
-) {
+fn check_keeping<B: OrderBook>(rt: &impl Host, refusing: &Refusing<Global>, memory: B::Alloc) {
+    let mut joiner: Joiner<B> = joiner(memory, 100);
     for waiting in 0..40usize {
         let number = waiting as u64 + 1;
-        assert!(rt; refuse_to_keep(rt, refusing, joiner, number, waiting) > 0);
+        assert!(rt; refuse_to_keep(rt, refusing, &mut joiner, number, waiting) > 0);
     }
 }
 
 #[test]
-fn a_message_that_would_wait(rt: HostRuntime) -> TestResult {
-    check(&rt, 0, 100, Case::Keeping)
+fn a_message_that_would_wait(rt: HostRuntime) {
+    let refusing = Refusing::new(rt.alloc(), 0);
+    check_keeping::<Index<'_>>(&rt, &refusing, &refusing);
 }
 
 // Takes a message of the snapshot with each of its allocations refused in turn, and then with memory. Returns how many were
@@ -112,41 +85,38 @@ fn refuse_to_read<B: OrderBook>(
     payload: &[u8],
 ) -> u64 {
     for nth in 0..16 {
-        if !snapshot_short(rt, refusing, nth, joiner, payload) {
+        refusing.arm(nth);
+        let result = joiner.snapshot(payload);
+        if !refusing.has_refused() {
+            same(rt, result, Ok(Snap::More));
             return nth;
         }
+        same(rt, result, Err(NOT_TAKEN));
     }
     panic!(rt; "more than 16 allocations")
-}
-
-// Takes each message of the snapshot so. Returns how many allocations were refused.
-fn refuse_to_read_each<B: OrderBook>(
-    rt: &impl Host,
-    refusing: &Refusing<Global>,
-    joiner: &mut Joiner<B>,
-) -> u64 {
-    let mut refused = 0u64;
-    for payload in BEFORE_6 {
-        refused = refused.saturating_add(refuse_to_read(rt, refusing, joiner, payload));
-    }
-    refused
 }
 
 fn check_reading<B: OrderBook>(
     rt: &impl Host,
     refusing: &Refusing<Global>,
-    joiner: &mut Joiner<B>,
+    memory: B::Alloc,
 ) -> TestResult {
-    assert!(rt; refuse_to_read_each(rt, refusing, joiner) > 0);
+    let mut joiner: Joiner<B> = joiner(memory, 2);
+    let mut refused = 0u64;
+    for payload in BEFORE_6 {
+        refused = refused.saturating_add(refuse_to_read(rt, refusing, &mut joiner, payload));
+    }
+    assert!(rt; refused > 0);
     refusing.arm(0);
-    snapshot(rt, joiner, END_6, Ok(Snap::Joined { next: 6 }));
+    snapshot(rt, &mut joiner, END_6, Ok(Snap::Joined { next: 6 }));
     assert!(rt; !refusing.has_refused());
-    check_market(rt, joiner, BEFORE_6)
+    check_market(rt, &joiner, BEFORE_6)
 }
 
 #[test]
 fn a_message_of_the_snapshot(rt: HostRuntime) -> TestResult {
-    check(&rt, 0, 2, Case::Reading)
+    let refusing = Refusing::new(rt.alloc(), 0);
+    check_reading::<Index<'_>>(&rt, &refusing, &refusing)
 }
 
 // As many orders as there is room for, so that the replacement takes memory.
@@ -249,26 +219,29 @@ fn refuse_at_3<B: OrderBook>(
 fn check_next<B: OrderBook>(
     rt: &impl Host,
     refusing: &Refusing<Global>,
-    joiner: &mut Joiner<B>,
+    memory: B::Alloc,
 ) -> TestResult {
-    take_steps(rt, joiner, &[READ_2, JOINED_AT_3])?;
-    assert!(rt; refuse_at_3(rt, refusing, joiner)? > 0);
-    check_market(rt, joiner, &[EVENT, AAPL, ADD_1])
+    let mut joiner: Joiner<B> = joiner(memory, 2);
+    take_steps(rt, &mut joiner, &[READ_2, JOINED_AT_3])?;
+    assert!(rt; refuse_at_3(rt, refusing, &mut joiner)? > 0);
+    check_market(rt, &joiner, &[EVENT, AAPL, ADD_1])
 }
 
 #[test]
 fn the_next_message(rt: HostRuntime) -> TestResult {
-    check(&rt, NONE, 2, Case::Next)
+    let refusing = Refusing::new(rt.alloc(), NONE);
+    check_next::<Index<'_>>(&rt, &refusing, &refusing)
 }
 
 // The joiner has joined all the same, and goes on.
 fn check_end<B: OrderBook>(
     rt: &impl Host,
     refusing: &Refusing<Global>,
-    joiner: &mut Joiner<B>,
+    memory: B::Alloc,
 ) -> TestResult {
-    live(rt, joiner, 3, ADD_1, Ok(Live::Kept));
-    read(rt, joiner, &[EVENT, AAPL]);
+    let mut joiner: Joiner<B> = joiner(memory, 2);
+    live(rt, &mut joiner, 3, ADD_1, Ok(Live::Kept));
+    read(rt, &mut joiner, &[EVENT, AAPL]);
     refusing.arm(0);
     let steps = [
         Step::Snapshot(END_3, Err(TAKEN)),
@@ -277,12 +250,13 @@ fn check_end<B: OrderBook>(
         Step::Resume(Ok(Some(4))),
         Step::Market(&[EVENT, AAPL, ADD_1]),
     ];
-    take_steps(rt, joiner, &steps)
+    take_steps(rt, &mut joiner, &steps)
 }
 
 #[test]
 fn the_end_of_the_snapshot(rt: HostRuntime) -> TestResult {
-    check(&rt, NONE, 2, Case::End)
+    let refusing = Refusing::new(rt.alloc(), NONE);
+    check_end::<Index<'_>>(&rt, &refusing, &refusing)
 }
 
 // No call takes memory before the second message.
@@ -315,64 +289,21 @@ const AFTER_MEMORY: &[Step<'static>] = &[
 fn check_without_memory<B: OrderBook>(
     rt: &impl Host,
     refusing: &Refusing<Global>,
-    joiner: &mut Joiner<B>,
+    memory: B::Alloc,
 ) -> TestResult {
-    take_steps(rt, joiner, BEFORE_MEMORY)?;
+    let mut joiner: Joiner<B> = joiner(memory, 1);
+    take_steps(rt, &mut joiner, BEFORE_MEMORY)?;
     assert!(rt; !refusing.has_refused());
     refusing.arm(NONE);
-    take_steps(rt, joiner, WITH_MEMORY)?;
+    take_steps(rt, &mut joiner, WITH_MEMORY)?;
     refusing.arm(0);
-    take_steps(rt, joiner, AFTER_MEMORY)?;
+    take_steps(rt, &mut joiner, AFTER_MEMORY)?;
     assert!(rt; !refusing.has_refused());
     Ok(())
 }
 
 #[test]
 fn calls_that_take_no_memory(rt: HostRuntime) -> TestResult {
-    check(&rt, 0, 1, Case::Calls)
-}
-
-// What one joiner is tried at.
-#[derive(Clone, Copy)]
-enum Case {
-    Keeping,
-    Reading,
-    Next,
-    End,
-    Calls,
-}
-
-fn check_case<B: OrderBook>(
-    rt: &impl Host,
-    refusing: &Refusing<Global>,
-    joiner: &mut Joiner<B>,
-    case: Case,
-) -> TestResult {
-    match case {
-        Case::Keeping => {
-            check_keeping(rt, refusing, joiner);
-            Ok(())
-        }
-        Case::Reading => check_reading(rt, refusing, joiner),
-        Case::Next => check_next(rt, refusing, joiner),
-        Case::End => check_end(rt, refusing, joiner),
-        Case::Calls => check_without_memory(rt, refusing, joiner),
-    }
-}
-
-fn check_joiner<B: OrderBook>(
-    rt: &impl Host,
-    memory: B::Alloc,
-    refusing: &Refusing<Global>,
-    cap: usize,
-    case: Case,
-) -> TestResult {
-    let mut joiner: Joiner<B> = joiner(memory, cap);
-    check_case(rt, refusing, &mut joiner, case)
-}
-
-// A joiner for which `cap` messages may wait, whose memory is refused at first after `before` allocations.
-fn check(rt: &impl Host, before: u64, cap: usize, case: Case) -> TestResult {
-    let refusing = Refusing::new(rt.alloc(), before);
-    check_joiner::<Index<'_>>(rt, &refusing, &refusing, cap, case)
+    let refusing = Refusing::new(rt.alloc(), 0);
+    check_without_memory::<Index<'_>>(&rt, &refusing, &refusing)
 }

@@ -20,10 +20,6 @@ fn check<B: OrderBook>(
     take_steps(rt, &mut joiner, steps)
 }
 
-fn check_indexed(rt: &impl Host, cap: usize, steps: &[Step<'_>]) -> TestResult {
-    check::<IndexedBook>(rt, rt.alloc(), cap, steps)
-}
-
 // What is at other locates is counted in the snapshot and in the feed, and follows no rule.
 #[test]
 fn counts_what_it_skips(rt: HostRuntime) -> TestResult {
@@ -37,7 +33,7 @@ fn counts_what_it_skips(rt: HostRuntime) -> TestResult {
         Step::Stands(Some(10), 0),
         Step::Market(&[EVENT, AAPL, ADD_1, ADD_2]),
     ];
-    check_indexed(&rt, 2, &steps)
+    check::<IndexedBook>(&rt, rt.alloc(), 2, &steps)
 }
 
 // This payload of message 4 halts it.
@@ -51,7 +47,7 @@ fn check_halt(rt: &impl Host, payload: &[u8], cause: Cause) -> TestResult {
         Step::Stands(Some(4), 0),
         Step::Market(&[EVENT]),
     ];
-    check_indexed(rt, 0, &steps)
+    check::<IndexedBook>(rt, rt.alloc(), 0, &steps)
 }
 
 // A payload without a message halts it, whatever the set, and a rule broken at its own locate.

@@ -1,9 +1,6 @@
 //! Sets of locates, and the messages that they skip.
 use crate::equal::{Host, TestResult};
-use crate::messages::{
-    add, attributed, cancel, delete, directory, end, event, executed, executed_with_price, halt,
-    made, position, reg_sho, replace, trading_action,
-};
+use crate::messages::*;
 use itch_codec::{Message, Side, decode};
 use itch_market::LocateSet;
 use std::alloc::{AllocError, Allocator, Global};

@@ -1,18 +1,15 @@
 //! The plainest message for each type of message, by hand.
 use super::market_of;
 use crate::equal::{Host, TestResult, same_in};
-use crate::messages::{
-    add, attributed, cancel, delete, directory, end, event, executed, executed_with_price, halt,
-    header, made, position, reg_sho, replace, stock, trading_action,
-};
+use crate::messages::*;
 use itch_book::{ListBook, OrderBook};
-use itch_codec::{BrokenTrade, Message, Side, TradingAction, decode, encode};
+use itch_codec::{Message, Side, TradingAction, decode, encode};
 use itch_market::{Market, same_message};
 use std::alloc::{AllocError, Global};
 use std::test::Fail;
 
 // A message, and its plainest.
-type Row = (Option<Message<'static>>, Option<Message<'static>>);
+type Row = (Made, Made);
 
 // AAPL at locate 1 with all that can be set, and a bid for 100 shares of reference 1.
 fn begun<B: OrderBook>(alloc: B::Alloc) -> Result<Market<B>, Fail> {
@@ -29,15 +26,12 @@ fn begun<B: OrderBook>(alloc: B::Alloc) -> Result<Market<B>, Fail> {
 }
 
 // The message that stands for all that change nothing.
-fn nothing() -> Option<Message<'static>> {
-    Some(Message::BrokenTrade(BrokenTrade {
-        header: header(0)?,
-        match_number: 0,
-    }))
+fn nothing() -> Made {
+    broken_trade(0, 0)
 }
 
 // A halt of AAPL without its reserved byte.
-fn halted() -> Option<Message<'static>> {
+fn halted() -> Made {
     Some(Message::TradingAction(TradingAction {
         header: header(1)?,
         stock: stock("AAPL")?,
@@ -81,6 +75,8 @@ fn check_rows<B: OrderBook>(rt: &impl Host, memory: B::Alloc, rows: &[Row]) -> T
 
 #[test]
 fn plain_messages_of_securities(rt: HostRuntime) -> TestResult {
+    let no_more = || position(1, "ABCD", "AAPL", b'D');
+    let other = || position(1, "ZZZZ", "AAPL", b'A');
     let rows = [
         (event(b'O'), nothing()),
         (event(b'S'), event(b'S')),
@@ -95,25 +91,17 @@ fn plain_messages_of_securities(rt: HostRuntime) -> TestResult {
         (halt(1, "AAPL", b'Q', b'T'), halt(1, "AAPL", b'Q', b'T')),
         (halt(1, "AAPL", b'X', b'H'), halt(1, "AAPL", b'X', b'H')),
         (position(1, "ABCD", "AAPL", b'A'), nothing()),
-        (
-            position(1, "ABCD", "AAPL", b'D'),
-            position(1, "ABCD", "AAPL", b'D'),
-        ),
-        (
-            position(1, "ZZZZ", "AAPL", b'A'),
-            position(1, "ZZZZ", "AAPL", b'A'),
-        ),
+        (no_more(), no_more()),
+        (other(), other()),
     ];
     check_rows::<ListBook>(&rt, rt.alloc(), &rows)
 }
 
 #[test]
 fn plain_messages_of_orders(rt: HostRuntime) -> TestResult {
+    let sale = || add(1, 9, Side::Sell, 5, "AAPL", 1500100);
     let rows = [
-        (
-            add(1, 9, Side::Sell, 5, "AAPL", 1500100),
-            add(1, 9, Side::Sell, 5, "AAPL", 1500100),
-        ),
+        (sale(), sale()),
         (attributed(9, 5, 1500000), attributed(9, 5, 1500000)),
         (executed(1, 1, 0), nothing()),
         (executed(1, 1, 40), cancel(1, 1, 40)),

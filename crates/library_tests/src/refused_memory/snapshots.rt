@@ -28,32 +28,13 @@ fn refuse_to_take<B: OrderBook>(
     let taken = reader.taken();
     for nth in 0..16 {
         refusing.arm(nth);
-        match reader.message(payload) {
-            Ok(_) => {
-                assert!(rt; !refusing.has_refused());
-                return nth;
-            }
-            Err(fault) => {
-                assert!(rt; refusing.has_refused());
-                assert!(rt; wants_memory(&fault, taken.saturating_add(1)));
-                same(rt, reader.taken(), taken);
-            }
-        }
+        let fault = reader.message(payload).err();
+        same(rt, refusing.has_refused(), fault.is_some());
+        let Some(fault) = fault else { return nth };
+        assert!(rt; wants_memory(&fault, taken.saturating_add(1)));
+        same(rt, reader.taken(), taken);
     }
     panic!(rt; "more than 16 allocations")
-}
-
-// Takes each message so. Returns how many allocations were refused.
-fn refuse_all<B: OrderBook>(
-    rt: &impl Host,
-    refusing: &Refusing<Global>,
-    reader: &mut SnapshotReader<B>,
-) -> u64 {
-    let mut refused = 0u64;
-    for payload in REPLACED_SNAPSHOT {
-        refused = refused.saturating_add(refuse_to_take(rt, refusing, reader, payload));
-    }
-    refused
 }
 
 fn is_replaced<B: OrderBook>(rt: &impl Host, found: &Market<B>) -> TestResult {
@@ -69,7 +50,11 @@ fn refuse_each<B: OrderBook>(
     memory: B::Alloc,
 ) -> TestResult {
     let mut reader: SnapshotReader<B> = SnapshotReader::new(memory);
-    assert!(rt; refuse_all(rt, refusing, &mut reader) > 1);
+    let mut refused = 0u64;
+    for payload in REPLACED_SNAPSHOT {
+        refused = refused.saturating_add(refuse_to_take(rt, refusing, &mut reader, payload));
+    }
+    assert!(rt; refused > 1);
     let (found, next) = finished(rt, reader);
     same(rt, next.value(), 5);
     is_replaced(rt, &found)

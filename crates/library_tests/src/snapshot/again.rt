@@ -30,37 +30,21 @@ fn written<B: OrderBook>(
     Ok(writer)
 }
 
-// The snapshot of a market has these bytes.
-fn is_written<B: OrderBook>(
-    rt: &impl Host,
-    market: &Market<B>,
-    next: Seq,
-    want: &[u8],
-) -> TestResult {
-    same(rt, written(rt, market, next)?.written(), want);
-    Ok(())
-}
-
-// The market of a file is written as these bytes, and so is what is read from them.
+// The market of these payloads is written as those, and so is what is read from them.
 fn check_file<B: OrderBook>(
     rt: &impl Host,
     memory: B::Alloc,
-    file: &[u8],
-    want: &[u8],
+    file: &[&[u8]],
+    want: &[&[u8]],
 ) -> TestResult {
-    let (market, next): (Market<B>, Seq) = read(rt.alloc(), memory, file)?;
-    is_written(rt, &market, next, want)?;
-    let (again, number): (Market<B>, Seq) = read(rt.alloc(), memory, want)?;
+    let (file, want) = (blocks(rt.alloc(), file)?, blocks(rt.alloc(), want)?);
+    let (market, next): (Market<B>, Seq) = read(rt.alloc(), memory, file.written())?;
+    same(rt, written(rt, &market, next)?.written(), want.written());
+    let (again, number): (Market<B>, Seq) = read(rt.alloc(), memory, want.written())?;
     assert!(rt; are_same(rt, &market, &again));
     same(rt, number.value(), next.value());
-    is_written(rt, &again, number, want)
-}
-
-// The same of the blocks of these payloads.
-fn check_payloads(rt: &impl Host, file: &[&[u8]], want: &[&[u8]]) -> TestResult {
-    let file = blocks(rt.alloc(), file)?;
-    let want = blocks(rt.alloc(), want)?;
-    check_file::<ListBook>(rt, rt.alloc(), file.written(), want.written())
+    same(rt, written(rt, &again, number)?.written(), want.written());
+    Ok(())
 }
 
 #[test]
@@ -78,7 +62,7 @@ fn written_again_all_bytes_are_equal(rt: HostRuntime) -> TestResult {
         ),
     ];
     for (file, want) in files {
-        check_payloads(&rt, file, want)?;
+        check_file::<ListBook>(&rt, rt.alloc(), file, want)?;
     }
     Ok(())
 }
@@ -96,23 +80,6 @@ fn late_start<B: OrderBook>(
     Ok(late)
 }
 
-// Each of these payloads is taken.
-fn check_replay<B: OrderBook>(
-    rt: &impl Host,
-    market: &mut Market<B>,
-    payloads: &[&[u8]],
-) -> TestResult {
-    let bytes = blocks(rt.alloc(), payloads)?;
-    let end = replay_from(
-        rt.alloc(),
-        PieceReader::new(bytes.written(), 7, None),
-        market,
-    )?;
-    same(rt, end.count, payloads.len() as u64);
-    assert!(rt; matches!(end.stop, Stop::End));
-    Ok(())
-}
-
 // A day leaves the same as the snapshot of its first messages and the others.
 fn check_cut<B: OrderBook>(
     rt: &impl Host,
@@ -121,7 +88,11 @@ fn check_cut<B: OrderBook>(
     whole: &Market<B>,
 ) -> TestResult {
     let mut late: Market<B> = late_start(rt, memory, early)?;
-    check_replay(rt, &mut late, rest)?;
+    let bytes = blocks(rt.alloc(), rest)?;
+    let reader = PieceReader::new(bytes.written(), 7, None);
+    let end = replay_from(rt.alloc(), reader, &mut late)?;
+    same(rt, end.count, rest.len() as u64);
+    assert!(rt; matches!(end.stop, Stop::End));
     assert!(rt; are_same(rt, whole, &late));
     Ok(())
 }
@@ -134,10 +105,11 @@ fn check_cuts<B: OrderBook>(rt: &impl Host, memory: B::Alloc, day: &[&[u8]]) -> 
     Ok(())
 }
 
+const DAY: &[&[u8]] = &[
+    EVENT, AAPL, NAMED_1, ADD_2, REPLACE_1, RESTRICTS, TRADES, MSFT,
+];
+
 #[test]
 fn a_snapshot_stands_for_the_messages_before_it(rt: HostRuntime) -> TestResult {
-    let day: [&[u8]; 8] = [
-        EVENT, AAPL, NAMED_1, ADD_2, REPLACE_1, RESTRICTS, TRADES, MSFT,
-    ];
-    check_cuts::<ListBook>(&rt, rt.alloc(), &day)
+    check_cuts::<ListBook>(&rt, rt.alloc(), DAY)
 }

@@ -98,19 +98,6 @@ fn check_more<B: OrderBook>(
     }
 }
 
-// Reads this End of Snapshot, and no second one.
-fn check_end<B: OrderBook>(
-    rt: &impl Host,
-    snapshot: &mut SnapshotReader<B>,
-    set: &LocateSet<B::Alloc>,
-    end: &[u8],
-    next: u64,
-) -> TestResult {
-    same(rt, snapshot.message_only(set, end)?, Seq::new(next));
-    assert!(rt; matches!(snapshot.message_only(set, end), Err(SnapFault::AfterEnd)));
-    Ok(())
-}
-
 // Messages of other locates are decoded and counted, and follow no rule.
 fn check_read<B: OrderBook>(rt: &impl Host, memory: B::Alloc) -> TestResult {
     let set = set_of(memory, &[2])?;
@@ -119,7 +106,9 @@ fn check_read<B: OrderBook>(rt: &impl Host, memory: B::Alloc) -> TestResult {
     check_more(rt, &mut snapshot, &set, &payloads);
     same(rt, snapshot.taken(), 6);
     same(rt, snapshot_len(snapshot.market()), 2);
-    check_end(rt, &mut snapshot, &set, END_4, 4)
+    same(rt, snapshot.message_only(&set, END_4)?, Seq::new(4));
+    assert!(rt; matches!(snapshot.message_only(&set, END_4), Err(SnapFault::AfterEnd)));
+    Ok(())
 }
 
 #[test]
@@ -127,18 +116,7 @@ fn reads_the_locates_of_a_set(rt: HostRuntime) -> TestResult {
     check_read::<ListBook>(&rt, rt.alloc())
 }
 
-// The fault of a payload that is refused.
-fn fault_of<B: OrderBook>(
-    rt: &impl Host,
-    snapshot: &mut SnapshotReader<B>,
-    set: &LocateSet<B::Alloc>,
-    payload: &[u8],
-) -> SnapFault {
-    let result = snapshot.message_only(set, payload);
-    result.err().expect(rt, "a fault")
-}
-
-// This payload is refused so for good.
+// After a message that is skipped, this payload is refused so for good.
 fn check_fault<B: OrderBook>(
     rt: &impl Host,
     snapshot: &mut SnapshotReader<B>,
@@ -146,14 +124,15 @@ fn check_fault<B: OrderBook>(
     payload: &[u8],
     want: &str,
 ) -> TestResult {
+    check_more(rt, snapshot, set, &[ADD_1]);
     for payload in [payload, END_3] {
-        let fault = fault_of(rt, snapshot, set, payload);
-        same_words(rt, &fault, want)?;
+        let fault = snapshot.message_only(set, payload).err();
+        same_words(rt, &fault.expect(rt, "a fault"), want)?;
     }
     Ok(())
 }
 
-// After a message that is skipped, this payload is refused so for good.
+// The same of a snapshot of its own.
 fn check_refused<B: OrderBook>(
     rt: &impl Host,
     memory: B::Alloc,
@@ -162,7 +141,6 @@ fn check_refused<B: OrderBook>(
 ) -> TestResult {
     let set = set_of(memory, &[2])?;
     let mut snapshot: SnapshotReader<B> = SnapshotReader::new(memory);
-    check_more(rt, &mut snapshot, &set, &[ADD_1]);
     check_fault(rt, &mut snapshot, &set, payload, want)
 }
 

@@ -1,4 +1,5 @@
 //! The rest of a served session fetched over memory, row by row.
+use super::served::same_text;
 use crate::doubles::{FuseWriter, PieceReader};
 use crate::equal::{Host, TestResult, same};
 use crate::frame::gives;
@@ -45,37 +46,22 @@ fn nothing_is_read_after_the_end_of_a_rest(rt: HostRuntime) -> TestResult {
     Ok(())
 }
 
-// The fetch of this input has this fault.
-fn check_fault(rt: &impl Host, input: &[u8], want: &str) -> TestResult {
-    let fault = third_fetched(rt, rt.alloc(), PieceReader::new(input, 5, None))?.err();
-    let fault = fault.expect(rt, "a fault");
-    same(rt, fault.to_string(rt.alloc())?.as_str(), want);
-    Ok(())
-}
-
 #[test]
 fn other_answers_to_a_third_are_faults(rt: HostRuntime) -> TestResult {
-    let rows: [(&[u8], &str); 8] = [
-        (FROM_1, "accepted from 1, not from 3"),
-        (b"\0\x02JS", "login rejected with S"),
-        (
-            b"\0\x1fA  ITCHSNAP                   3\0\x01Z",
-            "ended early",
-        ),
-        (b"\0\x1fA  ITCHSNAP                   3", "ended early"),
-        (b"\0\x1fA  ITCHSNAP", "truncated, 13 bytes held"),
-        (b"\0\x02SG", "packet S before the login was accepted"),
-        (
-            b"\0\x1fA  ITCHSNAP                   3\0\x03SGG",
-            "message 3: wrong length for G: want 21, got 2",
-        ),
-        (
-            b"\0\x1fA  ITCHSNAP                   3\0\x02Sx\0\x01S",
-            "message 4: empty message",
-        ),
-    ];
-    for (input, want) in rows {
-        check_fault(&rt, input, want)?;
+    let fault = third_fetched(&rt, rt.alloc(), PieceReader::new(FROM_1, 5, None))?.err();
+    same_text(&rt, fault, "accepted from 1, not from 3")?;
+    for row in [
+        "\0\x02JS => login rejected with S",
+        "\0\x1fA  ITCHSNAP                   3\0\x01Z => ended early",
+        "\0\x1fA  ITCHSNAP                   3 => ended early",
+        "\0\x1fA  ITCHSNAP => truncated, 13 bytes held",
+        "\0\x02SG => packet S before the login was accepted",
+        "\0\x1fA  ITCHSNAP                   3\0\x03SGG => message 3: wrong length for G: want 21, got 2",
+        "\0\x1fA  ITCHSNAP                   3\0\x02Sx\0\x01S => message 4: empty message",
+    ] {
+        let (input, want) = row.split_once(" => ").ok_or("two columns")?;
+        let reader = PieceReader::new(input.as_bytes(), 5, None);
+        same_text(&rt, third_fetched(&rt, rt.alloc(), reader)?.err(), want)?;
     }
     Ok(())
 }

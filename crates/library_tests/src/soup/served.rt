@@ -1,6 +1,6 @@
 //! One served and one fetched session over memory, row by row.
 use crate::doubles::{FuseWriter, PieceReader};
-use crate::equal::{Host, TestResult, same, same_in};
+use crate::equal::{Host, TestResult, same, same_in, same_words};
 use crate::files::{Blocks, seq};
 use crate::frame::gives;
 use crate::sessions::{
@@ -12,59 +12,24 @@ use itch_frame::{BlockReader, FrameFault};
 use itch_market::Market;
 use itch_soup::{Served, SoupFault, laws, write_data};
 
+// Logins for the message of this number: blank, in capitals and for the session, after other packets, for another session, and with
+// another password.
+const LOGIN_0: &[u8] = b"\0\x2fLuser  secret                                 0";
+
+const LOGIN_BLANK: &[u8] = b"\0\x2fLuser  secret                                  ";
+
+const CAPITALS_3: &[u8] = b"\0\x2fLUSER  secret    ITCHSNAP                     3";
+
+const LATE_6: &[u8] = b"\0\x01R\0\x01U\0\x01+\0\x2fLuser  secret                                 6";
+
+const LOGIN_7: &[u8] = b"\0\x2fLuser  secret                                 7";
+
+const OTHER_3: &[u8] = b"\0\x2fLuser  secret    OTHER                        3";
+
+const WRONG_3: &[u8] = b"\0\x2fLuser  wrong                                  3";
+
+// An answer.
 const FROM_6: &[u8] = b"\0\x1fA  ITCHSNAP                   6\0\x01Z";
-
-// Logins that are accepted, from which message on, how many packets follow, and the bytes of the answer.
-const ACCEPTED: [(&[u8], u64, u64, &[u8]); 6] = [
-    (LOGIN_3, 3, 3, FROM_3),
-    (LOGIN_1, 1, 5, FROM_1),
-    (
-        b"\0\x2fLuser  secret                                 0",
-        1,
-        5,
-        FROM_1,
-    ),
-    (
-        b"\0\x2fLuser  secret                                  ",
-        1,
-        5,
-        FROM_1,
-    ),
-    (
-        b"\0\x01R\0\x01U\0\x01+\0\x2fLuser  secret                                 6",
-        6,
-        0,
-        FROM_6,
-    ),
-    (
-        b"\0\x2fLUSER  secret    ITCHSNAP                     3",
-        3,
-        3,
-        FROM_3,
-    ),
-];
-
-// What else comes before a login or in its place, what it leads to, and the bytes of the answer.
-const NOT_ACCEPTED: [(&[u8], Served, &[u8]); 6] = [
-    (
-        b"\0\x2fLuser  secret                                 7",
-        Served::Rejected(b'S'),
-        b"\0\x02JS",
-    ),
-    (
-        b"\0\x2fLuser  wrong                                  3",
-        Served::Rejected(b'A'),
-        b"\0\x02JA",
-    ),
-    (
-        b"\0\x2fLuser  secret    OTHER                        3",
-        Served::Rejected(b'S'),
-        b"\0\x02JS",
-    ),
-    (b"\0\x01O", Served::Left, b""),
-    (b"\0\x01R\0\x01O", Served::Left, b""),
-    (b"\0\x01R", Served::Left, b""),
-];
 
 #[test]
 fn the_laws_of_sessions() {
@@ -76,24 +41,7 @@ fn the_laws_of_sessions() {
     laws::waits_by_the_table();
 }
 
-// A login that comes in pieces of this length is served so, and answered by these bytes.
-fn check_answer<B: OrderBook>(
-    rt: &impl Host,
-    market: &Market<B>,
-    input: &[u8],
-    piece: usize,
-    want: &Served,
-    bytes: &[u8],
-) -> TestResult {
-    assert!(rt; piece > 0);
-    let mut writer = FuseWriter::new(rt.alloc(), piece, None);
-    let reader = PieceReader::new(input, piece, None);
-    let served = serve_from(rt, reader, &mut writer, market)?;
-    same_in(rt, input, &served.expect(rt, "an answer"), want);
-    same(rt, writer.written(), bytes);
-    Ok(())
-}
-
+// A login is served so, in pieces of whatever length, and answered by these bytes.
 fn check_login<B: OrderBook>(
     rt: &impl Host,
     market: &Market<B>,
@@ -102,49 +50,73 @@ fn check_login<B: OrderBook>(
     bytes: &[u8],
 ) -> TestResult {
     for piece in [1, 64] {
-        check_answer(rt, market, input, piece, want, bytes)?;
+        let mut writer = FuseWriter::new(rt.alloc(), piece, None);
+        let reader = PieceReader::new(input, piece, None);
+        let served = serve_from(rt, reader, &mut writer, market)?;
+        same_in(rt, input, &served.expect(rt, "an answer"), want);
+        same(rt, writer.written(), bytes);
     }
     Ok(())
 }
 
-fn check_logins<B: OrderBook>(rt: &impl Host, market: &Market<B>) -> TestResult {
-    for (input, from, packets, bytes) in ACCEPTED {
+// Logins that are accepted from this message on: packets before them mean nothing, and only the case of a password counts.
+fn check_accepted<B: OrderBook>(rt: &impl Host, market: &Market<B>) -> TestResult {
+    let rows: [(u64, u64, &[u8], &[&[u8]]); 3] = [
+        (1, 5, FROM_1, &[LOGIN_1, LOGIN_0, LOGIN_BLANK]),
+        (3, 3, FROM_3, &[LOGIN_3, CAPITALS_3]),
+        (6, 0, FROM_6, &[LATE_6]),
+    ];
+    for (from, packets, answer, logins) in rows {
         let from = seq(rt, from);
-        let want = Served::Accepted { from, packets };
-        check_login(rt, market, input, &want, bytes)?;
+        for login in logins {
+            check_login(
+                rt,
+                market,
+                login,
+                &Served::Accepted { from, packets },
+                answer,
+            )?;
+        }
     }
-    for (input, want, bytes) in NOT_ACCEPTED {
-        check_login(rt, market, input, &want, bytes)?;
+    Ok(())
+}
+
+// What else comes before a login or in its place.
+fn check_not_accepted<B: OrderBook>(rt: &impl Host, market: &Market<B>) -> TestResult {
+    let rows: [(Served, &[u8], &[&[u8]]); 3] = [
+        (Served::Rejected(b'S'), b"\0\x02JS", &[LOGIN_7, OTHER_3]),
+        (Served::Rejected(b'A'), b"\0\x02JA", &[WRONG_3]),
+        (
+            Served::Left,
+            b"",
+            &[b"\0\x01O", b"\0\x01R\0\x01O", b"\0\x01R"],
+        ),
+    ];
+    for (want, answer, inputs) in rows {
+        for input in inputs {
+            check_login(rt, market, input, &want, answer)?;
+        }
     }
     Ok(())
 }
 
 #[test]
 fn logins_are_served(rt: HostRuntime) -> TestResult {
-    check_logins(&rt, &served_market(rt.alloc())?)
+    check_accepted(&rt, &served_market(rt.alloc())?)
 }
 
-// This input has a fault, and is not answered.
-fn check_fault<B: OrderBook>(
-    rt: &impl Host,
-    market: &Market<B>,
-    input: &[u8],
-    want: &str,
-) -> TestResult {
-    let mut writer = FuseWriter::new(rt.alloc(), 64, None);
-    let reader = PieceReader::new(input, 5, None);
-    let fault = serve_from(rt, reader, &mut writer, market)?.err();
-    same(rt, writer.written(), b"".as_slice());
-    same_text(rt, fault, want)
+#[test]
+fn other_logins_are_not_served(rt: HostRuntime) -> TestResult {
+    check_not_accepted(&rt, &served_market(rt.alloc())?)
 }
 
 // There is a fault with these words.
-fn same_text(rt: &impl Host, fault: Option<SoupFault>, want: &str) -> TestResult {
-    let fault = fault.expect(rt, "a fault");
-    same(rt, fault.to_string(rt.alloc())?.as_str(), want);
+pub(super) fn same_text(rt: &impl Host, fault: Option<SoupFault>, want: &str) -> TestResult {
+    same_words(rt, &fault.expect(rt, "a fault"), want)?;
     Ok(())
 }
 
+// Inputs with a fault, which are not answered.
 fn check_faults<B: OrderBook>(rt: &impl Host, market: &Market<B>) -> TestResult {
     let rows: [(&[u8], &str); 5] = [
         (b"\0\0", "empty packet"),
@@ -154,7 +126,11 @@ fn check_faults<B: OrderBook>(rt: &impl Host, market: &Market<B>) -> TestResult 
         (b"\0\x01R\0\x2fLuser", "truncated, 7 bytes held"),
     ];
     for (input, want) in rows {
-        check_fault(rt, market, input, want)?;
+        let mut writer = FuseWriter::new(rt.alloc(), 64, None);
+        let reader = PieceReader::new(input, 5, None);
+        let fault = serve_from(rt, reader, &mut writer, market)?.err();
+        same(rt, writer.written(), b"".as_slice());
+        same_text(rt, fault, want)?;
     }
     Ok(())
 }
@@ -228,37 +204,24 @@ fn nothing_is_read_after_the_end_of_snapshot(rt: HostRuntime) -> TestResult {
     Ok(())
 }
 
-// The fetch of this input has this fault.
-fn check_fetch_fault(rt: &impl Host, input: &[u8], want: &str) -> TestResult {
-    let fault = fetch_fault(rt, PieceReader::new(input, 5, None))?;
-    same_text(rt, fault, want)
-}
-
 #[test]
 fn other_answers_are_faults(rt: HostRuntime) -> TestResult {
-    let rows: [(&[u8], &str); 10] = [
-        (FROM_3, "accepted from 3, not from 1"),
-        (b"\0\x02JA", "login rejected with A"),
-        (
-            b"\0\x1fA  ITCHSNAP                   1\0\x01Z",
-            "ended early",
-        ),
-        (b"\0\x01H\0\x01Z", "ended early"),
-        (b"\0\x1fA  ITCHSNAP                   1", "ended early"),
-        (b"\0\x1fA  ITCHSNAP", "truncated, 13 bytes held"),
-        (b"\0\x01S", "packet S before the login was accepted"),
-        (b"\0\x01R", "packet R from the wrong side"),
-        (
-            b"\0\x1fA  ITCHSNAP                   1\0\x02JA",
-            "second login",
-        ),
-        (
-            b"\0\x1fA  ITCHSNAP                   1\0\x14SD\0\x01\0\0\0\0\0\0\0\0\0\0\0\0\0\0\0\x01",
-            "message 1: unknown reference",
-        ),
-    ];
-    for (input, want) in rows {
-        check_fetch_fault(&rt, input, want)?;
+    let fault = fetch_fault(&rt, PieceReader::new(FROM_3, 5, None))?;
+    same_text(&rt, fault, "accepted from 3, not from 1")?;
+    for row in [
+        "\0\x02JA => login rejected with A",
+        "\0\x1fA  ITCHSNAP                   1\0\x01Z => ended early",
+        "\0\x01H\0\x01Z => ended early",
+        "\0\x1fA  ITCHSNAP                   1 => ended early",
+        "\0\x1fA  ITCHSNAP => truncated, 13 bytes held",
+        "\0\x01S => packet S before the login was accepted",
+        "\0\x01R => packet R from the wrong side",
+        "\0\x1fA  ITCHSNAP                   1\0\x02JA => second login",
+        "\0\x1fA  ITCHSNAP                   1\0\x14SD\0\x01\0\0\0\0\0\0\0\0\0\0\0\0\0\0\0\x01 => message 1: unknown reference",
+    ] {
+        let (input, want) = row.split_once(" => ").ok_or("two columns")?;
+        let fault = fetch_fault(&rt, PieceReader::new(input.as_bytes(), 5, None))?;
+        same_text(&rt, fault, want)?;
     }
     Ok(())
 }

@@ -22,12 +22,8 @@ fn fill(
         put(rt, table, u64::from(number).wrapping_mul(step), number)?;
     }
     for number in 0..count {
-        has(
-            rt,
-            table,
-            u64::from(number).wrapping_mul(step),
-            Some(number),
-        );
+        let key = u64::from(number).wrapping_mul(step);
+        has(rt, table, key, Some(number));
     }
     let bound = START.saturating_add(FOR_KEY.saturating_mul(count as usize));
     assert!(rt; heap.used() <= bound, "{count} keys {step} apart");

@@ -10,15 +10,13 @@ fn has_first<A: Allocator>(rt: &impl Host, table: &Table<A>, step: u64, count: u
     for number in 0..count {
         let key = u64::from(number).wrapping_mul(step);
         has(rt, table, key, Some(number));
+        let next = number.wrapping_add(1);
+        let is_there = step == 1 && next < count;
         has(
             rt,
             table,
             key.wrapping_add(1),
-            if step == 1 && number.wrapping_add(1) < count {
-                Some(number.wrapping_add(1))
-            } else {
-                None
-            },
+            Some(next).filter(|_| is_there),
         );
     }
 }

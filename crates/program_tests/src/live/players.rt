@@ -99,13 +99,17 @@ fn take_turn<A: Allocator>(
     now
 }
 
+fn take_turns<A: Allocator>(rt: &impl Host, player: &mut Player<A>, turns: &[Turn<'_>]) {
+    let mut now = 0;
+    for at in 0..turns.len() {
+        now = take_turn(rt, player, (at, now), turns[at]);
+    }
+}
+
 // A client of a feed of three messages, taken through these turns.
 fn check<A: Allocator + Copy>(rt: &impl Host, memory: A, turns: &[Turn<'_>]) -> TestResult {
     let mut player = Player::new(memory, config(rt), 3, 0)?;
-    let mut now = 0;
-    for at in 0..turns.len() {
-        now = take_turn(rt, &mut player, (at, now), turns[at]);
-    }
+    take_turns(rt, &mut player, turns);
     Ok(())
 }
 
@@ -322,10 +326,7 @@ fn refuse<A: Allocator + Copy>(rt: &impl Host, memory: A, refusing: &Refusing<Gl
         holds_in(rt, 0, made.is_ok() != refusing.has_refused());
         if let Ok(mut player) = made {
             refusing.arm(0);
-            let mut now = 0;
-            for at in 0..ALL.len() {
-                now = take_turn(rt, &mut player, (at, now), ALL[at]);
-            }
+            take_turns(rt, &mut player, ALL);
             holds_in(rt, 1, !refusing.has_refused());
             return nth;
         }

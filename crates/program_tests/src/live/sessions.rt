@@ -6,7 +6,7 @@ use super::messages::{
 use super::steps::{Brought, Step, UNKNOWN, config, desk_of, feed, follower_of, known, take_steps};
 use crate::equal::{Host, TestResult, same_in};
 use itch_book::{IndexedBook, OrderBook};
-use itch_live::{Desk, Follower, Sessions};
+use itch_live::{Desk, Follower};
 use library_tests::doubles::FuseWriter;
 use std::alloc::Global;
 
@@ -17,11 +17,12 @@ const TUESDAY: Brought = Brought::OtherSession(*b"   TUESDAY");
 fn check<B: OrderBook>(
     rt: &impl Host,
     memory: B::Alloc,
-    sessions: Sessions,
-    glimpse: bool,
+    (feed, glimpse): (Option<&str>, Option<&str>),
+    has_glimpse: bool,
     steps: &[Step<'_>],
 ) -> TestResult {
-    let mut desk: Desk<B> = desk_of(rt, memory, sessions, glimpse, 1)?;
+    let sessions = known(rt, feed, glimpse);
+    let mut desk: Desk<B> = desk_of(rt, memory, sessions, has_glimpse, 1)?;
     let mut record = FuseWriter::new(rt.alloc(), 5, None);
     take_steps(rt, &mut desk, &mut record, steps)
 }
@@ -45,12 +46,11 @@ const BEFOREHAND: &[Step<'static>] = &[
 
 #[test]
 fn known_beforehand(rt: HostRuntime) -> TestResult {
-    let sessions = known(&rt, Some("MONDAY"), None);
-    check::<Index>(&rt, rt.alloc(), sessions, false, BEFOREHAND)
+    check::<Index>(&rt, rt.alloc(), (Some("MONDAY"), None), false, BEFOREHAND)
 }
 
 // The session that a server of snapshots names first is the feed's: a feed of another day is not joined to the snapshot.
-const NAMED_BY_THE_SNAPSHOT: &[Step<'static>] = &[
+const NAMED: &[Step<'static>] = &[
     Step::Session(None),
     Step::Begin,
     Step::Session(Some(b"    MONDAY")),
@@ -66,12 +66,11 @@ const NAMED_BY_THE_SNAPSHOT: &[Step<'static>] = &[
 
 #[test]
 fn named_by_the_snapshot(rt: HostRuntime) -> TestResult {
-    let sessions = known(&rt, None, None);
-    check::<Index>(&rt, rt.alloc(), sessions, true, NAMED_BY_THE_SNAPSHOT)
+    check::<Index>(&rt, rt.alloc(), (None, None), true, NAMED)
 }
 
 // A snapshot of another day than the one that is known is not taken.
-const SNAPSHOT_OF_ANOTHER_DAY: &[Step<'static>] = &[
+const ANOTHER_DAY: &[Step<'static>] = &[
     Step::Connect(MONDAY_FROM_1),
     Step::Feed(TUESDAY_1, TUESDAY),
     Step::Feed(EVENT, Brought::Broken),
@@ -84,8 +83,7 @@ const SNAPSHOT_OF_ANOTHER_DAY: &[Step<'static>] = &[
 
 #[test]
 fn a_snapshot_of_another_day(rt: HostRuntime) -> TestResult {
-    let sessions = known(&rt, Some("MONDAY"), None);
-    check::<Index>(&rt, rt.alloc(), sessions, true, SNAPSHOT_OF_ANOTHER_DAY)
+    check::<Index>(&rt, rt.alloc(), (Some("MONDAY"), None), true, ANOTHER_DAY)
 }
 
 // A server of snapshots with its own name for the session has to accept in that, and says nothing of the feed's.
@@ -106,8 +104,7 @@ const TWO_NAMES: &[Step<'static>] = &[
 
 #[test]
 fn two_names(rt: HostRuntime) -> TestResult {
-    let sessions = known(&rt, None, Some("SNAPSHOTS"));
-    check::<Index>(&rt, rt.alloc(), sessions, true, TWO_NAMES)
+    check::<Index>(&rt, rt.alloc(), (None, Some("SNAPSHOTS")), true, TWO_NAMES)
 }
 
 const GONE_ON: &[Step<'static>] = &[
