@@ -354,26 +354,22 @@ fn check_priority<B: OrderBook>(rt: &impl Host, memory: B::Alloc) -> Result<(), 
 
 #[test]
 fn list_book_calls(rt: HostRuntime) -> TestResult {
-    check_calls::<ListBook>(&rt, rt.alloc())?;
-    Ok(())
+    Ok(check_calls::<ListBook>(&rt, rt.alloc())?)
 }
 
 #[test]
 fn indexed_book_calls(rt: HostRuntime) -> TestResult {
-    check_calls::<IndexedBook>(&rt, rt.alloc())?;
-    Ok(())
+    Ok(check_calls::<IndexedBook>(&rt, rt.alloc())?)
 }
 
 #[test]
 fn list_book_keeps_priority(rt: HostRuntime) -> TestResult {
-    check_priority::<ListBook>(&rt, rt.alloc())?;
-    Ok(())
+    Ok(check_priority::<ListBook>(&rt, rt.alloc())?)
 }
 
 #[test]
 fn indexed_book_keeps_priority(rt: HostRuntime) -> TestResult {
-    check_priority::<IndexedBook>(&rt, rt.alloc())?;
-    Ok(())
+    Ok(check_priority::<IndexedBook>(&rt, rt.alloc())?)
 }
 
 mod ladders;

@@ -48,11 +48,8 @@ fn book_example<B: OrderBook>(rt: &impl Host, alloc: B::Alloc) -> TestResult {
         price: 1_500_000,
         mpid: None,
     })?;
-    same(
-        rt,
-        book.front(1, Side::Buy).map(|order| order.reference),
-        Some(1),
-    );
+    let front = book.front(1, Side::Buy);
+    same(rt, front.map(|order| order.reference), Some(1));
     same(rt, book.level_total(1, Side::Buy, 1_500_000), (100, 1));
     Ok(())
 }
@@ -113,11 +110,8 @@ fn a_client_is_let_in(rt: HostRuntime) -> TestResult {
         session: Alpha::from_text("")?,
     };
     let mut client = ClientSession::new(credentials, 1, 0);
-    same(
-        &rt,
-        client.login(),
-        *b"Luser  secret                                 1",
-    );
+    let login = *b"Luser  secret                                 1";
+    same(&rt, client.login(), login);
     let accepted = parse_packet(b"A  ITCHSNAP                   1", Origin::Server)?;
     let act = client.on_packet(&accepted, 20);
     assert!(rt; matches!(act, ClientAct::Accepted { next } if next.value() == 1));

@@ -178,14 +178,13 @@ pub(crate) fn replace(locate: u16, original: u64, reference: u64, shares: u32, p
 
 /// Order 1 of AAPL at locate 1, to buy 100 at 150.0000, is executed unseen.
 pub(crate) fn trade() -> Made {
-    let order = add_order(1, 1, Side::Buy, 100, "AAPL", 1_500_000)?;
     Some(Message::Trade(Trade {
-        header: order.header,
-        reference: order.reference,
-        side: order.side,
-        shares: order.shares,
-        stock: order.stock,
-        price: order.price,
+        header: header(1)?,
+        reference: 1,
+        side: Side::Buy,
+        shares: 100,
+        stock: stock("AAPL")?,
+        price: 1_500_000,
         match_number: 1,
     }))
 }

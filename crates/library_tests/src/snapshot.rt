@@ -76,17 +76,6 @@ fn counts_what_is_still_to_come(rt: HostRuntime) -> TestResult {
     counts_down::<ListBook>(&rt, rt.alloc(), REPLACED, &[3, 2, 1])
 }
 
-fn check_parting<A: OrderBook, B: OrderBook>(
-    rt: &impl Host,
-    one: &Market<A>,
-    other: &Market<B>,
-    want: Option<u64>,
-) {
-    assert!(rt; snapshot_len(one) < 9);
-    same(rt, part_place(one, other), want);
-    same(rt, same_market(one, other), want.is_none());
-}
-
 // The snapshots of what two days leave part there.
 fn check_days<B: OrderBook>(
     rt: &impl Host,
@@ -95,7 +84,9 @@ fn check_days<B: OrderBook>(
 ) -> TestResult {
     let one: Market<B> = market(rt.alloc(), memory, one)?;
     let other: Market<B> = market(rt.alloc(), memory, other)?;
-    check_parting(rt, &one, &other, want);
+    assert!(rt; snapshot_len(&one) < 9);
+    same(rt, part_place(&one, &other), want);
+    same(rt, same_market(&one, &other), want.is_none());
     Ok(())
 }
 
@@ -194,12 +185,6 @@ fn check_more<B: OrderBook>(rt: &impl Host, snapshot: &mut SnapshotReader<B>, pa
     }
 }
 
-// Reads this End of Snapshot, and no second one.
-fn check_end<B: OrderBook>(rt: &impl Host, snapshot: &mut SnapshotReader<B>, end: &[u8]) {
-    assert!(rt; matches!(snapshot.message(end), Ok(Some(_))));
-    assert!(rt; matches!(snapshot.message(end), Err(SnapFault::AfterEnd)));
-}
-
 // A snapshot whose end was not read is handed back.
 fn unfinished<B: OrderBook>(rt: &impl Host, snapshot: SnapshotReader<B>) -> SnapshotReader<B> {
     match snapshot.finish() {
@@ -208,23 +193,15 @@ fn unfinished<B: OrderBook>(rt: &impl Host, snapshot: SnapshotReader<B>) -> Snap
     }
 }
 
-// A snapshot of the same market as another, up to its End of Snapshot.
-fn half_read<A: OrderBook, B: OrderBook>(
-    rt: &impl Host,
-    memory: B::Alloc,
-    want: &Market<A>,
-) -> SnapshotReader<B> {
-    let mut snapshot = SnapshotReader::new(memory);
-    check_more(rt, &mut snapshot, &[AAPL, ADD_2, NAMED_3]);
-    assert!(rt; are_same(rt, want, snapshot.market()));
-    snapshot
-}
-
 // A market that is the same as another is handed out after its End of Snapshot, and not before.
 fn check_finish<B: OrderBook>(rt: &impl Host, memory: B::Alloc) -> TestResult {
     let want: Market<B> = market(rt.alloc(), memory, REPLACED)?;
-    let mut snapshot = unfinished(rt, half_read::<B, B>(rt, memory, &want));
-    check_end(rt, &mut snapshot, END_5);
+    let mut snapshot: SnapshotReader<B> = SnapshotReader::new(memory);
+    check_more(rt, &mut snapshot, &[AAPL, ADD_2, NAMED_3]);
+    assert!(rt; are_same(rt, &want, snapshot.market()));
+    let mut snapshot = unfinished(rt, snapshot);
+    assert!(rt; matches!(snapshot.message(END_5), Ok(Some(_))));
+    assert!(rt; matches!(snapshot.message(END_5), Err(SnapFault::AfterEnd)));
     let (handed_out, next) = finished(rt, snapshot);
     same(rt, next.value(), 5);
     assert!(rt; are_same(rt, &want, &handed_out));

@@ -146,12 +146,10 @@ fn check_ladders<B: OrderBook, C: OrderBook>(
 
 #[test]
 fn an_indexed_book_has_the_prices_of_a_list(rt: HostRuntime) -> TestResult {
-    check_ladders::<ListBook, IndexedBook>(&rt, rt.alloc(), rt.alloc())?;
-    Ok(())
+    Ok(check_ladders::<ListBook, IndexedBook>(&rt, rt.alloc(), rt.alloc())?)
 }
 
 #[test]
 fn a_settled_book_has_the_prices_of_an_indexed_one(rt: HostRuntime) -> TestResult {
-    check_ladders::<IndexedBook, SettledBook>(&rt, rt.alloc(), rt.alloc())?;
-    Ok(())
+    Ok(check_ladders::<IndexedBook, SettledBook>(&rt, rt.alloc(), rt.alloc())?)
 }

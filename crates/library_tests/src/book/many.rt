@@ -43,8 +43,7 @@ fn check_many<B: OrderBook>(rt: &impl Host, memory: B::Alloc) -> Result<(), Allo
 
 #[test]
 fn indexed_book_of_many_orders(rt: HostRuntime) -> TestResult {
-    check_many::<IndexedBook>(&rt, rt.alloc())?;
-    Ok(())
+    Ok(check_many::<IndexedBook>(&rt, rt.alloc())?)
 }
 
 // The same of a settled book, before it is settled and after that.

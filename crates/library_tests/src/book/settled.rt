@@ -96,15 +96,13 @@ impl<A: Allocator + Copy> OrderBook for Settling<A> {
 #[test]
 fn settled_book_calls(rt: HostRuntime) -> TestResult {
     check_calls::<SettledBook>(&rt, rt.alloc())?;
-    check_calls::<Settling>(&rt, rt.alloc())?;
-    Ok(())
+    Ok(check_calls::<Settling>(&rt, rt.alloc())?)
 }
 
 #[test]
 fn settled_book_keeps_priority(rt: HostRuntime) -> TestResult {
     check_priority::<SettledBook>(&rt, rt.alloc())?;
-    check_priority::<Settling>(&rt, rt.alloc())?;
-    Ok(())
+    Ok(check_priority::<Settling>(&rt, rt.alloc())?)
 }
 
 // Whether a change leaves a book of one order settled.

@@ -218,18 +218,15 @@ fn check_new<B: OrderBook, C: OrderBook>(
 
 #[test]
 fn both_books_stay_the_same(rt: HostRuntime) -> TestResult {
-    check_new::<ListBook, IndexedBook>(&rt, rt.alloc(), rt.alloc())?;
-    Ok(())
+    Ok(check_new::<ListBook, IndexedBook>(&rt, rt.alloc(), rt.alloc())?)
 }
 
 #[test]
 fn a_settled_book_stays_the_same(rt: HostRuntime) -> TestResult {
-    check_new::<IndexedBook, SettledBook>(&rt, rt.alloc(), rt.alloc())?;
-    Ok(())
+    Ok(check_new::<IndexedBook, SettledBook>(&rt, rt.alloc(), rt.alloc())?)
 }
 
 #[test]
 fn a_book_that_is_settled_stays_the_same(rt: HostRuntime) -> TestResult {
-    check_new::<ListBook, Settling>(&rt, rt.alloc(), rt.alloc())?;
-    Ok(())
+    Ok(check_new::<ListBook, Settling>(&rt, rt.alloc(), rt.alloc())?)
 }

@@ -50,21 +50,16 @@ fn each_beginning_of_an_answer(rt: HostRuntime) -> TestResult {
     Ok(())
 }
 
-// Writes the payload of the next packet in its block, if the packet is sequenced data.
-fn copy_payload(reader: &mut Blocks<'_>, file: &mut FuseWriter) -> Result<(), FrameFault> {
-    match reader.next_block()? {
-        Some([b'S', payload @ ..]) => write_block(file, payload),
-        _ => Ok(()),
-    }
-}
-
+// Writes the payload of each packet of sequenced data in its block.
 fn copy_payloads(
     reader: &mut Blocks<'_>,
     file: &mut FuseWriter,
     packets: usize,
 ) -> Result<(), FrameFault> {
     for _packet in 0..packets {
-        copy_payload(reader, file)?;
+        if let Some([b'S', payload @ ..]) = reader.next_block()? {
+            write_block(file, payload)?;
+        }
     }
     Ok(())
 }
@@ -77,34 +72,21 @@ fn snapshot_file(alloc: Global, answer: &[u8]) -> Result<FuseWriter, Fail> {
     Ok(file)
 }
 
-// A market that was fetched is the one that the answer spells.
-fn is_spelled<B: OrderBook>(
-    rt: &impl Host,
-    memory: B::Alloc,
-    answer: &[u8],
-    market: &Market<B>,
-    next: Seq,
-) -> TestResult {
-    let file = snapshot_file(rt.alloc(), answer)?;
-    let (spelled, number): (Market<B>, Seq) = read(rt.alloc(), memory, file.written())?;
-    assert!(rt; are_same(rt, market, &spelled));
-    same(rt, next.value(), number.value());
-    Ok(())
-}
-
-// Whether these bytes give a market, which they spell, or a fault.
+// Whether these bytes give a market, which is the one that they spell, or a fault.
 fn gives_market<B: OrderBook>(
     rt: &impl Host,
     memory: B::Alloc,
     answer: &[u8],
 ) -> Result<bool, Fail> {
-    match fetched::<B>(rt, memory, PieceReader::new(answer, 64, None))? {
-        Ok((market, next)) => {
-            is_spelled(rt, memory, answer, &market, next)?;
-            Ok(true)
-        }
-        Err(_) => Ok(false),
-    }
+    let reader = PieceReader::new(answer, 64, None);
+    let Ok((market, next)) = fetched::<B>(rt, memory, reader)? else {
+        return Ok(false);
+    };
+    let file = snapshot_file(rt.alloc(), answer)?;
+    let (spelled, number): (Market<B>, Seq) = read(rt.alloc(), memory, file.written())?;
+    assert!(rt; are_same(rt, &market, &spelled));
+    same(rt, next.value(), number.value());
+    Ok(true)
 }
 
 // Those of one byte: a fault, or a market. Returns how many were markets.

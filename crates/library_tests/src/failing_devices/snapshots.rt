@@ -19,29 +19,17 @@ fn says_its_block(fault: &SnapFault, written: usize) -> bool {
     }
 }
 
-// The write of byte `nth`, counted from 1, fails.
-fn fails_at<B: OrderBook>(
-    rt: &impl Host,
-    market: &Market<B>,
-    writer: &mut FuseWriter,
-    nth: u64,
-    whole: &[u8],
-) {
-    let fault = write(rt, market, seq(rt, 4), writer)
-        .err()
-        .expect(rt, "a failed write");
-    let written = writer.written();
-    same(rt, written.len() as u64, nth.saturating_sub(1));
-    assert!(rt; whole.starts_with(written));
-    holds_in(rt, ("write", nth), says_its_block(&fault, written.len()));
-}
-
-// Each write of one byte of the market's snapshot fails in turn.
+// Each write of one byte of the market's snapshot fails in turn, counted from 1.
 fn fails_at_each<B: OrderBook>(rt: &impl Host, market: &Market<B>, whole: &[u8]) {
     same(rt, whole.len(), 116);
     for nth in 1..=116u64 {
         let mut writer = FuseWriter::new(rt.alloc(), 1, Some(nth));
-        fails_at(rt, market, &mut writer, nth, whole);
+        let fault = write(rt, market, seq(rt, 4), &mut writer).err();
+        let written = writer.written();
+        same(rt, written.len() as u64, nth.saturating_sub(1));
+        assert!(rt; whole.starts_with(written));
+        let fault = fault.expect(rt, "a failed write");
+        holds_in(rt, ("write", nth), says_its_block(&fault, written.len()));
     }
 }
 

@@ -42,7 +42,7 @@ fn kept_at<A: Allocator>(
     })
 }
 
-fn push_orders<B: OrderBook>(
+pub(crate) fn push_orders<B: OrderBook>(
     rt: &impl Host,
     book: &B,
     locate: u16,
@@ -88,19 +88,15 @@ pub(crate) fn content_of<B: OrderBook>(
     })
 }
 
-fn references_of(alloc: Global, orders: &[Order]) -> Result<Vec<u64>, AllocError> {
-    let mut references = Vec::new(alloc);
-    for order in orders {
-        references.push(order.reference)?;
-    }
-    Ok(references)
-}
-
 /// The references of the orders in snapshot order.
 pub(crate) fn references<B: OrderBook>(
     rt: &impl Host,
     market: &Market<B>,
 ) -> Result<Vec<u64>, AllocError> {
     let content = content_of(rt, market)?;
-    references_of(rt.alloc(), &content.orders)
+    let mut references = Vec::new(rt.alloc());
+    for order in &content.orders {
+        references.push(order.reference)?;
+    }
+    Ok(references)
 }

@@ -1,7 +1,8 @@
 //! Orders added and replaced.
-use crate::book::{add, after, first, has_len, live, next_price, order, replace_at, total};
+use crate::book::{add, has_len, live, next_price, order, replace_at, total};
 use crate::doubles::Refusing;
 use crate::equal::{Host, TestResult, same};
+use crate::market::content::push_orders;
 use itch_book::{IndexedBook, ListBook, Order, OrderBook, SettledBook};
 use itch_codec::Side;
 use std::alloc::{AllocError, Global};
@@ -16,13 +17,8 @@ fn call<B: OrderBook>(
     match original {
         None => add(rt, book, order),
         Some(original) => {
-            let Order {
-                reference,
-                shares,
-                price,
-                ..
-            } = order;
-            replace_at(rt, book, original, 0, reference, shares, price)
+            let (shares, price) = (order.shares, order.price);
+            replace_at(rt, book, original, 0, order.reference, shares, price)
         }
     }
 }
@@ -30,13 +26,7 @@ fn call<B: OrderBook>(
 // The orders of locate 1, in snapshot order.
 fn listed<B: OrderBook>(rt: &impl Host, book: &B) -> Result<Vec<Order>, AllocError> {
     let mut orders = Vec::new(rt.alloc());
-    let mut next = first(book, 1);
-    for _ in 0..book.len() {
-        let Some(order) = next else { break };
-        let reference = order.reference;
-        orders.push(order)?;
-        next = after(rt, book, reference);
-    }
+    push_orders(rt, book, 1, &mut orders)?;
     Ok(orders)
 }
 

@@ -98,12 +98,13 @@ const HALTS: &[u8] = b"h\0\x02\0\0\0\0\0\0\0\0AAPL    \0H";
 
 const POSITIONS: &[u8] = b"L\0\x02\0\0\0\0\0\0\0\0ABC\x40AAPL    NNA";
 
-// Returns how many allocations of the replacements were refused.
-fn refuse_each_growth<B: OrderBook>(
+// Each growth of a market over this memory. Returns how many allocations of the replacements were refused.
+fn refuse_growth<B: OrderBook>(
     rt: &impl Host,
     refusing: &Refusing<Global>,
-    market: &mut Market<B>,
+    memory: B::Alloc,
 ) -> Result<u64, Fail> {
+    let mut market: Market<B> = Market::new(memory);
     for (payload, places, grows) in [
         // Directory entries of locates 2 to 41.
         (AAPL, [2].as_slice(), true),
@@ -115,22 +116,12 @@ fn refuse_each_growth<B: OrderBook>(
         (ADDS, &[18, 35], true),
         (NAMES, &[18, 35], true),
     ] {
-        let refused = refuse_forty(rt, refusing, market, payload, places)?;
+        let refused = refuse_forty(rt, refusing, &mut market, payload, places)?;
         same(rt, refused > 0, grows);
     }
-    let refused = refuse_forty(rt, refusing, market, REPLACES, &[18, 26, 34])?;
+    let refused = refuse_forty(rt, refusing, &mut market, REPLACES, &[18, 26, 34])?;
     has_len(rt, market.book(), 80);
     Ok(refused)
-}
-
-// The same of a market over this memory.
-fn refuse_growth<B: OrderBook>(
-    rt: &impl Host,
-    refusing: &Refusing<Global>,
-    memory: B::Alloc,
-) -> Result<u64, Fail> {
-    let mut market: Market<B> = Market::new(memory);
-    refuse_each_growth(rt, refusing, &mut market)
 }
 
 // The order that is replaced leaves room.
@@ -170,18 +161,6 @@ fn insert_refused<A: Allocator + Copy>(
     Ok(was_refused)
 }
 
-// The set of all locates takes no memory.
-fn insert_into_all<A: Allocator + Copy>(
-    rt: &impl Host,
-    refusing: &Refusing<Global>,
-    set: &mut LocateSet<A>,
-) -> Result<(), AllocError> {
-    refusing.arm(0);
-    set.insert(7)?;
-    assert!(rt; set.contains(8));
-    Ok(())
-}
-
 // A set of locates stays as it was where memory is refused, and a locate that it contains takes none.
 #[test]
 fn a_set_of_locates_stays_as_it_was(rt: HostRuntime) -> TestResult {
@@ -192,7 +171,11 @@ fn a_set_of_locates_stays_as_it_was(rt: HostRuntime) -> TestResult {
         was_refused |= insert_refused(&rt, &refusing, &mut set, locate)?;
     }
     assert!(rt; was_refused);
-    insert_into_all(&rt, &refusing, &mut LocateSet::all(&refusing))?;
+    // The set of all locates takes no memory.
+    let mut all = LocateSet::all(&refusing);
+    refusing.arm(0);
+    all.insert(7)?;
+    assert!(rt; all.contains(8));
     Ok(())
 }
 

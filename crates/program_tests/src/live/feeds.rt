@@ -4,8 +4,8 @@ use super::messages::{
     FEED_FROM_1, FEED_FROM_3, FEED_FROM_5, HEARTBEAT, MONDAY_FROM_1, REJECTED,
 };
 use super::steps::{Brought, Step, check, desk, take_steps};
-use crate::equal::{Host, TestResult};
-use itch_book::{IndexedBook, OrderBook};
+use crate::equal::TestResult;
+use itch_book::IndexedBook;
 use itch_live::Desk;
 use itch_soup::Tick;
 use library_tests::doubles::FuseWriter;
@@ -156,13 +156,9 @@ const UNRECORDED: &[Step<'static>] = &[
     Step::Recorded(b"\0\x0c"),
 ];
 
-fn check_unrecorded<B: OrderBook>(rt: &impl Host, memory: B::Alloc) -> TestResult {
-    let mut desk: Desk<B> = desk(rt, memory, false)?;
-    let mut record = FuseWriter::new(rt.alloc(), 5, Some(2));
-    take_steps(rt, &mut desk, &mut record, UNRECORDED)
-}
-
 #[test]
 fn unrecorded(rt: HostRuntime) -> TestResult {
-    check_unrecorded::<Index>(&rt, rt.alloc())
+    let mut desk: Desk<Index> = desk(&rt, rt.alloc(), false)?;
+    let mut record = FuseWriter::new(rt.alloc(), 5, Some(2));
+    take_steps(&rt, &mut desk, &mut record, UNRECORDED)
 }
