@@ -173,7 +173,7 @@ fn reads_on_after_a_failure(rt: HostRuntime) -> TestResult {
 // The messages of the stream, which end twice, shown as an empty one.
 fn gives_messages(rt: &impl Host, reader: &mut Blocks<'_>) -> Result<(), FrameFault> {
     for want in [b"S".as_slice(), b"RR", b"", b"AAAAA", b"D", b"", b""] {
-        let want = Some(want).filter(|it| !it.is_empty());
+        let want = if want.is_empty() { None } else { Some(want) };
         same(rt, reader.next_message()?, want);
     }
     Ok(())

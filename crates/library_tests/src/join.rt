@@ -7,7 +7,6 @@ use itch_join::{Cause, JoinFault, Joiner, Live, Snap, laws};
 use itch_market::{Market, Refusal};
 use itch_snapshot::SnapshotIter;
 use std::alloc::{AllocError, Global};
-use std::test::Fail;
 
 mod refused_memory;
 mod restricted;

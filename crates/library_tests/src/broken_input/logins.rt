@@ -8,7 +8,6 @@ use itch_frame::FrameFault;
 use itch_market::Market;
 use itch_soup::{Served, SoupFault};
 use std::alloc::{AllocError, Global};
-use std::test::Fail;
 
 // These bytes are answered so, by a server with five messages. Only an answer to a login writes.
 fn is_answered<B: OrderBook>(

@@ -187,7 +187,13 @@ fn kinds_times_and_references(rt: HostRuntime) {
             [b'G' | b'N', ..] => None,
             _ => Some(0),
         };
-        has(&rt, payload, time, Some(*reference).filter(|it| *it > 0));
+        let known = *reference > 0;
+        has(
+            &rt,
+            payload,
+            time,
+            if known { Some(*reference) } else { None },
+        );
     }
     let late = event([31, 26, 206, 217, 240, 1], b'O');
     has(&rt, &late, Some(34_200_000_000_001), None);

@@ -55,11 +55,8 @@ fn refuse_one<B: OrderBook>(
     refusing.arm(nth);
     let is_done = call(rt, book, original, order).is_ok();
     same(rt, refusing.has_refused(), !is_done);
-    same(
-        rt,
-        live(book, order.reference),
-        Some(order).filter(|_| is_done),
-    );
+    let want = if is_done { Some(order) } else { None };
+    same(rt, live(book, order.reference), want);
     !is_done
 }
 

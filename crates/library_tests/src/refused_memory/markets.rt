@@ -26,11 +26,8 @@ fn refuse_one<B: OrderBook>(
     refusing.arm(nth);
     let result = market.apply(message);
     let is_refused = refusing.has_refused();
-    same(
-        rt,
-        result.err(),
-        Some(Refusal::OutOfMemory).filter(|_| is_refused),
-    );
+    let refused = Refusal::OutOfMemory;
+    same(rt, result, if is_refused { Err(refused) } else { Ok(()) });
     is_refused
 }
 

@@ -97,7 +97,8 @@ fn check_whole<B: OrderBook>(rt: &impl Host, memory: B::Alloc) -> TestResult {
     check::<B>(rt, memory, file)?;
     file.rest = b"";
     for (payloads, snapshot) in WHOLE {
-        (file.payloads, file.snapshot) = (payloads, snapshot);
+        file.payloads = payloads;
+        file.snapshot = snapshot;
         check::<B>(rt, memory, file)?;
     }
     Ok(())

@@ -12,12 +12,8 @@ fn has_first<A: Allocator>(rt: &impl Host, table: &Table<A>, step: u64, count: u
         has(rt, table, key, Some(number));
         let next = number.wrapping_add(1);
         let is_there = step == 1 && next < count;
-        has(
-            rt,
-            table,
-            key.wrapping_add(1),
-            Some(next).filter(|_| is_there),
-        );
+        let want = if is_there { Some(next) } else { None };
+        has(rt, table, key.wrapping_add(1), want);
     }
 }
 

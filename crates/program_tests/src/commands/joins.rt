@@ -39,11 +39,12 @@ fn is_joined_in_part<R: CountedRead + Drop, S: CountedRead + Drop, W: CountedWri
 ) -> Result<bool, Fail> {
     let limit = Limit::counted(Some(4));
     let part = FeedPart { before: 2, limit };
-    let mut snapshot = BlockReader::new(alloc, snapshot)?;
-    let mut feed = BlockReader::new(alloc, feed)?;
-    let (snapshot, feed) = (&mut snapshot, &mut feed);
-    let joined = join_blocks::<_, _, _, _, Book<Global>, _>(alloc, snapshot, feed, part, None, out);
-    Ok(matches!(joined, Ok(true)))
+    let mut one = BlockReader::new(alloc, snapshot)?;
+    let mut two = BlockReader::new(alloc, feed)?;
+    let done = join_blocks::<_, _, _, _, Book<Global>, _>(
+        alloc, &mut one, &mut two, part, None, out,
+    );
+    Ok(matches!(done, Ok(true)))
 }
 
 // A row is a snapshot, a feed, and the snapshot after both.

@@ -9,9 +9,7 @@ use itch_commands::{
 use itch_frame::FrameFault;
 use itch_market::{Refusal, ReplayEnd, Stop};
 use itch_snapshot::SnapFault;
-use std::alloc::Global;
 use std::io;
-use std::test::Fail;
 
 // A fault has this status and, after it, this line.
 fn is_told(rt: &impl Host, fault: &ToolFault, wanted: &str) -> TestResult {

@@ -5,8 +5,8 @@ use super::messages::{
     WELCOME,
 };
 use super::steps::{Brought, Standing, Step, UNKNOWN, check, desk_of, take_steps};
-use crate::equal::{TestResult, same_in};
-use itch_book::{IndexedBook, OrderBook};
+use crate::equal::TestResult;
+use itch_book::IndexedBook;
 use itch_live::{Desk, Gone, laws};
 use library_tests::doubles::FuseWriter;
 use std::alloc::Global;
