@@ -4,12 +4,12 @@ use std::fmt::Debug;
 use std::process::Abort;
 use std::test::Fail;
 
-/// What a test has: it may end, and it may take memory.
+/// The runtime of a test: it can end the process, and allocates memory.
 pub trait Host: Abort + AllocGlobal {}
 
 impl<T: Abort + AllocGlobal> Host for T {}
 
-/// What a test returns, and a helper that may end it by an error.
+/// The result of a test, and of a helper that can fail.
 pub type TestResult = Result<(), Fail>;
 
 /// Ends the test unless these are equal.
