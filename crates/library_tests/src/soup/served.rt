@@ -68,14 +68,9 @@ fn check_accepted<B: OrderBook>(rt: &impl Host, market: &Market<B>) -> TestResul
     ];
     for (from, packets, answer, logins) in rows {
         let from = seq(rt, from);
+        let want = Served::Accepted { from, packets };
         for login in logins {
-            check_login(
-                rt,
-                market,
-                login,
-                &Served::Accepted { from, packets },
-                answer,
-            )?;
+            check_login(rt, market, login, &want, answer)?;
         }
     }
     Ok(())
