@@ -414,6 +414,13 @@ fn sequence_numbers_and_timestamps_have_limits(rt: HostRuntime) {
 }
 
 #[test]
+fn a_payload_with_a_header_has_a_timestamp(rt: HostRuntime) {
+    let payload = b"D\0\x01\0\0\0\0\0\0\x01\x02";
+    same(&rt, Stamp::of_payload(payload).map(Stamp::value), Some(258));
+    same(&rt, Stamp::of_payload(&payload[..10]), None);
+}
+
+#[test]
 fn faults_of_messages_have_words(rt: HostRuntime) -> Result<(), Fail> {
     let rows = [
         (CodecFault::Empty, "empty message"),
