@@ -1,4 +1,4 @@
-"""Runs in a Debian 12 that has nothing but its base system, or beside that a compiler and Python.
+"""A Debian 12 with nothing but its base system, or with a compiler and Python: the packages are installed, used and removed.
 
 Each run unpacks a system of its own. What is unpacked was made by debootstrap and is kept, outside of the checkout, below
 $XDG_CACHE_HOME/sundrekk, or ~/.cache/sundrekk. RUNS has a function for each run, named for what it shows; it yields what differs.

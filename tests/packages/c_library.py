@@ -1,4 +1,4 @@
-"""Runs of the header and of both C libraries: no compiler warns of the header, and nothing shows but its names.
+"""The header and both C libraries: no compiler warns of the header, and only its names are exported.
 
 RUNS has a function for each run, named for what it shows; it yields what differs.
 """

@@ -1,4 +1,4 @@
-"""Runs of the crates for cargo.
+"""The crates for cargo.
 
 RUNS has a function for each run, named for what it shows; it yields what differs.
 """

@@ -1,8 +1,10 @@
-"""Runs of the packages: they are those of the release, and Debian's own checks find no error in them.
+"""The packages: they are those of the release, and lintian finds no error in them.
 
 RUNS has a function for each run, named for what it shows; it yields what differs.
 """
+import os
 import re
+import shutil
 import tarfile
 import tempfile
 import zipfile
@@ -38,6 +40,23 @@ def another_folder_is_left_alone():
         kept.touch()
         yield from differs("pack", ran(TOP / "tools/pack", folder), (1, f"pack: {folder} is there, and is no folder of packages\n"))
         yield from differs("kept", kept.exists(), True)
+
+
+def packages_stay_where_packing_fails():
+    """A tool of it that fails: those that were there are still there, and nothing else."""
+    with tempfile.TemporaryDirectory() as name:
+        folder, tools = Path(name) / "dist", Path(name) / "tools"
+        folder.mkdir()
+        tools.mkdir()
+        (folder / "SHA256SUMS").write_text("those of an earlier release\n")
+        real = shutil.which("dpkg-deb")
+        (tools / "dpkg-deb").write_text(f'#!/bin/sh\n[ "$1" != --root-owner-group ] || exit 1\nexec {real} "$@"\n')
+        (tools / "dpkg-deb").chmod(0o755)
+        need("dpkg-deb")
+        status, _ = ran(TOP / "tools/pack", folder, PATH=f"{tools}:{os.environ['PATH']}")
+        yield from differs("status", status != 0, True)
+        yield from differs("kept", [(it.name, it.read_text()) for it in folder.iterdir()], [("SHA256SUMS", "those of an earlier release\n")])
+        yield from differs("left beside", sorted(it.name for it in Path(name).iterdir()), ["dist", "tools"])
 
 
 def lintian_finds_no_error():
@@ -91,6 +110,7 @@ RUNS = [
     the_packages_are_those_of_the_release,
     the_checksums_are_of_each_package,
     another_folder_is_left_alone,
+    packages_stay_where_packing_fails,
     lintian_finds_no_error,
     the_archive_has_the_program_and_what_belongs_to_it,
     the_packages_ask_for_the_glibc_of_their_symbols,

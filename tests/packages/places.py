@@ -1,4 +1,4 @@
-"""Runs of `./install --library`, and of programs that are built with what it installed.
+"""`./install --library`, and programs that are built with the installed files.
 
 RUNS has a function for each run, named for what it shows; it yields what differs.
 """
@@ -40,6 +40,17 @@ def the_library_is_installed_and_removed():
         yield from differs("said", sorted(said.splitlines()[:-1]), sorted(f"installed {prefix}/{it}" for it in placed))
         yield from fails("uninstall", TOP / "install", "--uninstall", prefix)
         yield from differs("left", files_below(prefix), [])
+
+
+def a_prefix_may_be_relative():
+    """To the folder of the one who installs: what pkg-config reads names it from the top."""
+    with tempfile.TemporaryDirectory() as name:
+        folder = Path(name)
+        for prefix, place in ("prefix", "prefix"), ("./a/../b/", "b"):
+            status, said = ran(TOP / "install", "--library", prefix, folder=folder)
+            yield from differs(f"{prefix}: status and lines", (status, said.splitlines()[0]), (0, f"installed {folder}/{place}/bin/itchsnap"))
+            yield from differs(f"{prefix}: prefix", (folder / place / "lib/pkgconfig/itchsnap.pc").read_text().splitlines()[0], f"prefix={folder}/{place}")
+            yield from fails("uninstall", TOP / "install", "--uninstall", prefix, folder=folder)
 
 
 def pkg_config_names_what_a_program_needs():
@@ -85,6 +96,7 @@ def cmake_refuses_another_version():
 
 RUNS = [
     the_library_is_installed_and_removed,
+    a_prefix_may_be_relative,
     pkg_config_names_what_a_program_needs,
     cmake_finds_the_library,
     cmake_refuses_another_version,

@@ -1,4 +1,4 @@
-"""Runs of `./test` itself, on a machine that lacks what it needs.
+"""`./test` on a machine that lacks its tools.
 
 RUNS has a function for each run, named for what it shows; it yields what differs.
 """

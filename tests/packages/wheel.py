@@ -1,4 +1,4 @@
-"""Runs of the wheel of the Python package.
+"""The wheel of the Python package in a plain virtual environment.
 
 RUNS has a function for each run, named for what it shows; it yields what differs.
 """

@@ -1,4 +1,5 @@
-"""Runs of `live`, `follow` and `fetch` at a host that has two addresses, in a mount namespace whose /etc/hosts says so.
+"""`live`, `follow` and `fetch` at a host that has two addresses, in a mount namespace whose /etc/hosts says so: the first refuses, does not
+answer, or is lost repeatedly.
 
 RUNS has a function for each run, named for what it shows; it is given the program, and yields what differs.
 """

@@ -1,5 +1,5 @@
-"""Runs of `live`, `feed` and `follow` at the bounds of what they take: how many clients at a time, and how long a message or a packet is; and of
-the released C library, in whose joiners more than a million messages may wait.
+"""The limits of `live`, `feed` and `follow`: how many clients at a time, and how long a message or a packet may be; and more than a million
+waiting messages in a joiner of the released C library.
 
 RUNS has a function for each run, named for what it shows; it is given the program, and yields what differs.
 """
@@ -21,6 +21,8 @@ PLACES = 64
 LOOK, SECONDS = 1, 10
 # The longest message that fits a packet.
 LONGEST = 65_534
+# The end of a snapshot of nothing.
+END_1 = b"1"
 
 
 def block_of(length):
@@ -83,6 +85,19 @@ def so_many_clients_have_a_place(program):
         begin.set()
 
 
+def a_place_of_an_address_is_free_again_once_a_client_has_all(program):
+    """One after the other, where one client of an address has a place at a time; so do one that leaves before, and one that is rejected."""
+    day, wanted = day_of(20)
+    end = threading.Event()
+    with Feed(plays(day, wait=end, held=ENDED)) as feed, live(program, feed.port, "--clients", "2", "--clients-per-address", "1") as server:
+        waits_for(lambda: number_of(fetch(program, server.port, "--timeout", "5")[1] or END_1) == number_of(wanted))
+        for said, told_all in ((LOGIN, True), (LOGIN + b"\0\x01O", False), (LOGIN.replace(b"secret", b"wrong "), False)) * 2 + ((LOGIN, True),):
+            got = told(server.port, said)
+            yield from differs(f"{said!r}", got == answer(wanted), told_all)
+        end.set()
+        yield from differs("ended", server.ended()[0], 0)
+
+
 def messages_of_each_length_are_passed_on(program):
     """From 1 byte to as many as fit a packet: played, recorded, and followed. One that is longer ends the playing."""
     blocks = [block_of(it) for it in (1, 2, 61, 62, 63, 255, 256, 8191, 8192, 65_533, LONGEST)]
@@ -143,6 +158,7 @@ def more_than_a_million_messages_wait_in_a_joiner(_program):
 
 RUNS = [
     so_many_clients_have_a_place,
+    a_place_of_an_address_is_free_again_once_a_client_has_all,
     messages_of_each_length_are_passed_on,
     a_feed_is_played_from_each_number,
     what_comes_before_a_login_may_be_of_each_length,

@@ -1,4 +1,4 @@
-"""Runs of `live`, `follow` and `feed` in which each call of the system that is no read, write or allocation fails in turn (calls.c).
+"""`live`, `follow` and `feed` while each system call that is not a read, a write or an allocation fails in turn (calls.c).
 
 RUNS has a function for each run, named for what it shows; it is given the program, and yields what differs.
 """
@@ -182,6 +182,28 @@ def a_record_that_cannot_be_looked_at_is_lost(program):
             end.set()
 
 
+def what_gets_its_name_is_on_disk(program):
+    """Where nothing can be synced, no snapshot and no session file gets its name: that is said of the first, and ends the server at the second."""
+    day, wanted = day_of(60)
+    with shim() as library, folder_with() as folder:
+        (folder / "fails").touch()
+        (folder / "snapshots").mkdir()
+        environment = {"LD_PRELOAD": str(library), "FAIL": "sync:while", "FAILING": str(folder / "fails")}
+        end = threading.Event()
+        with Feed(plays(day, wait=end, held=ENDED)) as feed, \
+                live(program, feed.port, "--snapshots", folder / "snapshots", "--every", EVERY, **environment) as server:
+            yield from differs("told", is_told(server, answer(wanted)), True)
+            said = f"snapshots: 1 not written, the last one {folder}/snapshots/{EVERY}.snap: {REASON}\n"
+            yield from differs("said", server.said("snapshots: "), said)
+            yield from differs("snapshots", [it.name for it in (folder / "snapshots").glob("*.snap")], [])
+            end.set()
+        with Feed(plays(day, then=ENDED)) as feed, live(program, feed.port, "--record", folder / "record", "--sync", "no", **environment) as server:
+            status, _, lines = server.ended()
+            line = f"  {folder}/record.session: {REASON}\n"
+            yield from differs("a session file", (status, lines[-2:]), (3, ["itchsnap: cannot open\n", line]))
+            yield from differs("its name", (folder / "record.session").exists(), False)
+
+
 def a_feed_goes_on_where_a_call_fails(program):
     day, _ = day_of(30)
     wanted = acceptance(1) + b"".join(map(packet, split(day))) + ENDED
@@ -226,6 +248,7 @@ RUNS = [
     a_server_goes_on_where_a_call_at_a_socket_fails,
     a_server_goes_on_where_a_call_at_a_file_fails,
     a_record_that_cannot_be_looked_at_is_lost,
+    what_gets_its_name_is_on_disk,
     a_feed_goes_on_where_a_call_fails,
     a_follower_goes_on_where_a_call_fails,
 ]

@@ -1,4 +1,4 @@
-"""Runs of `at` with an index that does not fit the question or the feed: what the program would answer wrongly it refuses by name.
+"""`at` with an index that does not fit the point or the feed: it refuses whatever would lead to a wrong answer.
 
 RUNS has a function for each run, named for what it shows; it is given the program, and yields what differs.
 """
@@ -10,6 +10,7 @@ import subprocess
 import tempfile
 from pathlib import Path
 
+import failing
 from common import differs, ended_in, file, split
 from costs import cost
 
@@ -167,6 +168,28 @@ def a_long_line_is_passed_over_and_not_held(program):
             yield f"{taken}"
         wanted = 0, snapped(folder, program, "--after", "5"), b""
         yield from differs("after", ended_in(folder, program, "at", "d", "day.itch", "5"), wanted)
+        # What comes after half a megabyte of a line is of that line, and no line of its own: the snapshot that it names is not there.
+        index.write_bytes(lines[0] + b" " * (1 << 19) + lines[1])
+        (folder / "d/4.snap").unlink()
+        yield from differs("the rest of a line", ended_in(folder, program, "at", "d", "day.itch", "5"), wanted)
+
+
+def each_read_fails_in_turn(program):
+    """Of the index, the snapshot and the day: the file is named, and nothing is written."""
+    with folder_of(program, "--after", "2") as folder, tempfile.TemporaryDirectory() as apart:
+        shim, failed = failing.build_shim(apart), Path(apart) / "failed"
+        words = "at", "d", "day.itch", "5"
+        named = []
+        for nth in range(1, 100):
+            failed.unlink(missing_ok=True)
+            status, output, error = ended_in(folder, program, *words, LD_PRELOAD=str(shim), FAIL=f"read:{nth}", FAILED=str(failed))
+            if not failed.exists():
+                break
+            ending = b": Input/output error (os error 5)\n"
+            if (status, output) != (3, b"") or not error.endswith(ending):
+                yield f"read {nth}: {status}, {output!r}, {error!r}"
+            named.append(error.splitlines()[-1][2:-len(ending) + 1].decode())
+        yield from differs("named", list(dict.fromkeys(named)), ["d/index.jsonl", "day.itch", "d/2.snap"])
 
 
 def the_file_that_cannot_be_opened_is_named(program):
@@ -194,5 +217,6 @@ RUNS = (
     the_snapshots_of_another_day_are_refused,
     a_day_that_goes_on_is_the_same_day,
     a_long_line_is_passed_over_and_not_held,
+    each_read_fails_in_turn,
     the_file_that_cannot_be_opened_is_named,
 )

@@ -1,4 +1,4 @@
-"""Runs that may not cost more than others: the memory that order references far apart take, and what `compare --first` executes.
+"""Comparisons of costs: the memory of order references far apart, and the instructions of `compare --first`.
 
 RUNS has a function for each run, named for what it shows; it is given the program, and yields what differs.
 """

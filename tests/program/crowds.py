@@ -1,9 +1,10 @@
-"""Runs of `live` with many clients at once, with a feed that is cut at every byte, and with a reader of packets that nobody here wrote.
+"""`live` with many clients at once, with a feed that is cut at every byte, and with Wireshark's dissector, where that is installed.
 
 RUNS has a function for each run, named for what it shows; it is given the program, and yields what differs.
 """
 import collections
 import contextlib
+import re
 import shutil
 import socket
 import struct
@@ -14,12 +15,20 @@ import time
 from concurrent.futures import ThreadPoolExecutor
 from pathlib import Path
 
+import large
 from common import differs, split
-from living import (ENDED, LOGIN, Feed, acceptance, answer, connect, day_of, fetch, large_server, live, number_of, packet, plays, received, sends,
-                    told)
+from living import (ENDED, LOGIN, Feed, acceptance, answer, connect, day_of, feeding, fetch, folder_with, large_server, live, number_of, packet, plays,
+                    received, sends, told)
+from standby import waits_for
 
 PLACES = 64
 PORT = 5100
+
+
+def memory_of(process):
+    """The most memory that a process had so far, in kilobytes: of addresses, and of what it has written to."""
+    status = Path(f"/proc/{process.pid}/status").read_text()
+    return {kind: int(kilobytes) for kind, kilobytes in re.findall(r"^(VmPeak|VmHWM):\s+(\d+) kB$", status, re.M)}
 
 
 def told_at_a_byte_a_second(port, seconds):
@@ -39,6 +48,7 @@ def sixty_four_clients_at_once(program):
     """One never reads, one takes a byte a second, one sends nonsense, one logs in and leaves, and sixty have their 8 MB meanwhile."""
     fast = PLACES - 4
     with large_server(program) as (server, whole, end), contextlib.ExitStack() as held, ThreadPoolExecutor(PLACES) as clients:
+        before = memory_of(server.process)
         never = held.enter_context(connect(server.port, 4096))
         never.sendall(LOGIN)
         slow = clients.submit(told_at_a_byte_a_second, server.port, 60)
@@ -55,12 +65,27 @@ def sixty_four_clients_at_once(program):
             got = received(never)
             if len(got) == len(whole):
                 yield "a client that never read was told all"
+        # One snapshot for all, in 43 bytes for each message, and what is heard of each client.
+        room = 43 * len(split(whole)) + PLACES * 65_537 + (4 << 20)
+        for kind, kilobytes in memory_of(server.process).items():
+            if 1024 * (kilobytes - before[kind]) > room:
+                yield f"{kind} rose by {1024 * (kilobytes - before[kind])} bytes, for a snapshot of {len(whole)}"
         end.set()
         status, output, _ = server.ended(120)
     ends = collections.Counter(line.split(": ", 1)[1].split(" at ")[0] for line in output.decode().splitlines())
     # One that leaves with something unread resets its connection, which is a fault of its socket.
     gone = ends.pop("left", 0) + ends.pop("fault", 0)
     yield from differs("endings", (status, gone, ends), (0, 2, collections.Counter({"accepted": fast, "cut off": 2})))
+
+
+def a_snapshot_of_a_million_messages_is_served(program):
+    """By a server that has recorded them, to two clients."""
+    day, wanted = large.queue(1_000_000)
+    with folder_with(day=day) as folder, feeding(program, folder / "day", "--stay") as feed, \
+            live(program, feed.port, "--record", folder / "record", "--stay") as server:
+        waits_for(lambda: (folder / "record").exists() and (folder / "record").stat().st_size == len(day))
+        for _ in range(2):
+            yield from differs("fetched", fetch(program, server.port) == (0, wanted, b""), True)
 
 
 def is_asked_again(program, day, scripts):
@@ -140,6 +165,7 @@ def wireshark_reads_the_packets(program):
 
 RUNS = [
     sixty_four_clients_at_once,
+    a_snapshot_of_a_million_messages_is_served,
     a_feed_is_cut_at_every_byte_of_an_acceptance,
     a_feed_is_cut_at_every_byte_of_a_packet,
     wireshark_reads_the_packets,

@@ -1,4 +1,4 @@
-"""Runs of `feed` and `follow`, of the three in a row, and of what ends them.
+"""`feed` and `follow`, a row of `feed`, `live` and `follow`, and the reasons why each ends.
 
 RUNS has a function for each run, named for what it shows; it is given the program, and yields what differs.
 """
@@ -12,8 +12,10 @@ import threading
 import time
 
 from common import differs, ended_in, split
-from living import (BEAT, ENDED, LOGIN, PATIENCE, WORDS, Feed, acceptance, answer, connect, day_of, feeding, fetch, folder_with, follow,
+from living import (BEAT, ENDED, LOGIN, PATIENCE, WORDS, Feed, Running, acceptance, answer, connect, day_of, feeding, fetch, folder_with, follow,
                     live, number_of, packet, plays, received, sends, snapshot_after, told)
+from network import has_ipv6
+from standby import waits_for
 
 
 def a_feed_is_played_from_the_number_asked(program):
@@ -35,17 +37,18 @@ def a_feed_is_played_from_the_number_asked(program):
 
 
 def a_feed_says_how_a_client_went(program):
-    """One that is silent, one that logs in twice, one that logs out, and one that logs out before it has logged in."""
-    day, _ = day_of(20)
+    """One that is silent, one that logs in and takes nothing, one that logs in twice, one that logs out, and one that logs out before it has logged in."""
+    day = (b"\xea\x60" + b"z" * 60_000) * 200
     played = f"accepted from 1, {len(split(day))} packets"
-    with folder_with(day=day) as folder, feeding(program, folder / "day", "--stay", "--count", "4") as server:
-        with connect(server.port) as silent:
+    with folder_with(day=day) as folder, feeding(program, folder / "day", "--stay", "--count", "5") as server:
+        with connect(server.port) as silent, connect(server.port, 4096) as never:
+            never.sendall(LOGIN)
             for data in (LOGIN + LOGIN, LOGIN + b"\0\x01O", b"\0\x01O"):
                 told(server.port, data)
             yield from differs("silent", received(silent), b"")
-        status, output, _ = server.ended()
+            status, output, _ = server.ended()
     endings = [line.split(": ", 1)[1] for line in output.decode().splitlines()]
-    yield from differs("endings", (status, endings[0], endings[2:]), (0, "fault", ["left", "cut off"]))
+    yield from differs("endings", (status, endings[0], endings[2:]), (0, "fault", ["left", "cut off", "cut off"]))
     if not endings[1].startswith("accepted from 1, "):
         yield f"{endings[1]}, not as {played}"
 
@@ -132,6 +135,39 @@ def all_three_in_a_row(program):
             yield from differs(f"lines of {name}", said[-1], f"feed: ended at {last}\n")
 
 
+def a_follower_writes_at_once(program):
+    """Each message is written before the feed sends the next one, as blocks, as JSON, and after the whole snapshot."""
+    day, _ = day_of(30)
+    blocks, begins = split(day), 10
+    early = snapshot_after(program, day, begins)
+    lines = ended_lines(program, day)
+    whole = b"".join(split(early)[:-1])
+    for words, shown, first in (((), blocks, b""), (("--json",), lines, b""), (("--whole",), blocks, whole)):
+        goes, hold = threading.Semaphore(0), threading.Event()
+
+        def slowly(peer, login):
+            peer.sendall(acceptance(begins + 1))
+            for block in blocks[begins:begins + 4]:
+                goes.acquire(timeout=PATIENCE)
+                peer.sendall(packet(block))
+            hold.wait(PATIENCE)
+
+        with Feed(sends(answer(early))) as glimpse, Feed(slowly) as feed, follow(program, feed.port, glimpse.port, *words) as following:
+            following.said("feed: accepted")
+            for count in range(1, 5):
+                goes.release()
+                wanted = first + b"".join(shown[begins:begins + count])
+                waits_for(lambda: b"".join(following.output) == wanted, 10)
+                yield from differs(f"{words}, {count}", b"".join(following.output), wanted)
+            hold.set()
+
+
+def ended_lines(program, day):
+    """The lines of JSON of a day's messages."""
+    with folder_with(day=day) as folder:
+        return ended_in(folder, program, "show", "--json", "day")[1].splitlines(keepends=True)
+
+
 def a_follower_s_closed_pipe_ends_it_quietly(program):
     day, wanted = day_of(500)
     early = snapshot_after(program, day, 100)
@@ -167,6 +203,18 @@ def an_unknown_host_cannot_be_opened(program):
                 yield f"{words}: {status}, {output!r}, {error!r}"
 
 
+def a_feed_of_an_ipv6_address_is_followed(program):
+    if not has_ipv6():
+        print("skipped: a feed of an IPv6 address: there is no IPv6 here")
+        return
+    day, _ = day_of(20)
+    with folder_with(day=day) as folder, feeding(program, folder / "day", "--bind", "::1") as feed:
+        words = "--feed", f"[::1]:{feed.port}", "--port", "0", *WORDS, "--record", folder / "record"
+        with Running(program, "live", *words) as server:
+            yield from differs("ended", server.ended()[0], 0)
+        yield from differs("record", (folder / "record").read_bytes() == day, True)
+
+
 def words_that_do_not_go_together_are_refused(program):
     live_words = ["live", "--feed", "h:1", "--port", "0", *WORDS]
     follow_words = ["follow", "--feed", "h:1", "--glimpse", "h:2", *WORDS]
@@ -192,8 +240,10 @@ RUNS = [
     a_feed_is_played_at_a_rate,
     a_feed_of_no_day_file_is_refused,
     all_three_in_a_row,
+    a_follower_writes_at_once,
     a_follower_s_closed_pipe_ends_it_quietly,
     an_address_in_use_is_a_failed_socket,
     an_unknown_host_cannot_be_opened,
+    a_feed_of_an_ipv6_address_is_followed,
     words_that_do_not_go_together_are_refused,
 ]

@@ -1,4 +1,4 @@
-"""Runs of `fetch` at a server that is made here, and of `serve` with clients that are: each call failing in turn, and what is answered.
+"""`fetch` from a server of the test, and `serve` with clients of the test: each call failing in turn, and the answers.
 
 RUNS has a function for each run, named for what it shows; it is given the program, and yields what differs.
 """

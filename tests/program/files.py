@@ -1,4 +1,4 @@
-"""Runs over files that are refused, and the laws of snapshots over worked files.
+"""Refused files, and the laws of snapshots over worked files.
 
 RUNS has a function for each run, named for what it shows; it is given the program, and yields what differs.
 """

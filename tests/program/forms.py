@@ -1,4 +1,4 @@
-"""Runs whose output other programs read: JSON and comma-separated values, parsed by Python's own modules.
+"""JSON and comma-separated values, parsed by Python's own modules, for every character that a stock may have.
 
 RUNS has a function for each run, named for what it shows; it is given the program, and yields what differs.
 """

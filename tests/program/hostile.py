@@ -1,4 +1,4 @@
-"""Runs of `live` among clients that try to take it from the others, with side outputs that fail, and at feeds that refuse it once.
+"""`live` among clients that try to keep it from serving others, with side outputs that fail, and at feeds that reject it once.
 
 RUNS has a function for each run, named for what it shows; it is given the program, and yields what differs.
 """
@@ -6,6 +6,7 @@ import contextlib
 import fcntl
 import functools
 import os
+import re
 import resource
 import select
 import selectors
@@ -21,8 +22,9 @@ from typing import NamedTuple
 
 import large
 from common import differs, split
-from living import (BEAT, CLIENT_BEAT, ENDED, LOGIN, PATIENCE, SILENCE, Feed, acceptance, answer, connect, day_of, fetch, folder_with, live,
+from living import (BEAT, CLIENT_BEAT, ENDED, LOGIN, PATIENCE, SILENCE, Feed, acceptance, answer, block_in, connect, day_of, fetch, folder_with, live,
                     number_in, number_of, packet, plays, received, sends)
+from standby import waits_for
 
 ACCEPTED = len(acceptance(1))
 ORDERS, SYMBOLS, RATE = 200_000, 1000, 20_000
@@ -32,6 +34,8 @@ SLACK = 1
 DESCRIPTORS = 4096
 # A client hears something each second: for how long nothing may come, on such a machine.
 PAUSE = 1.9
+# For how long a client waits for room before another one makes room, and by when one that takes 100 KB a second is slow.
+ROOM, SLOW = 0.5, 6
 
 # Clients that log in, take an acceptance, leave and come again, until the process is ended: of a port, and so many at a time.
 HAMMER = """
@@ -294,6 +298,12 @@ def endings(server, what):
     return sum(line.endswith(what) for line in b"".join(server.output).decode().splitlines())
 
 
+def lines_of(server):
+    """The number of each connection that has ended, and how, in the order of their ends."""
+    lines = b"".join(server.output).decode().splitlines()
+    return [(int(number), ending) for number, ending in (it.removeprefix("connection ").split(": ", 1) for it in lines)]
+
+
 def twelve_slow_readers_have_room(program):
     """Each has a snapshot of its own: the next client has one at once, and none is cut off for it."""
     with busy_server(program) as (server, _), contextlib.ExitStack() as held:
@@ -315,6 +325,54 @@ def a_snapshot_waits_for_memory(program):
         yield from differs("it waits", BEAT in split(told.data), True)
         if abs(first.count - len(told.data)) > 1000:
             yield f"the first has {first.count} bytes, and the second {len(told.data)}"
+
+
+class Coming:
+    """A client that logs in, and is told its snapshot after some seconds."""
+
+    def __init__(self, port):
+        self.peer, self.begun = connect(port), time.monotonic()
+        self.peer.sendall(LOGIN)
+        self.accepted = received(self.peer, ACCEPTED)
+
+    def told(self):
+        """In how many seconds its snapshot began, and all that it is told."""
+        block = block_in(self.peer)
+        while block == BEAT:
+            block = block_in(self.peer)
+        seconds = time.monotonic() - self.begun
+        with contextlib.suppress(ConnectionError):
+            return seconds, self.accepted + block + received(self.peer)
+        return seconds, b""
+
+
+def the_reader_that_was_slow_for_longest_makes_room(program):
+    """There is memory for two. The first one is cut off once a client has waited for half a second: an earlier one, which has left, does not count."""
+    with busy_server(program, "--snapshot-memory", "20M") as (server, _), contextlib.ExitStack() as held:
+        for _ in range(2):
+            held.enter_context(Reader(server.port, 100_000, 4096)).has_begun()
+        # By now each has taken less than a megabyte a second, what the system holds for it included.
+        time.sleep(SLOW)
+        with Coming(server.port).peer as early:
+            # It waits for less than half a second.
+            early.settimeout(ROOM / 2)
+            with contextlib.suppress(TimeoutError):
+                received(early, 1)
+            early.settimeout(PATIENCE)
+            early.sendall(b"\0\x01O")
+            received(early)
+        time.sleep(ROOM)
+        coming = Coming(server.port)
+        waits_for(lambda: endings(server, "cut off as the slowest"))
+        seconds, (_, told) = time.monotonic() - coming.begun, coming.told()
+        if seconds < ROOM - 0.02:
+            yield f"the slowest is cut off after {seconds:.3f} seconds"
+        yield from differs("the next one is told the market", market().is_told(told), True)
+        coming.peer.close()
+        waits_for(lambda: lines_of(server)[-1][1].startswith("accepted at "))
+        (slowest, _), (next_one, _) = lines_of(server)[-2:]
+        yield from differs("the slowest, the other, the early one, and the next one came one after another", next_one - slowest, 3)
+        yield from differs("cut off as the slowest", endings(server, "cut off as the slowest"), 1)
 
 
 def eight_slow_readers_hinder_no_other(program):
@@ -449,6 +507,53 @@ def an_output_that_nobody_takes_does_not_end_it(program):
                 end.set()
 
 
+def lines_that_nobody_takes_do_not_end_it(program):
+    """Standard error is a pipe that is full by the time its feed is lost."""
+    day, wanted = day_of(20)
+    goes, end = threading.Event(), threading.Event()
+
+    def lost(peer, login):
+        peer.sendall(acceptance(1) + b"".join(map(packet, split(day)[:10])))
+        goes.wait(PATIENCE)
+
+    with folder_with() as folder, Feed(lost, plays(day, wait=end, held=ENDED)) as feed:
+        pipe = folder / "pipe"
+        os.mkfifo(pipe)
+        reader = os.open(pipe, os.O_RDWR)
+        with live(started_by(folder, program, output=f"2>{shlex.quote(str(pipe))}"), feed.port) as server:
+            said = b""
+            while b"feed: accepted from 1\n" not in said:
+                said += os.read(reader, 4096)
+            server.port = int(said.split(b"\n")[0].rsplit(b":", 1)[1])
+            os.set_blocking(reader, False)
+            with contextlib.suppress(BlockingIOError):
+                while True:
+                    os.write(reader, bytes(4096))
+            goes.set()
+            yield from goes_on_differs(program, server, wanted)
+            os.close(reader)
+            end.set()
+
+
+def a_feed_at_full_speed_hinders_no_client(program):
+    """One that always has more to read, of messages as short as they can be: who comes is told the snapshot within a few seconds."""
+    end, piece = threading.Event(), b"\0\x02Sz" * 50_000
+
+    def endless(peer, login):
+        peer.sendall(acceptance(number_in(login)))
+        while not end.is_set():
+            peer.sendall(piece)
+
+    with Feed(endless) as feed, live(program, feed.port) as server:
+        server.said("feed: accepted")
+        for _ in range(3):
+            told = told_within(server.port, 4 * SLACK)
+            whole = told.data.startswith(acceptance(1)) and told.data.endswith(ENDED) and number_of(told.data[:-len(ENDED)]) > 1
+            if not whole or told.seconds > 3 * SLACK:
+                yield f"{told.data[:100]!r} in {told.seconds:.2f} seconds"
+        end.set()
+
+
 def a_feed_that_refuses_a_login_once_is_asked_again(program):
     """After a loss it may be another server, which is a message behind. Wrong words at the first login end it."""
     day, _ = day_of(10)
@@ -520,11 +625,14 @@ RUNS = [
     a_thousand_that_never_log_in_hinder_nobody,
     twelve_slow_readers_have_room,
     a_snapshot_waits_for_memory,
+    the_reader_that_was_slow_for_longest_makes_room,
     eight_slow_readers_hinder_no_other,
     a_slow_reader_is_not_cut_off,
     snapshots_that_cannot_be_written_do_not_end_it,
     descriptors_are_left_for_the_feed_and_for_files,
     an_output_that_nobody_takes_does_not_end_it,
+    lines_that_nobody_takes_do_not_end_it,
+    a_feed_at_full_speed_hinders_no_client,
     a_feed_that_refuses_a_login_once_is_asked_again,
     a_feed_that_ends_before_any_message_is_asked_again,
     a_feed_that_begins_later_is_a_gap,

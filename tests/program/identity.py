@@ -1,4 +1,4 @@
-"""Runs of which day it is: sessions, records that are another day's, in use or changed, and what of a record is on disk.
+"""Sessions and records: records of another day, in use, changed or cut, and how much of a record is on disk.
 
 RUNS has a function for each run, named for what it shows; it is given the program, and yields what differs.
 """
@@ -64,6 +64,10 @@ def a_feed_that_rejects_the_session_of_a_record_is_asked_for_its_own(program):
         with Feed(rejected, rejected, plays(day, then=ENDED, session=b"DAY1")) as feed:
             got = live_in(folder, program, feed.port, "--record", "record")
             yield from differs("no answer", (got[:2], [session_in(it).strip() for it in feed.logins]), ((0, b""), [b"DAY1", b"", b"DAY1"]))
+        (folder / "record").write_bytes(kept)
+        with Feed(rejected, lambda peer, login: peer.recv(1), plays(day, then=ENDED, session=b"DAY1")) as feed:
+            got = live_in(folder, program, feed.port, "--record", "record")
+            yield from differs("silent", (got[:2], [session_in(it).strip() for it in feed.logins]), ((0, b""), [b"DAY1", b"", b"DAY1"]))
 
 
 def a_record_keeps_its_session(program):
@@ -142,8 +146,10 @@ def a_feed_names_its_day(program):
     """By its file's name, or as it is told; a server behind two days in a row serves the first one, and says that the other is another."""
     first, wanted = day_of(40)
     second, _ = day_of(60)
-    with folder_with(**{"monday.itch": first, "nasdaq-totalview-20240102.itch": second, ".itch": second}) as folder:
-        for name, session in (("monday.itch", b"monday"), ("nasdaq-totalview-20240102.itch", b"w-20240102"), (".itch", b"ITCHSNAP")):
+    names = {"monday.itch": b"monday", "nasdaq-totalview-20240102.itch": b"w-20240102", ".itch": b"ITCHSNAP", "tuesday.2.itch": b"tuesday", "day": b"day",
+             "tag-für-tag.itch": b"ITCHSNAP"}
+    with folder_with(**{**dict.fromkeys(names, second), "monday.itch": first}) as folder:
+        for name, session in names.items():
             with Running(program, "feed", folder / name, "--port", "0", *WORDS) as feed:
                 yield from differs(name, told(feed.port, LOGIN)[:len(acceptance(1))], acceptance(1, session))
         with Running(program, "feed", folder / "monday.itch", "--port", "0", "--stay", *WORDS) as feed:

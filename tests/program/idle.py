@@ -1,4 +1,4 @@
-"""Runs of servers that have nothing to do, or that can do nothing for a while: they take next to no processor time, and go on afterwards.
+"""Servers that have nothing to do, or that can do nothing for a while: they use next to no processor time, and continue afterwards.
 
 RUNS has a function for each run, named for what it shows; it is given the program, and yields what differs.
 """
@@ -11,11 +11,13 @@ from concurrent.futures import ThreadPoolExecutor
 from calls import is_told, shim, told_once
 from common import differs, split
 from living import ENDED, LOGIN, WORDS, Feed, Running, acceptance, answer, connect, day_of, feeding, folder_with, live, packet, plays, received
-from standby import closed_port
+from standby import closed_port, waits_for
 
 # The share of a processor that a server may take, also where a message is to be due soon, and for how long it is looked at.
 SHARE, SHARE_BEFORE_A_MESSAGE = 0.01, 0.05
 LOOK = 1
+# For how long a record is left alone.
+IDLE = 3
 # So many clients come while a call fails: more than the server has places.
 FEW, MANY = 2, 70
 
@@ -118,6 +120,26 @@ def an_idle_server_takes_next_to_no_processor_time(program):
             yield from look.result()
 
 
+def an_idle_server_leaves_its_record_alone(program):
+    """It is looked at once a second, and synced where something was added: here the next such call would fail, and end the server."""
+    day, wanted = day_of(20)
+
+    def differences(kind, most):
+        end = threading.Event()
+        with shim() as library, folder_with() as folder, Feed(plays(day, wait=end)) as feed:
+            environment = {"LD_PRELOAD": str(library), "FAIL": f"{kind}:{most + 1}", "FAILED": str(folder / "failed")}
+            with live(program, feed.port, "--record", folder / "record", **environment) as server:
+                waits_for(lambda: told_once(server.port) == answer(wanted))
+                time.sleep(IDLE)
+                yield from differs(f"more than {most} calls of {kind}", ((folder / "failed").exists(), server.process.poll()), (False, None))
+                end.set()
+
+    # A sync of the session file, and one of the record; some looks at the start, and one a second.
+    with ThreadPoolExecutor(2) as side_by_side:
+        for found in side_by_side.map(lambda row: list(differences(*row)), [("sync", 2), ("statx", 12)]):
+            yield from found
+
+
 def meanwhile(program, kind, start, count):
     """What differs where each call of a kind fails for a while: clients that come meanwhile are told nothing or all that there is, the server takes little time,
     and afterwards the next client is told all. `start` begins the server, and says what a client is told."""
@@ -161,5 +183,6 @@ def a_server_waits_while_calls_fail_and_goes_on_afterwards(program):
 
 RUNS = [
     an_idle_server_takes_next_to_no_processor_time,
+    an_idle_server_leaves_its_record_alone,
     a_server_waits_while_calls_fail_and_goes_on_afterwards,
 ]

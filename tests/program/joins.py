@@ -1,5 +1,4 @@
-"""Runs of `join` and `at` from snapshots of the day's first messages: whatever part of the day the feed has, what is written is what `snap`
-writes.
+"""`join` and `at` from each snapshot of a day to each part of the day: the output is that of `snap`.
 
 RUNS has a function for each run, named for what it shows; it is given the program, and yields what differs.
 """

@@ -1,4 +1,4 @@
-"""Runs of `live` with a record and snapshots that end at a call in turn: the process is killed there, or a write of it fails.
+"""`live` with a record and snapshots, killed at each call in turn, or with a write that fails: a restart continues with both.
 
 RUNS has a function for each run, named for what it shows; it is given the program, and yields what differs.
 """

@@ -70,6 +70,13 @@ def ladder(count):
     return entry(1) + b"".join(day), entry(1) + b"".join(left) + closing(2 + count + gone)
 
 
+def queue(count):
+    """`count` orders at one price, and their snapshot, in which they are in the same order."""
+    head, tail = added(0, 500)[:13], added(0, 500)[21:]
+    day = entry(1) + b"".join([head + reference.to_bytes(8, "big") + tail for reference in range(1, count + 1)])
+    return day, day + closing(2 + count)
+
+
 def far_references(count):
     """`count` orders whose references are as far apart as numbers of 64 bits allow, and their snapshot."""
     step = (2**64 - 1) // count

@@ -1,5 +1,4 @@
-"""Runs with lists: of locates, in the words or in a file of any size, and of the names of stocks; and what is read of them before any
-file is opened.
+"""Lists of locates on the command line or in a file of any size, lists of stocks, and faults that are found before a file is opened.
 
 RUNS has a function for each run, named for what it shows; it is given the program, and yields what differs.
 """

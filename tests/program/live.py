@@ -1,4 +1,4 @@
-"""Runs of `live`: a feed that is lost and comes back, clients of all kinds, records and snapshots.
+"""`live`: a feed that is lost and comes back, clients of all kinds, records and snapshots.
 
 RUNS has a function for each run, named for what it shows; it is given the program, and yields what differs.
 """
@@ -306,6 +306,25 @@ def a_client_reads_to_the_end_before_it_is_closed(program):
         yield from differs("status", server.ended()[0], 0)
 
 
+def a_client_that_never_closes_is_closed(program):
+    """15 seconds after it was told all: the server ends then."""
+    day, wanted = day_of(50)
+    end = threading.Event()
+    with Feed(plays(day, wait=end, held=ENDED)) as feed, live(program, feed.port) as server:
+        while number_of(fetch(program, server.port)[1]) < number_of(wanted):
+            time.sleep(0.05)
+        with connect(server.port) as peer:
+            peer.sendall(LOGIN)
+            yield from differs("told", received(peer), answer(wanted))
+            begun = time.monotonic()
+            end.set()
+            status, output, _ = server.ended()
+            seconds = time.monotonic() - begun
+        yield from differs("ended", (status, output.splitlines()[-1].endswith(b" packets")), (0, True))
+        if not SILENCE - 1 < seconds < SILENCE + 10:
+            yield f"it was closed after {seconds:.1f} seconds"
+
+
 def a_client_that_sends_no_more_is_told_all(program):
     """It ends its sending half after its login, and has its snapshot, and all messages of a feed."""
     day, wanted = day_of(200)
@@ -329,6 +348,23 @@ def a_client_that_sends_no_more_is_told_all(program):
     with folder_with(day=day) as folder, feeding(program, folder / "day", "--count", "1", "--rate", "200") as server:
         yield from differs("messages", told_after_login(server.port), whole)
         yield from differs("feed", server.ended(), (0, f"connection 1: accepted from 1, {len(blocks)} packets\n".encode(), []))
+
+
+def a_client_that_leaves_before_it_is_rejected_was_rejected(program):
+    """Its rejection waits for longer each time, and it does not wait for that; by `live` and by `feed`."""
+    day, _ = day_of(5)
+    end, wrong = threading.Event(), LOGIN.replace(b"secret", b"wrong ")
+    with Feed(plays(day, wait=end, held=ENDED)) as feed, live(program, feed.port) as server, folder_with(day=day) as folder, \
+            feeding(program, folder / "day") as other:
+        server.said("feed: accepted")
+        for which in server, other:
+            for _ in range(3):
+                with connect(which.port) as peer:
+                    peer.sendall(wrong)
+            which.has_lines(3)
+            lines = sorted(b"".join(which.output).splitlines())
+            yield from differs("lines", lines, [b"connection %d: rejected A" % number for number in (1, 2, 3)])
+        end.set()
 
 
 def a_client_that_resets_its_connection_is_a_fault(program):
@@ -450,7 +486,9 @@ RUNS = [
     each_client_is_told_what_it_asks,
     a_client_that_takes_nothing_hinders_no_other,
     a_client_reads_to_the_end_before_it_is_closed,
+    a_client_that_never_closes_is_closed,
     a_client_that_sends_no_more_is_told_all,
+    a_client_that_leaves_before_it_is_rejected_was_rejected,
     a_client_that_resets_its_connection_is_a_fault,
     a_server_that_was_stopped_keeps_its_feed,
     one_place_is_given_to_one_client_at_a_time,

@@ -1,15 +1,17 @@
-"""Runs with long inputs and odd words: a list of many locates, the longest message, words that are no text.
+"""Long inputs and unusual arguments: a list of many locates, the longest message, arguments that are not text.
 
 RUNS has a function for each run, named for what it shows; it is given the program, and yields what differs.
 """
 import importlib
 import struct
 import sys
+import tempfile
 import time
 from pathlib import Path
 
 import large
 from common import differs, ended
+from costs import cost
 
 TOP = Path(__file__).resolve().parent.parent.parent
 LONGEST = 65_535
@@ -154,6 +156,17 @@ def without_effect(kinds, count):
     return [blocks[kind] for _, kind in zip(range(count), kinds * count)]
 
 
+def three_million_live_orders_are_kept(program):
+    """In less than twice the memory of their day file."""
+    day, snapshot = large.queue(3_000_000)
+    with tempfile.TemporaryDirectory() as folder:
+        (Path(folder) / "day.itch").write_bytes(day)
+        taken = cost(program, "snap", f"{folder}/day.itch", "--output", f"{folder}/out.snap")
+        yield from differs("the snapshot", (taken.status, (Path(folder) / "out.snap").read_bytes() == snapshot), (0, True))
+        if 1024 * taken.kilobytes > 2 * len(day):
+            yield f"{taken}"
+
+
 def different_messages_with_one_effect_take_no_time(program):
     """Beside 100,000 live orders, so that a comparison of the markets at each of 200,000 pairs would take hours."""
     count = 100_000
@@ -181,6 +194,7 @@ RUNS = [
     words_that_are_no_utf_8_are_refused,
     a_word_of_100000_letters_is_refused,
     the_longest_message_is_read,
+    three_million_live_orders_are_kept,
     different_messages_with_one_effect_take_no_time,
     the_longest_message_waits_in_a_joiner,
 ]

@@ -1,4 +1,4 @@
-"""Runs of the program as a shell user meets it: its version, terminals, closed pipes, progress, `examples/parts`, and its manual.
+"""The program at a shell: its version, terminals, closed pipes, progress, `examples/parts`, and the manual page.
 
 RUNS has a function for each run, named for what it shows; it is given the program, and yields what differs.
 """
@@ -15,6 +15,7 @@ import time
 from pathlib import Path
 
 import large
+from common import differs
 
 TOP = Path(__file__).resolve().parent.parent.parent
 OPENING = TOP / "examples/opening.itch"
@@ -162,6 +163,34 @@ def progress_is_shown_every_64_mib(program):
             yield f"to a full device: status {unseen.returncode}, {unseen.stdout!r}"
 
 
+def progress_of_at_is_of_the_rest_of_its_day(program):
+    """From a checkpoint on, whose file counts too; and the time that is left is that of the bytes that are: the index is a pipe that comes two seconds
+    late, so that the end of the day is near by the time of the second line."""
+    count, before, late = 3_000_000, 1_500_000, 2
+    entry, closing = large.entry(1), large.closing(before + 2)
+    with tempfile.TemporaryDirectory() as name:
+        folder = Path(name)
+        (folder / "day").write_bytes(entry + TRADE * count)
+        (folder / f"{before + 1}.snap").write_bytes(entry + closing)
+        offset = len(entry) + before * len(TRADE)
+        (folder / "index.jsonl").write_text(f'{{"messages":{before + 1},"offset":{offset},"timestamp":0}}\n')
+        words = [program, "at", folder, folder / "day", str(count + 1), "--progress"]
+        done = subprocess.run(words, capture_output=True, timeout=120)
+        yield from differs("from a checkpoint", (done.returncode, done.stdout), (0, entry + large.closing(count + 2)))
+        rest = len(entry + closing) + (count - before) * len(TRADE)
+        shares = [(int(so_far) * 100 // rest, int(share)) for so_far, _, share in re.findall(rb"%s%s" % (SHOWN, LEFT), done.stderr)]
+        yield from differs("shares", [share for _, share in shares], [wanted for wanted, _ in shares] or ["a share"])
+        (folder / "index.jsonl").unlink()
+        os.mkfifo(folder / "index.jsonl")
+        with subprocess.Popen(words, stdout=subprocess.PIPE, stderr=subprocess.PIPE) as running:
+            time.sleep(late)
+            (folder / "index.jsonl").write_bytes(b"")
+            _, shown = running.communicate(timeout=120)
+        lefts = [int(it) for it in re.findall(rb", (\d+) s left", shown)]
+        if len(lefts) != 2 or lefts[0] < late or lefts[1] >= late:
+            yield f"{lefts} seconds are left"
+
+
 def what_is_wrongly_shown(error, length):
     """The lines that do not fit a file of an entry and then trades, of this length, and that file again."""
     entry = len(large.entry(1))
@@ -281,6 +310,7 @@ RUNS = [
     lines_are_shown_on_a_terminal,
     both_files_may_not_be_standard_input,
     progress_is_shown_every_64_mib,
+    progress_of_at_is_of_the_rest_of_its_day,
     the_rate_is_that_of_the_bytes_and_the_time,
     no_progress_is_shown_of_a_small_file,
     parts_are_the_whole_or_end_as_the_program_does,

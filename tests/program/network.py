@@ -1,5 +1,5 @@
-"""Runs of `serve` and `fetch` at addresses and ports of all kinds, with a password from a file or the environment, for a session, and
-with a time limit; and `fetch` at peers that are no SoupBinTCP servers.
+"""`serve` and `fetch` at addresses and ports of all kinds, with a password from a file or the environment, in a session, with a time limit,
+and with peers of other protocols.
 
 RUNS has a function for each run, named for what it shows; it is given the program, and yields what differs.
 """

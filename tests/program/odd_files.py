@@ -1,4 +1,4 @@
-"""Runs over unusual files: pipes, files that may not be read, a day file that goes away, and an index whose numbers are wrong.
+"""Unusual files: pipes, unreadable files, a day file that disappears, and an index with wrong numbers.
 
 RUNS has a function for each run, named for what it shows; it is given the program, and yields what differs.
 """

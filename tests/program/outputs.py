@@ -1,4 +1,4 @@
-"""Runs of the commands that write a snapshot to a file: it has its name once it is whole, and nothing is left of one that is not.
+"""Snapshots that are written to a file, a device or a pipe: the file appears only when it is complete.
 
 RUNS has a function for each run, named for what it shows; it is given the program, and yields what differs.
 """
@@ -100,6 +100,18 @@ def each_allocation_and_write_fails_in_turn(program):
                         yield f"{command}, {kind} {nth}: {got}, {left}"
 
 
+def nothing_is_left_of_a_file_that_gets_no_name(program):
+    """Where the file that is whole cannot be renamed, by each command that writes one."""
+    with folder_of_files() as folder, tempfile.TemporaryDirectory() as apart:
+        environment = {"LD_PRELOAD": str(failing.build_shim(apart, "calls.c")), "FAIL": "rename:1", "FAILED": str(Path(apart) / "failed")}
+        (folder / "out").mkdir()
+        for command in (*(f"{it} --output out.snap" for it in COMMANDS), "snap day.itch --to out"):
+            got = ended_in(folder, program, *command.split(), **environment)
+            path = "out/3.snap" if "--to" in command else "out.snap"
+            yield from differs(command, got, (3, b"", f"itchsnap: cannot open\n  {path}: Input/output error (os error 5)\n".encode()))
+            yield from differs(command, (names(folder), os.listdir(folder / "out")), (["out"], ["index.jsonl"] if "--to" in command else []))
+
+
 def a_device_is_written_as_it_is(program):
     with folder_of_files() as folder:
         yield from differs("/dev/null", ended_in(folder, program, "snap", "day.itch", "--output", "/dev/null"), (0, b"", b""))
@@ -133,6 +145,7 @@ RUNS = [
     nothing_is_left_of_a_refused_command,
     an_output_that_cannot_be_opened_is_named,
     each_allocation_and_write_fails_in_turn,
+    nothing_is_left_of_a_file_that_gets_no_name,
     a_device_is_written_as_it_is,
     what_is_fetched_is_written_to_a_file,
 ]

@@ -1,10 +1,12 @@
-"""Runs of when something comes: the pauses before a lost feed is asked again, and the messages of a feed that is played at a rate or by the clock.
+"""Times: the pauses before a lost feed is tried again, and messages that are played at a rate or by the clock.
 
 RUNS has a function for each run, named for what it shows; it is given the program, and yields what differs.
 
 A busy machine makes each thing late now and then, and nothing early. So nothing may be early, and in one of some attempts little may be late.
 """
 import contextlib
+import ctypes
+import os
 import socket
 import statistics
 import struct
@@ -12,10 +14,10 @@ import threading
 import time
 from concurrent.futures import ThreadPoolExecutor
 
-from common import split
-from living import (ENDED, LOGIN, Feed, acceptance, block_in, connect, day_of, feeding, folder_with, live, number_in, packet, plays, received, sends,
-                    told)
-from standby import closed_port
+from common import differs, split
+from living import (ENDED, LOGIN, Feed, acceptance, answer, block_in, connect, day_of, feeding, folder_with, follow, live, number_in, packet, plays,
+                    received, sends, snapshot_after, told)
+from standby import closed_port, waits_for
 
 # What a clock in milliseconds may be off at either end.
 TICK = 0.003
@@ -24,6 +26,8 @@ ATTEMPTS = 3
 PAUSES = [0.1, 0.2, 0.4, 0.8]
 LATE = 0.25
 RATE, MESSAGES = 10, 20
+# The number of the call of the system that gives a handle of another process.
+PIDFD_GETFD = 438
 
 
 def each_in_some_attempt(attempts):
@@ -155,9 +159,67 @@ def messages_are_played_one_by_one(program):
         yield from each_in_some_attempt([lambda row=row: spacing_differs(row[0], arrivals(row[1].port, row[2]), row[2]) for row in rows])
 
 
+def one_of_many_who_guess_waits_longer_each_time(program):
+    """256 addresses are known. Where there are more, the one that was quiet for longest is forgotten, and so not one that has just guessed."""
+    day, _ = day_of(20)
+    wrong, known = LOGIN.replace(b"secret", b"wrong "), 256
+
+    def guess(port, address):
+        with socket.create_connection(("127.0.0.1", port), timeout=60, source_address=(address, 0)) as peer:
+            begun = time.monotonic()
+            peer.sendall(wrong)
+            received(peer)
+            return time.monotonic() - begun
+
+    end = threading.Event()
+    with Feed(plays(day, wait=end)) as feed, live(program, feed.port) as server, ThreadPoolExecutor(32) as clients:
+        list(clients.map(lambda number: guess(server.port, f"127.1.0.{number}"), range(1, known)))
+        times = [guess(server.port, "127.2.0.1") for _ in range(2)]
+        guess(server.port, "127.2.0.2")
+        times += [guess(server.port, "127.2.0.1")]
+        if any(time < pause - TICK for time, pause in zip(times, PAUSES)):
+            yield f"told after {[round(it, 3) for it in times]} seconds"
+        end.set()
+
+
+def sockets_of(process):
+    """The connected sockets of a process, as handles of this one."""
+    libc, pidfd = ctypes.CDLL(None, use_errno=True), os.pidfd_open(process.pid)
+    try:
+        for name in os.listdir(f"/proc/{process.pid}/fd"):
+            with contextlib.suppress(OSError):
+                if os.readlink(f"/proc/{process.pid}/fd/{name}").startswith("socket:"):
+                    handle = libc.syscall(PIDFD_GETFD, pidfd, int(name), 0)
+                    if handle < 0:
+                        raise PermissionError(ctypes.get_errno(), "a socket of another process")
+                    with socket.socket(fileno=handle) as found:
+                        found.getpeername()
+                        yield found
+    finally:
+        os.close(pidfd)
+
+
+def no_packet_waits_for_the_next_one(program):
+    """The system holds none back (TCP_NODELAY): `live` and `follow` to their servers, `live` and `feed` to their clients."""
+    day, _ = day_of(20)
+    early, end = snapshot_after(program, day, 10), threading.Event()
+    with folder_with(day=day) as folder, Feed(sends(answer(early))) as glimpse, feeding(program, folder / "day", "--stay") as played, \
+            live(program, played.port, "--stay") as server, follow(program, played.port, glimpse.port) as following, connect(server.port) as client:
+        following.said("feed: accepted")
+        server.said("feed: accepted")
+        client.sendall(LOGIN[:9])
+        for label, which, count in ("live", server, 2), ("follow", following, 1), ("feed", played, 2):
+            waits_for(lambda: len(list(sockets_of(which.process))) == count)
+            delays = [it.getsockopt(socket.IPPROTO_TCP, socket.TCP_NODELAY) for it in sockets_of(which.process)]
+            yield from differs(label, [bool(it) for it in delays], [True] * count)
+        end.set()
+
+
 RUNS = [
     a_lost_feed_is_asked_again_after_longer_and_longer_pauses,
     a_refused_feed_is_asked_again_after_longer_and_longer_pauses,
     a_wrong_password_is_told_later_each_time,
+    one_of_many_who_guess_waits_longer_each_time,
+    no_packet_waits_for_the_next_one,
     messages_are_played_one_by_one,
 ]

@@ -1,5 +1,4 @@
-"""Runs of each command over files that are read and written in pieces: each read, each write and each allocation failing in turn, and
-each beginning of each file.
+"""Each command over files with pieces of one byte: each read, write and allocation failing in turn, and each beginning of each file.
 
 What is wanted is worked out from the blocks of the files. RUNS has a function for each run, named for what it shows; it is given the
 program, and yields what differs.

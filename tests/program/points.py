@@ -1,4 +1,4 @@
-"""Runs of `snap` with a folder: the snapshots of several points of a day file, written in one pass, and their index.
+"""`snap --to`: the snapshots of several points of a day file, and their index.
 
 RUNS has a function for each run, named for what it shows; it is given the program, and yields what differs.
 """
@@ -176,10 +176,12 @@ def a_folder_that_is_none_is_named(program):
 
 
 def a_file_of_the_folder_that_cannot_be_opened_is_named(program):
+    """It is not in the index, which has the snapshots before it."""
     with folder_of(DAY) as folder:
         (folder / "out/2.snap").mkdir()
         wanted = 3, b"", b"itchsnap: cannot open\n  out/2.snap: Is a directory (os error 21)\n"
         yield from differs("a folder", snap(folder, program, "--after 1,2"), wanted)
+        yield from differs("its index", (folder / "out/index.jsonl").read_bytes(), index_of([LINES[1]]))
         (folder / "out/1.snap.part").mkdir()
         wanted = 3, b"", b"itchsnap: cannot open\n  out/1.snap.part: Is a directory (os error 21)\n"
         yield from differs("a folder in place of its part", snap(folder, program, "--after 1,2"), wanted)

@@ -1,4 +1,4 @@
-"""Runs of `serve` and `fetch` in two processes, and of `serve` with peers that misbehave.
+"""`serve` and `fetch` in two processes, and `serve` with peers that misbehave.
 
 RUNS has a function for each run, named for what it shows; it is given the program, and yields what differs.
 """
@@ -237,6 +237,18 @@ def a_peer_killed_in_mid_answer_ends_nothing_else(program):
     yield from served_after(program, reset)
 
 
+def a_peer_that_breaks_the_protocol_is_not_waited_for(program):
+    """It says no packet, and goes on holding its connection: the next one is served at once."""
+    wanted = snapshot(program, EXAMPLES / "opening.itch")
+    with Server(program, EXAMPLES / "opening.itch", 2) as server, connect(server.port) as peer:
+        begun = time.monotonic()
+        peer.sendall(b"\0\0")
+        yield from fetched_differs(fetch(program, server.port), wanted)
+        if time.monotonic() - begun > 10:
+            yield f"it was waited for, for {time.monotonic() - begun:.1f} seconds"
+        yield from server.differences("fault", f"accepted from 1, {messages(wanted)} packets")
+
+
 def a_wrong_password_is_rejected(program):
     with Server(program, EXAMPLES / "opening.itch", 1) as server:
         got = fetch(program, server.port, password="wrong")
@@ -414,6 +426,7 @@ RUNS = [
     a_login_in_pieces_of_one_byte_is_answered,
     ten_thousand_debug_packets_are_passed_over,
     a_peer_that_does_not_read_ends_nothing_else,
+    a_peer_that_breaks_the_protocol_is_not_waited_for,
     a_wrong_password_is_rejected,
     a_refused_file_is_not_served,
     a_port_in_use_is_a_failed_socket,

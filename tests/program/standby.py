@@ -1,4 +1,4 @@
-"""Runs of `live` and `follow` with several servers of a feed, and with names that are looked up again.
+"""`live` and `follow` with several servers of a feed, and with names that are looked up again.
 
 RUNS has a function for each run, named for what it shows; it is given the program, and yields what differs.
 """
@@ -36,9 +36,9 @@ def closed_port():
         return listener.getsockname()[1]
 
 
-def waits_for(condition):
+def waits_for(condition, seconds=PATIENCE):
     begun = time.monotonic()
-    while not condition() and time.monotonic() < begun + PATIENCE:
+    while not condition() and time.monotonic() < begun + seconds:
         time.sleep(0.02)
 
 
@@ -156,6 +156,28 @@ def a_name_that_is_not_found_is_looked_up_again(program):
         end.set()
 
 
+def a_name_whose_address_changes_is_looked_up_again(program):
+    """Once its server is lost: the feed goes on at the new address."""
+    day, _ = day_of(20)
+    if subprocess.run([*ALONE, "true"], stderr=subprocess.DEVNULL).returncode != 0:
+        print("skipped: a name whose address changes: no namespaces of its own here")
+        return
+    moved = threading.Event()
+
+    def first_five(peer, login):
+        plays(day, until=5)(peer, login)
+        moved.wait(PATIENCE)
+
+    with folder_with(hosts=b"127.0.0.2 feed.test\n") as folder, Feed(first_five, address="127.0.0.2") as one, \
+            Feed(plays(day, then=ENDED), address="127.0.0.3", port=one.port) as other, \
+            Running(*WITH_HOSTS, folder / "hosts", program, "live", "--feed", f"feed.test:{one.port}", "--port", "0", *WORDS, **QUICK) as server:
+        server.said("feed: accepted from 1\n")
+        (folder / "hosts").write_bytes(b"127.0.0.3 feed.test\n")
+        moved.set()
+        status, _, _ = server.ended()
+        yield from differs("asked", (status, one.asked(), other.asked()), (0, [1], [6]))
+
+
 def words_of_a_second_feed_are_read(program):
     """It is HOST:PORT as the first, and there are at most eight."""
     base = ["live", "--feed", "h:1", "--port", "0", *WORDS]
@@ -173,5 +195,6 @@ RUNS = [
     a_rejection_that_is_tried_again_is_tried_at_the_next,
     a_refused_message_names_its_server,
     a_name_that_is_not_found_is_looked_up_again,
+    a_name_whose_address_changes_is_looked_up_again,
     words_of_a_second_feed_are_read,
 ]

@@ -1,4 +1,4 @@
-"""Runs of `./itchsnap` and `./install` in a fresh copy of the checkout: which program they are, and what they say of it.
+"""`./itchsnap` and `./install` in a fresh copy of the checkout: which program they choose and report.
 
 RUNS has a function for each run, named for what it shows; it is given the program, and yields what differs.
 """
@@ -8,6 +8,7 @@ import shutil
 import subprocess
 import sys
 import tempfile
+import time
 from concurrent.futures import ThreadPoolExecutor
 from pathlib import Path
 
@@ -102,6 +103,17 @@ def a_fresh_copy_takes_less_than_a_second_without_the_toolchain(_program):
             yield "something was built"
 
 
+def the_program_takes_the_place_of_its_script(_program):
+    """So a signal to the process ends it."""
+    with checkout() as copy, subprocess.Popen([copy.top / "itchsnap", "check"], stdin=subprocess.PIPE, stdout=subprocess.PIPE) as started:
+        begun, process = time.monotonic(), Path(f"/proc/{started.pid}/exe")
+        while process.readlink() != copy.top / "release/itchsnap" and time.monotonic() < begun + 10:
+            time.sleep(0.01)
+        yield from differs("the process is", process.readlink(), copy.top / "release/itchsnap")
+        output, _ = started.communicate((TOP / "examples/opening.itch").read_bytes(), timeout=60)
+        yield from differs("ended", (started.returncode, output), (0, b"ok 5 messages\n"))
+
+
 def a_checkout_may_be_read_only(_program):
     with checkout() as copy:
         subprocess.run(["chmod", "-R", "a+rX,a-w", copy.top], check=True)
@@ -144,6 +156,38 @@ def a_changed_source_is_proved_and_built(_program):
         yield from differs("a start after a change", copy.start("one", "two", rt=True), (0, "one two\n", wanted))
 
 
+def a_changed_definition_is_proved_and_built(_program):
+    """Or a changed list of crates: where nothing else was changed since the program was built."""
+    needed = f"{OTHER}. Proving and building it needs the Rattle toolchain: there is no command rt on the path\n"
+    with checkout() as copy:
+        copy.change()
+        for changed in "crates/itch_frame/specs/Blocks.antt", "crates.txt":
+            copy.start("one", rt=True)
+            yield from differs("as it was built", copy.start("one"), (0, "one\n", ""))
+            with open(copy.top / changed, "a") as file:
+                file.write("\n")
+            yield from differs(changed, copy.start("one"), (1, "", needed))
+
+
+def a_release_that_is_not_proved_is_not_made(_program):
+    """What is released stays, and nothing is left beside it."""
+    with checkout() as copy:
+        if subprocess.run([copy.top / "tools/pack", "--tools"], capture_output=True).returncode:
+            print("skipped: a release that is not proved: no tools for its packages here")
+            return
+        before = contents_below(copy.top / "release")
+        copy.change()
+        for fails in "lib", "run":
+            status, output, faults = copy.start(script="make-release", rt=True, FAILS=fails, PATH=f"{copy.folder}:{PLAIN}:{os.environ['PATH']}")
+            yield from differs(f"where {fails} fails", (status, output, faults.splitlines()[-1]), (1, "", "rt: not proved"))
+            yield from differs("the release", contents_below(copy.top / "release") == before, True)
+            yield from differs("left beside it", [it.name for it in copy.top.glob("release?*")], [])
+
+
+def contents_below(folder):
+    return {it.relative_to(folder): it.read_bytes() for it in folder.rglob("*") if it.is_file()}
+
+
 def of_two_starts_one_builds(_program):
     with checkout() as copy, ThreadPoolExecutor(2) as pool:
         copy.change()
@@ -174,6 +218,30 @@ def the_program_is_installed_with_its_page(_program):
             yield "another program was installed"
         checked = subprocess.run([bins / "itchsnap", "check", TOP / "examples/opening.itch"], capture_output=True, timeout=60)
         yield from differs("the installed program", (checked.returncode, checked.stdout), (0, b"ok 5 messages\n"))
+
+
+def all_may_use_what_is_installed(_program):
+    """Whatever the mask is of the one who installs it."""
+    with checkout() as copy:
+        prefix = copy.folder / "prefix"
+        prefix.mkdir()
+        status, _, faults = copy.start(prefix, script="install", before=["sh", "-c", 'umask 077; exec "$@"', "sh"])
+        yield from differs("install", (status, faults), (0, ""))
+        modes = {it: oct((prefix / it).stat().st_mode & 0o777) for it in PLACES}
+        yield from differs("modes", modes, {it: "0o755" if it.startswith("bin") else "0o644" for it in PLACES})
+
+
+def a_program_that_runs_may_be_installed_over(_program):
+    """It goes on as it was."""
+    with checkout() as copy:
+        prefix = copy.folder / "prefix"
+        copy.start(prefix, script="install")
+        with subprocess.Popen([prefix / "bin/itchsnap", "check"], stdin=subprocess.PIPE, stdout=subprocess.PIPE) as running:
+            yield from differs("install", copy.start(prefix, script="install")[0::2], (0, ""))
+            output, _ = running.communicate((TOP / "examples/opening.itch").read_bytes(), timeout=60)
+        yield from differs("the running program", (running.returncode, output), (0, b"ok 5 messages\n"))
+        checked = subprocess.run([prefix / "bin/itchsnap", "check", TOP / "examples/opening.itch"], capture_output=True, timeout=60)
+        yield from differs("the new one", (checked.returncode, checked.stdout), (0, b"ok 5 messages\n"))
 
 
 def what_is_installed_is_removed_and_no_more(_program):
@@ -222,13 +290,18 @@ def what_cannot_be_installed_is_one_line(_program):
 
 RUNS = [
     a_fresh_copy_takes_less_than_a_second_without_the_toolchain,
+    the_program_takes_the_place_of_its_script,
     a_checkout_may_be_read_only,
     the_released_version_has_the_records_hash,
     a_changed_source_needs_the_toolchain,
     a_changed_source_is_proved_and_built,
+    a_changed_definition_is_proved_and_built,
+    a_release_that_is_not_proved_is_not_made,
     of_two_starts_one_builds,
     the_gate_refuses_a_changed_source,
     the_program_is_installed_with_its_page,
+    all_may_use_what_is_installed,
+    a_program_that_runs_may_be_installed_over,
     what_is_installed_is_removed_and_no_more,
     without_a_prefix_the_home_folder_is_taken,
     what_cannot_be_installed_is_one_line,

@@ -1,8 +1,9 @@
-"""Runs of clients in unusual states: they send no more, or have gone, before there is a market or a place; and they wait while descriptors are short.
+"""Clients that stop sending, or leave, before there is a market or a place for them, and clients that wait while descriptors are short.
 
 RUNS has a function for each run, named for what it shows; it is given the program, and yields what differs.
 """
 import contextlib
+import select
 import socket
 import threading
 
@@ -90,6 +91,41 @@ def a_client_that_sends_no_more_waits_for_a_place(program):
         yield from rest_differs("client", heard, wanted)
 
 
+def clients_wait_before_the_session_is_known(program):
+    """They call before the feed has accepted a login, and nobody comes afterwards: each is told all there is."""
+    day, _ = day_of(20)
+    begin, end = threading.Event(), threading.Event()
+
+    def late(peer, login):
+        begin.wait()
+        plays(day, wait=end, held=ENDED)(peer, login)
+
+    with Feed(late) as feed, live(program, feed.port) as server, contextlib.ExitStack() as held:
+        clients = [asks(server.port, held) for _ in range(3)]
+        begin.set()
+        for place, client in enumerate(clients):
+            got = without_beats(received(client))
+            client.close()
+            yield from differs(f"client {place}", (got[:ACCEPTED], got[-len(ENDED):]), (acceptance(1), ENDED))
+        end.set()
+
+
+def places_are_given_in_the_order_of_those_who_come(program):
+    """At one place, which the first one has and then gives up."""
+    with before_a_market(program, "--clients", "1") as (server, _, _, _), contextlib.ExitStack() as held:
+        first = asks(server.port, held)
+        yield from differs("first", received(first, ACCEPTED), acceptance(1))
+        others = [asks(server.port, held) for _ in range(4)]
+        # By the time that this one is told, the logins of the others were heard.
+        yield from differs("rejected", told(server.port, LOGIN.replace(b"secret", b"wrong ")), b"\0\x02JA")
+        for place, other in enumerate(others):
+            first.close()
+            yield from differs(f"{place}", received(other, ACCEPTED), acceptance(1))
+            later = [it for it in others[place + 1:] if select.select([it], [], [], 0)[0]]
+            yield from differs(f"told something after {place}", len(later), 0)
+            first = other
+
+
 def clients_wait_while_descriptors_are_short(program):
     """More than there are descriptors for wait for a market: all are told it in the end, and meanwhile the server takes no time."""
     with folder_with() as folder, before_a_market(started_by(folder, program, "ulimit -n 20")) as (server, wanted, begin, _), \
@@ -117,6 +153,8 @@ def clients_of_a_feed_wait_while_descriptors_are_short(program):
 RUNS = [
     a_client_that_sends_no_more_waits_for_a_market,
     a_client_that_sends_no_more_waits_for_a_place,
+    clients_wait_before_the_session_is_known,
+    places_are_given_in_the_order_of_those_who_come,
     clients_wait_while_descriptors_are_short,
     clients_of_a_feed_wait_while_descriptors_are_short,
 ]

@@ -1,4 +1,4 @@
-"""Runs with words that ask for no work over files: help with its examples, completions, usage faults, lists of locates that are none.
+"""Help with its examples, completions, and usage errors.
 
 RUNS has a function for each run, named for what it shows; it is given the program, and yields what differs.
 """
@@ -32,6 +32,9 @@ FAULTS = [
     "snap --after 1 --after 2",
     "snap --until 9:30",
     "check --until 24:00",
+    "check --until 10:30:00:00",
+    "check --until 10:30:",
+    "check --until :30",
     "show --until 10:30:00.",
     "compare a b --until",
     "snap one two",
@@ -238,11 +241,14 @@ def zsh_completions_escape_what_ends_a_help_text(program):
 
 
 def paths_are_completed_where_they_are_written(program):
-    """Where a file or a folder is written, as where one is read."""
-    script = ended(program, "completions", "zsh")[1].decode()
+    """Where a file or a folder is written, as where one is read; no path is completed where a number is."""
+    zsh, fish = (ended(program, "completions", shell)[1].decode() for shell in ("zsh", "fish"))
     for option in ("output", "to", "record", "snapshots", "pass-file", "feed-pass-file"):
-        found = re.findall(rf"'--{option}\[.*\](.*)'", script)
-        yield from differs(option, set(found), {":file:_files"})
+        yield from differs(f"{option} of zsh", set(re.findall(rf"'--{option}\[.*\](.*)'", zsh)), {":file:_files"})
+        yield from differs(f"{option} of fish", set(re.findall(rf" -l {option}( -\w)? -d ", fish)), {" -r"})
+    for option in ("port", "after", "clients"):
+        yield from differs(f"{option} of zsh", set(re.findall(rf"'--{option}\[.*\](.*)'", zsh)), {":value:"})
+        yield from differs(f"{option} of fish", set(re.findall(rf" -l {option}( -\w)? -d ", fish)), {" -x"})
 
 
 def other_words_are_a_usage_fault(program):

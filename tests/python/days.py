@@ -1,13 +1,15 @@
-"""Runs of `Day`: times, numbers of messages, pieces, files of all kinds, memory, threads, and what is closed.
+"""`Day`: times, numbers of messages, pieces, files of all kinds, memory, threads, and closed days.
 
 RUNS has a function for each run, named for what it shows; it yields what differs.
 """
+import array
 import datetime
 import os
 import random
 import re
 import tempfile
 import threading
+import time
 from concurrent.futures import ThreadPoolExecutor
 from pathlib import Path
 
@@ -230,6 +232,39 @@ def a_large_day_takes_no_memory_but_that_of_its_market():
                 yield f"{taken} KiB of memory for a file of {LARGE >> 10}"
 
 
+def a_day_may_be_in_a_buffer_of_wider_items():
+    data = (DAY + b"\0\0" + bytes(7))[:len(DAY) + 2 + (-len(DAY) - 2) % 8]
+    for kind in "HIQ":
+        day = Day.of(array.array(kind, data))
+        yield from differs(f"items {kind}", (day.check(), bytes(day.blocks), day.snapshot()), (11, data, Day.of(DAY).snapshot()))
+        pieces = [bytes(blocks) for _, blocks in day.pieces(["00:01"])]
+        yield from differs(f"pieces of items {kind}", pieces, [bytes(blocks) for _, blocks in Day.of(data).pieces(["00:01"])])
+
+
+def other_threads_go_on_during_a_call():
+    """While a call takes long, the longest time that another thread has to wait is a small part of it, in one of three attempts."""
+    day, shares = Day.of(b"\0\1z" * 4_000_000), []
+    for _ in range(3):
+        times, ended = [], threading.Event()
+
+        def look():
+            while not ended.wait(0.001):
+                times.append(time.monotonic())
+
+        looking = threading.Thread(target=look)
+        looking.start()
+        begun = time.monotonic()
+        day.check()
+        seconds = time.monotonic() - begun
+        ended.set()
+        looking.join()
+        seen = [begun, *(it for it in times if begun < it < begun + seconds), begun + seconds]
+        shares.append(max(after - before for before, after in zip(seen, seen[1:])) / seconds)
+        if shares[-1] < 0.5:
+            return
+    yield f"another thread waits for {shares} of a call"
+
+
 def days_are_read_side_by_side():
     day = Day.of(generated())
     wanted = day.snapshot()
@@ -242,4 +277,5 @@ RUNS = [a_day_until_a_time_is_that_of_the_program, the_earlier_of_a_time_and_a_n
         hostile_days_until_a_time_are_those_of_the_program, a_message_of_each_type_may_end_a_day, each_byte_of_a_time_decides,
         a_day_ends_after_a_number_of_messages, times_are_given_in_four_ways, pieces_are_the_days_until_their_times,
         a_day_is_checked_as_by_the_program, days_are_compared, a_day_is_a_file_or_a_pipe, a_closed_day_refuses_each_call,
-        a_large_day_takes_no_memory_but_that_of_its_market, days_are_read_side_by_side]
+        a_large_day_takes_no_memory_but_that_of_its_market, a_day_may_be_in_a_buffer_of_wider_items, other_threads_go_on_during_a_call,
+        days_are_read_side_by_side]

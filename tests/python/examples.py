@@ -1,4 +1,4 @@
-"""Runs of the examples of the package, against what the program prints.
+"""The examples of the package, against the program's output.
 
 RUNS has a function for each run, named for what it shows; it yields what differs.
 """

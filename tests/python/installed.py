@@ -1,4 +1,4 @@
-"""Runs of the package as pip installs it, away from the checkout.
+"""The package as pip installs it, away from the checkout.
 
 RUNS has a function for each run, named for what it shows; it yields what differs.
 """

@@ -1,4 +1,4 @@
-"""Runs of `Joiner`: feeds in any order, what it answers to each message, and what it does not take.
+"""`Joiner`: feeds in any order, its answer to each message, and refused input.
 
 RUNS has a function for each run, named for what it shows; it yields what differs. No run reaches `TAKEN_NO_MEMORY`: it needs memory that is
 refused, as tests/program/memory.c does for the library.

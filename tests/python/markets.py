@@ -1,4 +1,4 @@
-"""Runs of `Market`: buffers of all kinds, pieces, look-ups beside lists, refusals, and what is closed.
+"""`Market`: buffers of all kinds, pieces, look-ups against lists, refusals, and closed markets.
 
 RUNS has a function for each run, named for what it shows; it yields what differs.
 """

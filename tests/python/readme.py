@@ -1,4 +1,4 @@
-"""Runs what python/README.md shows of Python, and sees that each public name is explained.
+"""The examples of python/README.md, and that each public name is explained.
 
 RUNS has a function for each run, named for what it shows; it yields what differs.
 """

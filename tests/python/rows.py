@@ -1,5 +1,5 @@
-"""The rows of the program's table, tests/program/runs.ini, answered by the package: what a row says of `snap`, `check`, `compare`, `canon`,
-`book` and `join` has to be what the same calls give. A row with words that the package has no call for is left out.
+"""The rows of tests/program/runs.ini for `snap`, `check`, `compare`, `canon`, `book` and `join`, by the package: the same bytes and refusals.
+Rows with arguments that the package has no call for are left out.
 
 RUNS has a function for each run, named for what it shows; it yields what differs.
 """

@@ -1,5 +1,6 @@
-"""Runs of both ends of a session, row by row as the tables of docs/FORMATS.md have it. A packet of the wrong side is none for the library,
-and leaves a session as it was.
+"""Both ends of a session, row by row of the tables of docs/FORMATS.md.
+
+A packet of the wrong side is none for the library, and leaves a session as it was.
 
 RUNS has a function for each run, named for what it shows; it yields what differs.
 """

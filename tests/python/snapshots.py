@@ -1,4 +1,4 @@
-"""Runs of `Snapshot`: as a value, as a file, and cut down to some locates.
+"""`Snapshot`: as a value, as a file, and limited to some locates.
 
 RUNS has a function for each run, named for what it shows; it yields what differs.
 """

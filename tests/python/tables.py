@@ -1,4 +1,4 @@
-"""Runs of the tables of orders and levels: against what the program prints, as sequences, and in numpy, pandas and pyarrow where these are.
+"""Orders and levels as tables: against the program's output, as sequences, and in numpy, pandas and pyarrow, where these are installed.
 
 RUNS has a function for each run, named for what it shows; it yields what differs.
 """

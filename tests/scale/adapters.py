@@ -1,4 +1,4 @@
-"""The adapters, over GNU parallel and Dask where they are installed, and over stand-ins for what they use of them.
+"""The adapters, over GNU parallel and Dask where they are installed, and over stand-ins for the parts of them that are used.
 
 RUNS has a function for each run of each engine, named for what it shows; it is given a folder, and yields what differs.
 """

@@ -1,4 +1,4 @@
-"""Jobs of many days done side by side by engines without an adapter, `xargs` and processes of Python's own, which are killed meanwhile.
+"""Jobs of many days at a time, by `xargs` and by processes of Python's own, which are killed and resumed.
 
 RUNS has a function for each run, named for what it shows; it is given a folder, and yields what differs.
 """

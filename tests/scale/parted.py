@@ -1,4 +1,4 @@
-"""Days in parts, which together are the whole, and tables of price levels.
+"""Days in parts, which together are the complete day, and tables of price levels.
 
 RUNS has a function for each run, named for what it shows; it is given a folder, and yields what differs.
 """

@@ -1,4 +1,4 @@
-"""The jobs that days come to, what the report says of them, and words that ask for none.
+"""Plans of jobs, reports on them, and usage errors.
 
 RUNS has a function for each run, named for what it shows; it is given a folder, and yields what differs.
 """

@@ -1,4 +1,4 @@
-"""Jobs of one day: what they make, when they make it again, and what becomes of days that are refused or cannot be read.
+"""Jobs of one day: their results, when a result is made again, and days that are refused or cannot be read.
 
 RUNS has a function for each run, named for what it shows; it is given a folder, and yields what differs.
 """
@@ -12,9 +12,10 @@ import subprocess
 import time
 import zlib
 
+import failing
 import kit
 import large
-from common import differs, file
+from common import differs, file, split
 from kit import JOB, PROGRAM, REFUSAL, REFUSED_DAY, Ended, Watched, attempts, bytes_of, job, manifest, runs_on, wait_until, write_day
 
 A_DAY = 24 * 60 * 60
@@ -87,6 +88,29 @@ def points_of_one_kind_are_one_pass(folder):
             name = "-".join([*limit, *([] if limit else ["end"])]).removeprefix("--").replace(":", "-") + (f".{part}" if part else "")
             yield from differs(f"{point} of {run}", bytes_of(out / f"day/{name}.snap"),
                                kit.program("snap", *limit, *(["--only", part] if part else []), plain))
+
+
+def times_have_fractions_of_any_length(folder):
+    """In one pass over several times; the messages come each millisecond."""
+    blocks = split(large.orders(30, symbols=5)[0])
+    data = b"".join(it[:7] + (number * 10**6).to_bytes(6, "big") + it[13:] for number, it in enumerate(blocks))
+    day, points = write_day(folder / "day.itch", data), ("00:00:00.01", "00:00:00.0205", "00:00:01")
+    yield from differs("ended", snapshots(folder / "out", "--points", ",".join(points), day).status, 0)
+    for point in points:
+        found = bytes_of(folder / f"out/day/until-{point.replace(':', '-')}.snap")
+        yield from differs(point, found, kit.program("snap", "--until", point, folder / "day.itch"))
+
+
+def what_is_not_on_the_disk_is_not_there(folder):
+    """Where a result or its manifest cannot be synced, the job fails, and the next one makes it."""
+    shim = failing.build_shim(folder)
+    day, out = write_day(folder / "day.itch", large.orders(50, symbols=5)[0]), folder / "out"
+    for nth in 1, 2:
+        environment = {**os.environ, "LD_PRELOAD": str(shim), "FAIL": f"sync:{nth}"}
+        done = subprocess.run([JOB, "snapshots", "--out", out, day], env=environment, capture_output=True, text=True, timeout=60)
+        yield from differs(f"sync {nth}", (done.returncode, done.stdout, done.stderr.count("\n")), (3, "", 1))
+        yield from differs(f"sync {nth}", job("report", "--out", out, day).output, "missing day/end.snap\n1 results, 0 refused, 1 missing\n")
+    yield from differs("again", snapshots(out, day), Ended(0, "made day/end.snap\n", ""))
 
 
 # Changes in the text of a manifest.
@@ -342,6 +366,8 @@ RUNS = [
     a_cut_day_is_a_failure_until_it_is_whole,
     failures_leave_nothing,
     points_of_one_kind_are_one_pass,
+    times_have_fractions_of_any_length,
+    what_is_not_on_the_disk_is_not_there,
     the_other_points_are_made_where_one_fails,
     a_killed_job_leaves_no_result_and_no_program,
     a_job_ends_with_its_parent_where_that_is_asked_for,

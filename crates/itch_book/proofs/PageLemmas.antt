@@ -43,7 +43,7 @@ module _ (directory : List (Option ℕ)) (pages : List Page) (is : IsPaged direc
       by (Some q) e = ap (λ (t : Page). t.links) (kept_page page m q h e)
 
 -- what a write of one link leaves of the pages
-module _ (directory : List (Option ℕ)) (pages : List Page) (is : IsPaged directory pages) (n p : ℕ) (there : place_at directory n ≡ Some p) (o : ℕ) (link was : Option ℕ) (live : ℕ) (small : o < 32)
+module _ (directory : List (Option ℕ)) (pages : List Page) (is : IsPaged directory pages) (n p : ℕ) (there : place_at directory n ≡ Some p) (o : ℕ) (link was : Option ℕ) (live : ℕ) (small : o < 128)
     (was_is : was ≡ get_or (page_at pages p).links o None) (sum : live + one_if was ≡ (page_at pages p).live + one_if link) where
   pub counted : live ≡ count_by is_some (set (page_at pages p).links o link)
   counted =
@@ -69,17 +69,17 @@ module _ (directory : List (Option ℕ)) (pages : List Page) (is : IsPaged direc
       }
 
 -- what keys have after a write
-pub written_link : (directory : List (Option ℕ)) (pages : List Page) (is : IsPaged directory pages) (key p : ℕ) (there : place_at directory (key / 32) ≡ Some p) (link : Option ℕ) (page : Page)
-    → page.links ≡ set (page_at pages p).links (key % 32) link
-    → (k : ℕ) → get_or (links_of (set pages p page) (place_at directory (k / 32))) (k % 32) None ≡ cond (eqb key k) link (get_or (links_of pages (place_at directory (k / 32))) (k % 32) None)
+pub written_link : (directory : List (Option ℕ)) (pages : List Page) (is : IsPaged directory pages) (key p : ℕ) (there : place_at directory (key / 128) ≡ Some p) (link : Option ℕ) (page : Page)
+    → page.links ≡ set (page_at pages p).links (key % 128) link
+    → (k : ℕ) → get_or (links_of (set pages p page) (place_at directory (k / 128))) (k % 128) None ≡ cond (eqb key k) link (get_or (links_of pages (place_at directory (k / 128))) (k % 128) None)
 written_link directory pages is key p there link page links k =
-    let size = (is.page (key / 32) p there).size in
-    let small : key % 32 < length (page_at pages p).links = omega arith in
+    let size = (is.page (key / 128) p there).size in
+    let small : key % 128 < length (page_at pages p).links = omega arith in
     at_key_written (λ m. links_of pages (place_at directory m)) (λ m. links_of (set pages p page) (place_at directory m)) key link
-    (λ j h. ap (λ (xs : List (Option ℕ)). get_or xs j None) (ap (links_of (set pages p page)) there ∙ ap (λ (t : Page). t.links) (new_page directory pages is (key / 32) p there page) ∙ links)
-    ∙ set_read (page_at pages p).links (key % 32) j link None small
-    ∙ ap (λ (xs : List (Option ℕ)). cond (eqb (key % 32) j) link (get_or xs j None)) (sym (ap (links_of pages) there)))
-    (λ m h. kept_links directory pages is (key / 32) p there page m h)
+    (λ j h. ap (λ (xs : List (Option ℕ)). get_or xs j None) (ap (links_of (set pages p page)) there ∙ ap (λ (t : Page). t.links) (new_page directory pages is (key / 128) p there page) ∙ links)
+    ∙ set_read (page_at pages p).links (key % 128) j link None small
+    ∙ ap (λ (xs : List (Option ℕ)). cond (eqb (key % 128) j) link (get_or xs j None)) (sym (ap (links_of pages) there)))
+    (λ m h. kept_links directory pages is (key / 128) p there page m h)
     k
 
 -- a number that has a page is within the directory
@@ -120,18 +120,18 @@ module _ (directory : List (Option ℕ)) (pages : List Page) (is : IsPaged direc
   pub closed_empty : links_of (set pages p page) (place_at (set directory n None) n) ≡ []
   closed_empty = ap (links_of (set pages p page)) no_place
 
-pub closed_link : (directory : List (Option ℕ)) (pages : List Page) (is : IsPaged directory pages) (key p : ℕ) (there : place_at directory (key / 32) ≡ Some p) (page : Page)
-    → count_by is_some (set (page_at pages p).links (key % 32) None) ≡ 0
-    → (k : ℕ) → get_or (links_of (set pages p page) (place_at (set directory (key / 32) None) (k / 32))) (k % 32) None ≡ cond (eqb key k) None (get_or (links_of pages (place_at directory (k / 32))) (k % 32) None)
+pub closed_link : (directory : List (Option ℕ)) (pages : List Page) (is : IsPaged directory pages) (key p : ℕ) (there : place_at directory (key / 128) ≡ Some p) (page : Page)
+    → count_by is_some (set (page_at pages p).links (key % 128) None) ≡ 0
+    → (k : ℕ) → get_or (links_of (set pages p page) (place_at (set directory (key / 128) None) (k / 128))) (k % 128) None ≡ cond (eqb key k) None (get_or (links_of pages (place_at directory (k / 128))) (k % 128) None)
 closed_link directory pages is key p there page none k =
-    let size = (is.page (key / 32) p there).size in
-    let small : key % 32 < length (page_at pages p).links = omega arith in
-    at_key_written (λ m. links_of pages (place_at directory m)) (λ m. links_of (set pages p page) (place_at (set directory (key / 32) None) m)) key None
-    (λ j h. ap (λ (xs : List (Option ℕ)). get_or xs j None) (closed_empty directory pages is (key / 32) p there page)
-    ∙ sym (none_counted (set (page_at pages p).links (key % 32) None) j none)
-    ∙ set_read (page_at pages p).links (key % 32) j None None small
-    ∙ ap (λ (xs : List (Option ℕ)). cond (eqb (key % 32) j) None (get_or xs j None)) (sym (ap (links_of pages) there)))
-    (λ m h. closed_links directory pages is (key / 32) p there page m h)
+    let size = (is.page (key / 128) p there).size in
+    let small : key % 128 < length (page_at pages p).links = omega arith in
+    at_key_written (λ m. links_of pages (place_at directory m)) (λ m. links_of (set pages p page) (place_at (set directory (key / 128) None) m)) key None
+    (λ j h. ap (λ (xs : List (Option ℕ)). get_or xs j None) (closed_empty directory pages is (key / 128) p there page)
+    ∙ sym (none_counted (set (page_at pages p).links (key % 128) None) j none)
+    ∙ set_read (page_at pages p).links (key % 128) j None None small
+    ∙ ap (λ (xs : List (Option ℕ)). cond (eqb (key % 128) j) None (get_or xs j None)) (sym (ap (links_of pages) there)))
+    (λ m h. closed_links directory pages is (key / 128) p there page m h)
     k
 
 -- a directory that reads the same
@@ -182,29 +182,29 @@ module _ (directory further : List (Option ℕ)) (old new : List Page) (is : IsP
       by (Some q) h = ap (λ (t : Page). t.links) (used_place m q h)
 
 -- a new page under its number
-pub fresh_page : (n o link : ℕ) (page : Page) → o < 32 → page.number ≡ n → page.links ≡ set (replicate 32 None) o (Some link) → page.live ≡ 1 → IsPage n page
+pub fresh_page : (n o link : ℕ) (page : Page) → o < 128 → page.number ≡ n → page.links ≡ set (replicate 128 None) o (Some link) → page.live ≡ 1 → IsPage n page
 fresh_page n o link page small number links live = record {
-  size = ap (λ (xs : List (Option ℕ)). length xs) links ∙ length-set (replicate 32 None) o (Some link);
+  size = ap (λ (xs : List (Option ℕ)). length xs) links ∙ length-set (replicate 128 None) o (Some link);
   live =
-      let c = count_set (replicate 32 None) o (Some link) small in
-      let r : one_if (get_or (replicate 32 None) o None) ≡ 0 = ap one_if (get_or-replicate 32 o None None small) in
-      let nothing : Option ℕ = None in let s : count_by is_some (replicate 32 nothing) ≡ 0 = refl in
-      let t : count_by is_some page.links ≡ count_by is_some (set (replicate 32 None) o (Some link)) = ap (count_by is_some) links in omega arith;
+      let c = count_set (replicate 128 None) o (Some link) small in
+      let r : one_if (get_or (replicate 128 None) o None) ≡ 0 = ap one_if (get_or-replicate 128 o None None small) in
+      let nothing : Option ℕ = None in let s : count_by is_some (replicate 128 nothing) ≡ 0 = refl in
+      let t : count_by is_some page.links ≡ count_by is_some (set (replicate 128 None) o (Some link)) = ap (count_by is_some) links in omega arith;
   number = number;
   busy = omega arith;
 }
 
 pub opened_link : (directory further : List (Option ℕ)) (old new : List Page) (is : IsPaged directory old) (same : (n : ℕ) → place_at further n ≡ place_at directory n) (key p link : ℕ) (page : Page)
-    → place_at directory (key / 32) ≡ None → key / 32 < length further → IsOpened old p page new → page.links ≡ set (replicate 32 None) (key % 32) (Some link)
-    → (k : ℕ) → get_or (links_of new (place_at (set further (key / 32) (Some p)) (k / 32))) (k % 32) None ≡ cond (eqb key k) (Some link) (get_or (links_of old (place_at directory (k / 32))) (k % 32) None)
+    → place_at directory (key / 128) ≡ None → key / 128 < length further → IsOpened old p page new → page.links ≡ set (replicate 128 None) (key % 128) (Some link)
+    → (k : ℕ) → get_or (links_of new (place_at (set further (key / 128) (Some p)) (k / 128))) (k % 128) None ≡ cond (eqb key k) (Some link) (get_or (links_of old (place_at directory (k / 128))) (k % 128) None)
 opened_link directory further old new is same key p link page none reach opened links k =
-    let small : key % 32 < 32 = omega arith in
-    at_key_written (λ m. links_of old (place_at directory m)) (λ m. links_of new (place_at (set further (key / 32) (Some p)) m)) key (Some link)
+    let small : key % 128 < 128 = omega arith in
+    at_key_written (λ m. links_of old (place_at directory m)) (λ m. links_of new (place_at (set further (key / 128) (Some p)) m)) key (Some link)
     (λ j h. ap (λ (xs : List (Option ℕ)). get_or xs j None)
-    (ap (links_of new) (own_place directory further old new is same (key / 32) p page none reach opened) ∙ ap (λ (t : Page). t.links) (own_page directory further old new is same (key / 32) p page none reach opened) ∙ links)
-    ∙ set_read (replicate 32 None) (key % 32) j (Some link) None small
-    ∙ ap (cond (eqb (key % 32) j) (Some link)) (get_or-replicate 32 j None None h ∙ ap (λ (xs : List (Option ℕ)). get_or xs j None) (sym (ap (links_of old) none))))
-    (λ m h. opened_links directory further old new is same (key / 32) p page none reach opened m h)
+    (ap (links_of new) (own_place directory further old new is same (key / 128) p page none reach opened) ∙ ap (λ (t : Page). t.links) (own_page directory further old new is same (key / 128) p page none reach opened) ∙ links)
+    ∙ set_read (replicate 128 None) (key % 128) j (Some link) None small
+    ∙ ap (cond (eqb (key % 128) j) (Some link)) (get_or-replicate 128 j None None h ∙ ap (λ (xs : List (Option ℕ)). get_or xs j None) (sym (ap (links_of old) none))))
+    (λ m h. opened_links directory further old new is same (key / 128) p page none reach opened m h)
     k
 
 -- a page that was read, and then written
@@ -215,13 +215,13 @@ module _ (directory : List (Option ℕ)) (pages : List Page) (is : IsPaged direc
   own_is : IsPage n page
   own_is = subst (λ (t : Page). IsPage n t) (sym own) (is.page n p there)
 
-  pub own_offset : (o : ℕ) → o < 32 → o < length page.links
+  pub own_offset : (o : ℕ) → o < 128 → o < length page.links
   own_offset o h = let size = own_is.size in omega arith
 
   pub own_live : page.live ≡ count_by is_some page.links
   own_live = own_is.live
 
-  module _ (o : ℕ) (link was : Option ℕ) (live : ℕ) (new : Page) (small : o < 32) (was_is : was ≡ get_or page.links o None) (new_is : new ≡ written page o link live page.number)
+  module _ (o : ℕ) (link was : Option ℕ) (live : ℕ) (new : Page) (small : o < 128) (was_is : was ≡ get_or page.links o None) (new_is : new ≡ written page o link live page.number)
       (sum : live + one_if was ≡ page.live + one_if link) where
     links_is : new.links ≡ set (page_at pages p).links o link
     links_is = ap (λ (t : Page). t.links) new_is ∙ ap (λ (t : Page). set t.links o link) own
@@ -249,29 +249,29 @@ module _ (directory : List (Option ℕ)) (pages : List Page) (is : IsPaged direc
     none_left e = sym (counted directory pages is n p there o link was live small first_links first_sum) ∙ e
 
 -- what keys have after a link was written, and after a page was closed
-module _ (directory : List (Option ℕ)) (pages : List Page) (is : IsPaged directory pages) (key p : ℕ) (there : place_at directory (key / 32) ≡ Some p) (page : Page) (read : page ≡ get_or pages p page)
-    (link was : Option ℕ) (live : ℕ) (new : Page) (was_is : was ≡ get_or page.links (key % 32) None) (new_is : new ≡ written page (key % 32) link live page.number) (sum : live + one_if was ≡ page.live + one_if link) where
-  pub rewritten_link : (k : ℕ) → get_or (links_of (set pages p new) (place_at directory (k / 32))) (k % 32) None ≡ cond (eqb key k) link (get_or (links_of pages (place_at directory (k / 32))) (k % 32) None)
-  rewritten_link k = let small : key % 32 < 32 = omega arith in
-      written_link directory pages is key p there link new (links_is directory pages is (key / 32) p there page read (key % 32) link was live new small was_is new_is sum) k
+module _ (directory : List (Option ℕ)) (pages : List Page) (is : IsPaged directory pages) (key p : ℕ) (there : place_at directory (key / 128) ≡ Some p) (page : Page) (read : page ≡ get_or pages p page)
+    (link was : Option ℕ) (live : ℕ) (new : Page) (was_is : was ≡ get_or page.links (key % 128) None) (new_is : new ≡ written page (key % 128) link live page.number) (sum : live + one_if was ≡ page.live + one_if link) where
+  pub rewritten_link : (k : ℕ) → get_or (links_of (set pages p new) (place_at directory (k / 128))) (k % 128) None ≡ cond (eqb key k) link (get_or (links_of pages (place_at directory (k / 128))) (k % 128) None)
+  rewritten_link k = let small : key % 128 < 128 = omega arith in
+      written_link directory pages is key p there link new (links_is directory pages is (key / 128) p there page read (key % 128) link was live new small was_is new_is sum) k
 
   pub emptied_link : (last : Page) → link ≡ None → live ≡ 0
-      → (k : ℕ) → get_or (links_of (set pages p last) (place_at (set directory (key / 32) None) (k / 32))) (k % 32) None ≡ cond (eqb key k) None (get_or (links_of pages (place_at directory (k / 32))) (k % 32) None)
-  emptied_link last e gone k = let small : key % 32 < 32 = omega arith in
+      → (k : ℕ) → get_or (links_of (set pages p last) (place_at (set directory (key / 128) None) (k / 128))) (k % 128) None ≡ cond (eqb key k) None (get_or (links_of pages (place_at directory (k / 128))) (k % 128) None)
+  emptied_link last e gone k = let small : key % 128 < 128 = omega arith in
       closed_link directory pages is key p there last
-      (ap (λ (x : Option ℕ). count_by is_some (set (page_at pages p).links (key % 32) x)) (sym e) ∙ none_left directory pages is (key / 32) p there page read (key % 32) link was live new small was_is new_is sum gone) k
+      (ap (λ (x : Option ℕ). count_by is_some (set (page_at pages p).links (key % 128) x)) (sym e) ∙ none_left directory pages is (key / 128) p there page read (key % 128) link was live new small was_is new_is sum gone) k
 
 one_known : (o : Option ℕ) → IsSome o → one_if o ≡ 1
 one_known None h = absurd (let no_one : ⊥ = cc in no_one)
 one_known (Some x) h = refl
 
 -- a key that has a link has one in its page
-pub known_counts : (directory : List (Option ℕ)) (pages : List Page) (is : IsPaged directory pages) (key p : ℕ) (there : place_at directory (key / 32) ≡ Some p) (page : Page) (read : page ≡ get_or pages p page)
-    → IsSome (get_or (links_of pages (place_at directory (key / 32))) (key % 32) None) → one_if (get_or page.links (key % 32) None) ≡ 1
+pub known_counts : (directory : List (Option ℕ)) (pages : List Page) (is : IsPaged directory pages) (key p : ℕ) (there : place_at directory (key / 128) ≡ Some p) (page : Page) (read : page ≡ get_or pages p page)
+    → IsSome (get_or (links_of pages (place_at directory (key / 128))) (key % 128) None) → one_if (get_or page.links (key % 128) None) ≡ 1
 known_counts directory pages is key p there page read known =
-    one_known (get_or page.links (key % 32) None)
+    one_known (get_or page.links (key % 128) None)
     (subst (λ (o : Option ℕ). IsSome o)
-    (ap (λ x. get_or (links_of pages x) (key % 32) None) there ∙ ap (λ (t : Page). get_or t.links (key % 32) None) (sym (own directory pages is (key / 32) p there page read))) known)
+    (ap (λ x. get_or (links_of pages x) (key % 128) None) there ∙ ap (λ (t : Page). get_or t.links (key % 128) None) (sym (own directory pages is (key / 128) p there page read))) known)
 
 pub any_err : {T E : Type 0} {P : Type 0} (r : Result T E) → P → OnErr r P
 any_err (Ok x) h = tt

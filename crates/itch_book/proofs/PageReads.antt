@@ -18,24 +18,24 @@ set_read {X} xs o j x d h =
 
 -- a write of one link, seen through the keys
 pub at_key_written : (f g : ℕ → List (Option ℕ)) (key : ℕ) (link : Option ℕ)
-    → ((o : ℕ) → o < 32 → get_or (g (key / 32)) o None ≡ cond (eqb (key % 32) o) link (get_or (f (key / 32)) o None))
-    → ((n : ℕ) → eqb (key / 32) n ≡ false → g n ≡ f n)
-    → (k : ℕ) → get_or (g (k / 32)) (k % 32) None ≡ cond (eqb key k) link (get_or (f (k / 32)) (k % 32) None)
+    → ((o : ℕ) → o < 128 → get_or (g (key / 128)) o None ≡ cond (eqb (key % 128) o) link (get_or (f (key / 128)) o None))
+    → ((n : ℕ) → eqb (key / 128) n ≡ false → g n ≡ f n)
+    → (k : ℕ) → get_or (g (k / 128)) (k % 128) None ≡ cond (eqb key k) link (get_or (f (k / 128)) (k % 128) None)
 at_key_written f g key link here others k =
-    by_test (eqb (key / 32) (k / 32))
-    (λ e. let is : key / 32 ≡ k / 32 = eqb_is (key / 32) (k / 32) e in
-    let small : k % 32 < 32 = omega arith in
-    let same : eqb (key % 32) (k % 32) ≡ eqb key k = tests_agree key k is in
-    subst (λ n. get_or (g n) (k % 32) None ≡ cond (eqb key k) link (get_or (f n) (k % 32) None)) is
-    (here (k % 32) small ∙ ap (λ b. cond b link (get_or (f (key / 32)) (k % 32) None)) same))
+    by_test (eqb (key / 128) (k / 128))
+    (λ e. let is : key / 128 ≡ k / 128 = eqb_is (key / 128) (k / 128) e in
+    let small : k % 128 < 128 = omega arith in
+    let same : eqb (key % 128) (k % 128) ≡ eqb key k = tests_agree key k is in
+    subst (λ n. get_or (g n) (k % 128) None ≡ cond (eqb key k) link (get_or (f n) (k % 128) None)) is
+    (here (k % 128) small ∙ ap (λ b. cond b link (get_or (f (key / 128)) (k % 128) None)) same))
     (λ e. let apart : eqb key k ≡ false = apart_keys key k e in
-    ap (λ (xs : List (Option ℕ)). get_or xs (k % 32) None) (others (k / 32) e) ∙ ap (λ b. cond b link (get_or (f (k / 32)) (k % 32) None)) (sym apart))
+    ap (λ (xs : List (Option ℕ)). get_or xs (k % 128) None) (others (k / 128) e) ∙ ap (λ b. cond b link (get_or (f (k / 128)) (k % 128) None)) (sym apart))
   where
-    tests_agree : (a b : ℕ) → a / 32 ≡ b / 32 → eqb (a % 32) (b % 32) ≡ eqb a b
+    tests_agree : (a b : ℕ) → a / 128 ≡ b / 128 → eqb (a % 128) (b % 128) ≡ eqb a b
     tests_agree a b h = grind (arith, nat_tests)
 
-    apart_keys : (a b : ℕ) → eqb (a / 32) (b / 32) ≡ false → eqb a b ≡ false
-    apart_keys a b h = by_test (eqb a b) (λ e. absurd (false≢true (sym h ∙ subst (λ m. eqb (a / 32) (m / 32) ≡ true) (eqb_is a b e) (eqb_itself (a / 32))))) (λ e. e)
+    apart_keys : (a b : ℕ) → eqb (a / 128) (b / 128) ≡ false → eqb a b ≡ false
+    apart_keys a b h = by_test (eqb a b) (λ e. absurd (false≢true (sym h ∙ subst (λ m. eqb (a / 128) (m / 128) ≡ true) (eqb_is a b e) (eqb_itself (a / 128))))) (λ e. e)
 
 one_is : (o : Option ℕ) → cond (is_some o) 1 0 ≡ one_if o
 one_is None = refl

@@ -1,5 +1,5 @@
 -- What is left of the orders by arrival where a new one comes in place of another.
-use Rattle.std.proofs.Common.{◌≡◌, ℕ, ◌+◌, not, eqb, List, [], ◌∷◌, find, Some, None, ap, ◌∙◌}
+use Rattle.std.proofs.Common.{◌≡◌, ℕ, ◌+◌, eqb, List, [], ◌∷◌, Some, None, ap, ◌∙◌}
 use Rattle.std.specs.List.Sorted.{IsPermutation}
 use Rattle.std.specs.Map.{values_of, remove_entry}
 use Rattle.std.proofs.lemmas.List.Sorted.{IsPermutation-refl}

@@ -1,4 +1,4 @@
--- Links under keys, in pages of 32 neighbouring keys, which are found by their numbers. No public clause cites this module.
+-- Links under keys, in pages of 128 neighbouring keys, which are found by their numbers. No public clause cites this module.
 use Rattle.std.specs.Prelude.{◌≡◌, ℕ, ◌/◌, ◌%◌, ◌^◌, ◌<◌, ◌≤◌, List, [], length, eqb, cond, Option, Some, None, is_some, count_by, slice_index_or}
 use Rattle.itch_book.specs.declared.table.pages.Page.{Page}
 
@@ -26,11 +26,11 @@ pub record Paged : Type 0 where
 
 -- the link of a key
 abbrev pub link_at : Paged → ℕ → Option ℕ
-link_at t k = slice_index_or (links_of t.pages (place_at t.directory (k / 32))) (k % 32) None
+link_at t k = slice_index_or (links_of t.pages (place_at t.directory (k / 128))) (k % 128) None
 
 -- a page under its number: it has a link, and counts its links
 pub record IsPage (n : ℕ) (page : Page) : Type 0 where
-  pub size : length page.links ≡ 32
+  pub size : length page.links ≡ 128
   pub live : page.live ≡ count_by is_some page.links
   pub number : page.number ≡ n
   pub busy : 0 < page.live

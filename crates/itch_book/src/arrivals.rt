@@ -76,6 +76,12 @@ impl<A: Allocator + Copy> Arrivals<A> {
         self.references.look_ahead(references);
     }
 
+    /// Whether an order with a new reference is likely to find room without an allocation.
+    #[inline(always)]
+    pub(crate) fn has_room(&self, reference: u64) -> bool {
+        self.references.has_room(reference)
+    }
+
     /// The number of orders.
     #[inline(always)]
     pub(crate) fn len(&self) -> usize

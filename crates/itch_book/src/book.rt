@@ -101,6 +101,13 @@ pub trait OrderBook: Drop {
         ensures ok { OnOk result (orders self.new ≡ lay (replaced original reference shares price (orders self.old))) }
         ensures err { OnErr result (orders self.new ≡ orders self.old) };
 
+    /// Whether an order with this reference, which the book does not have, is likely to find room without an allocation. It is a hint
+    /// for a caller that takes another way where memory may be wanted; a book may always say no.
+    fn has_room(&self, reference: u64) -> bool {
+        let _reference = reference;
+        false
+    }
+
     /// Tells the book that look-ups follow, so that it may make them fast. No order changes, and no memory is taken.
     fn settle(&mut self)
         ensures { orders self.new ≡ orders self.old };

@@ -72,6 +72,12 @@ impl<A: Allocator> References<A> {
         self.orders.len()
     }
 
+    /// Whether an order with a new reference is likely to find room without an allocation.
+    #[inline(always)]
+    pub(crate) fn has_room(&self, reference: u64) -> bool {
+        self.orders.len() < self.orders.capacity() && self.places.has_room(reference)
+    }
+
     /// The order of a reference, and its place.
     #[inline(always)]
     pub(crate) fn find(&self, reference: u64) -> Option<Placed<'_>>

@@ -96,6 +96,11 @@ impl<A: Allocator + Copy> OrderBook for SettledBook<A> {
             .replace(original, place, reference, shares, price)
     }
 
+    #[inline(always)]
+    fn has_room(&self, reference: u64) -> bool {
+        self.arrivals.has_room(reference)
+    }
+
     // Has the orders of the references read into the processor's cache, where there are many.
     #[inline(always)]
     fn look_ahead(&mut self, references: &[u64])

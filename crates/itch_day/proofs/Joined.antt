@@ -17,6 +17,7 @@ use Rattle.itch_day.specs.declared.stop.Stop.{Stop}
 use Rattle.itch_day.specs.declared.stop.Stop.TheVariants.{Full, Late, End, Frame, TooMany, Refused}
 use Rattle.itch_day.specs.Limits.{IsBefore, IsNotLate, IsNoEarlier, IsWithin, is_from, is_late}
 use Rattle.itch_day.specs.Sinks.{TakesAll}
+use Rattle.itch_day.proofs.Progress.{takes_both}
 use Rattle.itch_day.specs.Parts.{Counts, GoesOn, GoesOnTo, Leaves, Passes, ReadsPart, StopsAt}
 
 le_earlier : (before until time : ℕ) → before ≤ until → nat_le until time ≡ true → nat_le before time ≡ true
@@ -36,15 +37,6 @@ later_late (Some before) (Some until) payload later late = from_earlier before u
 pub still_early : (one other : Limit) (ps : List (List ℕ)) → IsNoEarlier one.until other.until → AllByRecursion (IsNotLate one) ps → AllByRecursion (IsNotLate other) ps
 still_early one other [] later early = tt
 still_early one other (p ∷ ps) later early = (λ late. early.0 (late.0, later_late one.until other.until p later late.1), still_early one other ps later early.1)
-
--- what is taken in two parts is taken in one
-pub takes_both : {T : Type 0} (takes : T → ℕ → List ℕ → T → Type 0) (t u v : T) (count more : ℕ) (ps qs : List (List ℕ)) → TakesAll takes t count ps u → more ≡ count + length ps → TakesAll takes u more qs v
-    → TakesAll takes t count (ps ++ qs) v
-takes_both takes t u v count more [] qs same is next =
-    let first : more ≡ count = omega (arith, is) in
-    subst (λ x. TakesAll takes x count qs v) same (subst (λ k. TakesAll takes u k qs v) first next)
-takes_both takes t u v count more (p ∷ ps) qs (mid, first, rest) is next =
-    (mid, first, takes_both takes mid u v (count + 1) more ps qs rest (omega (arith, is)) next)
 
 -- how two parts leave the reader of blocks: the second one did not stop at once where it wants no more than the first one took
 module _ {R F : Type 0} (old mid new : Reading R) (first : Stop F) (n k : ℕ) (goes_on : GoesOn first) (left : Leaves old n first mid) where

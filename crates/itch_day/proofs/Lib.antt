@@ -1,4 +1,5 @@
 pub mod Marks
 pub mod PassedBlocks
 pub mod Progress
+pub mod Batches
 pub mod Joined

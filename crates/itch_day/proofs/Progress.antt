@@ -1,18 +1,19 @@
 -- What a reading of a part has done so far, and one block more.
 use Rattle.std.proofs.Common.{◌≡◌, ◌≢◌, ℕ, ◌+◌, ◌-◌, ◌^◌, ◌<◌, ◌≤◌, List, [], ◌∷◌, ◌++◌, length, zero, suc, Option, None, Some, Ok, Err, refl, sym, ap, subst, ◌∙◌, arith, length-append}
-use Rattle.std.proofs.KnownBytes.{Consumes-nil, Consumes-kept}
+use Rattle.std.proofs.KnownBytes.{Consumes-nil, Consumes-kept, Consumes-trans}
+use Rattle.std.specs.Io.KnownBytes.{Consumes}
 use Rattle.itch_frame.specs.Blocks.{blocks, IsFull}
 use Rattle.itch_frame.specs.Reading.{Reading, bytes_left, StaysAsEnded}
 use Rattle.itch_frame.specs.declared.reader.Stage.{Stage}
 use Rattle.itch_frame.specs.declared.reader.Stage.TheVariants.{Ended, Cut}
 use Rattle.itch_frame.specs.declared.tally.Failures.{Failures}
-use Rattle.itch_frame.proofs.BlockLemmas.{consumed_more, each-push}
+use Rattle.itch_frame.proofs.BlockLemmas.{blocks-append, consumed_more, each-append, each-push}
 use Rattle.itch_day.specs.declared.limit.Limit.{Limit}
 use Rattle.itch_day.specs.declared.stop.Stop.{Stop}
 use Rattle.itch_day.specs.declared.stop.Stop.TheVariants.{Full, Late, End, Frame, TooMany, Refused}
 use Rattle.itch_day.specs.Limits.{IsBefore, IsNotLate, IsWithin, most_of}
 use Rattle.itch_day.specs.Sinks.{TakesAll}
-use Rattle.itch_day.specs.Parts.{Counts, Leaves, Passes, ReadsPart, Steps, StopsAt, Takes}
+use Rattle.itch_day.specs.Parts.{Counts, Leaves, Passes, ReadsPart, Steps, StopsAt, TakesSome}
 
 -- fewer messages than may come are fewer than are wanted
 pub before_most : (limit : Limit) (count : ℕ) → count < most_of limit.after → IsBefore limit count
@@ -42,6 +43,23 @@ takes_push takes t count [] u p v number same is next =
 takes_push takes t count (q ∷ ps) u p v number (mid, first, rest) is next =
     (mid, first, takes_push takes mid (count + 1) ps u p v number rest (omega (arith, is)) next)
 
+-- what is taken in two parts is taken in one
+pub takes_both : {T : Type 0} (takes : T → ℕ → List ℕ → T → Type 0) (t u v : T) (count more : ℕ) (ps qs : List (List ℕ)) → TakesAll takes t count ps u → more ≡ count + length ps → TakesAll takes u more qs v
+    → TakesAll takes t count (ps ++ qs) v
+takes_both takes t u v count more [] qs same is next =
+    let first : more ≡ count = omega (arith, is) in
+    subst (λ x. TakesAll takes x count qs v) same (subst (λ k. TakesAll takes u k qs v) first next)
+takes_both takes t u v count more (p ∷ ps) qs (mid, first, rest) is next =
+    (mid, first, takes_both takes mid u v (count + 1) more ps qs rest (omega (arith, is)) next)
+
+-- no more were taken than are wanted: in the last part that took some
+within_both : (limit : Limit) (mark marked : ℕ) (ps qs : List (List ℕ)) → (0 < length ps → IsWithin limit mark) → (0 < length qs → IsWithin limit marked) → marked ≡ mark + length qs
+    → 0 < length (ps ++ qs) → IsWithin limit marked
+within_both limit mark marked ps [] first second is some =
+    let same : marked ≡ mark = omega (arith, is) in
+    subst (λ (n : ℕ). IsWithin limit n) (sym same) (first (omega (arith, some, length-append ps [])))
+within_both limit mark marked ps (q ∷ qs) first second is some = second (omega arith)
+
 module _ {R : Type 0} (old mid new : Reading R) where
   -- a stage in which no message is given was not the first one
   not_first : (stage : Stage) (count : ℕ) → (count ≡ 0 → mid ≡ old) → (0 < count → old.stage ≢ stage) → mid.stage ≢ stage → old.stage ≢ stage
@@ -57,6 +75,22 @@ module _ {R : Type 0} (old mid new : Reading R) where
       leaves.1,
       not_first Ended count passes.unread (λ some. (passes.given some).2) leaves.2,
       not_first Cut count passes.unread (λ some. (passes.given some).3) leaves.3,
+    );
+  }
+
+  -- some messages more, which may be none
+  pub passes_both : (count more : ℕ) → Passes old count mid → Passes mid more new → Passes old (count + more) new
+  passes_both count zero first second =
+      let P : Reading R → Type 0 = Passes old (count + 0) in
+      let same : count ≡ count + 0 = omega arith in
+      subst P (sym (second.unread refl)) (subst (λ (n : ℕ). Passes old n mid) same first)
+  passes_both count (suc more) first second = record {
+    unread = λ none. absurd (omega (arith, none));
+    given = λ some. let later = second.given (omega arith) in (
+      later.0,
+      later.1,
+      not_first Ended count first.unread (λ some. (first.given some).2) later.2,
+      not_first Cut count first.unread (λ some. (first.given some).3) later.3,
     );
   }
 
@@ -91,15 +125,8 @@ pub counts_on : {F : Type 0} (stop : Stop F) (old mid new : Failures) → mid �
 counts_on stop old mid new same counts = subst (λ f. Counts stop f new) same counts
 
 module _ {R T F : Type 0} (remaining : R → Option (List ℕ)) (failures : R → Failures) (takes : T → ℕ → List ℕ → T → Type 0) (refuses : T → ℕ → List ℕ → F → T → Type 0) (limit : Limit) where
-  -- some payloads were taken
-  pub record Going (old now : Reading R) (before mark : ℕ) (t u : T) : Type 0 where
-    pub payloads : List (List ℕ)
-    pub taken : Takes remaining takes limit old now before mark t u payloads
-    pub passes : Passes old (length payloads) now
-    pub uncounted : failures now.reader ≡ failures old.reader
-
   -- at first none was
-  pub going_first : (r : Reading R) (mark : ℕ) (t : T) → Going r r mark mark t t
+  pub going_first : (r : Reading R) (mark : ℕ) (t : T) → TakesSome remaining failures takes limit r r mark mark t t
   going_first r mark t = record {
     payloads = [];
     taken = record { bytes = Consumes-nil (bytes_left remaining r); full = tt; early = tt; wanted = λ some. absurd (omega arith); taken = refl; counted = omega arith };
@@ -108,8 +135,8 @@ module _ {R T F : Type 0} (remaining : R → Option (List ℕ)) (failures : R �
   }
 
   -- then one more
-  pub going_on : (old mid new : Reading R) (before mark marked : ℕ) (t u v : T) → Going old mid before mark t u → IsBefore limit mark → Steps remaining failures takes refuses limit mid new mark marked u (Ok tt) v
-      → Going old new before marked t v
+  pub going_on : (old mid new : Reading R) (before mark marked : ℕ) (t u v : T) → TakesSome remaining failures takes limit old mid before mark t u → IsBefore limit mark → Steps remaining failures takes refuses limit mid new mark marked u (Ok tt) v
+      → TakesSome remaining failures takes limit old new before marked t v
   going_on old mid new before mark marked t u v going few (p, off, full, (room, early, next, past), held, given, unended, uncut, uncounted) =
       let ps = going.payloads in
       let so_far = going.taken in
@@ -127,8 +154,29 @@ module _ {R T F : Type 0} (remaining : R → Option (List ℕ)) (failures : R �
         uncounted = uncounted ∙ going.uncounted;
       }
 
+  -- then some more, which may be none
+  pub going_both : (old mid new : Reading R) (before mark marked : ℕ) (t u v : T) → TakesSome remaining failures takes limit old mid before mark t u
+      → TakesSome remaining failures takes limit mid new mark marked u v → TakesSome remaining failures takes limit old new before marked t v
+  going_both old mid new before mark marked t u v first second =
+      let ps = first.payloads in
+      let qs = second.payloads in
+      record {
+        payloads = ps ++ qs;
+        taken = record {
+          bytes = subst (Consumes (bytes_left remaining old) (bytes_left remaining new)) (sym (blocks-append ps qs))
+              (Consumes-trans (bytes_left remaining old) (bytes_left remaining mid) (bytes_left remaining new) (blocks ps) (blocks qs) first.taken.bytes second.taken.bytes);
+          full = each-append IsFull ps qs first.taken.full second.taken.full;
+          early = each-append (IsNotLate limit) ps qs first.taken.early second.taken.early;
+          wanted = λ some. within_both limit mark marked ps qs first.taken.wanted second.taken.wanted second.taken.counted some;
+          taken = takes_both takes t u v before mark ps qs first.taken.taken first.taken.counted second.taken.taken;
+          counted = omega (arith, first.taken.counted, second.taken.counted, length-append ps qs);
+        };
+        passes = subst (λ n. Passes old n new) (sym (length-append ps qs)) (passes_both old mid new (length ps) (length qs) first.passes second.passes);
+        uncounted = second.uncounted ∙ first.uncounted;
+      }
+
   -- and there it stops
-  pub going_stops : (old mid new : Reading R) (before mark marked : ℕ) (t u v : T) (stop : Stop F) → Going old mid before mark t u → IsBefore limit mark
+  pub going_stops : (old mid new : Reading R) (before mark marked : ℕ) (t u v : T) (stop : Stop F) → TakesSome remaining failures takes limit old mid before mark t u → IsBefore limit mark
       → Steps remaining failures takes refuses limit mid new mark marked u (Err stop) v → ReadsPart remaining failures takes refuses limit old new before marked t stop v
   going_stops old mid new before mark marked t u v stop going few (same, keeps, stops, stays, counts) =
       let so_far = going.taken in
@@ -149,7 +197,7 @@ module _ {R T F : Type 0} (remaining : R → Option (List ℕ)) (failures : R �
       }
 
   -- or as many were taken as are wanted
-  pub going_full : (old now : Reading R) (before mark : ℕ) (t u : T) → Going old now before mark t u → most_of limit.after ≤ mark → mark ≤ 10 ^ 19 - 1
+  pub going_full : (old now : Reading R) (before mark : ℕ) (t u : T) → TakesSome remaining failures takes limit old now before mark t u → most_of limit.after ≤ mark → mark ≤ 10 ^ 19 - 1
       → ReadsPart remaining failures takes refuses limit old now before mark t Full u
   going_full old now before mark t u going all few = record {
     payloads = going.payloads;

@@ -1,3 +1,4 @@
+pub mod Batches
 pub mod Limits
 pub mod Marks
 pub mod Sinks

@@ -1,5 +1,5 @@
 -- What one reading of a part of a day does.
-use Rattle.std.specs.Prelude.{◌≡◌, ◌≢◌, ℕ, ◌+◌, ◌-◌, ◌<◌, ◌≤◌, ◌^◌, ◌⊎◌, List, [], length, ⊤, Bool, true, false, Option, Some, IfSome, Result, Ok, Err}
+use Rattle.std.specs.Prelude.{◌≡◌, ◌≢◌, ℕ, ◌+◌, ◌-◌, ◌<◌, ◌≤◌, ◌^◌, ◌⊎◌, List, [], length, ⊤, Option, Some, IfSome, Result, Ok, Err}
 use Rattle.std.specs.List.{AllByRecursion}
 use Rattle.std.specs.Io.KnownBytes.{Keeps, Consumes, IsAtEnd}
 use Rattle.itch_frame.specs.Blocks.{block, blocks, IsBlockOf, IsFull, Open}
@@ -111,6 +111,14 @@ module _ {R T : Type 0} (remaining : R → Option (List ℕ)) (takes : T → ℕ
     pub taken : TakesAll takes t before payloads u
     pub counted : count ≡ before + length payloads
 
+module _ {R T : Type 0} (remaining : R → Option (List ℕ)) (failures : R → Failures) (takes : T → ℕ → List ℕ → T → Type 0) (limit : Limit) where
+  -- some payloads came off the front and were taken, maybe none, and no read failed
+  pub record TakesSome (old now : Reading R) (before count : ℕ) (t u : T) : Type 0 where
+    pub payloads : List (List ℕ)
+    pub taken : Takes remaining takes limit old now before count t u payloads
+    pub passes : Passes old (length payloads) now
+    pub uncounted : failures now.reader ≡ failures old.reader
+
 module _ {R T F : Type 0} (remaining : R → Option (List ℕ)) (failures : R → Failures) (takes : T → ℕ → List ℕ → T → Type 0) (refuses : T → ℕ → List ℕ → F → T → Type 0) (limit : Limit) where
   -- what one block does: its payload is taken, or it stops there
   abbrev pub Steps : Reading R → Reading R → ℕ → ℕ → T → Result (Unit {0}) (Stop F) → T → Type 0
@@ -121,12 +129,6 @@ module _ {R T F : Type 0} (remaining : R → Option (List ℕ)) (failures : R �
   Steps old new before count t (Err stop) u =
       (count ≡ before) × Keeps (bytes_left remaining old) (bytes_left remaining new) × StopsAt remaining refuses limit before new t stop u
       × StaysAsEnded old new × Counts stop (failures old.reader) (failures new.reader)
-
-  -- the same of a block that lies at hand; where none does, nothing changes
-  abbrev pub StepsAtHand : Reading R → Reading R → ℕ → ℕ → T → Result Bool (NotTaken F) → T → Type 0
-  StepsAtHand old new before count t (Ok true) u = Steps old new before count t (Ok tt) u
-  StepsAtHand old new before count t (Ok false) u = (new ≡ old) × (count ≡ before) × (u ≡ t)
-  StepsAtHand old new before count t (Err why) u = Steps old new before count t (Err (stop_of why)) u
 
   -- The longest beginning of the messages is taken, and then this stops it: the next message, where there is one, is left.
   pub record ReadsPart (old new : Reading R) (before count : ℕ) (t : T) (stop : Stop F) (u : T) : Type 0 where

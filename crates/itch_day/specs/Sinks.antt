@@ -16,8 +16,7 @@ module _ {T : Type 0} (takes : T → ℕ → List ℕ → T → Type 0) where
   TakesAll old count [] new = new ≡ old
   TakesAll old count (payload ∷ rest) new = (next : T) × takes old (count + 1) payload next × TakesAll next (count + 1) rest new
 
--- what comes of a payload that is offered as it is: it is taken, or refused; or nothing changes, and it has yet to be decoded
-abbrev pub OffersPayload : {T F : Type 0} → (T → ℕ → List ℕ → T → Type 0) → (T → ℕ → List ℕ → F → T → Type 0) → T → ℕ → List ℕ → Result Bool F → T → Type 0
-OffersPayload takes refuses old number payload (Ok true) new = takes old number payload new
-OffersPayload takes refuses old number payload (Ok false) new = new ≡ old
-OffersPayload takes refuses old number payload (Err why) new = refuses old number payload why new
+-- what comes of a payload that is offered as it is: it is taken; or nothing changes, and it has yet to be decoded
+abbrev pub OffersPayload : {T : Type 0} → (T → ℕ → List ℕ → T → Type 0) → T → ℕ → List ℕ → Bool → T → Type 0
+OffersPayload takes old number payload true new = takes old number payload new
+OffersPayload takes old number payload false new = new ≡ old

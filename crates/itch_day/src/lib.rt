@@ -5,6 +5,7 @@
 //! of a day are one pass: a call for each.
 #![tactic(auto)]
 
+mod batch;
 mod limit;
 mod mark;
 mod marked;

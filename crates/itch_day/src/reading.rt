@@ -3,11 +3,12 @@ ghost use Rattle.std.specs.Prelude.{◌≡◌, ℕ, ◌+◌, ◌<◌, ◌≤◌,
 ghost use Rattle.itch_frame.specs.Blocks.{IsBlock};
 ghost use Rattle.itch_frame.specs.Reading.{Reading};
 ghost use Rattle.itch_day.specs.Limits.{IsLate, IsNotLate, IsBefore};
-ghost use Rattle.itch_day.specs.Parts.{GoesOnTo, ReadsPart, Steps, StepsAtHand, TakesHeld, TakesPayload, UnlessRefused};
+ghost use Rattle.itch_day.specs.Parts.{GoesOnTo, ReadsPart, Steps, TakesHeld, TakesPayload, TakesSome, UnlessRefused};
 ghost use Rattle.itch_day.specs.Sinks.{Decodes};
 ghost use Rattle.itch_day.specs.declared.limit.Limit.{Limit as AnyLimit};
 ghost use Rattle.itch_day.specs.declared.stop.Stop.{Stop as AnyStop};
 
+use crate::batch::{Batch, look_ahead};
 use crate::limit::Limit;
 use crate::not_taken::{NotTaken, stop_of};
 use crate::sink::Sink;
@@ -15,9 +16,6 @@ use crate::stop::Stop;
 use itch_codec::{CodecFault, MOST_MESSAGES, Message, decode};
 use itch_frame::{BlockReader, CountedRead};
 use std::alloc::Allocator;
-
-// A sink is told so often what comes next.
-const AHEAD: u64 = 16;
 
 /// Hands the next messages of a day to a sink, up to the first that is not taken, and returns why it is not.
 ///
@@ -36,15 +34,13 @@ pub fn read_part<R: CountedRead, A: Allocator, T: Sink>(
     ensures ready { UnlessRefused result (T.is_ready sink.new (count.new + 1)) }
     ensures few { count.new ≤ 10 ^ 19 - 1 }
 {
-    for at in *count..limit.most() {
-        look_ahead(reader, sink, at);
-        match take_at_hand(reader, count, sink, limit) {
-            Ok(true) => {}
-            Ok(false) => match take_from_input(reader, count, sink, limit) {
+    while *count < limit.most() {
+        take_at_hand(reader, count, sink, limit);
+        if *count < limit.most() {
+            match take_next(reader, count, sink, limit) {
                 Ok(()) => {}
                 Err(stop) => return stop,
-            },
-            Err(why) => return stop_of(why),
+            }
         }
     }
     Stop::Full
@@ -71,40 +67,56 @@ pub fn read_further<R: CountedRead, A: Allocator, T: Sink>(
     read_part(reader, count, sink, limit)
 }
 
-// Tells a sink what comes next, before each sixteenth message. Nothing changes.
-#[inline(always)]
-fn look_ahead<R: CountedRead, A: Allocator, T: Sink>(
-    reader: &BlockReader<R, A>,
-    sink: &mut T,
-    count: u64,
-)
-    ensures { sink.new ≡ sink.old }
-{
-    if count % AHEAD == 0 {
-        sink.look_ahead(reader.at_hand());
-    }
-}
-
-// Takes the next message if its block lies at hand (true), or returns why it is not taken. Where none lies at hand, nothing changes.
+// Takes as many of the next messages as lie at hand and as the sink takes without their being decoded, which may be none.
 #[inline(always)]
 fn take_at_hand<R: CountedRead, A: Allocator, T: Sink>(
     reader: &mut BlockReader<R, A>,
     count: &mut u64,
     sink: &mut T,
     limit: Limit,
-) -> Result<bool, NotTaken<T::Fault>>
+)
     requires ready { T.is_ready sink.old (count.old + 1) }
     requires few { count.old ≤ 10 ^ 19 - 1 }
     requires before { IsBefore limit count.old }
-    ensures steps { StepsAtHand R.remaining R.failures T.takes T.refuses limit reader.old reader.new count.old count.new sink.old result sink.new }
+    ensures takes { TakesSome R.remaining R.failures T.takes limit reader.old reader.new count.old count.new sink.old sink.new }
+    ensures ready { T.is_ready sink.new (count.new + 1) }
+    ensures few { count.new ≤ 10 ^ 19 - 1 }
+{
+    // (whether a message is late is known once it is decoded)
+    if limit.until.is_some() {
+        look_ahead(sink, *count, reader.at_hand());
+        return;
+    }
+    let most = limit.most().min(MOST_MESSAGES);
+    let mut batch = Batch {
+        sink,
+        count: *count,
+        most,
+    };
+    let _used = reader.offer(&mut batch);
+    *count = batch.count;
+}
+
+// Takes the next message, or returns why it is not taken.
+#[inline(always)]
+fn take_next<R: CountedRead, A: Allocator, T: Sink>(
+    reader: &mut BlockReader<R, A>,
+    count: &mut u64,
+    sink: &mut T,
+    limit: Limit,
+) -> Result<(), Stop<T::Fault>>
+    requires ready { T.is_ready sink.old (count.old + 1) }
+    requires few { count.old ≤ 10 ^ 19 - 1 }
+    requires before { IsBefore limit count.old }
+    ensures steps { Steps R.remaining R.failures T.takes T.refuses limit reader.old reader.new count.old count.new sink.old result sink.new }
     ensures ready { OnOk result (T.is_ready sink.new (count.new + 1)) }
 {
     if !reader.load_at_hand() {
-        return Ok(false);
+        return take_from_input(reader, count, sink, limit);
     }
     match take_held(reader, count, sink, limit) {
-        Ok(()) => Ok(true),
-        Err(why) => Err(why),
+        Ok(()) => Ok(()),
+        Err(why) => Err(stop_of(why)),
     }
 }
 
@@ -177,17 +189,6 @@ fn take<T: Sink>(
 {
     if *count == MOST_MESSAGES {
         return Err(NotTaken::TooMany);
-    }
-    // (whether a message is late is known once it is decoded)
-    if limit.until.is_none() {
-        match sink.take_payload(*count + 1, payload) {
-            Ok(true) => {
-                *count += 1;
-                return Ok(());
-            }
-            Ok(false) => {}
-            Err(why) => return Err(NotTaken::Refused(why)),
-        }
     }
     let message = decode(payload);
     if is_late(limit, &message) {

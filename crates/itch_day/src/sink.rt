@@ -1,5 +1,5 @@
 //! What the messages of a day are handed to.
-ghost use Rattle.std.specs.Prelude.{◌≡◌, ℕ, ◌+◌, ◌-◌, ◌^◌, ◌<◌, ◌≤◌, List, true, Ok, OnOk, MatchResult};
+ghost use Rattle.std.specs.Prelude.{◌≡◌, ℕ, ◌+◌, ◌-◌, ◌^◌, ◌<◌, ◌≤◌, List, true, OnOk, MatchResult};
 ghost use Rattle.itch_day.specs.Sinks.{Decodes, OffersPayload};
 
 use itch_codec::{CodecFault, Message};
@@ -35,19 +35,19 @@ pub trait Sink {
         ensures takes { MatchResult result (λ _. takes self.old number payload.now self.new) (λ why. refuses self.old number payload.now why self.new) }
         ensures ready { OnOk result (is_ready self.new (number + 1)) };
 
-    /// Takes the message with this number from its payload alone and returns true, or returns why it is refused; or returns false, and
-    /// changes nothing: then the payload is decoded for [`Sink::take`]. A sink that can tell at a glance what to do saves that.
+    /// Takes the message with this number from its payload alone and returns true; or returns false, and changes nothing: then the
+    /// payload is decoded for [`Sink::take`]. A sink that can tell at a glance what to do saves that.
     #[inline(always)]
-    fn take_payload(&mut self, number: u64, payload: &[u8]) -> Result<bool, Self::Fault>
+    fn take_payload(&mut self, number: u64, payload: &[u8]) -> bool
         requires ready { is_ready self.old number }
         requires first { 0 < number }
         requires last { number ≤ 10 ^ 19 - 1 }
-        ensures takes { OffersPayload takes refuses self.old number payload.now result self.new }
-        ensures ready { result ≡ Ok true → is_ready self.new (number + 1) }
+        ensures takes { OffersPayload takes self.old number payload.now result self.new }
+        ensures ready { result ≡ true → is_ready self.new (number + 1) }
     {
         let _number = number;
         let _payload = payload;
-        Ok(false)
+        false
     }
 
     /// Is told, before each sixteenth message, which bytes come next, as far as they lie at hand. Nothing changes.

@@ -3,6 +3,7 @@ pub mod BlockLemmas
 pub mod Fronts
 pub mod Days
 pub mod Filling
+pub mod FirstSplits
 pub mod SplitterLemmas
 pub mod Writes
 pub mod PassedMessages

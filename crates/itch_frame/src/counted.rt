@@ -7,9 +7,11 @@ ghost use Rattle.std.specs.Io.{ReadsAtMost, WritesAtMost};
 ghost use Rattle.std.specs.Io.KnownBytes.{ReadConsumes, Consumes};
 ghost use Rattle.itch_frame.specs.Blocks.{IsBlock};
 ghost use Rattle.itch_frame.specs.Counting.{CountsErr, Takes};
+ghost use Rattle.itch_frame.specs.Offers.{Offers};
 
 mod buffered;
 
+use crate::consumer::Consumer;
 use crate::tally::Failures;
 pub use buffered::Buffered;
 use std::io::{self, Read, Write};
@@ -50,6 +52,18 @@ pub trait CountedRead {
         ensures { IfSome (remaining self.now) (λ rest. take (length result.now) rest ≡ result.now) }
     {
         &[]
+    }
+
+    /// Offers what lies at hand to a consumer, moves past what it uses, and returns how much that is.
+    ///
+    /// It reads nothing, so it cannot fail. A reader may always offer nothing, and return 0.
+    fn offer<C: Consumer>(&mut self, consumer: &mut C) -> usize
+        requires { C.is_ready consumer.old }
+        ensures offers { Offers remaining C.uses self.old result self.new consumer.old consumer.new }
+        ensures count { failures self.new ≡ failures self.old }
+    {
+        let _consumer = consumer;
+        0
     }
 }
 

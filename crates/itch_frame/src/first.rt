@@ -1,6 +1,6 @@
 //! The block that bytes begin with.
-ghost use Rattle.std.specs.Prelude.{◌≡◌, ◌≤◌, length, take, IfSome, IfNone};
-ghost use Rattle.itch_frame.specs.Blocks.{IsBlock};
+ghost use Rattle.std.specs.Prelude.{◌≡◌, ◌≤◌, ◌++◌, length, take, IfSome, IfNone, MatchOption};
+ghost use Rattle.itch_frame.specs.Blocks.{HasNoBlock, IsBlock, IsPayload, block};
 
 use crate::splitter::needed;
 
@@ -25,11 +25,21 @@ pub fn copy_first_block(bytes: &[u8], buf: &mut [u8]) -> Option<usize>
     Some(size)
 }
 
+/// The payload of the block that the bytes begin with, and the bytes after the block, if all of it is there.
+#[inline(always)]
+pub fn split_first_block(bytes: &[u8]) -> Option<(&[u8], &[u8])>
+    ensures { MatchOption result (HasNoBlock bytes.now) (λ split. IsPayload split.0.now × (bytes.now ≡ block split.0.now ++ split.1.now)) }
+{
+    let size = first_block(bytes)?;
+    Some((&bytes[2..size], &bytes[size..]))
+}
+
 // How long the block is that the bytes begin with, if all of it is there.
 #[inline(always)]
 fn first_block(bytes: &[u8]) -> Option<usize>
     ensures within { IfSome result (λ size. size ≤ length bytes.now) }
     ensures block { IfSome result (λ size. IsBlock (take size bytes.now)) }
+    ensures none { IfNone result (HasNoBlock bytes.now) }
 {
     if bytes.len() < 2 {
         return None;

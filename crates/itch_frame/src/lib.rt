@@ -21,6 +21,7 @@
 //! ```
 #![tactic(auto)]
 
+mod consumer;
 mod counted;
 mod fault;
 mod first;
@@ -32,9 +33,10 @@ mod status;
 pub mod tally;
 mod writer;
 
+pub use consumer::Consumer;
 pub use counted::{Buffered, Counted, CountedRead, CountedWrite};
 pub use fault::FrameFault;
-pub use first::copy_first_block;
+pub use first::{copy_first_block, split_first_block};
 pub use reader::BlockReader;
 pub use splitter::Splitter;
 pub use writer::{write_block, write_part};

@@ -5,6 +5,7 @@ ghost use Rattle.itch_frame.specs.Blocks.{IsBlockOf};
 ghost use Rattle.itch_frame.specs.Counting.{CountsErr};
 ghost use Rattle.itch_frame.specs.Needs.{need};
 
+use crate::consumer::Consumer;
 use crate::counted::CountedRead;
 use crate::fault::FrameFault;
 use crate::splitter::{LONGEST, lacking};
@@ -125,7 +126,8 @@ impl<R: CountedRead, A: Allocator> BlockReader<R, A> {
 impl<R: CountedRead, A: Allocator> BlockReader<R, A> {
     ghost use Rattle.std.specs.Prelude.{[]};
     ghost use Rattle.itch_frame.specs.Blocks.{IsBlock, IsBlockOf};
-    ghost use Rattle.itch_frame.specs.Reading.{Loads, LoadsAtHand, StaysAsEnded, passed};
+    ghost use Rattle.itch_frame.specs.Offers.{Offers};
+    ghost use Rattle.itch_frame.specs.Reading.{Loads, LoadsAtHand, StaysAsEnded, bytes_left, passed};
 
     /// Reads on until all of the next block is held (true), unless the input ends where it would begin (false). It stays the next
     /// block until it is passed ([`BlockReader::pass`]), and [`BlockReader::payload`] is its payload.
@@ -199,6 +201,24 @@ impl<R: CountedRead, A: Allocator> BlockReader<R, A> {
     {
         if let Stage::Going = self.stage {
             self.stage = Stage::Given;
+        }
+    }
+
+    /// Offers what lies at hand to a consumer where the next block would begin, moves past what it uses, and returns how much that is.
+    /// A consumer uses whole blocks.
+    ///
+    /// It reads nothing, so it has no faults. Before the first block, after one that has not been passed, and once the input has ended,
+    /// nothing is offered.
+    #[inline(always)]
+    pub fn offer<C: Consumer>(&mut self, consumer: &mut C) -> usize
+        requires { C.is_ready consumer.old }
+        ensures offers { Offers (bytes_left R.remaining) C.uses self.old result self.new consumer.old consumer.new }
+        ensures between { 0 < result → (self.old.stage ≡ Stage.Given) × (self.new.stage ≡ Stage.Given) × (self.new.held ≡ []) }
+        ensures count { R.failures self.new.reader ≡ R.failures self.old.reader }
+    {
+        match self.stage {
+            Stage::Given => self.reader.offer(consumer),
+            Stage::Going | Stage::Ended | Stage::Cut => 0,
         }
     }
 

@@ -1,12 +1,10 @@
 -- What a replay has done so far, and one block more.
-use Rattle.std.proofs.Common.{◌≡◌, ℕ, ◌+◌, ◌-◌, ◌^◌, ◌≤◌, ◌<◌, ◌==◌, false, List, [], ◌∷◌, ◌++◌, map, length, Option, None, Ok, Err, refl, sym, ap, subst, ◌∙◌, arith, length-append}
+use Rattle.std.proofs.Common.{◌≡◌, ℕ, ◌+◌, ◌-◌, ◌^◌, ◌≤◌, ◌<◌, ◌==◌, false, List, [], ◌∷◌, ◌++◌, map, length, Option, None, Ok, refl, sym, ap, subst, ◌∙◌, arith, length-append}
 use Rattle.std.proofs.lemmas.Bool.Decides.{nat_tests}
 use Rattle.std.proofs.KnownBytes.{Consumes-nil}
 use Rattle.itch_codec.specs.Messages.{message_of}
 use Rattle.itch_frame.specs.Blocks.{IsFull}
-use Rattle.itch_frame.specs.declared.tally.Failures.{Failures}
 use Rattle.itch_frame.proofs.BlockLemmas.{consumed_more, each-push}
-use Rattle.itch_market.specs.declared.stop.Stop.{Stop}
 use Rattle.itch_market.specs.Content.{Content, laid}
 use Rattle.itch_market.specs.Effects.{effect}
 use Rattle.itch_market.specs.GoodMarkets.{IsGood}
@@ -15,7 +13,7 @@ use Rattle.itch_market.specs.Stops.{cause}
 use Rattle.itch_market.specs.Replays.{Fits, Step, Takes}
 use Rattle.itch_market.proofs.GoodMarkets.{effect_good}
 use Rattle.itch_market.proofs.LaidMarkets.{effect-laid}
-use Rattle.itch_market.proofs.Causes.{cause-laid, halts-laid, no_reason, none_more, after_more}
+use Rattle.itch_market.proofs.Causes.{cause-laid, no_reason, none_more, after_more}
 
 -- some payloads were taken, and the market that they leave is good
 pub record Going (m : Content) (old new : Option (List ℕ)) (count : ℕ) (n : Content) : Type 0 where

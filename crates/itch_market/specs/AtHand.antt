@@ -1,22 +1,25 @@
 -- A message that is applied at a glance at its payload; else nothing changes.
-use Rattle.std.specs.Prelude.{◌≡◌, ℕ, Bool, true, false, IsTrue, IsSome, List, None, Result, Ok, Err}
+use Rattle.std.specs.Prelude.{◌≡◌, ◌⊎◌, ℕ, Bool, true, false, IsTrue, IsSome, List, None}
 use Rattle.itch_codec.specs.declared.message.Message.{Message}
 use Rattle.itch_codec.specs.Messages.{fault, message_of}
 use Rattle.itch_codec.specs.Widths.{IsMessage}
+use Rattle.itch_book.specs.Orders.{taken}
 use Rattle.itch_market.specs.Content.{Content, laid}
-use Rattle.itch_market.specs.Reasons.{reason}
+use Rattle.itch_market.specs.Reasons.{reason, take_reason}
 use Rattle.itch_market.specs.Effects.{effect, takes_memory}
 
--- no rule refuses the message, and what is left is the market after it; or one does; or there is no memory for it
-abbrev pub IsTried : {E : Type 0} → Content → Message → Result Bool E → Content → Type 0
-IsTried m message (Ok true) n = (reason m message ≡ None) × (n ≡ laid (effect m message))
-IsTried m message (Ok false) n = (n ≡ m) × IsSome (reason m message)
-IsTried m message (Err error) n = (n ≡ m) × (reason m message ≡ None) × IsTrue (takes_memory m message)
+-- no rule refuses the message, and what is left is the market after it; or nothing changes, and one does or it takes memory
+abbrev pub IsTried : Content → Message → Bool → Content → Type 0
+IsTried m message true n = (reason m message ≡ None) × (n ≡ laid (effect m message))
+IsTried m message false n = (n ≡ m) × (IsSome (reason m message) ⊎ IsTrue (takes_memory m message))
+
+-- the same of a message that takes shares from an order
+abbrev pub IsTaken : Content → ℕ → ℕ → ℕ → Bool → Content → Type 0
+IsTaken m locate reference shares true n = (take_reason m locate reference shares ≡ None) × (n ≡ laid (record m { orders = taken reference shares m.orders }))
+IsTaken m locate reference shares false n = (n ≡ m) × IsSome (take_reason m locate reference shares)
 
 -- the same of the message that a payload spells; or nothing changes
-abbrev pub IsApplied : {E : Type 0} → Content → List ℕ → Result Bool E → Content → Type 0
-IsApplied m payload (Ok true) n =
+abbrev pub IsApplied : Content → List ℕ → Bool → Content → Type 0
+IsApplied m payload true n =
     (fault payload ≡ None) × IsMessage (message_of payload) × (reason m (message_of payload) ≡ None) × (n ≡ laid (effect m (message_of payload)))
-IsApplied m payload (Ok false) n = n ≡ m
-IsApplied m payload (Err error) n =
-    (fault payload ≡ None) × (n ≡ m) × (reason m (message_of payload) ≡ None) × IsTrue (takes_memory m (message_of payload))
+IsApplied m payload false n = n ≡ m

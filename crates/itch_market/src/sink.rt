@@ -1,7 +1,6 @@
 //! A market that takes the messages of a day.
 
 use crate::market::Market;
-use crate::refusal::Refusal;
 use crate::refused::Refused;
 use itch_book::OrderBook;
 use itch_codec::{CodecFault, Message};
@@ -37,12 +36,9 @@ impl<B: OrderBook> Sink for Market<B> {
     }
 
     #[inline(always)]
-    fn take_payload(&mut self, number: u64, payload: &[u8]) -> Result<bool, Refused> {
+    fn take_payload(&mut self, number: u64, payload: &[u8]) -> bool {
         let _number = number;
-        match self.apply_at_hand(payload) {
-            Ok(is_applied) => Ok(is_applied),
-            Err(_error) => Err(Refused::Rule(Refusal::OutOfMemory)),
-        }
+        self.apply_at_hand(payload)
     }
 
     #[inline(always)]

@@ -1,7 +1,7 @@
 //! A reader of bytes in memory, which never fails.
 ghost use Rattle.std.specs.Prelude.{Some, None};
 
-use itch_frame::{CountedRead, copy_first_block};
+use itch_frame::{Consumer, CountedRead, copy_first_block};
 use std::io;
 
 /// Bytes in memory.
@@ -26,5 +26,17 @@ impl CountedRead for SliceReader<'_> {
         let size = copy_first_block(self.rest, buf)?;
         self.rest = &self.rest[size..];
         Some(size)
+    }
+
+    fn at_hand(&self) -> &[u8] {
+        self.rest
+    }
+
+    fn offer<C: Consumer>(&mut self, consumer: &mut C) -> usize {
+        let used = consumer.consume(self.rest);
+        if used > 0 {
+            self.rest = &self.rest[used..];
+        }
+        used
     }
 }

@@ -1,5 +1,5 @@
 //! Links under keys, by pages of neighbouring keys. A look-up reads an entry of the directory and one link.
-ghost use Rattle.std.specs.Prelude.{◌≡◌, ℕ, ◌+◌, ◌*◌, max, ◌/◌, ◌%◌, ◌<◌, ◌≤◌, ◌^◌, ◌++◌, ◌-◌, [], ◌∷◌, Some, None, Option, OnOk, OnErr, IfOk, IsSome, is_some, is_ok, count_by, length, eqb, cond, replicate, slice_index_or, slice_set, if◌then◌else◌};
+ghost use Rattle.std.specs.Prelude.{◌≡◌, ℕ, ◌+◌, ◌*◌, max, ◌/◌, ◌%◌, ◌<◌, ◌≤◌, ◌^◌, ◌++◌, ◌-◌, [], ◌∷◌, Some, None, Option, OnOk, OnErr, IfOk, IsSome, false, is_some, is_ok, count_by, length, eqb, cond, replicate, slice_index_or, slice_set, if◌then◌else◌};
 ghost use Rattle.std.specs.Map.{update};
 ghost use Rattle.itch_book.specs.Credit.{is_nothing, OnBytes};
 ghost use Rattle.itch_book.specs.Pages.{place_at, link_at, one_if, IsOpened};
@@ -10,14 +10,14 @@ use std::alloc::{AllocError, Allocator, Global};
 use std::marker::Model;
 
 /// The keys of a page.
-pub(crate) const KEYS: u64 = 32;
+pub(crate) const KEYS: u64 = 128;
 
 // The bytes of a page, and of its row of the directory.
-const PAGE: u64 = 144;
+const PAGE: u64 = 528;
 
 const ROW: u64 = 4;
 
-const _: () = prove!(size_of::<Page>() == 144);
+const _: () = prove!(size_of::<Page>() == 528);
 
 // The directory may grow to this many rows, and to so many more for each key.
 const ROWS: u64 = 1 << 18;
@@ -68,15 +68,35 @@ impl<A: Allocator> Pages<A> {
         }
     }
 
-    /// What a page for a key costs, where so many keys have a link.
-    pub(crate) fn cost(&self, key: u64, keys: usize) -> Cost
-        ensures nothing { is_nothing result ≡ is_some (place_at self.now.directory (key / 32)) }
-        ensures reach { OnBytes result (key / 32 < max (length self.now.directory) (262144 + 16 * keys)) }
+    /// Whether the page of a key stands.
+    #[inline(always)]
+    pub(crate) fn has_page(&self, key: u64) -> bool
+        ensures { result ≡ is_some (place_at self.now.directory (key / 128)) }
     {
-        let number = key / KEYS;
-        if place_at(&self.directory, number as usize).is_some() {
-            return Cost::Nothing;
+        place_at(&self.directory, (key / KEYS) as usize).is_some()
+    }
+
+    /// What a page for a key costs, where so many keys have a link.
+    #[inline(always)]
+    pub(crate) fn cost(&self, key: u64, keys: usize) -> Cost
+        ensures nothing { is_nothing result ≡ is_some (place_at self.now.directory (key / 128)) }
+        ensures reach { OnBytes result (key / 128 < max (length self.now.directory) (262144 + 16 * keys)) }
+    {
+        if self.has_page(key) {
+            Cost::Nothing
+        } else {
+            self.cost_of_new(key / KEYS, keys)
         }
+    }
+
+    // What a page with this number costs that does not stand. Few keys need one, so this is kept out of the way of the others.
+    #[cold]
+    #[inline(never)]
+    fn cost_of_new(&self, number: u64, keys: usize) -> Cost
+        requires { number < 2 ^ 57 }
+        ensures nothing { is_nothing result ≡ false }
+        ensures reach { OnBytes result (number < max (length self.now.directory) (262144 + 16 * keys)) }
+    {
         let page = if self.free < self.pages.len() {
             0
         } else {
@@ -191,17 +211,17 @@ fn link_of(page: &Page, offset: usize) -> Option<u32>
 
 // Links that are all alike.
 fn all_of(link: Link) -> [Link; KEYS as usize]
-    ensures { result ≡ replicate 32 link }
+    ensures { result ≡ replicate 128 link }
 {
     [link; KEYS as usize]
 }
 
 // A page with one link.
 fn page_of(number: usize, offset: usize, link: u32) -> Page
-    requires offset { offset < 32 }
+    requires offset { offset < 128 }
     requires link { link < 4294967295 }
     ensures number { result.number ≡ number }
-    ensures links { result.links ≡ slice_set (replicate 32 None) offset (Some link) }
+    ensures links { result.links ≡ slice_set (replicate 128 None) offset (Some link) }
     ensures live { result.live ≡ 1 }
 {
     let mut links = all_of(Link::none());

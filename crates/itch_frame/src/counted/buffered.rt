@@ -2,6 +2,7 @@
 ghost use Rattle.std.specs.Prelude.{◌≡◌, None, length, take, min};
 ghost use Rattle.std.specs.Io.Buffered.{reader_remaining};
 
+use crate::consumer::Consumer;
 use crate::counted::{Counted, CountedRead};
 use crate::first::copy_first_block;
 use crate::tally::Failures;
@@ -64,6 +65,15 @@ impl<T: Read, A: Allocator> CountedRead for Buffered<T, A> {
     #[inline(always)]
     fn at_hand(&self) -> &[u8] {
         self.counted.inner.buffer()
+    }
+
+    #[inline(always)]
+    fn offer<C: Consumer>(&mut self, consumer: &mut C) -> usize {
+        let used = consumer.consume(self.counted.inner.buffer());
+        if used > 0 {
+            self.counted.inner.consume(used);
+        }
+        used
     }
 }
 

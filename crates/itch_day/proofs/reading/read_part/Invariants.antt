@@ -1,12 +1,15 @@
-use Rattle.std.proofs.Common.{◌≡◌, ◌+◌, ◌-◌, ◌^◌, ◌≤◌}
-use Rattle.itch_day.proofs.Progress.{Going}
+use Rattle.std.proofs.Common.{◌+◌, ◌-◌, ◌^◌, ◌≤◌}
+use Rattle.itch_day.specs.Limits.{most_of}
+use Rattle.itch_day.specs.Parts.{TakesSome}
 use Rattle.itch_day.proofs.reading.read_part.Given as goal
 
-abbrev pub invariant-loop-at : goal.invariant-loop-at
-invariant-loop-at g l =
+abbrev pub invariant-loop-count : goal.invariant-loop-count
+invariant-loop-count g l =
     record {
-      going : Going g.R.CountedRead.remaining g.R.CountedRead.failures g.T.Sink.takes g.T.Sink.refuses l.fn.limit l.initial.reader l.reader l.initial.count l.count l.initial.sink l.sink;
-      counted : l.count ≡ l.at;
+      going : TakesSome g.R.CountedRead.remaining g.R.CountedRead.failures g.T.Sink.takes l.fn.limit l.initial.reader l.reader l.initial.count l.count l.initial.sink l.sink;
       few : l.count ≤ 10 ^ 19 - 1;
       ready : g.T.Sink.is_ready l.sink (l.count + 1);
     }
+
+abbrev pub decreases-loop-count : goal.decreases-loop-count
+decreases-loop-count g l = most_of l.fn.limit.after - l.count

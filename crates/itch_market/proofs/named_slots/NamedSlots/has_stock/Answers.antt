@@ -1,8 +1,8 @@
-use Rattle.std.proofs.Common.{rules, ◌≤◌, List, Option, length, map, ap, sym, ◌∙◌}
+use Rattle.std.proofs.Common.{List, Option, ap, sym, ◌∙◌}
 use Rattle.std.proofs.lemmas.List.{length-map}
 use Rattle.std.specs.Str.{bytes_eq}
 use Rattle.itch_market.specs.Content.{Listing}
-use Rattle.itch_market.specs.Slots.{slot, has_stock, stock_in}
+use Rattle.itch_market.specs.Slots.{slot, has_stock}
 use Rattle.itch_market.proofs.Slots.{slot_past, stock_read, stock_compared}
 use Rattle.itch_market.proofs.named_slots.NamedSlots.has_stock.Goals as goal
 

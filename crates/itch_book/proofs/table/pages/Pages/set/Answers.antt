@@ -6,7 +6,7 @@ use Rattle.itch_book.proofs.table.pages.Pages.set.Goals as goal
 
 pub invariant_of-self : goal.invariant_of-self
 invariant_of-self g c =
-    let n = c.args.key / 32 in let o = c.args.key % 32 in let small : o < 32 = omega arith in
+    let n = c.args.key / 128 in let o = c.args.key % 128 in let small : o < 128 = omega arith in
     let there : place_at c.self.inside.directory.items n ≡ Some c.unwrap-place.result = ap (λ (t : List (Option ℕ)). place_at t n) (sym c.deref.ensures.value) ∙ sym c.place_at.ensures ∙ c.unwrap-place.ensures in
     let page = c.index_mut-page.result.now in let link = c.to.result in let was = get_or page.links o None in
     let new : Page = record { live = page.live; number = page.number; links = set page.links o link } in

@@ -1,0 +1,11 @@
+-- What becomes of the bytes at hand when they are offered to a consumer.
+use Rattle.std.specs.Prelude.{◌≡◌, ℕ, ◌⊎◌, List, length, Option}
+use Rattle.std.specs.Io.KnownBytes.{Consumes}
+
+-- These bytes came off the front, and the consumer used them. Where there are none, nothing changed but what it did by itself.
+pub record Offers {R T : Type 0} (remaining : R → Option (List ℕ)) (uses : T → List ℕ → T → Type 0) (old : R) (count : ℕ) (new : R) (t u : T) : Type 0 where
+  pub bytes : List ℕ
+  pub counted : length bytes ≡ count
+  pub read : Consumes (remaining old) (remaining new) bytes
+  pub unread : count ≡ 0 → new ≡ old
+  pub used : ((count ≡ 0) × (u ≡ t)) ⊎ uses t bytes u
