@@ -195,6 +195,14 @@ fn sequence_numbers_and_timestamps_have_limits(rt: HostRuntime) {
 }
 
 #[test]
+fn a_payload_with_a_header_has_a_timestamp(rt: HostRuntime) -> TestResult {
+    let payload = b"D\0\x01\0\0\0\0\0\0\x01\x02";
+    same(&rt, Stamp::of_payload(payload).map(Stamp::value), Some(258));
+    same(&rt, Stamp::of_payload(&payload[..10]), None);
+    Ok(())
+}
+
+#[test]
 fn faults_have_words(rt: HostRuntime) -> TestResult {
     for (fault, text) in [
         (CodecFault::Empty, "empty message"),
