@@ -18,7 +18,8 @@ use Rattle.itch_day.specs.Sinks.{TakesAll}
 use Rattle.itch_day.specs.declared.limit.Limit.{Limit}
 use Rattle.itch_day.specs.declared.stop.Stop.{Stop as Part}
 use Rattle.itch_day.specs.declared.stop.Stop.TheVariants as part
-use Rattle.itch_day.proofs.Joined.{leaves_both, takes_both}
+use Rattle.itch_day.proofs.Joined.{leaves_both}
+use Rattle.itch_day.proofs.Progress.{takes_both}
 use Rattle.itch_market.specs.Content.{Content, empty, laid}
 use Rattle.itch_market.specs.DayParts.{TakesEarly}
 use Rattle.itch_market.specs.GoodMarkets.{IsGood}

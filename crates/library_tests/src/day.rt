@@ -4,7 +4,8 @@ use crate::equal::{Host, TestResult, same, same_in};
 use crate::files::Blocks;
 use itch_codec::{CodecFault, MOST_MESSAGES, Message};
 use itch_day::{Limit, Mark, Marked, Sink, Stop, read_further, read_part};
-use itch_frame::{BlockReader, FrameFault};
+use itch_frame::{BlockReader, Buffered, FrameFault};
+use std::io::BufReader;
 
 // System events at 1, 2, 3, 3 and 4 nanoseconds after midnight, and an empty block; each message has 14 bytes with its length.
 const DAY: &[u8] =
@@ -116,6 +117,95 @@ fn a_part_goes_on_where_the_one_before_it_stopped(rt: HostRuntime) -> TestResult
         goes_on(&rt, &mut reader, false);
         let mut reader = BlockReader::new(rt.alloc(), PieceReader::new(DAY, piece, None))?;
         goes_on(&rt, &mut reader, true);
+    }
+    Ok(())
+}
+
+// Takes each odd message from its payload alone, and the others decoded. It counts the former, and whether all came in order.
+#[derive(Drop)]
+struct Hasty {
+    at_once: u64,
+    taken: u64,
+    in_order: bool,
+}
+
+impl Hasty {
+    fn note(&mut self, number: u64) {
+        self.in_order = self.in_order && self.taken.checked_add(1) == Some(number);
+        self.taken = number;
+    }
+}
+
+impl Sink for Hasty {
+    type Fault = CodecFault;
+
+    ghost is_ready = { λ _ _. Unit {0} };
+
+    ghost takes = { λ _ _ _ _. Unit {0} };
+
+    ghost refuses = { λ _ _ _ _ _. Unit {0} };
+
+    fn take(
+        &mut self,
+        number: u64,
+        payload: &[u8],
+        message: &Result<Message<'_>, CodecFault>,
+    ) -> Result<(), CodecFault> {
+        let _payload = payload;
+        if let Err(fault) = message {
+            return Err(*fault);
+        }
+        self.note(number);
+        Ok(())
+    }
+
+    fn take_payload(&mut self, number: u64, payload: &[u8]) -> bool {
+        if number % 2 == 0 || payload.len() != 12 {
+            return false;
+        }
+        self.note(number);
+        self.at_once = self.at_once.saturating_add(1);
+        true
+    }
+}
+
+// Reads a part of the day through a buffer of this size: so many messages are taken in order, and so many of them at once.
+fn takes_together(
+    rt: &impl Host,
+    capacity: usize,
+    limit: Limit,
+    taken: u64,
+    at_once: u64,
+) -> TestResult {
+    let source = BufReader::with_capacity(rt.alloc(), capacity, PieceReader::new(DAY, 80, None))?;
+    let mut reader = BlockReader::new(rt.alloc(), Buffered::new(source))?;
+    let mut sink = Hasty {
+        at_once: 0,
+        taken: 0,
+        in_order: true,
+    };
+    let mut count = 0;
+    let _stop = read_part(&mut reader, &mut count, &mut sink, limit);
+    let case = (capacity, limit.after, limit.until);
+    same_in(rt, case, (count, sink.taken), (taken, taken));
+    same_in(rt, case, (sink.at_once, sink.in_order), (at_once, true));
+    Ok(())
+}
+
+// The first block is read, so its message is decoded. None is taken at once where a block does not fit the buffer, or where the time of a
+// message has to be known.
+#[test]
+fn messages_at_hand_are_taken_together(rt: HostRuntime) -> TestResult {
+    for (capacity, after, until, taken, at_once) in [
+        (100, None, None, 5, 2),
+        (100, Some(3), None, 3, 1),
+        (100, Some(4), None, 4, 1),
+        (100, None, Some(4), 4, 0),
+        (60, None, None, 5, 1),
+        (30, None, None, 5, 0),
+        (8, None, None, 5, 0),
+    ] {
+        takes_together(&rt, capacity, Limit { after, until }, taken, at_once)?;
     }
     Ok(())
 }

@@ -37,11 +37,14 @@ fn from_a_client(rt: HostRuntime) -> TestResult {
 
 #[test]
 fn logins_from_a_client(rt: HostRuntime) -> TestResult {
-    let bad_number = SoupFault::BadNumber { offset: 27 };
-    let bad_text = SoupFault::BadText { offset: 1 };
-    is_fault(&rt, Origin::Client, UNPRINTABLE, bad_text)?;
-    is_fault(&rt, Origin::Client, LETTER, bad_number)?;
-    is_fault(&rt, Origin::Client, NINES, bad_number)
+    for (login, fault) in [
+        (UNPRINTABLE, SoupFault::BadText { offset: 1 }),
+        (LETTER, SoupFault::BadNumber { offset: 27 }),
+        (NINES, SoupFault::BadNumber { offset: 27 }),
+    ] {
+        is_fault(&rt, Origin::Client, login, fault)?;
+    }
+    Ok(())
 }
 
 #[test]

@@ -2,7 +2,7 @@
 use super::{STREAM, copies_through};
 use crate::doubles::PieceReader;
 use crate::equal::{Host, TestResult, same};
-use itch_frame::{Buffered, Counted, CountedRead};
+use itch_frame::{BlockReader, Buffered, Consumer, Counted, CountedRead, split_first_block};
 use std::alloc::Global;
 use std::io::BufReader;
 use std::test::Fail;
@@ -15,6 +15,30 @@ fn takes<R: CountedRead>(rt: &impl Host, reader: &mut R, room: usize, want: Opti
     if let Some(block) = want {
         same(rt, size, Some(block.len()));
         assert!(rt; buf.starts_with(block));
+    }
+}
+
+// Uses so many bytes of those that it is offered, and notes how many these are.
+#[derive(Drop)]
+struct Eater {
+    wanted: usize,
+    offered: usize,
+}
+
+impl Consumer for Eater {
+    ghost is_ready = { λ _. Unit {0} };
+
+    ghost uses = { λ _ _ _. Unit {0} };
+
+    fn consume(&mut self, bytes: &[u8]) -> usize {
+        self.offered = bytes.len();
+        self.wanted.min(bytes.len())
+    }
+}
+
+impl Eater {
+    fn of(wanted: usize) -> Eater {
+        Eater { wanted, offered: 0 }
     }
 }
 
@@ -56,6 +80,53 @@ fn blocks_at_hand_are_taken_one_by_one(rt: HostRuntime) -> TestResult {
         takes(&rt, &mut reader, 8, want);
     }
     same(&rt, reader.failures().count(), 0);
+    Ok(())
+}
+
+#[test]
+fn what_lies_at_hand_is_offered(rt: HostRuntime) -> TestResult {
+    let mut reader = ahead(rt.alloc(), b"z\x00\x01a\x00\x02bc")?;
+    for (wanted, offered) in [(0, 7), (3, 7), (0, 4)] {
+        let mut eater = Eater::of(wanted);
+        same(&rt, reader.offer(&mut eater), wanted);
+        same(&rt, eater.offered, offered);
+    }
+    takes(&rt, &mut reader, 8, Some(b"\x00\x02bc"));
+    let mut unbuffered = Counted::new(STREAM);
+    let mut eater = Eater::of(1);
+    same(&rt, unbuffered.offer(&mut eater), 0);
+    same(&rt, eater.offered, 0);
+    Ok(())
+}
+
+#[test]
+fn nothing_is_offered_but_between_blocks(rt: HostRuntime) -> TestResult {
+    let source = BufReader::with_capacity(rt.alloc(), 64, PieceReader::new(STREAM, 64, None))?;
+    let mut blocks = BlockReader::new(rt.alloc(), Buffered::new(source))?;
+    let mut eater = Eater::of(3);
+    same(&rt, blocks.offer(&mut eater), 0);
+    assert!(rt; blocks.load()?);
+    same(&rt, blocks.offer(&mut eater), 0);
+    blocks.pass_held();
+    same(&rt, blocks.offer(&mut eater), 3.min(STREAM.len() - 3));
+    same(&rt, eater.offered, STREAM.len() - 3);
+    Ok(())
+}
+
+#[test]
+fn bytes_are_split_after_their_first_block(rt: HostRuntime) -> TestResult {
+    for bytes in [b"".as_slice(), b"\x00", b"\x00\x02a", b"\x01\x00abc"] {
+        assert!(rt; split_first_block(bytes).is_none());
+    }
+    for (bytes, payload, rest) in [
+        (b"\x00\x02ab".as_slice(), b"ab".as_slice(), b"".as_slice()),
+        (b"\x00\x00x", b"", b"x"),
+        (b"\x00\x01abc", b"a", b"bc"),
+    ] {
+        let (one, other) = split_first_block(bytes).unwrap();
+        same(&rt, one, payload);
+        same(&rt, other, rest);
+    }
     Ok(())
 }
 

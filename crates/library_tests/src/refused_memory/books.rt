@@ -49,14 +49,17 @@ fn refuse_one<B: OrderBook>(
     rt: &impl Host,
     refusing: &Refusing<Global>,
     book: &mut B,
-    (original, order): (Option<u64>, Order),
+    original: Option<u64>,
+    order: Order,
     nth: u64,
 ) -> bool {
+    let again = order;
+    let reference = order.reference;
     refusing.arm(nth);
     let is_done = call(rt, book, original, order).is_ok();
     same(rt, refusing.has_refused(), !is_done);
-    let want = if is_done { Some(order) } else { None };
-    same(rt, live(book, order.reference), want);
+    let want = if is_done { Some(again) } else { None };
+    same(rt, live(book, reference), want);
     !is_done
 }
 
@@ -71,7 +74,7 @@ fn refuse_each<B: OrderBook>(
     let orders = listed(rt, book)?;
     let before = level(book, &order);
     for nth in 0..16 {
-        if !refuse_one(rt, refusing, book, (original, order), nth) {
+        if !refuse_one(rt, refusing, book, original, order, nth) {
             return Ok(nth);
         }
         has_orders(rt, book, &orders)?;
