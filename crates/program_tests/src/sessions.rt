@@ -134,29 +134,46 @@ fn faults_of_sessions_have_their_line_and_status(rt: HostRuntime) -> TestResult 
     let rule = |reason| SoupFault::Snapshot(SnapFault::Rule { place: 2, reason });
     let error = io::Error::from(io::ErrorKind::Other);
     let write = FrameFault::Write { sent: 0, error };
-    let own = [
+    let cases = [
         (SessionFault::BadUser, "2 itchsnap: bad user"),
         (SessionFault::BadPassword, "2 itchsnap: bad password"),
         (SessionFault::TooMany, "1 itchsnap: too many messages"),
         (SessionFault::Socket(error), "3 itchsnap: socket failed"),
-    ];
-    for (fault, line) in own {
-        is_told(&rt, &fault, line)?;
-    }
-    for (fault, line) in [
-        (SoupFault::Rejected(b'A'), "1 itchsnap: rejected A"),
-        (SoupFault::Rejected(b'S'), "1 itchsnap: rejected S"),
-        (SoupFault::EndedEarly, "1 itchsnap: ended early"),
-        (SoupFault::SecondLogin, "1 itchsnap: session fault"),
         (
-            SoupFault::Frame(FrameFault::Read(error)),
+            SessionFault::Soup(SoupFault::Rejected(b'A')),
+            "1 itchsnap: rejected A",
+        ),
+        (
+            SessionFault::Soup(SoupFault::Rejected(b'S')),
+            "1 itchsnap: rejected S",
+        ),
+        (
+            SessionFault::Soup(SoupFault::EndedEarly),
+            "1 itchsnap: ended early",
+        ),
+        (
+            SessionFault::Soup(SoupFault::SecondLogin),
+            "1 itchsnap: session fault",
+        ),
+        (
+            SessionFault::Soup(SoupFault::Frame(FrameFault::Read(error))),
             "3 itchsnap: read failed",
         ),
-        (SoupFault::Frame(write), "3 itchsnap: write failed"),
-        (rule(Refusal::OutOfMemory), "4 itchsnap: out of memory"),
-        (rule(Refusal::StockMismatch), "1 itchsnap: session fault"),
-    ] {
-        is_told(&rt, &SessionFault::Soup(fault), line)?;
+        (
+            SessionFault::Soup(SoupFault::Frame(write)),
+            "3 itchsnap: write failed",
+        ),
+        (
+            SessionFault::Soup(rule(Refusal::OutOfMemory)),
+            "4 itchsnap: out of memory",
+        ),
+        (
+            SessionFault::Soup(rule(Refusal::StockMismatch)),
+            "1 itchsnap: session fault",
+        ),
+    ];
+    for (fault, line) in cases.iter() {
+        is_told(&rt, fault, line)?;
     }
     Ok(())
 }
