@@ -1,5 +1,5 @@
 -- Slots by locate: what the directory that they hold has where, its keys, and how it changes.
-use Rattle.std.proofs.Common.{◌≡◌, ◌≢◌, ℕ, zero, suc, ◌+◌, ◌<◌, ◌≤◌, true, false, cond, eqb, List, [], ◌∷◌, ◌++◌, length, drop, replicate, Option, Some, None, is_some, refl, sym, ap, ◌∙◌, arith, add-one, nat_cmp, Less, get_or, set}
+use Rattle.std.proofs.Common.{◌≡◌, ◌≢◌, ℕ, zero, suc, ◌+◌, ◌<◌, ◌≤◌, true, false, cond, eqb, List, [], ◌∷◌, ◌++◌, length, drop, replicate, Option, Some, None, is_some, refl, sym, ap, ◌∙◌, arith, add-one, nat_cmp, Less, get_or, set, ◌==◌, w64}
 use Rattle.std.specs.FinMap as map
 use Rattle.std.specs.Map.{keys_of}
 use Rattle.std.specs.List.{AllByRecursion}
@@ -7,10 +7,13 @@ use Rattle.std.specs.List.Sorted.{IsStrictlySortedBy}
 use Rattle.std.specs.Prelude.{map as map_list}
 use Rattle.std.specs.Option.{IsNone}
 use Rattle.std.specs.Str.{bytes_eq}
+use Rattle.std.specs.Int.{from_be_bytes}
+use Rattle.std.proofs.lemmas.Nat.{be_bytes_8}
+use Rattle.std.proofs.lemmas.Slice.Eq.{bytes_eq-Decides}
 use Rattle.std.proofs.Math.Seq.{drop-cons}
 use Rattle.std.proofs.lemmas.List.{drop_all, map-set, map-append, length-map, get_or-map, set-get_or}
 use Rattle.itch_codec.specs.Text.{IsPrintable}
-use Rattle.std.proofs.lemmas.Bool.Decides.{nat_tests}
+use Rattle.std.proofs.lemmas.Bool.Decides.{nat_tests, same_from_decides, Decides-eqb, Decides-like}
 use Rattle.itch_market.specs.Content.{Listing, Securities}
 use Rattle.itch_market.specs.Slots.{entries_from, directory, locates_from, slot, stock_in, has_stock}
 use Rattle.std.specs.Cmp.{nat_cmp_total}
@@ -181,6 +184,15 @@ stock_read stocks slots i known same low is =
 zeros_differ : (stock : List ℕ) → IsPrintable stock → length stock ≡ 8 → bytes_eq (replicate 8 0) stock ≡ false
 zeros_differ [] printable width = absurd (omega arith)
 zeros_differ (byte ∷ stock) printable width = let other : eqb 0 byte ≡ false = grind (arith, nat_tests) in rw other refl
+
+-- eight bytes are the same where the numbers that they make are
+pub same_number : (xs ys : List ℕ) → length xs ≡ 8 → length ys ≡ 8 → ((i : ℕ) → get_or xs i 0 < 256) → ((i : ℕ) → get_or ys i 0 < 256)
+    → (from_be_bytes w64 xs == from_be_bytes w64 ys) ≡ bytes_eq xs ys
+same_number xs ys long_xs long_ys fits_xs fits_ys =
+    same_from_decides (from_be_bytes w64 xs == from_be_bytes w64 ys) (bytes_eq xs ys)
+    (Decides-like (from_be_bytes w64 xs == from_be_bytes w64 ys) (λ same. sym (be_bytes_8 xs (from_be_bytes w64 ys) long_xs fits_xs (sym same)) ∙ be_bytes_8 ys (from_be_bytes w64 ys) long_ys fits_ys refl)
+    (ap (from_be_bytes w64)) (Decides-eqb (from_be_bytes w64 xs) (from_be_bytes w64 ys)))
+    (bytes_eq-Decides xs ys)
 
 -- to compare with the stock beside a slot is to compare with that of its security
 pub stock_compared : (s : Option Listing) (stock : List ℕ) → IsPrintable stock → length stock ≡ 8 → bytes_eq (stock_in s) stock ≡ has_stock s stock

@@ -2,6 +2,7 @@
 ghost use Rattle.std.specs.Prelude.{◌≡◌, ◌<◌, ◌≤◌, Some, IsSome, IsNone, OnOk, OnErr, length, set};
 ghost use Rattle.std.specs.FinMap as map;
 ghost use Rattle.itch_market.specs.Content.{Listing};
+ghost use Rattle.std.specs.Str.{bytes_eq};
 ghost use Rattle.itch_market.specs.Slots.{directory, slot, has_stock};
 
 use crate::security::Security;
@@ -59,7 +60,7 @@ impl<A: Allocator + Copy> NamedSlots<A> {
         ensures { result ≡ has_stock (slot self.now at) stock }
     {
         match self.stocks.get(at) {
-            Some(known) => *known == *stock.bytes(),
+            Some(known) => are_same(*known, *stock.bytes()),
             None => false,
         }
     }
@@ -114,4 +115,12 @@ impl<A: Allocator + Copy> NamedSlots<A> {
         self.stocks[at] = *security.entry.stock.bytes();
         self.slots[at] = Some(security);
     }
+}
+
+// Whether two stocks are the same. They are compared as numbers, at once and not byte by byte.
+#[inline(always)]
+fn are_same(one: [u8; 8], other: [u8; 8]) -> bool
+    ensures { result ≡ bytes_eq one other }
+{
+    u64::from_be_bytes(one) == u64::from_be_bytes(other)
 }

@@ -1,10 +1,8 @@
 //! Books by what their calls return. The helpers take any book.
-use crate::equal::{same, same_in};
+use crate::equal::{Host, TestResult, same, same_in};
 use itch_book::{IndexedBook, ListBook, Order, OrderBook, Placed, Taken};
 use itch_codec::Side;
 use std::alloc::AllocError;
-use std::process::Abort;
-use std::test::Fail;
 
 // An order of locate 1.
 pub(super) fn order(reference: u64, side: Side, shares: u32, price: u32) -> Order {
@@ -19,7 +17,7 @@ pub(super) fn order(reference: u64, side: Side, shares: u32, price: u32) -> Orde
 }
 
 pub(super) fn add<B: OrderBook>(
-    rt: &impl Abort,
+    rt: &impl Host,
     book: &mut B,
     order: Order,
 ) -> Result<(), AllocError> {
@@ -38,7 +36,7 @@ fn place_of<B: OrderBook>(book: &B, reference: u64) -> usize {
 
 // Takes shares from an order, by a place that may not be its own.
 fn take_at<B: OrderBook>(
-    rt: &impl Abort,
+    rt: &impl Host,
     book: &mut B,
     reference: u64,
     place: usize,
@@ -52,7 +50,7 @@ fn take_at<B: OrderBook>(
 }
 
 pub(super) fn take<B: OrderBook>(
-    rt: &impl Abort,
+    rt: &impl Host,
     book: &mut B,
     reference: u64,
     shares: u32,
@@ -62,19 +60,19 @@ pub(super) fn take<B: OrderBook>(
 }
 
 // Deletes an order, by a place that may not be its own.
-fn delete_at<B: OrderBook>(rt: &impl Abort, book: &mut B, reference: u64, place: usize) -> Order {
+fn delete_at<B: OrderBook>(rt: &impl Host, book: &mut B, reference: u64, place: usize) -> Order {
     assert!(rt; book.get(reference).is_some());
     book.delete(reference, place)
 }
 
-pub(super) fn delete<B: OrderBook>(rt: &impl Abort, book: &mut B, reference: u64) -> Order {
+pub(super) fn delete<B: OrderBook>(rt: &impl Host, book: &mut B, reference: u64) -> Order {
     let place = place_of(book, reference);
     delete_at(rt, book, reference, place)
 }
 
 // Replaces an order, by a place that may not be its own.
-fn replace_at<B: OrderBook>(
-    rt: &impl Abort,
+pub(super) fn replace_at<B: OrderBook>(
+    rt: &impl Host,
     book: &mut B,
     original: u64,
     place: usize,
@@ -89,7 +87,7 @@ fn replace_at<B: OrderBook>(
 }
 
 pub(super) fn replace<B: OrderBook>(
-    rt: &impl Abort,
+    rt: &impl Host,
     book: &mut B,
     original: u64,
     reference: u64,
@@ -118,7 +116,7 @@ fn unplaced(placed: Option<Placed<'_>>) -> Option<Order> {
 
 // The next order of the same locate, from a place that the book may not have given.
 fn after_at<'a, B: OrderBook>(
-    rt: &impl Abort,
+    rt: &impl Host,
     book: &'a B,
     reference: u64,
     place: usize,
@@ -128,12 +126,12 @@ fn after_at<'a, B: OrderBook>(
 }
 
 // The next order of the same locate.
-pub(super) fn after<B: OrderBook>(rt: &impl Abort, book: &B, reference: u64) -> Option<Order> {
+pub(super) fn after<B: OrderBook>(rt: &impl Host, book: &B, reference: u64) -> Option<Order> {
     unplaced(after_at(rt, book, reference, 0))
 }
 
 // Checks that these are the orders of a locate, each from the place of the one before.
-fn check_walk<B: OrderBook>(rt: &impl Abort, book: &B, locate: u16, want: &[u64]) {
+fn check_walk<B: OrderBook>(rt: &impl Host, book: &B, locate: u16, want: &[u64]) {
     let mut next = book.first(locate);
     for number in want {
         same(rt, reference(unplaced(next).as_ref()), *number);
@@ -144,7 +142,7 @@ fn check_walk<B: OrderBook>(rt: &impl Abort, book: &B, locate: u16, want: &[u64]
 }
 
 // Checks that the next order is the same from whichever place.
-fn check_places<B: OrderBook>(rt: &impl Abort, book: &B, number: u64, want: u64) {
+fn check_places<B: OrderBook>(rt: &impl Host, book: &B, number: u64, want: u64) {
     for place in [0, 1, 2, 3, 4, 5, 6, 7, usize::MAX] {
         let next = unplaced(after_at(rt, book, number, place));
         same_in(rt, (number, place), reference(next.as_ref()), want);
@@ -152,7 +150,7 @@ fn check_places<B: OrderBook>(rt: &impl Abort, book: &B, number: u64, want: u64)
 }
 
 // The reference of the next order of the same locate, or 0.
-fn next<B: OrderBook>(rt: &impl Abort, book: &B, number: u64) -> u64 {
+fn next<B: OrderBook>(rt: &impl Host, book: &B, number: u64) -> u64 {
     reference(after(rt, book, number).as_ref())
 }
 
@@ -167,7 +165,7 @@ pub(super) fn total<B: OrderBook>(book: &B, locate: u16, side: Side, price: u32)
 }
 
 // The book has so many orders.
-pub(super) fn has_len<B: OrderBook>(rt: &impl Abort, book: &B, want: usize) {
+pub(super) fn has_len<B: OrderBook>(rt: &impl Host, book: &B, want: usize) {
     same(rt, book.len(), want);
 }
 
@@ -180,7 +178,7 @@ pub(super) fn reference(order: Option<&Order>) -> u64 {
 }
 
 // Adds two levels to buy, two to sell, and the greatest order of another locate.
-fn fill<B: OrderBook>(rt: &impl Abort, book: &mut B) -> Result<(), AllocError> {
+fn fill<B: OrderBook>(rt: &impl Host, book: &mut B) -> Result<(), AllocError> {
     has_len(rt, book, 0);
     for (locate, number, side, shares, price) in [
         (1, 1, Side::Buy, 100, 1500000),
@@ -199,7 +197,7 @@ fn fill<B: OrderBook>(rt: &impl Abort, book: &mut B) -> Result<(), AllocError> {
 }
 
 // Checks the order of the orders.
-fn check_order<B: OrderBook>(rt: &impl Abort, book: &B) {
+fn check_order<B: OrderBook>(rt: &impl Host, book: &B) {
     same(rt, reference(first(book, 1).as_ref()), 2);
     for (number, want) in [
         (2, 4),
@@ -221,7 +219,7 @@ fn check_order<B: OrderBook>(rt: &impl Abort, book: &B) {
 }
 
 // Checks the prices of the levels.
-fn check_prices<B: OrderBook>(rt: &impl Abort, book: &B) {
+fn check_prices<B: OrderBook>(rt: &impl Host, book: &B) {
     for (side, last, want) in [
         (Side::Buy, None, Some(1500100)),
         (Side::Buy, Some(1500100), Some(1500000)),
@@ -235,7 +233,7 @@ fn check_prices<B: OrderBook>(rt: &impl Abort, book: &B) {
 }
 
 // Checks the totals of the levels.
-fn check_totals<B: OrderBook>(rt: &impl Abort, book: &B) {
+fn check_totals<B: OrderBook>(rt: &impl Host, book: &B) {
     for (locate, side, price, want) in [
         (1, Side::Buy, 1500100, (600, 2)),
         (1, Side::Buy, 1500000, (400, 2)),
@@ -247,7 +245,7 @@ fn check_totals<B: OrderBook>(rt: &impl Abort, book: &B) {
 }
 
 // Takes shares of the orders 1 and 3.
-fn check_takes<B: OrderBook>(rt: &impl Abort, book: &mut B) {
+fn check_takes<B: OrderBook>(rt: &impl Host, book: &mut B) {
     same(rt, take(rt, book, 1, 40), Taken::Left(60));
     same(rt, total(book, 1, Side::Buy, 1500000), (360, 2));
     same(rt, next(rt, book, 4), 1);
@@ -256,13 +254,13 @@ fn check_takes<B: OrderBook>(rt: &impl Abort, book: &mut B) {
     same(rt, take(rt, book, 3, 0), Taken::Left(300));
 }
 
-fn check_delete<B: OrderBook>(rt: &impl Abort, book: &mut B) {
+fn check_delete<B: OrderBook>(rt: &impl Host, book: &mut B) {
     same(rt, delete(rt, book, 6), order(6, Side::Sell, 600, 1500200));
     same(rt, next_price(book, Side::Sell, None), Some(1500300));
 }
 
 // Replaces order 2 by order 7, after order 3.
-fn check_replace<B: OrderBook>(rt: &impl Abort, book: &mut B) -> Result<(), AllocError> {
+fn check_replace<B: OrderBook>(rt: &impl Host, book: &mut B) -> Result<(), AllocError> {
     replace(rt, book, 2, 7, 50, 1500000)?;
     assert!(rt; live(book, 2).is_none());
     let replacement = order(7, Side::Buy, 50, 1500000);
@@ -275,7 +273,7 @@ fn check_replace<B: OrderBook>(rt: &impl Abort, book: &mut B) -> Result<(), Allo
 
 // Changes a filled book by a place that is given, or by that of each order, and checks what is left.
 fn check_changes<B: OrderBook>(
-    rt: &impl Abort,
+    rt: &impl Host,
     memory: B::Alloc,
     given: Option<usize>,
 ) -> Result<(), AllocError> {
@@ -295,7 +293,7 @@ fn check_changes<B: OrderBook>(
 }
 
 // Checks that changes are the same by whichever place.
-fn check_given<B: OrderBook>(rt: &impl Abort, memory: B::Alloc) -> Result<(), AllocError> {
+fn check_given<B: OrderBook>(rt: &impl Host, memory: B::Alloc) -> Result<(), AllocError> {
     check_changes::<B>(rt, memory, None)?;
     for place in [0, 1, 2, 3, 4, 5, 6, 7, usize::MAX] {
         check_changes::<B>(rt, memory, Some(place))?;
@@ -304,7 +302,7 @@ fn check_given<B: OrderBook>(rt: &impl Abort, memory: B::Alloc) -> Result<(), Al
 }
 
 // Checks each call of a book that is empty.
-fn check_each_call<B: OrderBook>(rt: &impl Abort, book: &mut B) -> Result<(), AllocError> {
+fn check_each_call<B: OrderBook>(rt: &impl Host, book: &mut B) -> Result<(), AllocError> {
     fill(rt, book)?;
     check_order(rt, book);
     check_prices(rt, book);
@@ -315,14 +313,14 @@ fn check_each_call<B: OrderBook>(rt: &impl Abort, book: &mut B) -> Result<(), Al
 }
 
 // Checks each call of a new book over this memory.
-fn check_calls<B: OrderBook>(rt: &impl Abort, memory: B::Alloc) -> Result<(), AllocError> {
+fn check_calls<B: OrderBook>(rt: &impl Host, memory: B::Alloc) -> Result<(), AllocError> {
     let mut book = B::new(memory);
     check_each_call(rt, &mut book)?;
     check_given::<B>(rt, memory)
 }
 
 // Adds a level of a thousand orders.
-fn fill_level<B: OrderBook>(rt: &impl Abort, book: &mut B) -> Result<(), AllocError> {
+fn fill_level<B: OrderBook>(rt: &impl Host, book: &mut B) -> Result<(), AllocError> {
     for number in 1..1001 {
         add(rt, book, order(number, Side::Buy, 10, 1500000))?;
     }
@@ -330,14 +328,14 @@ fn fill_level<B: OrderBook>(rt: &impl Abort, book: &mut B) -> Result<(), AllocEr
 }
 
 // Deletes an order in the middle of the level, takes the first whole, and replaces the last.
-fn change_level<B: OrderBook>(rt: &impl Abort, book: &mut B) -> Result<(), AllocError> {
+fn change_level<B: OrderBook>(rt: &impl Host, book: &mut B) -> Result<(), AllocError> {
     delete(rt, book, 500);
     same(rt, take(rt, book, 1, 10), Taken::Gone);
     replace(rt, book, 1000, 2000, 5, 1500000)
 }
 
 // Checks the level after these changes.
-fn check_level<B: OrderBook>(rt: &impl Abort, book: &B) {
+fn check_level<B: OrderBook>(rt: &impl Host, book: &B) {
     same(rt, total(book, 1, Side::Buy, 1500000), (9975, 998));
     same(rt, reference(book.front(1, Side::Buy)), 2);
     for (number, want) in [(499, 501), (999, 2000), (2000, 0)] {
@@ -346,7 +344,7 @@ fn check_level<B: OrderBook>(rt: &impl Abort, book: &B) {
 }
 
 // Checks a level of a thousand orders of a new book over this memory, of which three change.
-fn check_priority<B: OrderBook>(rt: &impl Abort, memory: B::Alloc) -> Result<(), AllocError> {
+fn check_priority<B: OrderBook>(rt: &impl Host, memory: B::Alloc) -> Result<(), AllocError> {
     let mut book = B::new(memory);
     fill_level(rt, &mut book)?;
     change_level(rt, &mut book)?;
@@ -355,27 +353,23 @@ fn check_priority<B: OrderBook>(rt: &impl Abort, memory: B::Alloc) -> Result<(),
 }
 
 #[test]
-fn list_book_calls(rt: HostRuntime) -> Result<(), Fail> {
-    check_calls::<ListBook>(&rt, rt.alloc())?;
-    Ok(())
+fn list_book_calls(rt: HostRuntime) -> TestResult {
+    Ok(check_calls::<ListBook>(&rt, rt.alloc())?)
 }
 
 #[test]
-fn indexed_book_calls(rt: HostRuntime) -> Result<(), Fail> {
-    check_calls::<IndexedBook>(&rt, rt.alloc())?;
-    Ok(())
+fn indexed_book_calls(rt: HostRuntime) -> TestResult {
+    Ok(check_calls::<IndexedBook>(&rt, rt.alloc())?)
 }
 
 #[test]
-fn list_book_keeps_priority(rt: HostRuntime) -> Result<(), Fail> {
-    check_priority::<ListBook>(&rt, rt.alloc())?;
-    Ok(())
+fn list_book_keeps_priority(rt: HostRuntime) -> TestResult {
+    Ok(check_priority::<ListBook>(&rt, rt.alloc())?)
 }
 
 #[test]
-fn indexed_book_keeps_priority(rt: HostRuntime) -> Result<(), Fail> {
-    check_priority::<IndexedBook>(&rt, rt.alloc())?;
-    Ok(())
+fn indexed_book_keeps_priority(rt: HostRuntime) -> TestResult {
+    Ok(check_priority::<IndexedBook>(&rt, rt.alloc())?)
 }
 
 mod ladders;

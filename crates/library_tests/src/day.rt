@@ -1,12 +1,10 @@
 //! Parts of a day, read one after another.
 use crate::doubles::PieceReader;
-use crate::equal::{same, same_in};
+use crate::equal::{Host, TestResult, same, same_in};
+use crate::files::Blocks;
 use itch_codec::{CodecFault, MOST_MESSAGES, Message};
 use itch_day::{Limit, Mark, Marked, Sink, Stop, read_further, read_part};
-use itch_frame::{BlockReader, CountedRead, FrameFault};
-use std::alloc::Allocator;
-use std::process::Abort;
-use std::test::Fail;
+use itch_frame::{BlockReader, FrameFault};
 
 // System events at 1, 2, 3, 3 and 4 nanoseconds after midnight, and an empty block; each message has 14 bytes with its length.
 const DAY: &[u8] =
@@ -30,6 +28,12 @@ const PARTS: [(Option<u64>, Option<u64>, &str, u64); 8] = [
 struct Picky {
     refused: u64,
     taken: u64,
+}
+
+impl Picky {
+    fn refusing(refused: u64) -> Picky {
+        Picky { refused, taken: 0 }
+    }
 }
 
 impl Sink for Picky {
@@ -69,50 +73,36 @@ fn word(stop: &Stop<u64>) -> &'static str {
     }
 }
 
-// Reads a part of a day after so many messages, and returns why it goes no further.
-fn part<R: CountedRead, A: Allocator>(
-    reader: &mut BlockReader<R, A>,
+// Reads a part of a day after so many messages, or a further one, and returns why it goes no further.
+fn read(
+    reader: &mut Blocks<'_>,
     count: &mut u64,
     sink: &mut Picky,
     limit: Limit,
+    is_further: bool,
 ) -> &'static str {
     let mut at = (*count).min(MOST_MESSAGES);
-    let stop = read_part(reader, &mut at, sink, limit);
+    let stop = if is_further {
+        read_further(reader, &mut at, sink, limit)
+    } else {
+        read_part(reader, &mut at, sink, limit)
+    };
     *count = at;
     word(&stop)
 }
 
-// The same after a part that went before.
-fn further<R: CountedRead, A: Allocator>(
-    reader: &mut BlockReader<R, A>,
-    count: &mut u64,
-    sink: &mut Picky,
-    limit: Limit,
-) -> &'static str {
-    let mut at = (*count).min(MOST_MESSAGES);
-    let stop = read_further(reader, &mut at, sink, limit);
-    *count = at;
-    word(&stop)
+// Reads a day to its end after so many messages.
+fn rest(reader: &mut Blocks<'_>, count: &mut u64, sink: &mut Picky) -> &'static str {
+    read(reader, count, sink, Limit::whole(), false)
 }
 
 // Each part goes on where the one before it stopped.
-fn goes_on<R: CountedRead, A: Allocator>(
-    rt: &impl Abort,
-    reader: &mut BlockReader<R, A>,
-    is_further: bool,
-) {
+fn goes_on(rt: &impl Host, reader: &mut Blocks<'_>, is_further: bool) {
     let mut count = 0;
-    let mut sink = Picky {
-        refused: 0,
-        taken: 0,
-    };
+    let mut sink = Picky::refusing(0);
     for (after, until, word, taken) in PARTS {
         let limit = Limit { after, until };
-        let stop = if is_further {
-            further(reader, &mut count, &mut sink, limit)
-        } else {
-            part(reader, &mut count, &mut sink, limit)
-        };
+        let stop = read(reader, &mut count, &mut sink, limit, is_further);
         same_in(rt, (after, until), stop, word);
         same_in(rt, (after, until), count, taken);
         same_in(rt, (after, until), sink.taken, taken);
@@ -120,7 +110,7 @@ fn goes_on<R: CountedRead, A: Allocator>(
 }
 
 #[test]
-fn a_part_goes_on_where_the_one_before_it_stopped(rt: HostRuntime) -> Result<(), Fail> {
+fn a_part_goes_on_where_the_one_before_it_stopped(rt: HostRuntime) -> TestResult {
     for piece in [1, 9, 80] {
         let mut reader = BlockReader::new(rt.alloc(), PieceReader::new(DAY, piece, None))?;
         goes_on(&rt, &mut reader, false);
@@ -131,61 +121,38 @@ fn a_part_goes_on_where_the_one_before_it_stopped(rt: HostRuntime) -> Result<(),
 }
 
 // The third message is refused twice, and then taken.
-fn refuses_twice<R: CountedRead, A: Allocator>(rt: &impl Abort, reader: &mut BlockReader<R, A>) {
+fn refuses_twice(rt: &impl Host, reader: &mut Blocks<'_>) {
     let mut count = 0;
-    let mut sink = Picky {
-        refused: 3,
-        taken: 0,
-    };
+    let mut sink = Picky::refusing(3);
     for _ in 0..2 {
-        same(
-            rt,
-            part(reader, &mut count, &mut sink, Limit::whole()),
-            "refused",
-        );
+        same(rt, rest(reader, &mut count, &mut sink), "refused");
         same(rt, count, 2);
         same(rt, sink.taken, 2);
     }
     sink.refused = 0;
-    same(
-        rt,
-        part(reader, &mut count, &mut sink, Limit::whole()),
-        "end",
-    );
+    same(rt, rest(reader, &mut count, &mut sink), "end");
     same(rt, count, 5);
 }
 
 #[test]
-fn a_refused_message_is_left(rt: HostRuntime) -> Result<(), Fail> {
+fn a_refused_message_is_left(rt: HostRuntime) -> TestResult {
     let mut reader = BlockReader::new(rt.alloc(), PieceReader::new(DAY, 64, None))?;
     refuses_twice(&rt, &mut reader);
     Ok(())
 }
 
 // So many messages are taken until this stops them, however often it is asked.
-fn stops<R: CountedRead, A: Allocator>(
-    rt: &impl Abort,
-    reader: &mut BlockReader<R, A>,
-    word: &'static str,
-    taken: u64,
-) {
+fn stops(rt: &impl Host, reader: &mut Blocks<'_>, word: &'static str, taken: u64) {
     let mut count = 0;
-    let mut sink = Picky {
-        refused: 0,
-        taken: 0,
-    };
+    let mut sink = Picky::refusing(0);
     for _ in 0..2 {
-        same(
-            rt,
-            part(reader, &mut count, &mut sink, Limit::whole()),
-            word,
-        );
+        same(rt, rest(reader, &mut count, &mut sink), word);
         same(rt, count, taken);
     }
 }
 
 #[test]
-fn says_why_a_part_goes_no_further(rt: HostRuntime) -> Result<(), Fail> {
+fn says_why_a_part_goes_no_further(rt: HostRuntime) -> TestResult {
     for (bytes, word, taken) in [
         (b"".as_slice(), "end", 0),
         (b"\0\0", "end", 0),
@@ -200,25 +167,18 @@ fn says_why_a_part_goes_no_further(rt: HostRuntime) -> Result<(), Fail> {
 }
 
 // A read fails, and then the part goes on to its end.
-fn fails_and_goes_on<R: CountedRead, A: Allocator>(
-    rt: &impl Abort,
-    reader: &mut BlockReader<R, A>,
-    at: u64,
-) {
+fn fails_and_goes_on(rt: &impl Host, reader: &mut Blocks<'_>, at: u64) {
     let mut count = 0;
-    let mut sink = Picky {
-        refused: 0,
-        taken: 0,
-    };
-    let first = part(reader, &mut count, &mut sink, Limit::whole());
+    let mut sink = Picky::refusing(0);
+    let first = rest(reader, &mut count, &mut sink);
     same_in(rt, at, first, "failed");
-    let second = part(reader, &mut count, &mut sink, Limit::whole());
+    let second = rest(reader, &mut count, &mut sink);
     same_in(rt, at, second, "end");
     same_in(rt, at, count, 5);
 }
 
 #[test]
-fn nothing_is_lost_whichever_read_fails(rt: HostRuntime) -> Result<(), Fail> {
+fn nothing_is_lost_whichever_read_fails(rt: HostRuntime) -> TestResult {
     for at in 1..=72 {
         let source = PieceReader::new(DAY, 1, Some(at));
         let mut reader = BlockReader::new(rt.alloc(), source)?;
@@ -228,15 +188,10 @@ fn nothing_is_lost_whichever_read_fails(rt: HostRuntime) -> Result<(), Fail> {
 }
 
 // The mark after the messages before a time.
-fn mark_at<R: CountedRead, A: Allocator>(reader: &mut BlockReader<R, A>, until: u64) -> Mark {
-    let sink = Picky {
-        refused: 0,
-        taken: 0,
-    };
-    let mut marked = Marked {
-        sink,
-        mark: Mark::new(),
-    };
+fn mark_at(reader: &mut Blocks<'_>, until: u64) -> Mark {
+    let sink = Picky::refusing(0);
+    let mark = Mark::new();
+    let mut marked = Marked { sink, mark };
     let mut count = 0;
     let limit = Limit {
         after: None,
@@ -247,7 +202,7 @@ fn mark_at<R: CountedRead, A: Allocator>(reader: &mut BlockReader<R, A>, until: 
 }
 
 #[test]
-fn a_mark_is_past_what_was_taken(rt: HostRuntime) -> Result<(), Fail> {
+fn a_mark_is_past_what_was_taken(rt: HostRuntime) -> TestResult {
     for (until, count, latest) in [(1, 0, None), (3, 2, Some(2)), (9, 5, Some(4))] {
         let mut reader = BlockReader::new(rt.alloc(), PieceReader::new(DAY, 9, None))?;
         let mark = Mark {

@@ -3,20 +3,19 @@
 mod best;
 
 use crate::doubles::FuseWriter;
-use crate::equal::same;
-use crate::files::{AAPL, ADD_1, are_same, market, read, write};
+use crate::equal::{Host, TestResult, same};
+use crate::files::{are_same, market, read, write};
+use crate::payloads::*;
 use itch_book::{IndexedBook, ListBook, Order, OrderBook};
 use itch_codec::{Alpha, Message, Seq, Side, decode, encode};
 use itch_frame::{BlockReader, Counted, write_block};
 use itch_join::{Joiner, Live, Snap};
 use itch_market::{Market, Refusal};
 use itch_soup::{ClientAct, ClientSession, Credentials, Origin, parse_packet};
-use std::alloc::Global;
-use std::process::Abort;
 use std::test::Fail;
 
 #[test]
-fn blocks_are_written_and_read(rt: HostRuntime) -> Result<(), Fail> {
+fn blocks_are_written_and_read(rt: HostRuntime) -> TestResult {
     let mut out = FuseWriter::new(rt.alloc(), 64, None);
     write_block(&mut out, b"hi")?;
     same(&rt, out.written(), b"\0\x02hi".as_slice());
@@ -27,7 +26,7 @@ fn blocks_are_written_and_read(rt: HostRuntime) -> Result<(), Fail> {
 }
 
 #[test]
-fn a_message_is_decoded_and_encoded(rt: HostRuntime) -> Result<(), Fail> {
+fn a_message_is_decoded_and_encoded(rt: HostRuntime) -> TestResult {
     let message = decode(ADD_1)?;
     if let Message::AddOrder(order) = &message {
         same(&rt, order.reference, 1);
@@ -38,7 +37,7 @@ fn a_message_is_decoded_and_encoded(rt: HostRuntime) -> Result<(), Fail> {
     Ok(())
 }
 
-fn book_example<B: OrderBook>(rt: &impl Abort, alloc: B::Alloc) -> Result<(), Fail> {
+fn book_example<B: OrderBook>(rt: &impl Host, alloc: B::Alloc) -> TestResult {
     let mut book = B::new(alloc);
     assert!(rt; book.get(1).is_none());
     book.add(Order {
@@ -49,17 +48,14 @@ fn book_example<B: OrderBook>(rt: &impl Abort, alloc: B::Alloc) -> Result<(), Fa
         price: 1_500_000,
         mpid: None,
     })?;
-    same(
-        rt,
-        book.front(1, Side::Buy).map(|order| order.reference),
-        Some(1),
-    );
+    let front = book.front(1, Side::Buy);
+    same(rt, front.map(|order| order.reference), Some(1));
     same(rt, book.level_total(1, Side::Buy, 1_500_000), (100, 1));
     Ok(())
 }
 
 #[test]
-fn a_book_knows_its_best_order(rt: HostRuntime) -> Result<(), Fail> {
+fn a_book_knows_its_best_order(rt: HostRuntime) -> TestResult {
     book_example::<IndexedBook>(&rt, rt.alloc())
 }
 
@@ -76,7 +72,7 @@ fn best_shares<B: OrderBook>(market: &Market<B>) -> Option<u32> {
     Some(market.best(1, Side::Buy)?.shares)
 }
 
-fn market_example<B: OrderBook>(rt: &impl Abort, memory: B::Alloc) -> Result<(), Fail> {
+fn market_example<B: OrderBook>(rt: &impl Host, memory: B::Alloc) -> TestResult {
     let mut market: Market<B> = Market::new(memory);
     apply(&mut market, AAPL)??;
     apply(&mut market, ADD_1)??;
@@ -86,50 +82,43 @@ fn market_example<B: OrderBook>(rt: &impl Abort, memory: B::Alloc) -> Result<(),
 }
 
 #[test]
-fn a_market_follows_its_messages(rt: HostRuntime) -> Result<(), Fail> {
+fn a_market_follows_its_messages(rt: HostRuntime) -> TestResult {
     market_example::<ListBook>(&rt, rt.alloc())
 }
 
-fn snapshot_example<B: OrderBook>(
-    rt: &impl Abort,
-    alloc: Global,
-    memory: B::Alloc,
-) -> Result<(), Fail> {
-    let market: Market<B> = market(alloc, memory, &[AAPL])?;
+fn snapshot_example<B: OrderBook>(rt: &impl Host, memory: B::Alloc) -> TestResult {
+    let market: Market<B> = market(rt.alloc(), memory, &[AAPL])?;
     let next = Seq::new(2).ok_or("a number")?;
-    let mut out = FuseWriter::new(alloc, 64, None);
+    let mut out = FuseWriter::new(rt.alloc(), 64, None);
     write(rt, &market, next, &mut out)?;
-    let (found, number): (Market<B>, Seq) = read(alloc, memory, out.written())?;
+    let (found, number): (Market<B>, Seq) = read(rt.alloc(), memory, out.written())?;
     assert!(rt; are_same(rt, &market, &found));
     same(rt, number, next);
     Ok(())
 }
 
 #[test]
-fn a_snapshot_is_read_as_its_market(rt: HostRuntime) -> Result<(), Fail> {
-    snapshot_example::<ListBook>(&rt, rt.alloc(), rt.alloc())
+fn a_snapshot_is_read_as_its_market(rt: HostRuntime) -> TestResult {
+    snapshot_example::<ListBook>(&rt, rt.alloc())
 }
 
 #[test]
-fn a_client_is_let_in(rt: HostRuntime) -> Result<(), Fail> {
+fn a_client_is_let_in(rt: HostRuntime) -> TestResult {
     let credentials = Credentials {
         username: Alpha::from_text("user")?,
         password: Alpha::from_text("secret")?,
         session: Alpha::from_text("")?,
     };
     let mut client = ClientSession::new(credentials, 1, 0);
-    same(
-        &rt,
-        client.login(),
-        *b"Luser  secret                                 1",
-    );
+    let login = *b"Luser  secret                                 1";
+    same(&rt, client.login(), login);
     let accepted = parse_packet(b"A  ITCHSNAP                   1", Origin::Server)?;
     let act = client.on_packet(&accepted, 20);
     assert!(rt; matches!(act, ClientAct::Accepted { next } if next.value() == 1));
     Ok(())
 }
 
-fn join_example<B: OrderBook>(rt: &impl Abort, memory: B::Alloc) -> Result<(), Fail> {
+fn join_example<B: OrderBook>(rt: &impl Host, memory: B::Alloc) -> TestResult {
     let mut joiner: Joiner<B> = Joiner::new(memory, 16);
     same(rt, joiner.live(2, ADD_1)?, Live::Kept);
     same(rt, joiner.snapshot(AAPL)?, Snap::More);
@@ -141,6 +130,6 @@ fn join_example<B: OrderBook>(rt: &impl Abort, memory: B::Alloc) -> Result<(), F
 }
 
 #[test]
-fn a_feed_is_joined_to_a_snapshot(rt: HostRuntime) -> Result<(), Fail> {
+fn a_feed_is_joined_to_a_snapshot(rt: HostRuntime) -> TestResult {
     join_example::<ListBook>(&rt, rt.alloc())
 }

@@ -1,15 +1,14 @@
 //! Worked cases, and each failure in turn.
 use crate::doubles::{FuseWriter, PieceReader};
-use crate::equal::{holds_in, same, same_in, same_words};
+use crate::equal::{Host, TestResult, holds_in, same, same_in, same_words};
+use crate::files::Blocks;
 use itch_frame::{
     BlockReader, Buffered, Counted, CountedRead, CountedWrite, FrameFault, Splitter, laws,
     write_block,
 };
-use std::alloc::{Allocator, Global};
+use std::alloc::Allocator;
 use std::fs::File;
 use std::io::BufReader;
-use std::process::Abort;
-use std::test::Fail;
 
 mod at_hand;
 mod devices;
@@ -22,7 +21,7 @@ const STREAM: &[u8] = b"\x00\x01S\x00\x02RR\x00\x00\x00\x05AAAAA\x00\x01D";
 // The splitter takes `taken` of these bytes, and then holds `held` of its block, which is ready or not. This helper and those
 // below have no contract, so that a proof of a test need not carry what each call leaves.
 fn takes<A: Allocator>(
-    rt: &impl Abort,
+    rt: &impl Host,
     splitter: &mut Splitter<A>,
     bytes: &[u8],
     (taken, held): (usize, usize),
@@ -34,7 +33,7 @@ fn takes<A: Allocator>(
 }
 
 #[test]
-fn takes_up_to_the_end_of_a_block(rt: HostRuntime) -> Result<(), Fail> {
+fn takes_up_to_the_end_of_a_block(rt: HostRuntime) -> TestResult {
     let mut splitter = Splitter::new(rt.alloc())?;
     takes(&rt, &mut splitter, &[0], (1, 1), None);
     takes(&rt, &mut splitter, &[1, 0x7a, 0, 0], (2, 3), Some(&[0x7a]));
@@ -71,7 +70,7 @@ fn copy_piece<A: Allocator, W: CountedWrite>(
 }
 
 #[test]
-fn cuts_a_stream_the_same_in_any_pieces(rt: HostRuntime) -> Result<(), Fail> {
+fn cuts_a_stream_the_same_in_any_pieces(rt: HostRuntime) -> TestResult {
     for size in 1..=STREAM.len() {
         let mut splitter = Splitter::new(rt.alloc())?;
         let mut writer = FuseWriter::new(rt.alloc(), 64, None);
@@ -85,8 +84,8 @@ fn cuts_a_stream_the_same_in_any_pieces(rt: HostRuntime) -> Result<(), Fail> {
 }
 
 // The next block is this one, or there is none.
-fn gives<R: CountedRead, A: Allocator>(
-    rt: &impl Abort,
+pub(crate) fn gives<R: CountedRead, A: Allocator>(
+    rt: &impl Host,
     reader: &mut BlockReader<R, A>,
     want: Option<&[u8]>,
 ) -> Result<(), FrameFault> {
@@ -94,13 +93,13 @@ fn gives<R: CountedRead, A: Allocator>(
     Ok(())
 }
 
-fn fails<R: CountedRead, A: Allocator>(rt: &impl Abort, reader: &mut BlockReader<R, A>) {
+fn fails<R: CountedRead, A: Allocator>(rt: &impl Host, reader: &mut BlockReader<R, A>) {
     assert!(rt; matches!(reader.next_block(), Err(FrameFault::Read(_))));
 }
 
 // The input ends inside a block, of which this many bytes are held, however often it is asked.
 fn is_truncated<R: CountedRead, A: Allocator>(
-    rt: &impl Abort,
+    rt: &impl Host,
     reader: &mut BlockReader<R, A>,
     want: usize,
 ) {
@@ -111,22 +110,14 @@ fn is_truncated<R: CountedRead, A: Allocator>(
     }
 }
 
-// A writer that has the block of the longest payload takes none that is longer.
-fn is_too_long(rt: &impl Abort, writer: &mut FuseWriter, payload: &[u8]) {
-    same(rt, writer.written().len(), 65_537);
-    assert!(rt; writer.written().starts_with(&[0xff, 0xff, 0x7a]));
-    assert!(rt; matches!(write_block(writer, payload), Err(FrameFault::TooLong)));
-    same(rt, writer.written().len(), 65_537);
-}
-
 // Writes a block.
 fn write<W: CountedWrite>(writer: &mut W, payload: &[u8]) -> Result<(), FrameFault> {
     write_block(writer, payload)
 }
 
 // What was written is this one block.
-fn holds_block(rt: &impl Abort, alloc: Global, written: &[u8], payload: &[u8]) -> Result<(), Fail> {
-    let mut reader = BlockReader::new(alloc, PieceReader::new(written, 1000, None))?;
+fn holds_block(rt: &impl Host, written: &[u8], payload: &[u8]) -> TestResult {
+    let mut reader = BlockReader::new(rt.alloc(), PieceReader::new(written, 1000, None))?;
     for want in [Some(payload), None] {
         gives(rt, &mut reader, want)?;
     }
@@ -134,21 +125,24 @@ fn holds_block(rt: &impl Abort, alloc: Global, written: &[u8], payload: &[u8]) -
 }
 
 // Writes the longest block, and none of the longer payload.
-fn writes_longest(rt: &impl Abort, alloc: Global, longest: &[u8], long: &[u8]) -> Result<(), Fail> {
-    let mut writer = FuseWriter::new(alloc, 70_000, None);
+fn writes_longest(rt: &impl Host, longest: &[u8], long: &[u8]) -> TestResult {
+    let mut writer = FuseWriter::new(rt.alloc(), 70_000, None);
     write(&mut writer, longest)?;
-    is_too_long(rt, &mut writer, long);
-    holds_block(rt, alloc, writer.written(), longest)
+    same(rt, writer.written().len(), 65_537);
+    assert!(rt; writer.written().starts_with(&[0xff, 0xff, 0x7a]));
+    assert!(rt; matches!(write_block(&mut writer, long), Err(FrameFault::TooLong)));
+    same(rt, writer.written().len(), 65_537);
+    holds_block(rt, writer.written(), longest)
 }
 
 #[test]
-fn writes_the_longest_block_and_none_longer(rt: HostRuntime) -> Result<(), Fail> {
+fn writes_the_longest_block_and_none_longer(rt: HostRuntime) -> TestResult {
     let long = vec![in rt.alloc(); 0x7a; 65_536]?;
-    writes_longest(&rt, rt.alloc(), &long[..65_535], &long)
+    writes_longest(&rt, &long[..65_535], &long)
 }
 
 #[test]
-fn says_how_much_of_a_block_was_sent(rt: HostRuntime) -> Result<(), Fail> {
+fn says_how_much_of_a_block_was_sent(rt: HostRuntime) -> TestResult {
     let whole = b"\x00\x05zzzzz";
     for fail_at in 1..=8 {
         let mut writer = FuseWriter::new(rt.alloc(), 1, Some(fail_at));
@@ -167,7 +161,7 @@ fn says_how_much_of_a_block_was_sent(rt: HostRuntime) -> Result<(), Fail> {
 }
 
 #[test]
-fn reads_on_after_a_failure(rt: HostRuntime) -> Result<(), Fail> {
+fn reads_on_after_a_failure(rt: HostRuntime) -> TestResult {
     let mut reader = BlockReader::new(rt.alloc(), PieceReader::new(b"\x00\x01z", 1, Some(2)))?;
     fails(&rt, &mut reader);
     for want in [Some(b"z".as_slice()), None, None] {
@@ -176,74 +170,34 @@ fn reads_on_after_a_failure(rt: HostRuntime) -> Result<(), Fail> {
     Ok(())
 }
 
-// The next message is this one, or the messages end.
-fn gives_message<R: CountedRead, A: Allocator>(
-    rt: &impl Abort,
-    reader: &mut BlockReader<R, A>,
-    want: Option<&[u8]>,
-) -> Result<(), FrameFault> {
-    same(rt, reader.next_message()?, want);
-    Ok(())
-}
-
-// The messages of the stream, which end twice.
-fn gives_messages<R: CountedRead, A: Allocator>(
-    rt: &impl Abort,
-    reader: &mut BlockReader<R, A>,
-) -> Result<(), FrameFault> {
-    for want in [
-        Some(b"S".as_slice()),
-        Some(b"RR"),
-        None,
-        Some(b"AAAAA"),
-        Some(b"D"),
-        None,
-        None,
-    ] {
-        gives_message(rt, reader, want)?;
+// The messages of the stream, which end twice, shown as an empty one.
+fn gives_messages(rt: &impl Host, reader: &mut Blocks<'_>) -> Result<(), FrameFault> {
+    for want in [b"S".as_slice(), b"RR", b"", b"AAAAA", b"D", b"", b""] {
+        let want = if want.is_empty() { None } else { Some(want) };
+        same(rt, reader.next_message()?, want);
     }
     Ok(())
 }
 
 #[test]
-fn messages_end_at_an_empty_block_and_at_the_end(rt: HostRuntime) -> Result<(), Fail> {
+fn messages_end_at_an_empty_block_and_at_the_end(rt: HostRuntime) -> TestResult {
     let mut reader = BlockReader::new(rt.alloc(), PieceReader::new(STREAM, 3, None))?;
     gives_messages(&rt, &mut reader)?;
     Ok(())
 }
 
-fn fails_message<R: CountedRead, A: Allocator>(rt: &impl Abort, reader: &mut BlockReader<R, A>) {
-    assert!(rt; matches!(reader.next_message(), Err(FrameFault::Read(_))));
-}
-
-fn is_truncated_message<R: CountedRead, A: Allocator>(
-    rt: &impl Abort,
-    reader: &mut BlockReader<R, A>,
-) {
-    assert!(rt;
-        matches!(
-            reader.next_message(),
-            Err(FrameFault::Truncated { held: 1 })
-        )
-    );
-}
-
 // A read fails, then there is a message, and then a truncated block.
-fn gives_one_message<R: CountedRead, A: Allocator>(
-    rt: &impl Abort,
-    reader: &mut BlockReader<R, A>,
-) -> Result<(), FrameFault> {
-    fails_message(rt, reader);
-    gives_message(rt, reader, Some(b"z"))?;
-    is_truncated_message(rt, reader);
+fn gives_one_message(rt: &impl Host, reader: &mut Blocks<'_>) -> Result<(), FrameFault> {
+    assert!(rt; matches!(reader.next_message(), Err(FrameFault::Read(_))));
+    same(rt, reader.next_message()?, Some(b"z".as_slice()));
+    let end = reader.next_message();
+    assert!(rt; matches!(end, Err(FrameFault::Truncated { held: 1 })));
     is_truncated(rt, reader, 1);
     Ok(())
 }
 
 #[test]
-fn a_message_comes_after_a_failed_read_and_none_of_a_truncated_block(
-    rt: HostRuntime,
-) -> Result<(), Fail> {
+fn a_message_comes_after_a_failed_read(rt: HostRuntime) -> TestResult {
     let source = PieceReader::new(b"\x00\x01z\x00", 1, Some(2));
     let mut reader = BlockReader::new(rt.alloc(), source)?;
     gives_one_message(&rt, &mut reader)?;
@@ -269,24 +223,23 @@ fn copy_blocks<R: CountedRead, W: CountedWrite, A: Allocator>(
 
 // Copies the stream through a reader that has it, whole whichever read fails, and returns how many reads failed.
 fn copies_stream<R: CountedRead, A: Allocator>(
-    rt: &impl Abort,
-    alloc: Global,
+    rt: &impl Host,
     reader: &mut BlockReader<R, A>,
     case: (u64, usize),
 ) -> Result<u64, FrameFault> {
-    let mut writer = FuseWriter::new(alloc, 64, None);
+    let mut writer = FuseWriter::new(rt.alloc(), 64, None);
     let failures = copy_blocks(reader, &mut writer)?;
     same_in(rt, case, writer.written(), STREAM);
     Ok(failures)
 }
 
 #[test]
-fn loses_nothing_whichever_read_fails(rt: HostRuntime) -> Result<(), Fail> {
+fn loses_nothing_whichever_read_fails(rt: HostRuntime) -> TestResult {
     for (piece, reads) in [(1, 20), (2, 12), (7, 10)] {
         for fail_at in 1..=24 {
             let source = PieceReader::new(STREAM, piece, Some(fail_at));
             let mut reader = BlockReader::new(rt.alloc(), source)?;
-            let failures = copies_stream(&rt, rt.alloc(), &mut reader, (fail_at, piece))?;
+            let failures = copies_stream(&rt, &mut reader, (fail_at, piece))?;
             same_in(&rt, (fail_at, piece), failures == 1, fail_at <= reads);
         }
     }
@@ -295,24 +248,23 @@ fn loses_nothing_whichever_read_fails(rt: HostRuntime) -> Result<(), Fail> {
 
 // Copies the stream through a source of its own.
 fn copies_through<R: CountedRead + Drop>(
-    rt: &impl Abort,
-    alloc: Global,
+    rt: &impl Host,
     source: R,
     case: (u64, usize),
-) -> Result<(), Fail> {
-    let mut reader = BlockReader::new(alloc, source)?;
-    let failures = copies_stream(rt, alloc, &mut reader, case)?;
+) -> TestResult {
+    let mut reader = BlockReader::new(rt.alloc(), source)?;
+    let failures = copies_stream(rt, &mut reader, case)?;
     holds_in(rt, case, failures <= 1);
     Ok(())
 }
 
 #[test]
-fn blocks_are_the_same_through_any_buffer(rt: HostRuntime) -> Result<(), Fail> {
+fn blocks_are_the_same_through_any_buffer(rt: HostRuntime) -> TestResult {
     for capacity in 1..=STREAM.len() + 1 {
         for fail_at in 1..=24 {
             let source = PieceReader::new(STREAM, 5, Some(fail_at));
             let source = BufReader::with_capacity(rt.alloc(), capacity, source)?;
-            copies_through(&rt, rt.alloc(), Buffered::new(source), (fail_at, capacity))?;
+            copies_through(&rt, Buffered::new(source), (fail_at, capacity))?;
         }
     }
     Ok(())
@@ -320,7 +272,7 @@ fn blocks_are_the_same_through_any_buffer(rt: HostRuntime) -> Result<(), Fail> {
 
 // There is a block, then a read fails, and then there is a truncated block.
 fn gives_one_block<R: CountedRead, A: Allocator>(
-    rt: &impl Abort,
+    rt: &impl Host,
     reader: &mut BlockReader<R, A>,
 ) -> Result<(), FrameFault> {
     gives(rt, reader, Some(b"z"))?;
@@ -330,7 +282,7 @@ fn gives_one_block<R: CountedRead, A: Allocator>(
 }
 
 #[test]
-fn a_failed_read_below_a_buffer_is_counted(rt: HostRuntime) -> Result<(), Fail> {
+fn a_failed_read_below_a_buffer_is_counted(rt: HostRuntime) -> TestResult {
     let source = PieceReader::new(b"\x00\x01z\x00", 4, Some(2));
     let source = Buffered::new(BufReader::with_capacity(rt.alloc(), 8, source)?);
     let mut reader = BlockReader::new(rt.alloc(), source)?;
@@ -339,7 +291,7 @@ fn a_failed_read_below_a_buffer_is_counted(rt: HostRuntime) -> Result<(), Fail> 
 }
 
 #[test]
-fn says_how_much_of_a_block_is_held(rt: HostRuntime) -> Result<(), Fail> {
+fn says_how_much_of_a_block_is_held(rt: HostRuntime) -> TestResult {
     for (bytes, want) in [
         (b"\x00".as_slice(), 1),
         (b"\x00\x03", 2),
@@ -352,7 +304,7 @@ fn says_how_much_of_a_block_is_held(rt: HostRuntime) -> Result<(), Fail> {
 }
 
 // The failure of a writer that has no more room says how much of a block was sent.
-fn has_no_room<W: CountedWrite>(rt: &impl Abort, writer: &mut W, want: usize) {
+fn has_no_room<W: CountedWrite>(rt: &impl Host, writer: &mut W, want: usize) {
     assert!(rt;
         matches!(write_block(writer, b"abc"), Err(FrameFault::Write { sent, .. }) if sent == want)
     );
@@ -368,38 +320,25 @@ fn counts_the_failures_of_standard_writers(rt: HostRuntime) {
     same(&rt, room, *b"\x00\x03ab");
 }
 
-// A reader of these bytes begins with a block.
-fn begins_with<R: CountedRead + Drop>(
-    rt: &impl Abort,
-    alloc: Global,
-    source: R,
-    block: &[u8],
-) -> Result<(), Fail> {
-    let mut reader = BlockReader::new(alloc, source)?;
-    gives(rt, &mut reader, Some(block))?;
-    Ok(())
-}
-
-// A reader of these bytes begins with a failure.
-fn begins_with_failure<R: CountedRead + Drop>(
-    rt: &impl Abort,
-    alloc: Global,
-    source: R,
-) -> Result<(), Fail> {
-    let mut reader = BlockReader::new(alloc, source)?;
-    fails(rt, &mut reader);
+// A reader of this begins with a block, or else with a failure.
+fn begins<R: CountedRead + Drop>(rt: &impl Host, source: R, block: Option<&[u8]>) -> TestResult {
+    let mut reader = BlockReader::new(rt.alloc(), source)?;
+    match block {
+        Some(_) => gives(rt, &mut reader, block)?,
+        None => fails(rt, &mut reader),
+    }
     Ok(())
 }
 
 #[test]
-fn counts_the_failures_of_standard_readers(rt: HostRuntime) -> Result<(), Fail> {
-    begins_with(&rt, rt.alloc(), Counted::new(STREAM), b"S")?;
+fn counts_the_failures_of_standard_readers(rt: HostRuntime) -> TestResult {
+    begins(&rt, Counted::new(STREAM), Some(b"S"))?;
     let folder = File::open(&rt, "/")?;
-    begins_with_failure(&rt, rt.alloc(), Counted::new(folder))
+    begins(&rt, Counted::new(folder), None)
 }
 
 #[test]
-fn says_what_failed(rt: HostRuntime) -> Result<(), Fail> {
+fn says_what_failed(rt: HostRuntime) -> TestResult {
     let error = std::io::Error::from(std::io::ErrorKind::Other);
     for (fault, want) in [
         (FrameFault::Read(error), "read failed"),
@@ -410,7 +349,7 @@ fn says_what_failed(rt: HostRuntime) -> Result<(), Fail> {
         (FrameFault::Write { sent: 5, error }, "write failed"),
         (FrameFault::TooLong, "payload too long"),
     ] {
-        same_words(&rt, rt.alloc(), &fault, want)?;
+        same_words(&rt, &fault, want)?;
     }
     Ok(())
 }

@@ -1,50 +1,19 @@
 //! Joins by what their calls return and the markets that they lead to. The helpers take a joiner over any book.
-use crate::equal::{same, same_in, same_words};
-use crate::files::{AAPL, ADD_1, ADD_2, EVENT};
+use crate::equal::{Host, TestResult, same, same_in, same_words};
+use crate::payloads::*;
 use itch_book::{IndexedBook, ListBook, OrderBook};
 use itch_codec::{CodecFault, Message, encode};
 use itch_join::{Cause, JoinFault, Joiner, Live, Snap, laws};
 use itch_market::{Market, Refusal};
 use itch_snapshot::SnapshotIter;
 use std::alloc::{AllocError, Global};
-use std::process::Abort;
-use std::test::Fail;
 
 mod refused_memory;
 mod restricted;
 mod sink;
 
-const CLOSES: &[u8] = b"S\0\0\0\0\0\0\0\0\0\0C";
-
-// The same at a locate that is not in the directory.
-const ADD_1_AT_9: &[u8] =
-    b"A\0\x09\0\0\0\0\0\0\0\0\0\0\0\0\0\0\0\x01B\0\0\0\x01AAPL    \0\x16\xe3\x60";
-
-const ADD_3: &[u8] =
-    b"A\0\x01\0\0\0\0\0\0\0\0\0\0\0\0\0\0\0\x03S\0\0\x01\x2cAAPL    \0\x16\xe3\xc4";
-
-const ADD_4: &[u8] = b"A\0\x01\0\0\0\0\0\0\0\0\0\0\0\0\0\0\0\x04B\0\0\0\x46AAPL    \0\x16\xe3\x60";
-
-const EXECUTE_1: &[u8] = b"E\0\x01\0\0\0\0\0\0\0\0\0\0\0\0\0\0\0\x01\0\0\0\x32\0\0\0\0\0\0\0\x01";
-// Order 4 of 70 shares in place of order 1.
-const REPLACE_1: &[u8] =
-    b"U\0\x01\0\0\0\0\0\0\0\0\0\0\0\0\0\0\0\x01\0\0\0\0\0\0\0\x04\0\0\0\x46\0\x16\xe3\x60";
-
-const DELETE_3: &[u8] = b"D\0\x01\0\0\0\0\0\0\0\0\0\0\0\0\0\0\0\x03";
-
-const NAMED_5: &[u8] =
-    b"F\0\x01\0\0\0\0\0\0\0\0\0\0\0\0\0\0\0\x05S\0\0\0\x0aAAPL    \0\x16\xe4\x28ABCD";
-
-const BROKEN_TRADE: &[u8] = b"B\0\x01\0\0\0\0\0\0\0\0\0\0\0\0\0\0\0\x01";
-
-const END_1: &[u8] = b"G                   1";
-
-const END_3: &[u8] = b"G                   3";
-
-const END_6: &[u8] = b"G                   6";
-
 // The snapshot of the messages before the sixth, without its End of Snapshot.
-const BEFORE_6: &[&[u8]] = &[EVENT, AAPL, ADD_1, ADD_2, ADD_3];
+const BEFORE_6: &[&[u8]] = &[EVENT, AAPL, ADD_1, ADD_2, SELL_3];
 
 // A joiner for which `cap` messages may wait. This helper and those of one call and its result have no contract, so that a proof of
 // a test need not carry what each call leaves.
@@ -53,7 +22,7 @@ fn joiner<B: OrderBook>(memory: B::Alloc, cap: usize) -> Joiner<B> {
 }
 
 fn live<B: OrderBook>(
-    rt: &impl Abort,
+    rt: &impl Host,
     joiner: &mut Joiner<B>,
     number: u64,
     payload: &[u8],
@@ -63,7 +32,7 @@ fn live<B: OrderBook>(
 }
 
 fn snapshot<B: OrderBook>(
-    rt: &impl Abort,
+    rt: &impl Host,
     joiner: &mut Joiner<B>,
     payload: &[u8],
     want: Result<Snap, JoinFault>,
@@ -71,71 +40,42 @@ fn snapshot<B: OrderBook>(
     same(rt, joiner.snapshot(payload), want);
 }
 
-fn resume<B: OrderBook>(
-    rt: &impl Abort,
-    joiner: &mut Joiner<B>,
-    want: Result<Option<u64>, JoinFault>,
-) {
-    same(rt, joiner.resume(), want);
-}
-
-fn restart<B: OrderBook>(joiner: &mut Joiner<B>) {
-    joiner.restart();
-}
-
 // The number that comes next, which there is once there is a market, and how many messages wait.
-fn stands<B: OrderBook>(rt: &impl Abort, joiner: &Joiner<B>, next: Option<u64>, waiting: usize) {
+fn stands<B: OrderBook>(rt: &impl Host, joiner: &Joiner<B>, next: Option<u64>, waiting: usize) {
     same(rt, joiner.next(), next);
     same(rt, joiner.market().is_some(), next.is_some());
     same(rt, joiner.waiting(), waiting);
 }
 
 // Takes messages of a snapshot, which none of them ends.
-fn read<B: OrderBook>(rt: &impl Abort, joiner: &mut Joiner<B>, payloads: &[&[u8]]) {
+fn read<B: OrderBook>(rt: &impl Host, joiner: &mut Joiner<B>, payloads: &[&[u8]]) {
     for payload in payloads {
         snapshot(rt, joiner, payload, Ok(Snap::More));
     }
 }
 
-// The payloads of the snapshot of a joiner's market, one after another.
-fn spelled<B: OrderBook>(alloc: Global, joiner: &Joiner<B>) -> Result<Vec<u8>, Fail> {
-    let market = joiner.market().ok_or("a market")?;
+// The payloads of a market's snapshot, one after another.
+fn spelled<B: OrderBook>(alloc: Global, market: &Market<B>) -> Result<Vec<u8>, AllocError> {
     let mut bytes = Vec::new(alloc);
-    push_all(&mut bytes, market)?;
-    Ok(bytes)
-}
-
-fn push_all<B: OrderBook>(bytes: &mut Vec<u8>, market: &Market<B>) -> Result<(), AllocError> {
     for message in SnapshotIter::new(market) {
-        push(bytes, &message)?;
+        push(&mut bytes, &message)?;
     }
-    Ok(())
+    Ok(bytes)
 }
 
 fn push(bytes: &mut Vec<u8>, message: &Message<'_>) -> Result<(), AllocError> {
     bytes.extend_from_slice(encode(message).bytes())
 }
 
-fn joined_up(alloc: Global, payloads: &[&[u8]]) -> Result<Vec<u8>, AllocError> {
-    let mut bytes = Vec::new(alloc);
-    for payload in payloads {
+// The snapshot of the joiner's market has these messages.
+fn check_market<B: OrderBook>(rt: &impl Host, joiner: &Joiner<B>, want: &[&[u8]]) -> TestResult {
+    let market = joiner.market().ok_or("a market")?;
+    let found = spelled(rt.alloc(), market)?;
+    let mut bytes = Vec::new(rt.alloc());
+    for payload in want {
         bytes.extend_from_slice(payload)?;
     }
-    Ok(bytes)
-}
-
-// The snapshot of the joiner's market has these messages.
-fn check_market<B: OrderBook>(
-    rt: &impl Abort,
-    alloc: Global,
-    joiner: &Joiner<B>,
-    want: &[&[u8]],
-) -> Result<(), Fail> {
-    same(
-        rt,
-        spelled(alloc, joiner)?.as_slice(),
-        joined_up(alloc, want)?.as_slice(),
-    );
+    same(rt, found.as_slice(), bytes.as_slice());
     Ok(())
 }
 
@@ -155,63 +95,51 @@ enum Step<'a> {
     Market(&'a [&'a [u8]]),
 }
 
-fn take_step<B: OrderBook>(
-    rt: &impl Abort,
-    alloc: Global,
-    joiner: &mut Joiner<B>,
-    step: Step<'_>,
-) -> Result<(), Fail> {
+fn take_step<B: OrderBook>(rt: &impl Host, joiner: &mut Joiner<B>, step: Step<'_>) -> TestResult {
     match step {
         Step::Live(number, payload, want) => live(rt, joiner, number, payload, want),
         Step::Snapshot(payload, want) => snapshot(rt, joiner, payload, want),
         Step::Read(payloads) => read(rt, joiner, payloads),
-        Step::Resume(want) => resume(rt, joiner, want),
-        Step::Restart => restart(joiner),
+        Step::Resume(want) => same(rt, joiner.resume(), want),
+        Step::Restart => joiner.restart(),
         Step::Stands(next, waiting) => stands(rt, joiner, next, waiting),
         Step::Waiting(want) => same(rt, joiner.waiting(), want),
-        Step::Market(want) => check_market(rt, alloc, joiner, want)?,
+        Step::Market(want) => check_market(rt, joiner, want)?,
     }
     Ok(())
 }
 
 fn take_steps<B: OrderBook>(
-    rt: &impl Abort,
-    alloc: Global,
+    rt: &impl Host,
     joiner: &mut Joiner<B>,
     steps: &[Step<'_>],
-) -> Result<(), Fail> {
+) -> TestResult {
     for step in steps {
-        take_step(rt, alloc, joiner, *step)?;
+        take_step(rt, joiner, *step)?;
     }
     Ok(())
 }
 
 // A joiner for which `cap` messages may wait takes these steps.
 fn check<B: OrderBook>(
-    rt: &impl Abort,
-    alloc: Global,
+    rt: &impl Host,
     memory: B::Alloc,
     cap: usize,
     steps: &[Step<'_>],
-) -> Result<(), Fail> {
+) -> TestResult {
     let mut joiner: Joiner<B> = joiner(memory, cap);
-    take_steps(rt, alloc, &mut joiner, steps)
+    take_steps(rt, &mut joiner, steps)
 }
 
 // The program's joiner takes these steps.
-fn check_indexed(
-    rt: &impl Abort,
-    alloc: Global,
-    cap: usize,
-    steps: &[Step<'_>],
-) -> Result<(), Fail> {
-    check::<IndexedBook>(rt, alloc, alloc, cap, steps)
+fn check_indexed(rt: &impl Host, cap: usize, steps: &[Step<'_>]) -> TestResult {
+    check::<IndexedBook>(rt, rt.alloc(), cap, steps)
 }
 
 // Messages 7 and 8 come before the snapshot of the first five, and 9 when there is room for it.
 const JOINS_LATE: &[Step<'static>] = &[
     Step::Live(8, DELETE_3, Ok(Live::Kept)),
-    Step::Live(7, REPLACE_1, Ok(Live::Kept)),
+    Step::Live(7, REPLACE_1_BY_4, Ok(Live::Kept)),
     Step::Live(9, NAMED_5, Err(JoinFault::Full { cap: 2 })),
     Step::Read(BEFORE_6),
     Step::Stands(None, 2),
@@ -225,9 +153,9 @@ const JOINS_LATE: &[Step<'static>] = &[
 ];
 
 #[test]
-fn joins_late(rt: HostRuntime) -> Result<(), Fail> {
-    check::<IndexedBook>(&rt, rt.alloc(), rt.alloc(), 2, JOINS_LATE)?;
-    check::<ListBook>(&rt, rt.alloc(), rt.alloc(), 2, JOINS_LATE)
+fn joins_late(rt: HostRuntime) -> TestResult {
+    check::<IndexedBook>(&rt, rt.alloc(), 2, JOINS_LATE)?;
+    check::<ListBook>(&rt, rt.alloc(), 2, JOINS_LATE)
 }
 
 #[test]
@@ -249,7 +177,7 @@ const READ_2: Step<'static> = Step::Read(&[EVENT, AAPL]);
 const JOINED_AT_3: Step<'static> = Step::Snapshot(END_3, Ok(Snap::Joined { next: 3 }));
 
 #[test]
-fn a_refused_message_halts_for_good(rt: HostRuntime) -> Result<(), Fail> {
+fn a_refused_message_halts_for_good(rt: HostRuntime) -> TestResult {
     let halted = JoinFault::Halted {
         number: 3,
         cause: Cause::Rule(Refusal::UnknownLocate),
@@ -269,12 +197,12 @@ fn a_refused_message_halts_for_good(rt: HostRuntime) -> Result<(), Fail> {
         Step::Stands(Some(3), 1),
         Step::Market(&[EVENT, AAPL]),
     ];
-    check_indexed(&rt, rt.alloc(), 1, &steps)
+    check_indexed(&rt, 1, &steps)
 }
 
 // The message that is refused waits, and one before it is delivered.
 #[test]
-fn a_waiting_message_halts(rt: HostRuntime) -> Result<(), Fail> {
+fn a_waiting_message_halts(rt: HostRuntime) -> TestResult {
     let halted = JoinFault::Halted {
         number: 4,
         cause: Cause::Codec(CodecFault::Empty),
@@ -288,11 +216,11 @@ fn a_waiting_message_halts(rt: HostRuntime) -> Result<(), Fail> {
         Step::Stands(Some(4), 2),
         Step::Market(&[EVENT, AAPL, ADD_1]),
     ];
-    check_indexed(&rt, rt.alloc(), 2, &steps)
+    check_indexed(&rt, 2, &steps)
 }
 
 #[test]
-fn a_broken_snapshot_is_restarted(rt: HostRuntime) -> Result<(), Fail> {
+fn a_broken_snapshot_is_restarted(rt: HostRuntime) -> TestResult {
     let broken = JoinFault::BadSnapshot {
         place: 1,
         cause: Cause::Rule(Refusal::UnknownLocate),
@@ -316,11 +244,11 @@ fn a_broken_snapshot_is_restarted(rt: HostRuntime) -> Result<(), Fail> {
         Step::Resume(Ok(Some(2))),
         Step::Market(&[EVENT]),
     ];
-    check_indexed(&rt, rt.alloc(), 1, &steps)
+    check_indexed(&rt, 1, &steps)
 }
 
 // A thousand messages wait for a joiner, the last one first.
-fn check_thousand<B: OrderBook>(rt: &impl Abort, memory: B::Alloc) {
+fn check_thousand<B: OrderBook>(rt: &impl Host, memory: B::Alloc) {
     let mut joiner: Joiner<B> = joiner(memory, 1000);
     for back in 0..1000u64 {
         live(rt, &mut joiner, 1000 - back, BROKEN_TRADE, Ok(Live::Kept));
@@ -336,7 +264,7 @@ fn a_thousand_messages_wait(rt: HostRuntime) {
 
 // No message may wait: a feed in order from its first message on.
 #[test]
-fn joins_a_feed_in_order(rt: HostRuntime) -> Result<(), Fail> {
+fn joins_a_feed_in_order(rt: HostRuntime) -> TestResult {
     let steps = [
         READ_2,
         JOINED_AT_3,
@@ -346,11 +274,11 @@ fn joins_a_feed_in_order(rt: HostRuntime) -> Result<(), Fail> {
         Step::Live(3, ADD_1, Ok(Live::Applied { next: 4 })),
         Step::Market(&[EVENT, AAPL, ADD_1]),
     ];
-    check_indexed(&rt, rt.alloc(), 0, &steps)
+    check_indexed(&rt, 0, &steps)
 }
 
 #[test]
-fn a_feed_with_nothing_new(rt: HostRuntime) -> Result<(), Fail> {
+fn a_feed_with_nothing_new(rt: HostRuntime) -> TestResult {
     let steps = [
         READ_2,
         JOINED_AT_3,
@@ -358,19 +286,21 @@ fn a_feed_with_nothing_new(rt: HostRuntime) -> Result<(), Fail> {
         Step::Stands(Some(3), 0),
         Step::Market(&[EVENT, AAPL]),
     ];
-    check_indexed(&rt, rt.alloc(), 0, &steps)
+    check_indexed(&rt, 0, &steps)
 }
 
 #[test]
-fn a_snapshot_without_its_end(rt: HostRuntime) -> Result<(), Fail> {
+fn a_snapshot_without_its_end(rt: HostRuntime) -> TestResult {
     let steps = [Step::Read(&[AAPL]), Step::Stands(None, 0)];
-    check_indexed(&rt, rt.alloc(), 0, &steps)
+    check_indexed(&rt, 0, &steps)
 }
 
 #[test]
-fn faults_have_words(rt: HostRuntime) -> Result<(), Fail> {
+fn faults_have_words(rt: HostRuntime) -> TestResult {
     let cause = Cause::Rule(Refusal::StockMismatch);
-    let rows = [
+    let bad = |place, cause| JoinFault::BadSnapshot { place, cause };
+    let (number, taken) = (3, true);
+    for (fault, words) in [
         (JoinFault::Full { cap: 2 }, "2 messages wait already"),
         (
             JoinFault::Conflict { number: 7 },
@@ -378,28 +308,21 @@ fn faults_have_words(rt: HostRuntime) -> Result<(), Fail> {
         ),
         (JoinFault::BadNumber, "bad message number"),
         (
-            JoinFault::Halted { number: 3, cause },
+            JoinFault::Halted { number, cause },
             "message 3: stock mismatch",
         ),
-        (JoinFault::OutOfMemory { taken: true }, "out of memory"),
+        (JoinFault::OutOfMemory { taken }, "out of memory"),
         (JoinFault::Joined, "joined already"),
         (
-            JoinFault::BadSnapshot {
-                place: 1,
-                cause: Cause::Codec(CodecFault::Empty),
-            },
+            bad(1, Cause::Codec(CodecFault::Empty)),
             "snapshot message 1: empty message",
         ),
         (
-            JoinFault::BadSnapshot {
-                place: 2,
-                cause: Cause::TooMany,
-            },
+            bad(2, Cause::TooMany),
             "snapshot message 2: too many messages",
         ),
-    ];
-    for (fault, words) in rows {
-        same_words(&rt, rt.alloc(), &fault, words)?;
+    ] {
+        same_words(&rt, &fault, words)?;
     }
     Ok(())
 }

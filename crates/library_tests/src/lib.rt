@@ -1,6 +1,7 @@
 //! Tests of the libraries, from blocks to the joiner, each over its crate's public items alone, and the examples of their pages and of the
 //! guide.
-//! `doubles` has what the tests of every crate use in place of devices and of memory.
+//! `doubles` has what the tests of every crate use in place of devices and of memory, `payloads` and `messages` the messages of their
+//! tables, as bytes and as values, and `files` and `sessions` what is made of those.
 //!
 //! A module has the tests of the crate of its name: `frame` those of `itch_frame`, and so on; `table` those of `itch_book::table`. They
 //! see what no clause says: vectors of the formats, snapshots and packets byte by byte, calls that succeed with ample memory, failures
@@ -37,6 +38,10 @@ mod frame;
 mod join;
 #[cfg(test)]
 mod market;
+#[cfg(test)]
+mod messages;
+#[cfg(test)]
+mod payloads;
 #[cfg(test)]
 mod refused_memory;
 #[cfg(test)]

@@ -1,22 +1,17 @@
 //! Markets by what their calls return. The helpers take a market over any book.
 pub(super) mod content;
 mod locate_sets;
-mod messages;
 mod plain;
 mod replaying;
 
 use self::content::references;
-use self::messages::{
-    add, attributed, cancel, delete, directory, end, event, executed, executed_with_price, halt,
-    made, position, reg_sho, replace, stock, trading_action,
-};
-use crate::book::{has_len, live, next_price, reference, total};
-use crate::equal::{same, same_words};
+use crate::book::{has_len, live, next_price, order, reference, total};
+use crate::equal::{Host, TestResult, same, same_words};
+use crate::messages::*;
 use itch_book::{ListBook, Order, OrderBook};
 use itch_codec::{Alpha, Message, Side};
 use itch_market::{Action, Market, Refusal, Security};
 use std::alloc::{AllocError, Allocator, Global};
-use std::process::Abort;
 use std::test::Fail;
 
 // Applies a message, or returns why it is refused.
@@ -25,10 +20,7 @@ fn apply<B: OrderBook>(market: &mut Market<B>, message: &Message<'_>) -> Result<
 }
 
 // Applies messages. One that is refused ends the test, as one that cannot be made does.
-fn apply_all<B: OrderBook>(
-    market: &mut Market<B>,
-    messages: &[Option<Message<'static>>],
-) -> Result<(), Fail> {
+fn apply_all<B: OrderBook>(market: &mut Market<B>, messages: &[Made]) -> TestResult {
     for message in messages {
         apply(market, made(message)?)?;
     }
@@ -36,10 +28,7 @@ fn apply_all<B: OrderBook>(
 }
 
 // A market that took these messages.
-fn market_of<B: OrderBook>(
-    alloc: B::Alloc,
-    messages: &[Option<Message<'static>>],
-) -> Result<Market<B>, Fail> {
+fn market_of<B: OrderBook>(alloc: B::Alloc, messages: &[Made]) -> Result<Market<B>, Fail> {
     let mut market = Market::new(alloc);
     apply_all(&mut market, messages)?;
     Ok(market)
@@ -55,68 +44,38 @@ fn best<B: OrderBook>(market: &Market<B>, locate: u16, side: Side) -> Option<Ord
     market.best(locate, side).copied()
 }
 
-fn check_largest<B: OrderBook>(rt: &impl Abort, alloc: B::Alloc) -> Result<(), Fail> {
+fn check_largest<B: OrderBook>(rt: &impl Host, memory: B::Alloc) -> TestResult {
     let messages = [
         directory(65535, "MAX", 100),
         add(65535, u64::MAX, Side::Sell, u32::MAX, "MAX", u32::MAX),
     ];
-    let market: Market<B> = market_of(alloc, &messages)?;
-    check_last_security(rt, &market)?;
-    check_largest_order(rt, &market);
-    Ok(())
-}
-
-fn check_last_security<B: OrderBook>(rt: &impl Abort, market: &Market<B>) -> Result<(), Fail> {
-    let last = security(market, 65535).ok_or("a security")?;
+    let market: Market<B> = market_of(memory, &messages)?;
+    let last = security(&market, 65535).ok_or("a security")?;
     same(rt, Some(last.entry.stock), stock("MAX"));
-    assert!(rt; security(market, 0).is_none());
-    Ok(())
-}
-
-fn check_largest_order<B: OrderBook>(rt: &impl Abort, market: &Market<B>) {
+    assert!(rt; security(&market, 0).is_none());
     let largest = Order {
-        reference: u64::MAX,
         locate: 65535,
-        side: Side::Sell,
-        shares: u32::MAX,
-        price: u32::MAX,
-        mpid: None,
+        ..order(u64::MAX, Side::Sell, u32::MAX, u32::MAX)
     };
-    same(rt, best(market, 65535, Side::Sell), Some(largest));
-    assert!(rt; best(market, 65535, Side::Buy).is_none());
+    same(rt, best(&market, 65535, Side::Sell), Some(largest));
+    assert!(rt; best(&market, 65535, Side::Buy).is_none());
     let level = total(market.book(), 65535, Side::Sell, u32::MAX);
     same(rt, level, (4294967295, 1));
+    Ok(())
 }
 
 #[test]
-fn takes_the_largest_values(rt: HostRuntime) -> Result<(), Fail> {
+fn takes_the_largest_values(rt: HostRuntime) -> TestResult {
     check_largest::<ListBook>(&rt, rt.alloc())
 }
 
-// Orders of two prices, in the order of their references.
-fn of_two_prices<B: OrderBook>(alloc: B::Alloc) -> Result<Market<B>, Fail> {
-    let messages = [
-        directory(1, "AAPL", 100),
-        add(1, 1, Side::Buy, 100, "AAPL", 1500000),
-        add(1, 2, Side::Buy, 200, "AAPL", 1500100),
-        add(1, 3, Side::Buy, 300, "AAPL", 1500000),
-        add(1, 4, Side::Buy, 400, "AAPL", 1500100),
-    ];
-    market_of(alloc, &messages)
-}
-
 // The orders have these references, in snapshot order.
-fn check_references<B: OrderBook>(
-    rt: &impl Abort,
-    alloc: Global,
-    market: &Market<B>,
-    want: &[u64],
-) -> Result<(), Fail> {
-    same(rt, references(rt, alloc, market)?.as_slice(), want);
+fn check_references<B: OrderBook>(rt: &impl Host, market: &Market<B>, want: &[u64]) -> TestResult {
+    same(rt, references(rt, market)?.as_slice(), want);
     Ok(())
 }
 
-fn check_levels<B: OrderBook>(rt: &impl Abort, book: &B) {
+fn check_levels<B: OrderBook>(rt: &impl Host, book: &B) {
     for (last, want) in [
         (None, Some(1500100)),
         (Some(1500100), Some(1500000)),
@@ -129,79 +88,51 @@ fn check_levels<B: OrderBook>(rt: &impl Abort, book: &B) {
     }
 }
 
-fn check_best<B: OrderBook>(rt: &impl Abort, market: &Market<B>, want: u64) {
-    same(rt, reference(best(market, 1, Side::Buy).as_ref()), want);
-}
-
-fn check_priority<B: OrderBook>(
-    rt: &impl Abort,
-    alloc: Global,
-    memory: B::Alloc,
-) -> Result<(), Fail> {
-    let market: Market<B> = of_two_prices(memory)?;
-    check_best(rt, &market, 2);
+// Orders of two prices, in the order of their references.
+fn check_priority<B: OrderBook>(rt: &impl Host, memory: B::Alloc) -> TestResult {
+    let messages = [
+        directory(1, "AAPL", 100),
+        add(1, 1, Side::Buy, 100, "AAPL", 1500000),
+        add(1, 2, Side::Buy, 200, "AAPL", 1500100),
+        add(1, 3, Side::Buy, 300, "AAPL", 1500000),
+        add(1, 4, Side::Buy, 400, "AAPL", 1500100),
+    ];
+    let market: Market<B> = market_of(memory, &messages)?;
+    same(rt, reference(best(&market, 1, Side::Buy).as_ref()), 2);
     check_levels(rt, market.book());
-    check_references(rt, alloc, &market, &[2, 4, 1, 3])
+    check_references(rt, &market, &[2, 4, 1, 3])
 }
 
 #[test]
-fn keeps_price_and_time_priority(rt: HostRuntime) -> Result<(), Fail> {
-    check_priority::<ListBook>(&rt, rt.alloc(), rt.alloc())
+fn keeps_price_and_time_priority(rt: HostRuntime) -> TestResult {
+    check_priority::<ListBook>(&rt, rt.alloc())
 }
 
 // An attributed order is replaced by order 3, after order 2.
-fn with_replacement<B: OrderBook>(alloc: B::Alloc) -> Result<Market<B>, Fail> {
+fn check_replacement<B: OrderBook>(rt: &impl Host, memory: B::Alloc) -> TestResult {
     let messages = [
         directory(1, "AAPL", 100),
         attributed(1, 100, 1500000),
         add(1, 2, Side::Buy, 200, "AAPL", 1500000),
         replace(1, 1, 3, 100, 1500000),
     ];
-    market_of(alloc, &messages)
-}
-
-fn check_attribution<B: OrderBook>(rt: &impl Abort, book: &B) -> Result<(), Fail> {
-    let replaced = live(book, 3).ok_or("the replacement")?;
-    let attribution: Alpha<4> = Alpha::from_text("ABCD")?;
-    same(rt, replaced.mpid, Some(attribution));
+    let market: Market<B> = market_of(memory, &messages)?;
+    let replaced = live(market.book(), 3).ok_or("the replacement")?;
+    same(rt, replaced.mpid, Alpha::from_text("ABCD").ok());
     same(rt, replaced.shares, 100);
-    Ok(())
-}
-
-fn check_replacement<B: OrderBook>(
-    rt: &impl Abort,
-    alloc: Global,
-    memory: B::Alloc,
-) -> Result<(), Fail> {
-    let market: Market<B> = with_replacement(memory)?;
-    check_attribution(rt, market.book())?;
-    check_references(rt, alloc, &market, &[2, 3])
+    check_references(rt, &market, &[2, 3])
 }
 
 #[test]
-fn replaces_an_attributed_order(rt: HostRuntime) -> Result<(), Fail> {
-    check_replacement::<ListBook>(&rt, rt.alloc(), rt.alloc())
-}
-
-// A market with the trading states of a security, and an order, whose directory message came twice.
-fn with_states<B: OrderBook>(alloc: B::Alloc) -> Result<Market<B>, Fail> {
-    let messages = [
-        directory(2, "MSFT", 100),
-        event(b'O'),
-        directory(1, "AAPL", 100),
-        reg_sho(1, "AAPL", b'0'),
-        trading_action(1, "AAPL", b'T'),
-        add(1, 1, Side::Buy, 100, "AAPL", 1500000),
-        directory(1, "AAPL", 200),
-    ];
-    market_of(alloc, &messages)
+fn replaces_an_attributed_order(rt: HostRuntime) -> TestResult {
+    check_replacement::<ListBook>(&rt, rt.alloc())
 }
 
 fn locates_of<B: OrderBook>(alloc: Global, market: &Market<B>) -> Result<Vec<u16>, AllocError> {
     market.locates().clone()?.collect(alloc)
 }
 
-fn check_states<A: Allocator>(rt: &impl Abort, security: &Security<A>) {
+fn check_states<A: Allocator>(rt: &impl Host, security: &Security<A>) {
     let action = Action {
         state: b'T',
         reason: *b"    ",
@@ -211,22 +142,11 @@ fn check_states<A: Allocator>(rt: &impl Abort, security: &Security<A>) {
     same(rt, security.sho, Some(b'0'));
 }
 
-fn check_locates<B: OrderBook>(
-    rt: &impl Abort,
-    alloc: Global,
-    market: &Market<B>,
-    want: &[u16],
-) -> Result<(), Fail> {
-    let locates = locates_of(alloc, market)?;
-    same(rt, locates.as_slice(), want);
-    Ok(())
-}
-
-fn check_phase<B: OrderBook>(rt: &impl Abort, market: &Market<B>, want: Option<u8>) {
+fn check_phase<B: OrderBook>(rt: &impl Host, market: &Market<B>, want: Option<u8>) {
     same(rt, market.phase(), want);
 }
 
-fn check_empty<B: OrderBook>(rt: &impl Abort, memory: B::Alloc) {
+fn check_empty<B: OrderBook>(rt: &impl Host, memory: B::Alloc) {
     let empty: Market<B> = Market::new(memory);
     check_phase(rt, &empty, None);
 }
@@ -236,26 +156,51 @@ fn an_empty_market_has_no_phase(rt: HostRuntime) {
     check_empty::<ListBook>(&rt, rt.alloc());
 }
 
-fn check_states_and_orders<B: OrderBook>(
-    rt: &impl Abort,
-    alloc: Global,
-    memory: B::Alloc,
-) -> Result<(), Fail> {
-    let market: Market<B> = with_states(memory)?;
+// A market with the trading states of a security, and an order, whose directory message came twice.
+fn check_states_and_orders<B: OrderBook>(rt: &impl Host, memory: B::Alloc) -> TestResult {
+    let messages = [
+        directory(2, "MSFT", 100),
+        event(b'O'),
+        directory(1, "AAPL", 100),
+        reg_sho(1, "AAPL", b'0'),
+        trading_action(1, "AAPL", b'T'),
+        add(1, 1, Side::Buy, 100, "AAPL", 1500000),
+        directory(1, "AAPL", 200),
+    ];
+    let market: Market<B> = market_of(memory, &messages)?;
     check_phase(rt, &market, Some(b'O'));
     has_len(rt, market.book(), 1);
     check_states(rt, security(&market, 1).ok_or("a security")?);
-    check_locates(rt, alloc, &market, &[1, 2])
+    let locates = locates_of(rt.alloc(), &market)?;
+    same(rt, locates.as_slice(), [1, 2].as_slice());
+    Ok(())
 }
 
 // A second directory message of a locate sets the entry alone.
 #[test]
-fn keeps_states_and_orders(rt: HostRuntime) -> Result<(), Fail> {
-    check_states_and_orders::<ListBook>(&rt, rt.alloc(), rt.alloc())
+fn keeps_states_and_orders(rt: HostRuntime) -> TestResult {
+    check_states_and_orders::<ListBook>(&rt, rt.alloc())
+}
+
+fn check_halts<A: Allocator>(rt: &impl Host, security: &Security<A>) -> TestResult {
+    same(rt, security.halts_len(), 2);
+    let halts: Vec<(u8, u8)> = security.halts().clone()?.collect(rt.alloc())?;
+    let want = [(b'Q', b'H'), (b'X', b'T')];
+    same(rt, halts.as_slice(), want.as_slice());
+    Ok(())
+}
+
+fn check_positions<A: Allocator>(rt: &impl Host, security: &Security<A>) -> TestResult {
+    same(rt, security.positions_len(), 2);
+    let (first, last) = (Alpha::from_text("ABCD")?, Alpha::from_text("ZZZZ")?);
+    let positions: Vec<(Alpha<4>, [u8; 3])> = security.positions().clone()?.collect(rt.alloc())?;
+    let want = [(first, *b"NNS"), (last, *b"NND")];
+    same(rt, positions.as_slice(), want.as_slice());
+    Ok(())
 }
 
 // A market of one security with halts and positions, whose directory message came twice.
-fn with_halts_and_positions<B: OrderBook>(alloc: B::Alloc) -> Result<Market<B>, Fail> {
+fn check_halts_and_positions<B: OrderBook>(rt: &impl Host, memory: B::Alloc) -> TestResult {
     let messages = [
         directory(1, "AAPL", 100),
         position(1, "ZZZZ", "AAPL", b'A'),
@@ -266,70 +211,16 @@ fn with_halts_and_positions<B: OrderBook>(alloc: B::Alloc) -> Result<Market<B>, 
         position(1, "ZZZZ", "AAPL", b'D'),
         directory(1, "AAPL", 200),
     ];
-    market_of(alloc, &messages)
-}
-
-fn halts_of<A: Allocator>(
-    alloc: Global,
-    security: &Security<A>,
-) -> Result<Vec<(u8, u8)>, AllocError> {
-    security.halts().clone()?.collect(alloc)
-}
-
-fn positions_of<A: Allocator>(
-    alloc: Global,
-    security: &Security<A>,
-) -> Result<Vec<(Alpha<4>, [u8; 3])>, AllocError> {
-    security.positions().clone()?.collect(alloc)
-}
-
-fn check_halts<A: Allocator>(
-    rt: &impl Abort,
-    alloc: Global,
-    security: &Security<A>,
-) -> Result<(), Fail> {
-    same(rt, security.halts_len(), 2);
-    let halts = halts_of(alloc, security)?;
-    same(
-        rt,
-        halts.as_slice(),
-        [(b'Q', b'H'), (b'X', b'T')].as_slice(),
-    );
-    Ok(())
-}
-
-fn check_positions<A: Allocator>(
-    rt: &impl Abort,
-    alloc: Global,
-    security: &Security<A>,
-) -> Result<(), Fail> {
-    same(rt, security.positions_len(), 2);
-    let first = Alpha::from_text("ABCD")?;
-    let last = Alpha::from_text("ZZZZ")?;
-    let positions = positions_of(alloc, security)?;
-    same(
-        rt,
-        positions.as_slice(),
-        [(first, *b"NNS"), (last, *b"NND")].as_slice(),
-    );
-    Ok(())
-}
-
-fn check_halts_and_positions<B: OrderBook>(
-    rt: &impl Abort,
-    alloc: Global,
-    memory: B::Alloc,
-) -> Result<(), Fail> {
-    let market: Market<B> = with_halts_and_positions(memory)?;
+    let market: Market<B> = market_of(memory, &messages)?;
     let security = security(&market, 1).ok_or("a security")?;
-    check_halts(rt, alloc, security)?;
-    check_positions(rt, alloc, security)
+    check_halts(rt, security)?;
+    check_positions(rt, security)
 }
 
 // An action that ends a halt stays, and a second directory message of a locate changes neither.
 #[test]
-fn keeps_halts_and_positions(rt: HostRuntime) -> Result<(), Fail> {
-    check_halts_and_positions::<ListBook>(&rt, rt.alloc(), rt.alloc())
+fn keeps_halts_and_positions(rt: HostRuntime) -> TestResult {
+    check_halts_and_positions::<ListBook>(&rt, rt.alloc())
 }
 
 // AAPL at locate 1 with a bid for 100 shares of reference 1, and MSFT at locate 2.
@@ -342,41 +233,34 @@ fn begun<B: OrderBook>(alloc: B::Alloc) -> Result<Market<B>, Fail> {
     market_of(alloc, &messages)
 }
 
-// Why a market refuses a message.
-fn refusal<B: OrderBook>(market: &mut Market<B>, message: &Message<'_>) -> Result<Refusal, Fail> {
-    Ok(market.apply(message).err().ok_or("a refusal")?)
-}
-
 // That market over any book refuses a message for this reason, and stays as it was.
 fn check_refusal<B: OrderBook>(
-    rt: &impl Abort,
-    alloc: Global,
+    rt: &impl Host,
     memory: B::Alloc,
     message: &Message<'_>,
     want: &str,
-) -> Result<(), Fail> {
+) -> TestResult {
     let mut market: Market<B> = begun(memory)?;
-    let why = refusal(&mut market, message)?;
-    same_words(rt, alloc, &why, want)?;
+    let why = apply(&mut market, message).err().ok_or("a refusal")?;
+    same_words(rt, &why, want)?;
     has_len(rt, market.book(), 1);
     Ok(())
 }
 
 fn check_refusals<B: OrderBook>(
-    rt: &impl Abort,
-    alloc: Global,
+    rt: &impl Host,
     memory: B::Alloc,
-    rows: &[(Option<Message<'static>>, &str)],
-) -> Result<(), Fail> {
+    rows: &[(Made, &str)],
+) -> TestResult {
     for (message, want) in rows {
-        check_refusal::<B>(rt, alloc, memory, made(message)?, want)?;
+        check_refusal::<B>(rt, memory, made(message)?, want)?;
     }
     Ok(())
 }
 
 // The first check that fails gives the reason.
 #[test]
-fn refuses_by_the_first_rule_of_securities(rt: HostRuntime) -> Result<(), Fail> {
+fn refuses_by_the_first_rule_of_securities(rt: HostRuntime) -> TestResult {
     let rows = [
         (add(3, 9, Side::Buy, 1, "AAPL", 1), "unknown locate"),
         (trading_action(3, "AAPL", b'T'), "unknown locate"),
@@ -388,11 +272,11 @@ fn refuses_by_the_first_rule_of_securities(rt: HostRuntime) -> Result<(), Fail> 
         (directory(1, "MSFT", 100), "stock mismatch"),
         (end(4), "unexpected end"),
     ];
-    check_refusals::<ListBook>(&rt, rt.alloc(), rt.alloc(), &rows)
+    check_refusals::<ListBook>(&rt, rt.alloc(), &rows)
 }
 
 #[test]
-fn refuses_by_the_first_rule_of_orders(rt: HostRuntime) -> Result<(), Fail> {
+fn refuses_by_the_first_rule_of_orders(rt: HostRuntime) -> TestResult {
     let rows = [
         (add(1, 9, Side::Buy, 0, "MSFT", 1), "stock mismatch"),
         (add(1, 1, Side::Buy, 0, "AAPL", 1500000), "zero shares"),
@@ -406,38 +290,33 @@ fn refuses_by_the_first_rule_of_orders(rt: HostRuntime) -> Result<(), Fail> {
         (delete(2, 1), "locate mismatch"),
         (executed(1, 1, 101), "too many shares, 100 remain"),
     ];
-    check_refusals::<ListBook>(&rt, rt.alloc(), rt.alloc(), &rows)
+    check_refusals::<ListBook>(&rt, rt.alloc(), &rows)
 }
 
 #[test]
-fn want_of_memory_has_words(rt: HostRuntime) -> Result<(), Fail> {
-    same_words(&rt, rt.alloc(), &Refusal::OutOfMemory, "out of memory")?;
+fn want_of_memory_has_words(rt: HostRuntime) -> TestResult {
+    same_words(&rt, &Refusal::OutOfMemory, "out of memory")?;
     Ok(())
 }
 
 // The market refuses a message for this reason.
 fn refuses<B: OrderBook>(
-    rt: &impl Abort,
+    rt: &impl Host,
     market: &mut Market<B>,
-    message: Option<Message<'static>>,
+    message: Made,
     want: Refusal,
-) -> Result<(), Fail> {
+) -> TestResult {
     same(rt, apply(market, made(&message)?), Err(want));
     Ok(())
 }
 
-// An order keeps its price whatever it is executed at.
-fn take_some<B: OrderBook>(rt: &impl Abort, market: &mut Market<B>) -> Result<(), Fail> {
+// An order keeps its price whatever it is executed at, and is gone with its last share.
+fn take_shares<B: OrderBook>(rt: &impl Host, market: &mut Market<B>) -> TestResult {
     apply_all(market, &[executed(1, 1, 0), cancel(1, 1, 40)])?;
     let most = Refusal::TooManyShares { remain: 60 };
     refuses(rt, market, executed_with_price(1, 1, 61, 1500100), most)?;
     apply_all(market, &[executed_with_price(1, 1, 20, 1500100)])?;
     same(rt, total(market.book(), 1, Side::Buy, 1500000), (40, 1));
-    Ok(())
-}
-
-// An order is gone with its last share.
-fn take_the_rest<B: OrderBook>(rt: &impl Abort, market: &mut Market<B>) -> Result<(), Fail> {
     apply_all(market, &[executed(1, 1, 40)])?;
     refuses(rt, market, delete(1, 1), Refusal::UnknownRef)?;
     let sale = add(1, 1, Side::Sell, 5, "AAPL", 1500000);
@@ -446,13 +325,12 @@ fn take_the_rest<B: OrderBook>(rt: &impl Abort, market: &mut Market<B>) -> Resul
     Ok(())
 }
 
-fn take_shares<B: OrderBook>(rt: &impl Abort, memory: B::Alloc) -> Result<(), Fail> {
+fn check_shares<B: OrderBook>(rt: &impl Host, memory: B::Alloc) -> TestResult {
     let mut market: Market<B> = begun(memory)?;
-    take_some(rt, &mut market)?;
-    take_the_rest(rt, &mut market)
+    take_shares(rt, &mut market)
 }
 
 #[test]
-fn takes_shares(rt: HostRuntime) -> Result<(), Fail> {
-    take_shares::<ListBook>(&rt, rt.alloc())
+fn takes_shares(rt: HostRuntime) -> TestResult {
+    check_shares::<ListBook>(&rt, rt.alloc())
 }

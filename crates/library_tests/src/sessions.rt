@@ -1,7 +1,8 @@
 //! A served session that the tables use: its login, its answers, and both of its ends over memory.
 use crate::doubles::{FuseWriter, PieceReader};
-use crate::equal::same;
-use crate::files::{AAPL, ADD_1, ADD_2, EVENT, are_same, market, seq};
+use crate::equal::{Host, TestResult, same};
+use crate::files::{Blocks, are_same, market, seq};
+use crate::payloads::*;
 use itch_book::{ListBook, OrderBook};
 use itch_codec::{Alpha, Seq};
 use itch_frame::{BlockReader, CountedRead, CountedWrite};
@@ -11,7 +12,6 @@ use itch_soup::{
     Credentials, Rest, Served, ServerConfig, SoupFault, fetch_one, fetch_rest, serve_one,
 };
 use std::alloc::{Allocator, Global};
-use std::process::Abort;
 use std::test::Fail;
 
 /// Logins for all messages and for those from the third on.
@@ -41,11 +41,11 @@ pub(crate) const REST_3: &[u8] =
 /// What is served: four messages, and then End of Snapshot with number 5.
 pub(crate) const SERVED: &[&[u8]] = &[EVENT, AAPL, ADD_1, ADD_2];
 
-pub(crate) fn alpha<const N: usize>(rt: &impl Abort, text: &str) -> Alpha<N> {
+pub(crate) fn alpha<const N: usize>(rt: &impl Host, text: &str) -> Alpha<N> {
     Alpha::from_text(text).expect(rt, "a text that fits")
 }
 
-pub(crate) fn config(rt: &impl Abort) -> ServerConfig {
+pub(crate) fn config(rt: &impl Host) -> ServerConfig {
     ServerConfig {
         username: alpha(rt, "user"),
         password: alpha(rt, "secret"),
@@ -53,7 +53,7 @@ pub(crate) fn config(rt: &impl Abort) -> ServerConfig {
     }
 }
 
-pub(crate) fn credentials(rt: &impl Abort) -> Credentials {
+pub(crate) fn credentials(rt: &impl Host) -> Credentials {
     Credentials {
         username: alpha(rt, "user"),
         password: alpha(rt, "secret"),
@@ -69,7 +69,7 @@ pub(crate) fn served_market(alloc: Global) -> Result<Market<ListBook>, Fail> {
 /// Serves one session of a market, with 5 in its End of Snapshot. This helper and those below have no contract, so that a proof of
 /// a test need not carry what the call leaves.
 pub(crate) fn serve<R: CountedRead, A: Allocator, W: CountedWrite, B: OrderBook>(
-    rt: &impl Abort,
+    rt: &impl Host,
     reader: &mut BlockReader<R, A>,
     writer: &mut W,
     market: &Market<B>,
@@ -79,22 +79,21 @@ pub(crate) fn serve<R: CountedRead, A: Allocator, W: CountedWrite, B: OrderBook>
 }
 
 /// Serves one session of what this reader gives.
-pub(crate) fn serve_from<R: CountedRead + Drop, W: CountedWrite, B: OrderBook>(
-    rt: &impl Abort,
-    alloc: Global,
-    reader: R,
-    writer: &mut W,
+pub(crate) fn serve_from<B: OrderBook>(
+    rt: &impl Host,
+    reader: PieceReader<'_>,
+    writer: &mut FuseWriter,
     market: &Market<B>,
 ) -> Result<Result<Served, SoupFault>, Fail> {
-    let mut reader = BlockReader::new(alloc, reader)?;
+    let mut reader = BlockReader::new(rt.alloc(), reader)?;
     Ok(serve(rt, &mut reader, writer, market))
 }
 
 /// Fetches over a reader and a writer, and logs in for all messages.
-pub(crate) fn fetch<R: CountedRead, A: Allocator, B: OrderBook>(
-    rt: &impl Abort,
+pub(crate) fn fetch<B: OrderBook>(
+    rt: &impl Host,
     memory: B::Alloc,
-    reader: &mut BlockReader<R, A>,
+    reader: &mut Blocks<'_>,
     writer: &mut FuseWriter,
 ) -> Result<(Market<B>, Seq), SoupFault> {
     fetch_one(memory, reader, writer, &credentials(rt))
@@ -104,56 +103,44 @@ pub(crate) fn fetch<R: CountedRead, A: Allocator, B: OrderBook>(
 pub(crate) type Fetched<B> = Result<(Market<B>, Seq), SoupFault>;
 
 /// A fetch of what this reader gives, which logs in for all messages.
-pub(crate) fn fetched<R: CountedRead + Drop, B: OrderBook>(
-    rt: &impl Abort,
-    alloc: Global,
+pub(crate) fn fetched<B: OrderBook>(
+    rt: &impl Host,
     memory: B::Alloc,
-    reader: R,
+    reader: PieceReader<'_>,
 ) -> Result<Fetched<B>, Fail> {
-    let mut reader = BlockReader::new(alloc, reader)?;
-    let mut writer = FuseWriter::new(alloc, 64, None);
+    let mut reader = BlockReader::new(rt.alloc(), reader)?;
+    let mut writer = FuseWriter::new(rt.alloc(), 64, None);
     let result = fetch(rt, memory, &mut reader, &mut writer);
     same(rt, writer.written(), LOGIN_1);
     Ok(result)
 }
 
-fn fault_over<R: CountedRead + Drop, B: OrderBook>(
-    rt: &impl Abort,
-    alloc: Global,
-    memory: B::Alloc,
-    reader: R,
-) -> Result<Option<SoupFault>, Fail> {
-    Ok(fetched::<R, B>(rt, alloc, memory, reader)?.err())
-}
-
 /// The fault of a fetch, if it has one.
-pub(crate) fn fetch_fault<R: CountedRead + Drop>(
-    rt: &impl Abort,
-    alloc: Global,
-    reader: R,
+pub(crate) fn fetch_fault(
+    rt: &impl Host,
+    reader: PieceReader<'_>,
 ) -> Result<Option<SoupFault>, Fail> {
-    fault_over::<R, ListBook>(rt, alloc, alloc, reader)
+    Ok(fetched::<ListBook>(rt, rt.alloc(), reader)?.err())
 }
 
 /// Fetches the messages from the third on over a reader and a writer.
-pub(crate) fn fetch_third<R: CountedRead, A: Allocator, M: Allocator>(
-    rt: &impl Abort,
+pub(crate) fn fetch_third<M: Allocator>(
+    rt: &impl Host,
     memory: M,
-    reader: &mut BlockReader<R, A>,
+    reader: &mut Blocks<'_>,
     writer: &mut FuseWriter,
 ) -> Result<Rest<M>, SoupFault> {
     fetch_rest(memory, reader, writer, &credentials(rt), seq(rt, 3))
 }
 
 /// What this reader gives from the third message on, after a login for it.
-pub(crate) fn third_fetched<R: CountedRead + Drop, M: Allocator>(
-    rt: &impl Abort,
-    alloc: Global,
+pub(crate) fn third_fetched<M: Allocator>(
+    rt: &impl Host,
     memory: M,
-    reader: R,
+    reader: PieceReader<'_>,
 ) -> Result<Result<Rest<M>, SoupFault>, Fail> {
-    let mut reader = BlockReader::new(alloc, reader)?;
-    let mut writer = FuseWriter::new(alloc, 64, None);
+    let mut reader = BlockReader::new(rt.alloc(), reader)?;
+    let mut writer = FuseWriter::new(rt.alloc(), 64, None);
     let result = fetch_third(rt, memory, &mut reader, &mut writer);
     same(rt, writer.written(), LOGIN_3);
     Ok(result)
@@ -161,12 +148,11 @@ pub(crate) fn third_fetched<R: CountedRead + Drop, M: Allocator>(
 
 /// This market is the one that is served, and this the number of its End of Snapshot.
 pub(crate) fn is_served_market<B: OrderBook>(
-    rt: &impl Abort,
-    alloc: Global,
+    rt: &impl Host,
     market: &Market<B>,
     next: Seq,
-) -> Result<(), Fail> {
-    assert!(rt; are_same(rt, &served_market(alloc)?, market));
+) -> TestResult {
+    assert!(rt; are_same(rt, &served_market(rt.alloc())?, market));
     same(rt, next.value(), 5);
     Ok(())
 }

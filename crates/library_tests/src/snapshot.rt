@@ -1,10 +1,10 @@
 //! Worked days and snapshots: what is written of each, what is read, and how each is refused.
 use crate::doubles::{FuseWriter, PieceReader};
-use crate::equal::{same, same_words};
+use crate::equal::{Host, TestResult, same, same_words};
 use crate::files::{
-    AAPL, ADD_1, END_4, END_5, EVENT, NAMED_3, REPLACED, REPLACED_SNAPSHOT, are_same, blocks,
-    finished, market, read_from, seq, write,
+    REPLACED, REPLACED_SNAPSHOT, are_same, blocks, finished, market, read_from, seq, write,
 };
+use crate::payloads::*;
 use itch_book::{ListBook, OrderBook};
 use itch_codec::CodecFault;
 use itch_frame::FrameFault;
@@ -13,57 +13,11 @@ use itch_snapshot::{
     SnapFault, SnapshotIter, SnapshotReader, laws, part_place, same_market, snapshot_len,
 };
 use std::alloc::Global;
-use std::process::Abort;
 use std::test::Fail;
 
 mod again;
 mod books;
 mod partial;
-
-// The same at the ninth nanosecond.
-const AAPL_LATER: &[u8] = b"R\0\x01\0\0\0\0\0\0\0\x09AAPL    QN\0\0\0dNCZ PNN1N\0\0\0\0N";
-
-const MSFT_AT_1: &[u8] = b"R\0\x01\0\0\0\0\0\0\0\0MSFT    QN\0\0\0dNCZ PNN1N\0\0\0\0N";
-
-const MSFT: &[u8] = b"R\0\x02\0\0\0\0\0\0\0\0MSFT    QN\0\0\0dNCZ PNN1N\0\0\0\0N";
-
-const TRADES: &[u8] = b"H\0\x01\0\0\0\0\0\0\0\0AAPL    T     ";
-// The same with other reserved bytes.
-const TRADES_0: &[u8] = b"H\0\x01\0\0\0\0\0\0\0\0AAPL    T\0    ";
-
-const TRADES_X: &[u8] = b"H\0\x01\0\0\0\0\0\0\0\0AAPL    TX    ";
-
-const RESTRICTS: &[u8] = b"Y\0\x01\0\0\0\0\0\0\0\0AAPL    0";
-
-const ADD_2: &[u8] = b"A\0\x01\0\0\0\0\0\0\0\0\0\0\0\0\0\0\0\x02B\0\0\0dAAPL    \0\x16\xe3\x60";
-
-const ADD_2_OF_200: &[u8] =
-    b"A\0\x01\0\0\0\0\0\0\0\0\0\0\0\0\0\0\0\x02B\0\0\0\xc8AAPL    \0\x16\xe3\x60";
-
-const ADD_2_HIGHER: &[u8] =
-    b"A\0\x01\0\0\0\0\0\0\0\0\0\0\0\0\0\0\0\x02B\0\0\0\xc8AAPL    \0\x16\xe3\xc4";
-
-const ADD_3: &[u8] =
-    b"A\0\x01\0\0\0\0\0\0\0\0\0\0\0\0\0\0\0\x03B\0\0\x01\x2cAAPL    \0\x16\xe3\x60";
-
-const ADD_4_HIGHER: &[u8] =
-    b"A\0\x01\0\0\0\0\0\0\0\0\0\0\0\0\0\0\0\x04B\0\0\x01\x90AAPL    \0\x16\xe3\xc4";
-
-const ADD_7: &[u8] =
-    b"A\0\x01\0\0\0\0\0\0\0\x05\0\0\0\0\0\0\0\x07B\0\0\x01\x2cAAPL    \0\x16\xe3\x60";
-
-const ADD_7_OF_150: &[u8] =
-    b"A\0\x01\0\0\0\0\0\0\0\0\0\0\0\0\0\0\0\x07B\0\0\0\x96AAPL    \0\x16\xe3\x60";
-
-const EXECUTE_7: &[u8] = b"E\0\x01\0\0\0\0\0\0\0\x06\0\0\0\0\0\0\0\x07\0\0\0d\0\0\0\0\0\0\0\x01";
-
-const CANCEL_7: &[u8] = b"X\0\x01\0\0\0\0\0\0\0\x07\0\0\0\0\0\0\0\x07\0\0\0\x32";
-
-const END_1: &[u8] = b"G                   1";
-
-const END_3: &[u8] = b"G                   3";
-
-const END_6: &[u8] = b"G                   6";
 
 #[test]
 fn the_laws_of_snapshots() {
@@ -78,63 +32,22 @@ fn the_laws_of_snapshots() {
 
 // The snapshot of a market, closed with the number `next` and written to an empty writer, has these payloads.
 fn check_snapshot<B: OrderBook>(
-    rt: &impl Abort,
-    alloc: Global,
+    rt: &impl Host,
     market: &Market<B>,
     next: u64,
     mut writer: FuseWriter,
     want: &[&[u8]],
-) -> Result<(), Fail> {
+) -> TestResult {
     let len = snapshot_len(market).saturating_add(1);
     same(rt, len, want.len() as u128);
     let count = write(rt, market, seq(rt, next), &mut writer);
     same(rt, count.expect(rt, "a snapshot"), want.len() as u64);
-    same(rt, writer.written(), blocks(alloc, want)?.written());
-    Ok(())
-}
-
-// A day leaves a market with this snapshot, closed with the number `next`.
-fn check_day<B: OrderBook>(
-    rt: &impl Abort,
-    alloc: Global,
-    memory: B::Alloc,
-    (day, want, next): (&[&[u8]], &[&[u8]], u64),
-) -> Result<(), Fail> {
-    let market: Market<B> = market(alloc, memory, day)?;
-    let writer = FuseWriter::new(alloc, 1, None);
-    check_snapshot(rt, alloc, &market, next, writer, want)
-}
-
-#[test]
-fn writes_the_snapshot_of_a_day(rt: HostRuntime) -> Result<(), Fail> {
-    let days: [(&[&[u8]], &[&[u8]], u64); 6] = [
-        (&[], &[END_1], 1),
-        (&[EVENT, AAPL, ADD_1], &[EVENT, AAPL, ADD_1, END_4], 4),
-        (REPLACED, REPLACED_SNAPSHOT, 5),
-        (
-            &[AAPL, TRADES_0, ADD_7, EXECUTE_7, CANCEL_7],
-            &[AAPL, TRADES, ADD_7_OF_150, END_6],
-            6,
-        ),
-        (
-            &[AAPL_LATER, TRADES_X, ADD_7_OF_150],
-            &[AAPL, TRADES, ADD_7_OF_150, END_4],
-            4,
-        ),
-        (
-            &[MSFT, EVENT, AAPL, RESTRICTS, TRADES],
-            &[EVENT, AAPL, TRADES, RESTRICTS, MSFT, END_6],
-            6,
-        ),
-    ];
-    for row in days {
-        check_day::<ListBook>(&rt, rt.alloc(), rt.alloc(), row)?;
-    }
+    same(rt, writer.written(), blocks(rt.alloc(), want)?.written());
     Ok(())
 }
 
 // `remaining` counts down with each message of a market's snapshot, to none.
-fn check_counts<B: OrderBook>(rt: &impl Abort, market: &Market<B>, wants: &[u64]) {
+fn check_counts<B: OrderBook>(rt: &impl Host, market: &Market<B>, wants: &[u64]) {
     assert!(rt; snapshot_len(market) < 9);
     let mut messages = SnapshotIter::new(market);
     for want in wants {
@@ -145,55 +58,46 @@ fn check_counts<B: OrderBook>(rt: &impl Abort, market: &Market<B>, wants: &[u64]
     assert!(rt; messages.next().is_none());
 }
 
+// Those of what a day leaves.
 fn counts_down<B: OrderBook>(
-    rt: &impl Abort,
-    alloc: Global,
+    rt: &impl Host,
     memory: B::Alloc,
     day: &[&[u8]],
     wants: &[u64],
-) -> Result<(), Fail> {
-    let market: Market<B> = market(alloc, memory, day)?;
+) -> TestResult {
+    let market: Market<B> = market(rt.alloc(), memory, day)?;
     check_counts(rt, &market, wants);
     Ok(())
 }
 
 #[test]
-fn counts_what_is_still_to_come(rt: HostRuntime) -> Result<(), Fail> {
-    let rows: [(&[&[u8]], &[u64]); 2] = [(&[], &[]), (REPLACED, &[3, 2, 1])];
-    for (day, wants) in rows {
-        counts_down::<ListBook>(&rt, rt.alloc(), rt.alloc(), day, wants)?;
-    }
-    Ok(())
-}
-
-fn check_parting<A: OrderBook, B: OrderBook>(
-    rt: &impl Abort,
-    one: &Market<A>,
-    other: &Market<B>,
-    want: Option<u64>,
-) {
-    assert!(rt; snapshot_len(one) < 9);
-    same(rt, part_place(one, other), want);
-    same(rt, same_market(one, other), want.is_none());
+fn counts_what_is_still_to_come(rt: HostRuntime) -> TestResult {
+    counts_down::<ListBook>(&rt, rt.alloc(), &[], &[])?;
+    counts_down::<ListBook>(&rt, rt.alloc(), REPLACED, &[3, 2, 1])
 }
 
 // The snapshots of what two days leave part there.
 fn check_days<B: OrderBook>(
-    rt: &impl Abort,
-    alloc: Global,
+    rt: &impl Host,
     memory: B::Alloc,
     (one, other, want): (&[&[u8]], &[&[u8]], Option<u64>),
-) -> Result<(), Fail> {
-    let one: Market<B> = market(alloc, memory, one)?;
-    let other: Market<B> = market(alloc, memory, other)?;
-    check_parting(rt, &one, &other, want);
+) -> TestResult {
+    let one: Market<B> = market(rt.alloc(), memory, one)?;
+    let other: Market<B> = market(rt.alloc(), memory, other)?;
+    assert!(rt; snapshot_len(&one) < 9);
+    same(rt, part_place(&one, &other), want);
+    same(rt, same_market(&one, &other), want.is_none());
     Ok(())
 }
 
 #[test]
-fn says_where_snapshots_part(rt: HostRuntime) -> Result<(), Fail> {
+fn says_where_snapshots_part(rt: HostRuntime) -> TestResult {
     let pairs: [(&[&[u8]], &[&[u8]], Option<u64>); 5] = [
-        (&[AAPL, ADD_1, ADD_2], &[AAPL, ADD_2, ADD_1], Some(2)),
+        (
+            &[AAPL, ADD_1, ADD_2_OF_100],
+            &[AAPL, ADD_2_OF_100, ADD_1],
+            Some(2),
+        ),
         (
             &[AAPL, ADD_1, ADD_2_HIGHER, ADD_3, ADD_4_HIGHER],
             &[AAPL, ADD_2_HIGHER, ADD_4_HIGHER, ADD_1, ADD_3],
@@ -208,7 +112,7 @@ fn says_where_snapshots_part(rt: HostRuntime) -> Result<(), Fail> {
         (&[], &[AAPL], Some(1)),
     ];
     for pair in pairs {
-        check_days::<ListBook>(&rt, rt.alloc(), rt.alloc(), pair)?;
+        check_days::<ListBook>(&rt, rt.alloc(), pair)?;
     }
     Ok(())
 }
@@ -219,7 +123,7 @@ fn outcome<B: OrderBook>(
     memory: B::Alloc,
     bytes: &[u8],
 ) -> Result<Result<(u128, u64), SnapFault>, Fail> {
-    match read_from::<_, B>(alloc, memory, PieceReader::new(bytes, 1, None))? {
+    match read_from::<B>(alloc, memory, PieceReader::new(bytes, 1, None))? {
         Ok((market, next)) => Ok(Ok((snapshot_len(&market), next.value()))),
         Err(fault) => Ok(Err(fault)),
     }
@@ -235,21 +139,20 @@ fn file_of(alloc: Global, payloads: &[&[u8]], rest: &[u8]) -> Result<Vec<u8>, Fa
 
 // This is read, or a fault that is shown so.
 fn check_outcome(
-    rt: &impl Abort,
-    alloc: Global,
+    rt: &impl Host,
     found: Result<(u128, u64), SnapFault>,
     want: Result<(u128, u64), &str>,
-) -> Result<(), Fail> {
+) -> TestResult {
     match (found, want) {
         (Ok(read), Ok(want)) => same(rt, read, want),
-        (Err(fault), Err(want)) => same(rt, format!(in alloc; "{fault:?}")?.as_str(), want),
+        (Err(fault), Err(want)) => same(rt, format!(in rt.alloc(); "{fault:?}")?.as_str(), want),
         _ => panic!(rt; "read or refused by mistake"),
     }
     Ok(())
 }
 
 #[test]
-fn reads_snapshots(rt: HostRuntime) -> Result<(), Fail> {
+fn reads_snapshots(rt: HostRuntime) -> TestResult {
     let files: [(&[&[u8]], &[u8], Result<(u128, u64), &str>); 7] = [
         (&[AAPL], b"", Err("NoEnd")),
         (&[END_1, EVENT], b"", Err("AfterEnd")),
@@ -270,53 +173,35 @@ fn reads_snapshots(rt: HostRuntime) -> Result<(), Fail> {
     for (payloads, rest, want) in files {
         let file = file_of(rt.alloc(), payloads, rest)?;
         let found = outcome::<ListBook>(rt.alloc(), rt.alloc(), &file)?;
-        check_outcome(&rt, rt.alloc(), found, want)?;
+        check_outcome(&rt, found, want)?;
     }
     Ok(())
 }
 
 // Reads payloads of a snapshot, of which none ends it.
-fn check_more<B: OrderBook>(rt: &impl Abort, snapshot: &mut SnapshotReader<B>, payloads: &[&[u8]]) {
+fn check_more<B: OrderBook>(rt: &impl Host, snapshot: &mut SnapshotReader<B>, payloads: &[&[u8]]) {
     for payload in payloads {
         assert!(rt; matches!(snapshot.message(payload), Ok(None)));
     }
 }
 
-// Reads this End of Snapshot, and no second one.
-fn check_end<B: OrderBook>(rt: &impl Abort, snapshot: &mut SnapshotReader<B>, end: &[u8]) {
-    assert!(rt; matches!(snapshot.message(end), Ok(Some(_))));
-    assert!(rt; matches!(snapshot.message(end), Err(SnapFault::AfterEnd)));
-}
-
 // A snapshot whose end was not read is handed back.
-fn unfinished<B: OrderBook>(rt: &impl Abort, snapshot: SnapshotReader<B>) -> SnapshotReader<B> {
+fn unfinished<B: OrderBook>(rt: &impl Host, snapshot: SnapshotReader<B>) -> SnapshotReader<B> {
     match snapshot.finish() {
         Ok(_) => panic!(rt; "handed out before its end"),
         Err(snapshot) => snapshot,
     }
 }
 
-// A snapshot of the same market as another, up to its End of Snapshot.
-fn half_read<A: OrderBook, B: OrderBook>(
-    rt: &impl Abort,
-    memory: B::Alloc,
-    want: &Market<A>,
-) -> SnapshotReader<B> {
-    let mut snapshot = SnapshotReader::new(memory);
-    check_more(rt, &mut snapshot, &[AAPL, ADD_2_OF_200, NAMED_3]);
-    assert!(rt; are_same(rt, want, snapshot.market()));
-    snapshot
-}
-
 // A market that is the same as another is handed out after its End of Snapshot, and not before.
-fn check_finish<B: OrderBook>(
-    rt: &impl Abort,
-    alloc: Global,
-    memory: B::Alloc,
-) -> Result<(), Fail> {
-    let want: Market<B> = market(alloc, memory, REPLACED)?;
-    let mut snapshot = unfinished(rt, half_read::<B, B>(rt, memory, &want));
-    check_end(rt, &mut snapshot, END_5);
+fn check_finish<B: OrderBook>(rt: &impl Host, memory: B::Alloc) -> TestResult {
+    let want: Market<B> = market(rt.alloc(), memory, REPLACED)?;
+    let mut snapshot: SnapshotReader<B> = SnapshotReader::new(memory);
+    check_more(rt, &mut snapshot, &[AAPL, ADD_2, NAMED_3]);
+    assert!(rt; are_same(rt, &want, snapshot.market()));
+    let mut snapshot = unfinished(rt, snapshot);
+    assert!(rt; matches!(snapshot.message(END_5), Ok(Some(_))));
+    assert!(rt; matches!(snapshot.message(END_5), Err(SnapFault::AfterEnd)));
     let (handed_out, next) = finished(rt, snapshot);
     same(rt, next.value(), 5);
     assert!(rt; are_same(rt, &want, &handed_out));
@@ -324,41 +209,27 @@ fn check_finish<B: OrderBook>(
 }
 
 #[test]
-fn hands_a_market_out_at_its_end(rt: HostRuntime) -> Result<(), Fail> {
-    check_finish::<ListBook>(&rt, rt.alloc(), rt.alloc())
+fn hands_a_market_out_at_its_end(rt: HostRuntime) -> TestResult {
+    check_finish::<ListBook>(&rt, rt.alloc())
 }
 
 #[test]
-fn says_what_failed(rt: HostRuntime) -> Result<(), Fail> {
+fn says_what_failed(rt: HostRuntime) -> TestResult {
+    let rule = |reason| SnapFault::Rule { place: 2, reason };
+    let most = Refusal::TooManyShares { remain: 60 };
     let fault = CodecFault::BadSide { offset: 19 };
+    let bad_side = SnapFault::Codec { place: 3, fault };
+    let truncated = SnapFault::Frame(FrameFault::Truncated { held: 1 });
     for (fault, want) in [
         (SnapFault::NoEnd, "no end of snapshot"),
-        (
-            SnapFault::Frame(FrameFault::Truncated { held: 1 }),
-            "truncated, 1 bytes held",
-        ),
-        (
-            SnapFault::Codec { place: 3, fault },
-            "message 3: bad side at 19",
-        ),
-        (
-            SnapFault::Rule {
-                place: 2,
-                reason: Refusal::TooManyShares { remain: 60 },
-            },
-            "message 2: too many shares, 60 remain",
-        ),
-        (
-            SnapFault::Rule {
-                place: 2,
-                reason: Refusal::OutOfMemory,
-            },
-            "out of memory",
-        ),
+        (truncated, "truncated, 1 bytes held"),
+        (bad_side, "message 3: bad side at 19"),
+        (rule(most), "message 2: too many shares, 60 remain"),
+        (rule(Refusal::OutOfMemory), "out of memory"),
         (SnapFault::AfterEnd, "message after end of snapshot"),
         (SnapFault::TooManyMessages, "too many messages"),
     ] {
-        same_words(&rt, rt.alloc(), &fault, want)?;
+        same_words(&rt, &fault, want)?;
     }
     Ok(())
 }

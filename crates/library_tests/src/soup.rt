@@ -1,5 +1,5 @@
 //! Packets byte by byte, and whole sessions.
-use crate::equal::{same, same_in};
+use crate::equal::{Host, TestResult, same, same_in, same_shown, same_words};
 use crate::files::seq;
 use crate::sessions::{alpha, config, credentials};
 use itch_frame::FrameFault;
@@ -8,10 +8,7 @@ use itch_soup::{
     ClientAct, ClientSession, Credentials, LoginAccepted, LoginRequest, Origin, Packet, Payload,
     ServerAct, ServerConfig, ServerSession, SoupFault, Tick, parse_packet,
 };
-use std::alloc::{AllocError, Global};
-use std::fmt::Debug;
-use std::process::Abort;
-use std::test::Fail;
+use std::alloc::AllocError;
 
 mod rest;
 mod served;
@@ -21,7 +18,7 @@ const LOGIN: &[u8; 47] = b"Luser  secret                                 3";
 const ACCEPTED: &[u8; 31] = b"A  ITCHSNAP                   3";
 
 // A login of the user whom the servers below let in.
-fn login(rt: &impl Abort, session: &str, number: u64) -> LoginRequest {
+fn login(rt: &impl Host, session: &str, number: u64) -> LoginRequest {
     LoginRequest {
         username: alpha(rt, "user"),
         password: alpha(rt, "secret"),
@@ -30,7 +27,7 @@ fn login(rt: &impl Abort, session: &str, number: u64) -> LoginRequest {
     }
 }
 
-fn accepted<'a>(rt: &impl Abort, next: u64) -> Packet<'a> {
+fn accepted<'a>(rt: &impl Host, next: u64) -> Packet<'a> {
     Packet::LoginAccepted(LoginAccepted {
         session: alpha(rt, "  ITCHSNAP"),
         next: seq(rt, next),
@@ -38,87 +35,79 @@ fn accepted<'a>(rt: &impl Abort, next: u64) -> Packet<'a> {
 }
 
 // A server of five messages that begins at 0.
-fn server(rt: &impl Abort) -> ServerSession {
+fn server(rt: &impl Host) -> ServerSession {
     ServerSession::new(config(rt), 5, 0)
 }
 
 // A client that begins at 0, and asks for the messages from 3 on.
-fn client(rt: &impl Abort) -> ClientSession {
+fn client(rt: &impl Host) -> ClientSession {
     ClientSession::new(credentials(rt), 3, 0)
 }
 
-// Faults of the system have no equality: what is shown of a value stands for it.
-fn shown<T: Debug>(alloc: Global, value: &T) -> Result<String, AllocError> {
-    format!(in alloc; "{value:?}")
-}
-
-fn server_answers(
-    rt: &impl Abort,
-    alloc: Global,
-    session: &mut ServerSession,
-    rows: &[(Packet<'_>, ServerAct)],
-) -> Result<(), AllocError> {
+// A server answers these packets so.
+fn server_answers(rt: &impl Host, rows: &[(Packet<'_>, ServerAct)]) -> TestResult {
+    let mut session = server(rt);
     for (packet, act) in rows {
-        same(
-            rt,
-            shown(alloc, &session.on_packet(packet, 0))?.as_str(),
-            shown(alloc, act)?.as_str(),
-        );
+        same_shown(rt, packet, &session.on_packet(packet, 0), act)?;
     }
     Ok(())
 }
 
-fn client_answers(
-    rt: &impl Abort,
-    alloc: Global,
-    session: &mut ClientSession,
-    rows: &[(Packet<'_>, ClientAct<'_>)],
-) -> Result<(), AllocError> {
+// A client answers these packets so.
+fn client_answers(rt: &impl Host, rows: &[(Packet<'_>, ClientAct<'_>)]) -> TestResult {
+    let mut session = client(rt);
     for (packet, act) in rows {
-        same(
-            rt,
-            shown(alloc, &session.on_packet(packet, 0))?.as_str(),
-            shown(alloc, act)?.as_str(),
-        );
+        same_shown(rt, packet, &session.on_packet(packet, 0), act)?;
     }
     Ok(())
+}
+
+fn unsequenced(bytes: &[u8]) -> Packet<'_> {
+    Packet::UnsequencedData(Payload::new(bytes))
+}
+
+fn debug(bytes: &[u8]) -> Packet<'_> {
+    Packet::Debug(Payload::new(bytes))
 }
 
 #[test]
-fn packets(rt: HostRuntime) {
-    let rows: [(&[u8], Origin, Packet<'_>); 13] = [
-        (b"+", Origin::Client, Packet::Debug(Payload::new(b""))),
-        (b"+hi", Origin::Server, Packet::Debug(Payload::new(b"hi"))),
-        (ACCEPTED, Origin::Server, accepted(&rt, 3)),
-        (b"JS", Origin::Server, Packet::LoginRejected { code: b'S' }),
-        (b"J\0", Origin::Server, Packet::LoginRejected { code: 0 }),
-        (
-            b"SGG",
-            Origin::Server,
-            Packet::SequencedData(Payload::new(b"GG")),
-        ),
-        (b"H", Origin::Server, Packet::ServerHeartbeat),
-        (b"Z", Origin::Server, Packet::EndOfSession),
-        (
-            LOGIN,
-            Origin::Client,
-            Packet::LoginRequest(login(&rt, "", 3)),
-        ),
-        (
-            b"U",
-            Origin::Client,
-            Packet::UnsequencedData(Payload::new(b"")),
-        ),
-        (
-            b"UA",
-            Origin::Server,
-            Packet::UnsequencedData(Payload::new(b"A")),
-        ),
-        (b"R", Origin::Client, Packet::ClientHeartbeat),
-        (b"O", Origin::Client, Packet::LogoutRequest),
+fn packets_of_a_server(rt: HostRuntime) {
+    let rows: [(&[u8], Packet<'_>); 8] = [
+        (b"+hi", debug(b"hi")),
+        (ACCEPTED, accepted(&rt, 3)),
+        (b"JS", Packet::LoginRejected { code: b'S' }),
+        (b"J\0", Packet::LoginRejected { code: 0 }),
+        (b"SGG", Packet::SequencedData(Payload::new(b"GG"))),
+        (b"H", Packet::ServerHeartbeat),
+        (b"Z", Packet::EndOfSession),
+        (b"UA", unsequenced(b"A")),
     ];
-    for (block, from, packet) in rows {
-        same_in(&rt, block, &parse_packet(block, from).ok(), &Some(packet));
+    for (block, packet) in rows {
+        same_in(
+            &rt,
+            block,
+            &parse_packet(block, Origin::Server).ok(),
+            &Some(packet),
+        );
+    }
+}
+
+#[test]
+fn packets_of_a_client(rt: HostRuntime) {
+    let rows: [(&[u8], Packet<'_>); 5] = [
+        (b"+", debug(b"")),
+        (LOGIN, Packet::LoginRequest(login(&rt, "", 3))),
+        (b"U", unsequenced(b"")),
+        (b"R", Packet::ClientHeartbeat),
+        (b"O", Packet::LogoutRequest),
+    ];
+    for (block, packet) in rows {
+        same_in(
+            &rt,
+            block,
+            &parse_packet(block, Origin::Client).ok(),
+            &Some(packet),
+        );
     }
 }
 
@@ -141,12 +130,8 @@ fn numbers_of_logins(rt: HostRuntime) {
         let mut block = *LOGIN;
         block[27..].copy_from_slice(field);
         let packet = Packet::LoginRequest(login(&rt, "", number));
-        same_in(
-            &rt,
-            number,
-            &parse_packet(&block, Origin::Client).ok(),
-            &Some(packet),
-        );
+        let found = parse_packet(&block, Origin::Client).ok();
+        same_in(&rt, number, &found, &Some(packet));
     }
 }
 
@@ -167,23 +152,17 @@ fn session_names_are_padded(rt: HostRuntime) {
     ];
     for (session, asked, served) in rows {
         let credentials = Credentials {
-            username: alpha(&rt, "user"),
-            password: alpha(&rt, "secret"),
             session: alpha(&rt, session),
+            ..credentials(&rt)
         };
         let mut login = *LOGIN;
         login[17..27].copy_from_slice(asked);
-        same_in(
-            &rt,
-            session,
-            ClientSession::new(credentials, 3, 0).login(),
-            login,
-        );
+        let client = ClientSession::new(credentials, 3, 0);
+        same_in(&rt, session, client.login(), login);
 
         let config = ServerConfig {
-            username: alpha(&rt, "user"),
-            password: alpha(&rt, "secret"),
             session: alpha(&rt, session),
+            ..config(&rt)
         };
         let mut accepted = *ACCEPTED;
         accepted[1..11].copy_from_slice(served);
@@ -202,7 +181,7 @@ fn other_packets_of_a_session(rt: HostRuntime) {
 }
 
 #[test]
-fn passwords_are_not_shown(rt: HostRuntime) -> Result<(), Fail> {
+fn passwords_are_not_shown(rt: HostRuntime) -> TestResult {
     let shown = |password: &str| -> Result<String, AllocError> {
         let login = LoginRequest {
             password: alpha(&rt, password),
@@ -241,110 +220,68 @@ fn heard<'a>(number: u64) -> ClientAct<'a> {
     }
 }
 
-fn client_fault<'a>(fault: SoupFault) -> ClientAct<'a> {
-    ClientAct::Fault(fault)
-}
-
 #[test]
-fn a_client_counts_data(rt: HostRuntime) -> Result<(), Fail> {
-    client_answers(
-        &rt,
-        rt.alloc(),
-        &mut client(&rt),
-        &[
-            (accepted(&rt, 3), ClientAct::Accepted { next: seq(&rt, 3) }),
-            (data(), heard(3)),
-            (data(), heard(4)),
-            (Packet::ServerHeartbeat, ClientAct::Nothing),
-            (Packet::EndOfSession, ClientAct::Ended),
-            (Packet::EndOfSession, client_fault(SoupFault::Closed)),
-        ],
-    )?;
+fn a_client_counts_data(rt: HostRuntime) -> TestResult {
+    let closed = ClientAct::Fault(SoupFault::Closed);
+    let rows = [
+        (accepted(&rt, 3), ClientAct::Accepted { next: seq(&rt, 3) }),
+        (data(), heard(3)),
+        (data(), heard(4)),
+        (Packet::ServerHeartbeat, ClientAct::Nothing),
+        (Packet::EndOfSession, ClientAct::Ended),
+        (Packet::EndOfSession, closed),
+    ];
+    client_answers(&rt, &rows)?;
     let greatest = 10_000_000_000_000_000_000;
     let next = seq(&rt, greatest);
-    client_answers(
-        &rt,
-        rt.alloc(),
-        &mut client(&rt),
-        &[
-            (accepted(&rt, greatest), ClientAct::Accepted { next }),
-            (data(), client_fault(SoupFault::TooManyMessages)),
-        ],
-    )?;
-    Ok(())
+    let rows = [
+        (accepted(&rt, greatest), ClientAct::Accepted { next }),
+        (data(), ClientAct::Fault(SoupFault::TooManyMessages)),
+    ];
+    client_answers(&rt, &rows)
 }
 
 #[test]
-fn a_client_is_let_in_once(rt: HostRuntime) -> Result<(), Fail> {
+fn a_client_is_let_in_once(rt: HostRuntime) -> TestResult {
     let rejected = || Packet::LoginRejected { code: b'A' };
-    client_answers(
-        &rt,
-        rt.alloc(),
-        &mut client(&rt),
-        &[
-            (data(), client_fault(SoupFault::Early(83))),
-            (data(), client_fault(SoupFault::Closed)),
-        ],
-    )?;
-    client_answers(
-        &rt,
-        rt.alloc(),
-        &mut client(&rt),
-        &[
-            (accepted(&rt, 3), ClientAct::Accepted { next: seq(&rt, 3) }),
-            (rejected(), client_fault(SoupFault::SecondLogin)),
-        ],
-    )?;
-    client_answers(
-        &rt,
-        rt.alloc(),
-        &mut client(&rt),
-        &[
-            (rejected(), ClientAct::Rejected(b'A')),
-            (accepted(&rt, 3), client_fault(SoupFault::Closed)),
-        ],
-    )?;
-    Ok(())
+    let rows = [
+        (data(), ClientAct::Fault(SoupFault::Early(83))),
+        (data(), ClientAct::Fault(SoupFault::Closed)),
+    ];
+    client_answers(&rt, &rows)?;
+    let rows = [
+        (accepted(&rt, 3), ClientAct::Accepted { next: seq(&rt, 3) }),
+        (rejected(), ClientAct::Fault(SoupFault::SecondLogin)),
+    ];
+    client_answers(&rt, &rows)?;
+    let rows = [
+        (rejected(), ClientAct::Rejected(b'A')),
+        (accepted(&rt, 3), ClientAct::Fault(SoupFault::Closed)),
+    ];
+    client_answers(&rt, &rows)
 }
 
 #[test]
-fn server_sessions(rt: HostRuntime) -> Result<(), Fail> {
-    server_answers(
-        &rt,
-        rt.alloc(),
-        &mut server(&rt),
-        &[
-            (
-                Packet::UnsequencedData(Payload::new(b"")),
-                ServerAct::Nothing,
-            ),
-            (Packet::ClientHeartbeat, ServerAct::Nothing),
-            (Packet::Debug(Payload::new(b"")), ServerAct::Nothing),
-            (Packet::LogoutRequest, ServerAct::Close),
-            (Packet::ClientHeartbeat, ServerAct::Fault(SoupFault::Closed)),
-        ],
-    )?;
-    server_answers(
-        &rt,
-        rt.alloc(),
-        &mut server(&rt),
-        &[
-            (
-                Packet::LoginRequest(login(&rt, "", 3)),
-                ServerAct::Accept { next: seq(&rt, 3) },
-            ),
-            (
-                Packet::LoginRequest(login(&rt, "", 3)),
-                ServerAct::Fault(SoupFault::SecondLogin),
-            ),
-            (Packet::LogoutRequest, ServerAct::Fault(SoupFault::Closed)),
-        ],
-    )?;
-    Ok(())
+fn server_sessions(rt: HostRuntime) -> TestResult {
+    let rows = [
+        (unsequenced(b""), ServerAct::Nothing),
+        (Packet::ClientHeartbeat, ServerAct::Nothing),
+        (debug(b""), ServerAct::Nothing),
+        (Packet::LogoutRequest, ServerAct::Close),
+        (Packet::ClientHeartbeat, ServerAct::Fault(SoupFault::Closed)),
+    ];
+    server_answers(&rt, &rows)?;
+    let login = || Packet::LoginRequest(login(&rt, "", 3));
+    let rows = [
+        (login(), ServerAct::Accept { next: seq(&rt, 3) }),
+        (login(), ServerAct::Fault(SoupFault::SecondLogin)),
+        (Packet::LogoutRequest, ServerAct::Fault(SoupFault::Closed)),
+    ];
+    server_answers(&rt, &rows)
 }
 
 #[test]
-fn logins_are_judged(rt: HostRuntime) -> Result<(), Fail> {
+fn logins_are_judged(rt: HostRuntime) -> TestResult {
     let accept = |next| ServerAct::Accept {
         next: seq(&rt, next),
     };
@@ -374,11 +311,7 @@ fn logins_are_judged(rt: HostRuntime) -> Result<(), Fail> {
     ];
     for (login, act) in rows {
         let found = server(&rt).on_packet(&Packet::LoginRequest(login), 0);
-        assert_eq!(rt;
-            shown(rt.alloc(), &found)?,
-            shown(rt.alloc(), &act)?,
-            "{login:?}"
-        );
+        same_shown(&rt, &login, &found, &act)?;
     }
     Ok(())
 }
@@ -413,19 +346,15 @@ fn ticks(rt: HostRuntime) {
 }
 
 #[test]
-fn texts(rt: HostRuntime) -> Result<(), Fail> {
+fn texts(rt: HostRuntime) -> TestResult {
+    let (kind, want, got) = (b'L', 47, 1);
+    let login_of_1 = SoupFault::WrongLength { kind, want, got };
+    let (next, asked) = (seq(&rt, 3), seq(&rt, 2));
     let rows = [
         (SoupFault::EmptyPacket, "empty packet"),
         (SoupFault::UnknownType(42), "unknown packet type 0x2a"),
         (SoupFault::WrongSide(b'S'), "packet S from the wrong side"),
-        (
-            SoupFault::WrongLength {
-                kind: b'L',
-                want: 47,
-                got: 1,
-            },
-            "wrong length for packet L: want 47, got 1",
-        ),
+        (login_of_1, "wrong length for packet L: want 47, got 1"),
         (SoupFault::BadText { offset: 1 }, "bad text at 1"),
         (SoupFault::BadNumber { offset: 27 }, "bad number at 27"),
         (SoupFault::SecondLogin, "second login"),
@@ -438,17 +367,14 @@ fn texts(rt: HostRuntime) -> Result<(), Fail> {
         (SoupFault::Frame(FrameFault::TooLong), "payload too long"),
         (SoupFault::Rejected(b'S'), "login rejected with S"),
         (
-            SoupFault::WrongStart {
-                next: seq(&rt, 3),
-                asked: seq(&rt, 2),
-            },
+            SoupFault::WrongStart { next, asked },
             "accepted from 3, not from 2",
         ),
         (SoupFault::EndedEarly, "ended early"),
         (SoupFault::Snapshot(SnapFault::NoEnd), "no end of snapshot"),
     ];
     for (fault, text) in rows {
-        same(&rt, fault.to_string(rt.alloc())?.as_str(), text);
+        same_words(&rt, &fault, text)?;
     }
     Ok(())
 }

@@ -4,7 +4,6 @@ mod blocks;
 mod cases;
 mod examples;
 mod failing_devices;
-mod files;
 mod joins;
 mod points;
 mod refusals;

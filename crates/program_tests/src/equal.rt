@@ -2,6 +2,15 @@
 //! not end the process, so each of the two crates of tests has them.
 use std::fmt::Debug;
 use std::process::Abort;
+use std::test::Fail;
+
+/// The runtime of a test: it can end the process, and allocates memory.
+pub trait Host: Abort + AllocGlobal {}
+
+impl<T: Abort + AllocGlobal> Host for T {}
+
+/// The result of a test, and of a helper that can fail.
+pub type TestResult = Result<(), Fail>;
 
 /// Ends the test unless these are equal.
 pub fn same<T: PartialEq + Debug + Copy>(rt: &impl Abort, value: T, expected: T) {

@@ -4,7 +4,7 @@ mod examples;
 mod failing_devices;
 mod progress;
 
-use crate::equal::{holds_in, same, same_in};
+use crate::equal::{Host, TestResult, holds_in, same, same_in};
 use itch_frame::FrameFault;
 use itch_market::Refusal;
 use itch_snapshot::SnapFault;
@@ -13,9 +13,8 @@ use itchsnap_live::SessionFault;
 use itchsnap_live::sessions::{Listening, Login, Patient, time_left};
 use std::cell::Cell;
 use std::io::{self, Read, Write};
-use std::net::{Ipv4Addr, Ipv6Addr, SocketAddr, TcpListener, TcpStream};
+use std::net::{IpAddr, Ipv4Addr, Ipv6Addr, SocketAddr, TcpListener, TcpStream};
 use std::rt::Clock;
-use std::test::Fail;
 use std::time::Duration;
 
 // A clock that goes on by 4 seconds whenever it is read.
@@ -35,7 +34,7 @@ impl Clock for Ticking {
 }
 
 #[test]
-fn patience_ends_for_all_reads_together(rt: HostRuntime) -> Result<(), Fail> {
+fn patience_ends_for_all_reads_together(rt: HostRuntime) -> TestResult {
     let listener = TcpListener::bind(&rt, "127.0.0.1:0")?;
     let mut client = TcpStream::connect(&rt, listener.local_addr()?)?;
     let (stream, _) = listener.accept()?;
@@ -48,17 +47,13 @@ fn patience_ends_for_all_reads_together(rt: HostRuntime) -> Result<(), Fail> {
         same(&rt, patient.read(&mut byte)?, 1);
     }
     let late = patient.read(&mut [0]);
-    assert!(rt;
-        matches!(
-            late.map_err(|error| error.kind()),
-            Err(io::ErrorKind::TimedOut)
-        )
-    );
+    let late = late.map_err(|error| error.kind());
+    assert!(rt; matches!(late, Err(io::ErrorKind::TimedOut)));
     Ok(())
 }
 
 #[test]
-fn patience_grows_with_what_was_taken(rt: HostRuntime) -> Result<(), Fail> {
+fn patience_grows_with_what_was_taken(rt: HostRuntime) -> TestResult {
     let listener = TcpListener::bind(&rt, "127.0.0.1:0")?;
     let _client = TcpStream::connect(&rt, listener.local_addr()?)?;
     let (stream, _) = listener.accept()?;
@@ -70,12 +65,8 @@ fn patience_grows_with_what_was_taken(rt: HostRuntime) -> Result<(), Fail> {
         patient.write_all(&[0])?;
     }
     let late = patient.write(&[0]);
-    assert!(rt;
-        matches!(
-            late.map_err(|error| error.kind()),
-            Err(io::ErrorKind::TimedOut)
-        )
-    );
+    let late = late.map_err(|error| error.kind());
+    assert!(rt; matches!(late, Err(io::ErrorKind::TimedOut)));
     Ok(())
 }
 
@@ -94,30 +85,21 @@ fn a_peer_has_15_seconds_and_one_for_64_kib(rt: HostRuntime) {
         (1 << 30, u64::MAX, None),
     ];
     for (taken, spent, left) in rows {
-        same_in(
-            &rt,
-            (taken, spent),
-            time_left(taken, Duration::from_millis(spent)),
-            left.map(Duration::from_millis),
-        );
+        let found = time_left(taken, Duration::from_millis(spent));
+        same_in(&rt, (taken, spent), found, left.map(Duration::from_millis));
     }
 }
 
 #[test]
-fn a_port_that_is_listened_on_has_its_line(rt: HostRuntime) -> Result<(), Fail> {
-    let rows = [
-        (
-            SocketAddr::from((Ipv4Addr::LOCALHOST, 5100)),
-            "listening on 127.0.0.1:5100",
-        ),
-        (
-            SocketAddr::from((Ipv6Addr::LOCALHOST, 65_535)),
-            "listening on [::1]:65535",
-        ),
-    ];
-    for (address, wanted) in rows {
-        let line = format!(in rt.alloc(); "{}", Listening(address))?;
-        same(&rt, line.as_str(), wanted);
+fn a_port_that_is_listened_on_has_its_line(rt: HostRuntime) -> TestResult {
+    for (address, port, wanted) in [
+        (IpAddr::V4(Ipv4Addr::LOCALHOST), 5100, "127.0.0.1:5100"),
+        (IpAddr::V6(Ipv6Addr::LOCALHOST), 65_535, "[::1]:65535"),
+    ] {
+        let listening = Listening(SocketAddr::from((address, port)));
+        let line = format!(in rt.alloc(); "{listening}")?;
+        let wanted = format!(in rt.alloc(); "listening on {wanted}")?;
+        same(&rt, line.as_str(), wanted.as_str());
     }
     Ok(())
 }
@@ -148,69 +130,46 @@ fn a_login_has_short_printable_words(rt: HostRuntime) {
 }
 
 #[test]
-fn faults_of_sessions_have_their_line_and_status(rt: HostRuntime) -> Result<(), Fail> {
-    let alloc = rt.alloc();
-    let refused = SnapFault::Rule {
-        place: 2,
-        reason: Refusal::StockMismatch,
-    };
-    let out_of_memory = SnapFault::Rule {
-        place: 2,
-        reason: Refusal::OutOfMemory,
-    };
+fn faults_of_sessions_have_their_line_and_status(rt: HostRuntime) -> TestResult {
+    let rule = |reason| SoupFault::Snapshot(SnapFault::Rule { place: 2, reason });
     let error = io::Error::from(io::ErrorKind::Other);
-    let cases = [
-        (SessionFault::BadUser, "bad user", 2),
-        (SessionFault::BadPassword, "bad password", 2),
-        (SessionFault::TooMany, "too many messages", 1),
-        (SessionFault::Socket(error), "socket failed", 3),
-        (
-            SessionFault::Soup(SoupFault::Rejected(b'A')),
-            "rejected A",
-            1,
-        ),
-        (
-            SessionFault::Soup(SoupFault::Rejected(b'S')),
-            "rejected S",
-            1,
-        ),
-        (SessionFault::Soup(SoupFault::EndedEarly), "ended early", 1),
-        (
-            SessionFault::Soup(SoupFault::SecondLogin),
-            "session fault",
-            1,
-        ),
-        (
-            SessionFault::Soup(SoupFault::Frame(FrameFault::Read(error))),
-            "read failed",
-            3,
-        ),
-        (
-            SessionFault::Soup(SoupFault::Frame(FrameFault::Write { sent: 0, error })),
-            "write failed",
-            3,
-        ),
-        (
-            SessionFault::Soup(SoupFault::Snapshot(out_of_memory)),
-            "out of memory",
-            4,
-        ),
-        (
-            SessionFault::Soup(SoupFault::Snapshot(refused)),
-            "session fault",
-            1,
-        ),
+    let write = FrameFault::Write { sent: 0, error };
+    let own = [
+        (SessionFault::BadUser, "2 itchsnap: bad user"),
+        (SessionFault::BadPassword, "2 itchsnap: bad password"),
+        (SessionFault::TooMany, "1 itchsnap: too many messages"),
+        (SessionFault::Socket(error), "3 itchsnap: socket failed"),
     ];
-    for (fault, reason, wanted) in cases.iter() {
-        let line = format!(in alloc; "itchsnap: {reason}")?;
-        same(&rt, format!(in alloc; "{fault}")?.as_str(), line.as_str());
-        same_in(&rt, reason, fault.status(), *wanted);
+    for (fault, line) in own {
+        is_told(&rt, &fault, line)?;
+    }
+    for (fault, line) in [
+        (SoupFault::Rejected(b'A'), "1 itchsnap: rejected A"),
+        (SoupFault::Rejected(b'S'), "1 itchsnap: rejected S"),
+        (SoupFault::EndedEarly, "1 itchsnap: ended early"),
+        (SoupFault::SecondLogin, "1 itchsnap: session fault"),
+        (
+            SoupFault::Frame(FrameFault::Read(error)),
+            "3 itchsnap: read failed",
+        ),
+        (SoupFault::Frame(write), "3 itchsnap: write failed"),
+        (rule(Refusal::OutOfMemory), "4 itchsnap: out of memory"),
+        (rule(Refusal::StockMismatch), "1 itchsnap: session fault"),
+    ] {
+        is_told(&rt, &SessionFault::Soup(fault), line)?;
     }
     Ok(())
 }
 
+// A fault has this status and, after it, this line.
+fn is_told(rt: &impl Host, fault: &SessionFault, wanted: &str) -> TestResult {
+    let told = format!(in rt.alloc(); "{} {fault}", fault.status())?;
+    same(rt, told.as_str(), wanted);
+    Ok(())
+}
+
 #[test]
-fn a_password_is_not_shown(rt: HostRuntime) -> Result<(), Fail> {
+fn a_password_is_not_shown(rt: HostRuntime) -> TestResult {
     let Ok(login) = Login::new("user", "secret") else {
         panic!(rt; "a login");
     };

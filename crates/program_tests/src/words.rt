@@ -2,7 +2,7 @@
 mod live;
 mod sessions;
 
-use crate::equal::{holds_in, same_in};
+use crate::equal::{Host, TestResult, holds_in, same_in};
 use itchsnap_cli::words::{Job, read_job};
 use std::alloc::{AllocError, Global};
 use std::test::Fail;
@@ -29,206 +29,88 @@ fn shown(alloc: Global, job: &Job<'_>) -> Result<String, Fail> {
     Ok(format!(in alloc; "{job:?}")?)
 }
 
+// These words ask for this.
+pub(crate) fn ask_for(rt: &impl Host, line: &str, wanted: &str) -> TestResult {
+    let words = words(rt.alloc(), line)?;
+    let found = asked(rt.alloc(), words.as_slice())?;
+    same_in(rt, line, found.as_str(), wanted);
+    Ok(())
+}
+
+// A row of a table: the words, and what they ask for, after an arrow.
+pub(crate) fn columns(row: &str) -> Result<(&str, &str), Fail> {
+    Ok(row.split_once(" => ").ok_or("two columns")?)
+}
+
+// Words after the program's name, and the request that they are.
+const REQUESTS: [&str; 40] = [
+    "snap => One { file: None, command: Snap { limit: Limit { after: None, until: None }, selection: All } }",
+    "snap day.itch => One { file: Some(\"day.itch\"), command: Snap { limit: Limit { after: None, until: None }, selection: All } }",
+    "snap day.itch --after 0 => One { file: Some(\"day.itch\"), command: Snap { limit: Limit { after: Some(0), until: None }, selection: All } }",
+    "snap --after 007 day.itch => One { file: Some(\"day.itch\"), command: Snap { limit: Limit { after: Some(7), until: None }, selection: All } }",
+    "snap --after 999999999999 => One { file: None, command: Snap { limit: Limit { after: Some(999999999999), until: None }, selection: All } }",
+    "snap day.itch --only 1,2 --after 3 => One { file: Some(\"day.itch\"), command: Snap { limit: Limit { after: Some(3), until: None }, selection: Locates(\"1,2\") } }",
+    "check - => One { file: None, command: Check { limit: Limit { after: None, until: None }, expected: Expected { count: None, end: false }, form: Text } }",
+    "check day.itch => One { file: Some(\"day.itch\"), command: Check { limit: Limit { after: None, until: None }, expected: Expected { count: None, end: false }, form: Text } }",
+    "check --expect 007 --ended --after 5 => One { file: None, command: Check { limit: Limit { after: Some(5), until: None }, expected: Expected { count: Some(7), end: true }, form: Text } }",
+    "show day.itch => One { file: Some(\"day.itch\"), command: Show { kind: Day(Limit { after: None, until: None }), form: Text, filters: Filters { only: None, stocks: None, types: None, reference: None } } }",
+    "show --names --reference 18446744073709551615 => One { file: None, command: Show { kind: Day(Limit { after: None, until: None }), form: Named, filters: Filters { only: None, stocks: None, types: None, reference: Some(18446744073709551615) } } }",
+    "show - --json --snapshot => One { file: None, command: Show { kind: Snapshot, form: Json, filters: Filters { only: None, stocks: None, types: None, reference: None } } }",
+    "show --only 1-3 --stock MSFT,AAPL --types AEX --reference 007 => One { file: None, command: Show { kind: Day(Limit { after: None, until: None }), form: Text, filters: Filters { only: Some(\"1-3\"), stocks: Some(\"MSFT,AAPL\"), types: Some(\"AEX\"), reference: Some(7) } } }",
+    "canon => One { file: None, command: Canon { check: false } }",
+    "canon day.itch => One { file: Some(\"day.itch\"), command: Canon { check: false } }",
+    "canon --check => One { file: None, command: Canon { check: true } }",
+    "canon day.itch --check => One { file: Some(\"day.itch\"), command: Canon { check: true } }",
+    "canon --check day.itch => One { file: Some(\"day.itch\"), command: Canon { check: true } }",
+    "compare a.itch day.itch => Two { first: Some(\"a.itch\"), second: Some(\"day.itch\"), command: Compare { kind: Day(Limit { after: None, until: None }), form: Text } }",
+    "compare - day.itch => Two { first: None, second: Some(\"day.itch\"), command: Compare { kind: Day(Limit { after: None, until: None }), form: Text } }",
+    "join a.snap day.itch => Two { first: Some(\"a.snap\"), second: Some(\"day.itch\"), command: Join { part: FeedPart { before: 0, limit: Limit { after: None, until: None } }, selection: All } }",
+    "join a.snap rest.itch --from 0003 --after 9 --until 7 => Two { first: Some(\"a.snap\"), second: Some(\"rest.itch\"), command: Join { part: FeedPart { before: 2, limit: Limit { after: Some(9), until: Some(7) } }, selection: All } }",
+    "at snapshots day.itch 007 => At { folder: \"snapshots\", feed: Some(\"day.itch\"), point: Limit { after: Some(7), until: None }, selection: All }",
+    "at --stock AAPL . - 00:00:00.000000007 => At { folder: \".\", feed: None, point: Limit { after: None, until: Some(7) }, selection: Stocks(\"AAPL\") }",
+    "join --only=40 a.snap - => Two { first: Some(\"a.snap\"), second: None, command: Join { part: FeedPart { before: 0, limit: Limit { after: None, until: None } }, selection: Locates(\"40\") } }",
+    "book 0 => One { file: None, command: Book { selection: Locates(\"0\"), depth: None, kind: Day(Limit { after: None, until: None }), form: Text } }",
+    "book 1 --depth 0 => One { file: None, command: Book { selection: Locates(\"1\"), depth: Some(0), kind: Day(Limit { after: None, until: None }), form: Text } }",
+    "show --snapshot day.snap => One { file: Some(\"day.snap\"), command: Show { kind: Snapshot, form: Text, filters: Filters { only: None, stocks: None, types: None, reference: None } } }",
+    "compare a.snap - --snapshot --json => Two { first: Some(\"a.snap\"), second: None, command: Compare { kind: Snapshot, form: Json } }",
+    "compare --first a.itch day.itch => Two { first: Some(\"a.itch\"), second: Some(\"day.itch\"), command: CompareFirst { limit: Limit { after: None, until: None }, form: Text } }",
+    "compare a.itch - --json --after 5 --until 7 --first => Two { first: Some(\"a.itch\"), second: None, command: CompareFirst { limit: Limit { after: Some(5), until: Some(7) }, form: Json } }",
+    "check --json => One { file: None, command: Check { limit: Limit { after: None, until: None }, expected: Expected { count: None, end: false }, form: Json } }",
+    "book 1 --json => One { file: None, command: Book { selection: Locates(\"1\"), depth: None, kind: Day(Limit { after: None, until: None }), form: Json } }",
+    "book 1 --csv => One { file: None, command: Book { selection: Locates(\"1\"), depth: None, kind: Day(Limit { after: None, until: None }), form: Csv } }",
+    "snap day.itch --stock AAPL,MSFT => One { file: Some(\"day.itch\"), command: Snap { limit: Limit { after: None, until: None }, selection: Stocks(\"AAPL,MSFT\") } }",
+    "join --stock AAPL a.snap - => Two { first: Some(\"a.snap\"), second: None, command: Join { part: FeedPart { before: 0, limit: Limit { after: None, until: None } }, selection: Stocks(\"AAPL\") } }",
+    "book --stock=AAPL --csv day.itch => One { file: Some(\"day.itch\"), command: Book { selection: Stocks(\"AAPL\"), depth: None, kind: Day(Limit { after: None, until: None }), form: Csv } }",
+    "book --snapshot - --stock AAPL => One { file: None, command: Book { selection: Stocks(\"AAPL\"), depth: None, kind: Snapshot, form: Text } }",
+    "book 1-3,7 --depth 2 => One { file: None, command: Book { selection: Locates(\"1-3,7\"), depth: Some(2), kind: Day(Limit { after: None, until: None }), form: Text } }",
+    "book --depth=05 0065535 day.itch => One { file: Some(\"day.itch\"), command: Book { selection: Locates(\"0065535\"), depth: Some(5), kind: Day(Limit { after: None, until: None }), form: Text } }",
+];
+
 #[test]
-fn requests_are_read(rt: HostRuntime) -> Result<(), Fail> {
-    let cases = [
-        (
-            "snap",
-            "One { file: None, command: Snap { limit: Limit { after: None, until: None }, selection: All } }",
-        ),
-        (
-            "snap day.itch",
-            "One { file: Some(\"day.itch\"), command: Snap { limit: Limit { after: None, until: None }, selection: All } }",
-        ),
-        (
-            "snap day.itch --after 0",
-            "One { file: Some(\"day.itch\"), command: Snap { limit: Limit { after: Some(0), until: None }, selection: All } }",
-        ),
-        (
-            "snap --after 007 day.itch",
-            "One { file: Some(\"day.itch\"), command: Snap { limit: Limit { after: Some(7), until: None }, selection: All } }",
-        ),
-        (
-            "snap --after 999999999999",
-            "One { file: None, command: Snap { limit: Limit { after: Some(999999999999), until: None }, selection: All } }",
-        ),
-        (
-            "snap day.itch --only 1,2 --after 3",
-            "One { file: Some(\"day.itch\"), command: Snap { limit: Limit { after: Some(3), until: None }, selection: Locates(\"1,2\") } }",
-        ),
-        (
-            "check -",
-            "One { file: None, command: Check { limit: Limit { after: None, until: None }, expected: Expected { count: None, end: false }, form: Text } }",
-        ),
-        (
-            "check day.itch",
-            "One { file: Some(\"day.itch\"), command: Check { limit: Limit { after: None, until: None }, expected: Expected { count: None, end: false }, form: Text } }",
-        ),
-        (
-            "check --expect 007 --ended --after 5",
-            "One { file: None, command: Check { limit: Limit { after: Some(5), until: None }, expected: Expected { count: Some(7), end: true }, form: Text } }",
-        ),
-        (
-            "show day.itch",
-            "One { file: Some(\"day.itch\"), command: Show { kind: Day(Limit { after: None, until: None }), form: Text, filters: Filters { only: None, stocks: None, types: None, reference: None } } }",
-        ),
-        (
-            "show --names --reference 18446744073709551615",
-            "One { file: None, command: Show { kind: Day(Limit { after: None, until: None }), form: Named, filters: Filters { only: None, stocks: None, types: None, reference: Some(18446744073709551615) } } }",
-        ),
-        (
-            "show - --json --snapshot",
-            "One { file: None, command: Show { kind: Snapshot, form: Json, filters: Filters { only: None, stocks: None, types: None, reference: None } } }",
-        ),
-        (
-            "show --only 1-3 --stock MSFT,AAPL --types AEX --reference 007",
-            "One { file: None, command: Show { kind: Day(Limit { after: None, until: None }), form: Text, filters: Filters { only: Some(\"1-3\"), stocks: Some(\"MSFT,AAPL\"), types: Some(\"AEX\"), reference: Some(7) } } }",
-        ),
-        (
-            "canon",
-            "One { file: None, command: Canon { check: false } }",
-        ),
-        (
-            "canon day.itch",
-            "One { file: Some(\"day.itch\"), command: Canon { check: false } }",
-        ),
-        (
-            "canon --check",
-            "One { file: None, command: Canon { check: true } }",
-        ),
-        (
-            "canon day.itch --check",
-            "One { file: Some(\"day.itch\"), command: Canon { check: true } }",
-        ),
-        (
-            "canon --check day.itch",
-            "One { file: Some(\"day.itch\"), command: Canon { check: true } }",
-        ),
-        (
-            "compare a.itch day.itch",
-            "Two { first: Some(\"a.itch\"), second: Some(\"day.itch\"), command: Compare { kind: Day(Limit { after: None, until: None }), form: Text } }",
-        ),
-        (
-            "compare - day.itch",
-            "Two { first: None, second: Some(\"day.itch\"), command: Compare { kind: Day(Limit { after: None, until: None }), form: Text } }",
-        ),
-        (
-            "join a.snap day.itch",
-            "Two { first: Some(\"a.snap\"), second: Some(\"day.itch\"), command: Join { part: FeedPart { before: 0, limit: Limit { after: None, until: None } }, selection: All } }",
-        ),
-        (
-            "join a.snap rest.itch --from 0003 --after 9 --until 7",
-            "Two { first: Some(\"a.snap\"), second: Some(\"rest.itch\"), command: Join { part: FeedPart { before: 2, limit: Limit { after: Some(9), until: Some(7) } }, selection: All } }",
-        ),
-        (
-            "at snapshots day.itch 007",
-            "At { folder: \"snapshots\", feed: Some(\"day.itch\"), point: Limit { after: Some(7), until: None }, selection: All }",
-        ),
-        (
-            "at --stock AAPL . - 00:00:00.000000007",
-            "At { folder: \".\", feed: None, point: Limit { after: None, until: Some(7) }, selection: Stocks(\"AAPL\") }",
-        ),
-        (
-            "join --only=40 a.snap -",
-            "Two { first: Some(\"a.snap\"), second: None, command: Join { part: FeedPart { before: 0, limit: Limit { after: None, until: None } }, selection: Locates(\"40\") } }",
-        ),
-        (
-            "book 0",
-            "One { file: None, command: Book { selection: Locates(\"0\"), depth: None, kind: Day(Limit { after: None, until: None }), form: Text } }",
-        ),
-        (
-            "book 1 --depth 0",
-            "One { file: None, command: Book { selection: Locates(\"1\"), depth: Some(0), kind: Day(Limit { after: None, until: None }), form: Text } }",
-        ),
-        (
-            "show --snapshot day.snap",
-            "One { file: Some(\"day.snap\"), command: Show { kind: Snapshot, form: Text, filters: Filters { only: None, stocks: None, types: None, reference: None } } }",
-        ),
-        (
-            "compare a.snap - --snapshot --json",
-            "Two { first: Some(\"a.snap\"), second: None, command: Compare { kind: Snapshot, form: Json } }",
-        ),
-        (
-            "compare --first a.itch day.itch",
-            "Two { first: Some(\"a.itch\"), second: Some(\"day.itch\"), command: CompareFirst { limit: Limit { after: None, until: None }, form: Text } }",
-        ),
-        (
-            "compare a.itch - --json --after 5 --until 7 --first",
-            "Two { first: Some(\"a.itch\"), second: None, command: CompareFirst { limit: Limit { after: Some(5), until: Some(7) }, form: Json } }",
-        ),
-        (
-            "check --json",
-            "One { file: None, command: Check { limit: Limit { after: None, until: None }, expected: Expected { count: None, end: false }, form: Json } }",
-        ),
-        (
-            "book 1 --json",
-            "One { file: None, command: Book { selection: Locates(\"1\"), depth: None, kind: Day(Limit { after: None, until: None }), form: Json } }",
-        ),
-        (
-            "book 1 --csv",
-            "One { file: None, command: Book { selection: Locates(\"1\"), depth: None, kind: Day(Limit { after: None, until: None }), form: Csv } }",
-        ),
-        (
-            "snap day.itch --stock AAPL,MSFT",
-            "One { file: Some(\"day.itch\"), command: Snap { limit: Limit { after: None, until: None }, selection: Stocks(\"AAPL,MSFT\") } }",
-        ),
-        (
-            "join --stock AAPL a.snap -",
-            "Two { first: Some(\"a.snap\"), second: None, command: Join { part: FeedPart { before: 0, limit: Limit { after: None, until: None } }, selection: Stocks(\"AAPL\") } }",
-        ),
-        (
-            "book --stock=AAPL --csv day.itch",
-            "One { file: Some(\"day.itch\"), command: Book { selection: Stocks(\"AAPL\"), depth: None, kind: Day(Limit { after: None, until: None }), form: Csv } }",
-        ),
-        (
-            "book --snapshot - --stock AAPL",
-            "One { file: None, command: Book { selection: Stocks(\"AAPL\"), depth: None, kind: Snapshot, form: Text } }",
-        ),
-        (
-            "book 1-3,7 --depth 2",
-            "One { file: None, command: Book { selection: Locates(\"1-3,7\"), depth: Some(2), kind: Day(Limit { after: None, until: None }), form: Text } }",
-        ),
-        (
-            "book --depth=05 0065535 day.itch",
-            "One { file: Some(\"day.itch\"), command: Book { selection: Locates(\"0065535\"), depth: Some(5), kind: Day(Limit { after: None, until: None }), form: Text } }",
-        ),
-    ];
-    for (line, request) in cases {
-        let words = words(rt.alloc(), line)?;
+fn requests_are_read(rt: HostRuntime) -> TestResult {
+    for row in REQUESTS {
+        let (line, request) = columns(row)?;
         let wanted = format!(in rt.alloc();
             "Files {{ request: {request}, progress: false, output: None }}"
         )?;
-        let found = asked(rt.alloc(), words.as_slice())?;
-        same_in(&rt, line, found.as_str(), wanted.as_str());
+        ask_for(&rt, line, wanted.as_str())?;
     }
     Ok(())
 }
 
+const POINTS: [&str; 4] = [
+    "snap --to out day.itch => file: Some(\"day.itch\"), points: At([Limit { after: None, until: None }]), only: None, folder: \"out\", progress: false",
+    "snap --to out --after 0,007,999999999999 => file: None, points: At([Limit { after: Some(0), until: None }, Limit { after: Some(7), until: None }, Limit { after: Some(999999999999), until: None }]), only: None, folder: \"out\", progress: false",
+    "snap - --to=out --until 9,10:30 --only 1-3 => file: None, points: At([Limit { after: None, until: Some(9) }, Limit { after: None, until: Some(37800000000000) }]), only: Some(\"1-3\"), folder: \"out\", progress: false",
+    "snap day.itch --every 0010 --progress --to - => file: Some(\"day.itch\"), points: Every(10), only: None, folder: \"-\", progress: true",
+];
+
 #[test]
-fn points_are_read(rt: HostRuntime) -> Result<(), Fail> {
-    let cases = [
-        (
-            "snap --to out day.itch",
-            "file: Some(\"day.itch\"), points: At([Limit { after: None, until: None }]), only: None, folder: \"out\", progress: false",
-        ),
-        (
-            "snap --to out --after 0,007,999999999999",
-            "file: None, points: At([Limit { after: Some(0), until: None }, Limit { after: Some(7), until: None }, Limit { after: Some(999999999999), until: None }]), only: None, folder: \"out\", progress: false",
-        ),
-        (
-            "snap - --to=out --until 9,10:30 --only 1-3",
-            "file: None, points: At([Limit { after: None, until: Some(9) }, Limit { after: None, until: Some(37800000000000) }]), only: Some(\"1-3\"), folder: \"out\", progress: false",
-        ),
-        (
-            "snap day.itch --every 0010 --progress --to -",
-            "file: Some(\"day.itch\"), points: Every(10), only: None, folder: \"-\", progress: true",
-        ),
-    ];
-    for (line, fields) in cases {
-        let words = words(rt.alloc(), line)?;
+fn points_are_read(rt: HostRuntime) -> TestResult {
+    for row in POINTS {
+        let (line, fields) = columns(row)?;
         let wanted = format!(in rt.alloc(); "Points(PointWords {{ {fields} }})")?;
-        let found = asked(rt.alloc(), words.as_slice())?;
-        same_in(&rt, line, found.as_str(), wanted.as_str());
+        ask_for(&rt, line, wanted.as_str())?;
     }
     Ok(())
 }
@@ -243,21 +125,15 @@ fn sent_to(alloc: Global, line: &str) -> Result<Option<String>, Fail> {
 }
 
 #[test]
-fn a_snapshot_is_sent_to_a_file(rt: HostRuntime) -> Result<(), Fail> {
-    let cases = [
-        ("snap day.itch --output out.snap", "out.snap"),
-        ("canon --output=./- day.snap", "./-"),
-        (
-            "join a.snap day.itch --only 1 --output out.snap",
-            "out.snap",
-        ),
-        (
-            "fetch --port 1 --user u --pass p --output out.snap",
-            "out.snap",
-        ),
-        ("check day.itch", "nowhere"),
-    ];
-    for (line, path) in cases {
+fn a_snapshot_is_sent_to_a_file(rt: HostRuntime) -> TestResult {
+    for row in [
+        "snap day.itch --output out.snap => out.snap",
+        "canon --output=./- day.snap => ./-",
+        "join a.snap day.itch --only 1 --output out.snap => out.snap",
+        "fetch --port 1 --user u --pass p --output out.snap => out.snap",
+        "check day.itch => nowhere",
+    ] {
+        let (line, path) = columns(row)?;
         let found = sent_to(rt.alloc(), line)?;
         holds_in(&rt, line, found.is_some_and(|found| found.as_str() == path));
     }
@@ -272,7 +148,7 @@ fn a_snapshot_is_sent_to_a_file(rt: HostRuntime) -> Result<(), Fail> {
 }
 
 #[test]
-fn times_are_read(rt: HostRuntime) -> Result<(), Fail> {
+fn times_are_read(rt: HostRuntime) -> TestResult {
     let cases = [
         ("00:00", 0),
         ("10:30", 37_800_000_000_000),
@@ -293,46 +169,35 @@ fn times_are_read(rt: HostRuntime) -> Result<(), Fail> {
     ];
     for (time, nanoseconds) in cases {
         let line = format!(in rt.alloc(); "show --until {time} --after 5 day.itch")?;
-        let words = words(rt.alloc(), line.as_str())?;
         let wanted = format!(in rt.alloc();
             "Files {{ request: One {{ file: Some(\"day.itch\"), command: Show {{ kind: Day(Limit {{ after: Some(5), \
              until: Some({nanoseconds}) }}), form: Text, filters: Filters {{ only: None, stocks: None, types: None, reference: None }} }} }}, \
              progress: false, output: None }}"
         )?;
-        let found = asked(rt.alloc(), words.as_slice())?;
-        same_in(&rt, time, found.as_str(), wanted.as_str());
+        ask_for(&rt, line.as_str(), wanted.as_str())?;
     }
     Ok(())
 }
 
 #[test]
-fn completions_are_asked_for(rt: HostRuntime) -> Result<(), Fail> {
-    for (line, wanted) in [
-        ("completions bash", "Completions(Bash)"),
-        ("completions zsh", "Completions(Zsh)"),
-        ("completions fish", "Completions(Fish)"),
-    ] {
-        let words = words(rt.alloc(), line)?;
-        let found = asked(rt.alloc(), words.as_slice())?;
-        same_in(&rt, line, found.as_str(), wanted);
-    }
-    Ok(())
+fn completions_are_asked_for(rt: HostRuntime) -> TestResult {
+    ask_for(&rt, "completions bash", "Completions(Bash)")?;
+    ask_for(&rt, "completions zsh", "Completions(Zsh)")?;
+    ask_for(&rt, "completions fish", "Completions(Fish)")
 }
 
 // The example of the crate's page, without and with `--progress`.
 #[test]
-fn a_check_is_asked_for(rt: HostRuntime) -> Result<(), Fail> {
+fn a_check_is_asked_for(rt: HostRuntime) -> TestResult {
     for (line, progress) in [
         ("check day.itch", false),
         ("check --progress day.itch", true),
     ] {
-        let words = words(rt.alloc(), line)?;
         let wanted = format!(in rt.alloc();
             "Files {{ request: One {{ file: Some(\"day.itch\"), command: Check {{ limit: Limit {{ after: None, until: None }}, \
              expected: Expected {{ count: None, end: false }}, form: Text }} }}, progress: {progress}, output: None }}"
         )?;
-        let found = asked(rt.alloc(), words.as_slice())?;
-        same_in(&rt, line, found.as_str(), wanted.as_str());
+        ask_for(&rt, line, wanted.as_str())?;
     }
     Ok(())
 }

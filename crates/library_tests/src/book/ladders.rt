@@ -1,12 +1,10 @@
 //! A side with many more prices than one line of an indexed book takes: they come from the worst to the best and from the best to
 //! the worst, some of them leave and come again, and then all leave in the same and in the other order.
 use super::{add, delete, has_len, order};
-use crate::equal::same;
+use crate::equal::{Host, TestResult, same};
 use itch_book::{IndexedBook, ListBook, Order, OrderBook, SettledBook};
 use itch_codec::Side;
 use std::alloc::AllocError;
-use std::process::Abort;
-use std::test::Fail;
 
 const PRICES: u32 = 1000;
 
@@ -22,7 +20,7 @@ fn order_of(side: Side, rises: bool, number: u32) -> Order {
 
 // Adds the order of a number to both books.
 fn add_both<B: OrderBook, C: OrderBook>(
-    rt: &impl Abort,
+    rt: &impl Host,
     one: &mut B,
     other: &mut C,
     order: &Order,
@@ -35,7 +33,7 @@ fn add_both<B: OrderBook, C: OrderBook>(
 
 // Deletes the order of a number from both books.
 fn delete_both<B: OrderBook, C: OrderBook>(
-    rt: &impl Abort,
+    rt: &impl Host,
     one: &mut B,
     other: &mut C,
     order: &Order,
@@ -45,7 +43,7 @@ fn delete_both<B: OrderBook, C: OrderBook>(
     check_front(rt, one, other, order.side);
 }
 
-fn check_front<B: OrderBook, C: OrderBook>(rt: &impl Abort, one: &B, other: &C, side: Side) {
+fn check_front<B: OrderBook, C: OrderBook>(rt: &impl Host, one: &B, other: &C, side: Side) {
     same(
         rt,
         other.front(1, side).copied(),
@@ -54,7 +52,7 @@ fn check_front<B: OrderBook, C: OrderBook>(rt: &impl Abort, one: &B, other: &C, 
 }
 
 // Checks that both books have the same prices and totals.
-fn check_prices<B: OrderBook, C: OrderBook>(rt: &impl Abort, one: &B, other: &C, side: Side) {
+fn check_prices<B: OrderBook, C: OrderBook>(rt: &impl Host, one: &B, other: &C, side: Side) {
     same(rt, other.len(), one.len());
     let mut last = None;
     for _ in 0..one.len() {
@@ -73,7 +71,7 @@ fn check_prices<B: OrderBook, C: OrderBook>(rt: &impl Abort, one: &B, other: &C,
 
 // Adds an order at each price.
 fn fill<B: OrderBook, C: OrderBook>(
-    rt: &impl Abort,
+    rt: &impl Host,
     one: &mut B,
     other: &mut C,
     side: Side,
@@ -88,7 +86,7 @@ fn fill<B: OrderBook, C: OrderBook>(
 
 // Deletes two of every three orders, and adds half of them again.
 fn thin<B: OrderBook, C: OrderBook>(
-    rt: &impl Abort,
+    rt: &impl Host,
     one: &mut B,
     other: &mut C,
     side: Side,
@@ -111,7 +109,7 @@ fn thin<B: OrderBook, C: OrderBook>(
 
 // Deletes what is left, in the order in which it came or in the other one.
 fn clear<B: OrderBook, C: OrderBook>(
-    rt: &impl Abort,
+    rt: &impl Host,
     one: &mut B,
     other: &mut C,
     side: Side,
@@ -130,7 +128,7 @@ fn clear<B: OrderBook, C: OrderBook>(
 
 // The same of two new books, each over its memory, for each side and order.
 fn check_ladders<B: OrderBook, C: OrderBook>(
-    rt: &impl Abort,
+    rt: &impl Host,
     memory: B::Alloc,
     other: C::Alloc,
 ) -> Result<(), AllocError> {
@@ -147,13 +145,11 @@ fn check_ladders<B: OrderBook, C: OrderBook>(
 }
 
 #[test]
-fn an_indexed_book_has_the_prices_of_a_list(rt: HostRuntime) -> Result<(), Fail> {
-    check_ladders::<ListBook, IndexedBook>(&rt, rt.alloc(), rt.alloc())?;
-    Ok(())
+fn an_indexed_book_has_the_prices_of_a_list(rt: HostRuntime) -> TestResult {
+    Ok(check_ladders::<ListBook, IndexedBook>(&rt, rt.alloc(), rt.alloc())?)
 }
 
 #[test]
-fn a_settled_book_has_the_prices_of_an_indexed_one(rt: HostRuntime) -> Result<(), Fail> {
-    check_ladders::<IndexedBook, SettledBook>(&rt, rt.alloc(), rt.alloc())?;
-    Ok(())
+fn a_settled_book_has_the_prices_of_an_indexed_one(rt: HostRuntime) -> TestResult {
+    Ok(check_ladders::<IndexedBook, SettledBook>(&rt, rt.alloc(), rt.alloc())?)
 }

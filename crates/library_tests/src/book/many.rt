@@ -2,17 +2,15 @@
 //!
 //! The clauses of a list's book say where it is never refused any; it would take too long here.
 use super::{add, has_len, order, reference, replace, total};
-use crate::equal::same;
+use crate::equal::{Host, TestResult, same};
 use itch_book::{IndexedBook, OrderBook, SettledBook};
 use itch_codec::Side;
 use std::alloc::AllocError;
-use std::process::Abort;
-use std::test::Fail;
 
 const MANY: u32 = 110_000;
 
 // Adds many orders, each at a price of its own and after all others.
-fn fill<B: OrderBook>(rt: &impl Abort, book: &mut B) -> Result<(), AllocError> {
+fn fill<B: OrderBook>(rt: &impl Host, book: &mut B) -> Result<(), AllocError> {
     for number in 0..MANY {
         let added = order(u64::from(number), Side::Sell, 10, 1000000 + number);
         add(rt, book, added)?;
@@ -21,7 +19,7 @@ fn fill<B: OrderBook>(rt: &impl Abort, book: &mut B) -> Result<(), AllocError> {
 }
 
 // Puts new orders, each at a price of its own, in place of the first hundred.
-fn replace_first<B: OrderBook>(rt: &impl Abort, book: &mut B) -> Result<(), AllocError> {
+fn replace_first<B: OrderBook>(rt: &impl Host, book: &mut B) -> Result<(), AllocError> {
     for number in 0..100u32 {
         let original = u64::from(number);
         replace(rt, book, original, 1000000 + original, 5, 2000000 + number)?;
@@ -29,13 +27,13 @@ fn replace_first<B: OrderBook>(rt: &impl Abort, book: &mut B) -> Result<(), Allo
     Ok(())
 }
 
-fn check_changed<B: OrderBook>(rt: &impl Abort, book: &B) {
+fn check_changed<B: OrderBook>(rt: &impl Host, book: &B) {
     has_len(rt, book, MANY as usize);
     same(rt, reference(book.front(1, Side::Sell)), 100);
     same(rt, total(book, 1, Side::Sell, 2000099), (5, 1));
 }
 
-fn check_many<B: OrderBook>(rt: &impl Abort, memory: B::Alloc) -> Result<(), AllocError> {
+fn check_many<B: OrderBook>(rt: &impl Host, memory: B::Alloc) -> Result<(), AllocError> {
     let mut book = B::new(memory);
     fill(rt, &mut book)?;
     replace_first(rt, &mut book)?;
@@ -44,14 +42,13 @@ fn check_many<B: OrderBook>(rt: &impl Abort, memory: B::Alloc) -> Result<(), All
 }
 
 #[test]
-fn indexed_book_of_many_orders(rt: HostRuntime) -> Result<(), Fail> {
-    check_many::<IndexedBook>(&rt, rt.alloc())?;
-    Ok(())
+fn indexed_book_of_many_orders(rt: HostRuntime) -> TestResult {
+    Ok(check_many::<IndexedBook>(&rt, rt.alloc())?)
 }
 
 // The same of a settled book, before it is settled and after that.
 #[test]
-fn settled_book_of_many_orders(rt: HostRuntime) -> Result<(), Fail> {
+fn settled_book_of_many_orders(rt: HostRuntime) -> TestResult {
     let mut book: SettledBook = SettledBook::new(rt.alloc());
     fill(&rt, &mut book)?;
     replace_first(&rt, &mut book)?;

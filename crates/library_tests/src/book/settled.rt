@@ -1,9 +1,9 @@
 //! Settled books by the same rows as the others: one that is never settled, and one that is settled after each change.
 use super::{add, check_calls, check_priority, first, order};
+use crate::equal::TestResult;
 use itch_book::{Order, OrderBook, Placed, SettledBook, Taken};
 use itch_codec::Side;
 use std::alloc::{AllocError, Allocator, Global};
-use std::test::Fail;
 
 /// A book that is settled after each change, so that each look-up is a search.
 #[derive(Drop)]
@@ -94,22 +94,20 @@ impl<A: Allocator + Copy> OrderBook for Settling<A> {
 }
 
 #[test]
-fn settled_book_calls(rt: HostRuntime) -> Result<(), Fail> {
+fn settled_book_calls(rt: HostRuntime) -> TestResult {
     check_calls::<SettledBook>(&rt, rt.alloc())?;
-    check_calls::<Settling>(&rt, rt.alloc())?;
-    Ok(())
+    Ok(check_calls::<Settling>(&rt, rt.alloc())?)
 }
 
 #[test]
-fn settled_book_keeps_priority(rt: HostRuntime) -> Result<(), Fail> {
+fn settled_book_keeps_priority(rt: HostRuntime) -> TestResult {
     check_priority::<SettledBook>(&rt, rt.alloc())?;
-    check_priority::<Settling>(&rt, rt.alloc())?;
-    Ok(())
+    Ok(check_priority::<Settling>(&rt, rt.alloc())?)
 }
 
 // Whether a change leaves a book of one order settled.
 #[test]
-fn settled_until_a_change(rt: HostRuntime) -> Result<(), Fail> {
+fn settled_until_a_change(rt: HostRuntime) -> TestResult {
     let mut book: SettledBook = SettledBook::new(rt.alloc());
     assert!(rt; !book.is_settled());
     book.settle();

@@ -3,12 +3,10 @@ use super::settled::Settling;
 use super::{
     add, after, after_at, delete_at, first, live, order, place_of, replace_at, take_at, unplaced,
 };
-use crate::equal::same;
+use crate::equal::{Host, TestResult, same};
 use itch_book::{IndexedBook, ListBook, Order, OrderBook, SettledBook};
 use itch_codec::Side;
 use std::alloc::AllocError;
-use std::process::Abort;
-use std::test::Fail;
 
 // Numbers without a pattern, the same at each run.
 #[derive(Drop)]
@@ -82,13 +80,13 @@ impl Given {
 }
 
 // Adds a copy of an order.
-fn add_copy<B: OrderBook>(rt: &impl Abort, book: &mut B, order: &Order) -> Result<(), AllocError> {
+fn add_copy<B: OrderBook>(rt: &impl Host, book: &mut B, order: &Order) -> Result<(), AllocError> {
     add(rt, book, *order)
 }
 
 // Makes one random call of both books.
 fn call<B: OrderBook, C: OrderBook>(
-    rt: &impl Abort,
+    rt: &impl Host,
     random: &mut Random,
     one: &mut B,
     other: &mut C,
@@ -127,7 +125,7 @@ fn call<B: OrderBook, C: OrderBook>(
 
 // Checks that both books have this order of a reference.
 fn check_live<B: OrderBook, C: OrderBook>(
-    rt: &impl Abort,
+    rt: &impl Host,
     one: &B,
     other: &C,
     reference: u64,
@@ -140,7 +138,7 @@ fn check_live<B: OrderBook, C: OrderBook>(
 }
 
 // Checks that both books have the same orders of a locate, in the same order: those of the other book from place to place.
-fn check_orders<B: OrderBook, C: OrderBook>(rt: &impl Abort, one: &B, other: &C, locate: u16) {
+fn check_orders<B: OrderBook, C: OrderBook>(rt: &impl Host, one: &B, other: &C, locate: u16) {
     let mut next = first(one, locate);
     let mut beside = other.first(locate);
     for _ in 0..one.len() {
@@ -157,7 +155,7 @@ fn check_orders<B: OrderBook, C: OrderBook>(rt: &impl Abort, one: &B, other: &C,
 
 // Checks that both books have the same first order, prices and totals of a side.
 fn check_side<B: OrderBook, C: OrderBook>(
-    rt: &impl Abort,
+    rt: &impl Host,
     one: &B,
     other: &C,
     locate: u16,
@@ -183,7 +181,7 @@ fn check_side<B: OrderBook, C: OrderBook>(
 }
 
 // Checks that both books are the same.
-fn check_books<B: OrderBook, C: OrderBook>(rt: &impl Abort, one: &B, other: &C) {
+fn check_books<B: OrderBook, C: OrderBook>(rt: &impl Host, one: &B, other: &C) {
     same(rt, other.len(), one.len());
     for locate in [1, 2, u16::MAX] {
         check_orders(rt, one, other, locate);
@@ -194,7 +192,7 @@ fn check_books<B: OrderBook, C: OrderBook>(rt: &impl Abort, one: &B, other: &C) 
 
 // Makes random calls of both books, and checks both after each.
 fn check_calls<B: OrderBook, C: OrderBook>(
-    rt: &impl Abort,
+    rt: &impl Host,
     one: &mut B,
     other: &mut C,
 ) -> Result<(), AllocError> {
@@ -209,7 +207,7 @@ fn check_calls<B: OrderBook, C: OrderBook>(
 
 // The same of two new books, each over its memory.
 fn check_new<B: OrderBook, C: OrderBook>(
-    rt: &impl Abort,
+    rt: &impl Host,
     memory: B::Alloc,
     other: C::Alloc,
 ) -> Result<(), AllocError> {
@@ -219,19 +217,16 @@ fn check_new<B: OrderBook, C: OrderBook>(
 }
 
 #[test]
-fn both_books_stay_the_same(rt: HostRuntime) -> Result<(), Fail> {
-    check_new::<ListBook, IndexedBook>(&rt, rt.alloc(), rt.alloc())?;
-    Ok(())
+fn both_books_stay_the_same(rt: HostRuntime) -> TestResult {
+    Ok(check_new::<ListBook, IndexedBook>(&rt, rt.alloc(), rt.alloc())?)
 }
 
 #[test]
-fn a_settled_book_stays_the_same(rt: HostRuntime) -> Result<(), Fail> {
-    check_new::<IndexedBook, SettledBook>(&rt, rt.alloc(), rt.alloc())?;
-    Ok(())
+fn a_settled_book_stays_the_same(rt: HostRuntime) -> TestResult {
+    Ok(check_new::<IndexedBook, SettledBook>(&rt, rt.alloc(), rt.alloc())?)
 }
 
 #[test]
-fn a_book_that_is_settled_stays_the_same(rt: HostRuntime) -> Result<(), Fail> {
-    check_new::<ListBook, Settling>(&rt, rt.alloc(), rt.alloc())?;
-    Ok(())
+fn a_book_that_is_settled_stays_the_same(rt: HostRuntime) -> TestResult {
+    Ok(check_new::<ListBook, Settling>(&rt, rt.alloc(), rt.alloc())?)
 }

@@ -1,15 +1,14 @@
 //! Broken answers to a fetch: each beginning of a served session, and each of its bytes at each value.
 use crate::doubles::{FuseWriter, PieceReader};
-use crate::equal::same;
-use crate::files::{are_same, read};
+use crate::equal::{Host, TestResult, same};
+use crate::files::{Blocks, are_same, read};
 use crate::sessions::{FROM_1, fetch_fault, fetched};
 use itch_book::{ListBook, OrderBook};
 use itch_codec::Seq;
-use itch_frame::{BlockReader, CountedRead, FrameFault, write_block};
+use itch_frame::{BlockReader, FrameFault, write_block};
 use itch_market::Market;
 use itch_soup::SoupFault;
-use std::alloc::{Allocator, Global};
-use std::process::Abort;
+use std::alloc::Global;
 use std::test::Fail;
 
 // Where the blocks of the answer begin, and where the last one that is read ends.
@@ -17,12 +16,12 @@ const STARTS: [usize; 6] = [0, 33, 48, 90, 129, 168];
 
 const READ: usize = 192;
 
-fn fault(rt: &impl Abort, alloc: Global, answer: &[u8]) -> Result<Option<SoupFault>, Fail> {
-    fetch_fault(rt, alloc, PieceReader::new(answer, 64, None))
+fn fault(rt: &impl Host, answer: &[u8]) -> Result<Option<SoupFault>, Fail> {
+    fetch_fault(rt, PieceReader::new(answer, 64, None))
 }
 
 // A fetch of this many bytes, the last of them those of the block from `start` on, is cut or ends early.
-fn is_cut(rt: &impl Abort, fault: Option<SoupFault>, start: usize, len: usize) {
+fn is_cut(rt: &impl Host, fault: Option<SoupFault>, start: usize, len: usize) {
     match fault {
         Some(SoupFault::EndedEarly) => same(rt, start, len),
         Some(SoupFault::Frame(FrameFault::Truncated { held })) => {
@@ -34,41 +33,33 @@ fn is_cut(rt: &impl Abort, fault: Option<SoupFault>, start: usize, len: usize) {
 }
 
 // Where the block begins that these bytes end in.
-fn start_of(rt: &impl Abort, len: usize) -> usize {
+fn start_of(rt: &impl Host, len: usize) -> usize {
     let start = STARTS.iter().rfind(|start| **start <= len);
     *start.expect(rt, "a block")
 }
 
 #[test]
-fn each_beginning_of_an_answer(rt: HostRuntime) -> Result<(), Fail> {
+fn each_beginning_of_an_answer(rt: HostRuntime) -> TestResult {
     for len in 0..READ {
-        let found = fault(&rt, rt.alloc(), &FROM_1[..len])?;
+        let found = fault(&rt, &FROM_1[..len])?;
         is_cut(&rt, found, start_of(&rt, len), len);
     }
     for len in READ..=FROM_1.len() {
-        assert!(rt; fault(&rt, rt.alloc(), &FROM_1[..len])?.is_none());
+        assert!(rt; fault(&rt, &FROM_1[..len])?.is_none());
     }
     Ok(())
 }
 
-// Writes the payload of the next packet in its block, if the packet is sequenced data.
-fn copy_payload<R: CountedRead, A: Allocator>(
-    reader: &mut BlockReader<R, A>,
-    file: &mut FuseWriter,
-) -> Result<(), FrameFault> {
-    match reader.next_block()? {
-        Some([b'S', payload @ ..]) => write_block(file, payload),
-        _ => Ok(()),
-    }
-}
-
-fn copy_payloads<R: CountedRead, A: Allocator>(
-    reader: &mut BlockReader<R, A>,
+// Writes the payload of each packet of sequenced data in its block.
+fn copy_payloads(
+    reader: &mut Blocks<'_>,
     file: &mut FuseWriter,
     packets: usize,
 ) -> Result<(), FrameFault> {
     for _packet in 0..packets {
-        copy_payload(reader, file)?;
+        if let Some([b'S', payload @ ..]) = reader.next_block()? {
+            write_block(file, payload)?;
+        }
     }
     Ok(())
 }
@@ -81,47 +72,32 @@ fn snapshot_file(alloc: Global, answer: &[u8]) -> Result<FuseWriter, Fail> {
     Ok(file)
 }
 
-// A market that was fetched is the one that the answer spells.
-fn is_spelled<B: OrderBook>(
-    rt: &impl Abort,
-    alloc: Global,
-    memory: B::Alloc,
-    answer: &[u8],
-    market: &Market<B>,
-    next: Seq,
-) -> Result<(), Fail> {
-    let file = snapshot_file(alloc, answer)?;
-    let (spelled, number): (Market<B>, Seq) = read(alloc, memory, file.written())?;
-    assert!(rt; are_same(rt, market, &spelled));
-    same(rt, next.value(), number.value());
-    Ok(())
-}
-
-// Whether these bytes give a market, which they spell, or a fault.
+// Whether these bytes give a market, which is the one that they spell, or a fault.
 fn gives_market<B: OrderBook>(
-    rt: &impl Abort,
-    alloc: Global,
+    rt: &impl Host,
     memory: B::Alloc,
     answer: &[u8],
 ) -> Result<bool, Fail> {
-    match fetched::<_, B>(rt, alloc, memory, PieceReader::new(answer, 64, None))? {
-        Ok((market, next)) => {
-            is_spelled(rt, alloc, memory, answer, &market, next)?;
-            Ok(true)
-        }
-        Err(_) => Ok(false),
-    }
+    let reader = PieceReader::new(answer, 64, None);
+    let Ok((market, next)) = fetched::<B>(rt, memory, reader)? else {
+        return Ok(false);
+    };
+    let file = snapshot_file(rt.alloc(), answer)?;
+    let (spelled, number): (Market<B>, Seq) = read(rt.alloc(), memory, file.written())?;
+    assert!(rt; are_same(rt, &market, &spelled));
+    same(rt, next.value(), number.value());
+    Ok(true)
 }
 
 // Those of one byte: a fault, or a market. Returns how many were markets.
-fn with_byte_changed(rt: &impl Abort, alloc: Global, at: usize) -> Result<usize, Fail> {
+fn with_byte_changed(rt: &impl Host, at: usize) -> Result<usize, Fail> {
     assert!(rt; at < READ);
     let mut answer = [0; READ];
     answer.copy_from_slice(&FROM_1[..READ]);
     let mut markets = 0usize;
     for byte in 0..=255u8 {
         answer[at] = byte;
-        if gives_market::<ListBook>(rt, alloc, alloc, &answer)? {
+        if gives_market::<ListBook>(rt, rt.alloc(), &answer)? {
             markets = markets.saturating_add(1);
         }
     }
@@ -129,9 +105,9 @@ fn with_byte_changed(rt: &impl Abort, alloc: Global, at: usize) -> Result<usize,
 }
 
 #[test]
-fn each_byte_of_an_answer(rt: HostRuntime) -> Result<(), Fail> {
+fn each_byte_of_an_answer(rt: HostRuntime) -> TestResult {
     for at in 0..READ {
-        assert!(rt; with_byte_changed(&rt, rt.alloc(), at)? >= 1);
+        assert!(rt; with_byte_changed(&rt, at)? >= 1);
     }
     Ok(())
 }

@@ -1,6 +1,6 @@
 //! Broken logins: each beginning of a login, each of its bytes at each value, and what may come before it.
 use crate::doubles::{FuseWriter, PieceReader};
-use crate::equal::{same, same_shown};
+use crate::equal::{Host, TestResult, same, same_shown};
 use crate::files::seq;
 use crate::sessions::{FROM_3, LOGIN_3, serve_from, served_market};
 use itch_book::OrderBook;
@@ -8,38 +8,24 @@ use itch_frame::FrameFault;
 use itch_market::Market;
 use itch_soup::{Served, SoupFault};
 use std::alloc::{AllocError, Global};
-use std::process::Abort;
-use std::test::Fail;
 
-// The answer to these bytes, of a server with five messages. Only an answer to a login writes.
-fn answer<B: OrderBook>(
-    rt: &impl Abort,
-    alloc: Global,
-    market: &Market<B>,
-    input: &[u8],
-) -> Result<Result<Served, SoupFault>, Fail> {
-    let mut writer = FuseWriter::new(alloc, 64, None);
-    let reader = PieceReader::new(input, 64, None);
-    let served = serve_from(rt, alloc, reader, &mut writer, market)?;
-    let is_silent = !matches!(served, Ok(Served::Accepted { .. } | Served::Rejected(_)));
-    same(rt, writer.written().is_empty(), is_silent);
-    Ok(served)
-}
-
-// These bytes are answered so.
+// These bytes are answered so, by a server with five messages. Only an answer to a login writes.
 fn is_answered<B: OrderBook>(
-    rt: &impl Abort,
-    alloc: Global,
+    rt: &impl Host,
     market: &Market<B>,
     input: &[u8],
     want: &Result<Served, SoupFault>,
-) -> Result<(), Fail> {
-    let found = answer(rt, alloc, market, input)?;
-    same_shown(rt, alloc, input, &found, want)?;
+) -> TestResult {
+    let mut writer = FuseWriter::new(rt.alloc(), 64, None);
+    let reader = PieceReader::new(input, 64, None);
+    let served = serve_from(rt, reader, &mut writer, market)?;
+    let is_silent = !matches!(served, Ok(Served::Accepted { .. } | Served::Rejected(_)));
+    same(rt, writer.written().is_empty(), is_silent);
+    same_shown(rt, input, &served, want)?;
     Ok(())
 }
 
-fn accepted(rt: &impl Abort, from: u64) -> Result<Served, SoupFault> {
+fn accepted(rt: &impl Host, from: u64) -> Result<Served, SoupFault> {
     Ok(Served::Accepted {
         from: seq(rt, from),
         packets: 6u64.saturating_sub(from),
@@ -51,7 +37,7 @@ fn truncated(held: usize) -> Result<Served, SoupFault> {
 }
 
 // The answer to a login of which this many bytes come.
-fn cut(rt: &impl Abort, len: usize) -> Result<Served, SoupFault> {
+fn cut(rt: &impl Host, len: usize) -> Result<Served, SoupFault> {
     if len == 0 {
         Ok(Served::Left)
     } else if len < LOGIN_3.len() {
@@ -61,20 +47,16 @@ fn cut(rt: &impl Abort, len: usize) -> Result<Served, SoupFault> {
     }
 }
 
-fn check_beginnings<B: OrderBook>(
-    rt: &impl Abort,
-    alloc: Global,
-    market: &Market<B>,
-) -> Result<(), Fail> {
+fn check_beginnings<B: OrderBook>(rt: &impl Host, market: &Market<B>) -> TestResult {
     for len in 0..=LOGIN_3.len() {
-        is_answered(rt, alloc, market, &LOGIN_3[..len], &cut(rt, len))?;
+        is_answered(rt, market, &LOGIN_3[..len], &cut(rt, len))?;
     }
     Ok(())
 }
 
 #[test]
-fn each_beginning_of_a_login(rt: HostRuntime) -> Result<(), Fail> {
-    check_beginnings(&rt, rt.alloc(), &served_market(rt.alloc())?)
+fn each_beginning_of_a_login(rt: HostRuntime) -> TestResult {
+    check_beginnings(&rt, &served_market(rt.alloc())?)
 }
 
 // A login whose length is another one: with fewer bytes it is no login, and more do not come.
@@ -106,7 +88,7 @@ fn of_type(byte: u8) -> Result<Served, SoupFault> {
 
 // A login with another byte at this place of a text: the names are another's, but for the case of a letter.
 fn of_text(
-    rt: &impl Abort,
+    rt: &impl Host,
     offset: usize,
     byte: u8,
     own: u8,
@@ -122,7 +104,7 @@ fn of_text(
 }
 
 // A login that asks for a number whose last two digits are these, which may be blank.
-fn of_number(rt: &impl Abort, tens: u8, ones: u8) -> Result<Served, SoupFault> {
+fn of_number(rt: &impl Host, tens: u8, ones: u8) -> Result<Served, SoupFault> {
     match (tens, ones) {
         (b' ', b' ') | (b' ' | b'0', b'0') => accepted(rt, 1),
         (b' ' | b'0', b'1'..=b'6') => accepted(rt, u64::from(ones - b'0')),
@@ -132,7 +114,7 @@ fn of_number(rt: &impl Abort, tens: u8, ones: u8) -> Result<Served, SoupFault> {
 }
 
 // The answer to a login whose byte at this place, the length counted, is another one.
-fn wanted(rt: &impl Abort, at: usize, byte: u8, own: u8) -> Result<Served, SoupFault> {
+fn wanted(rt: &impl Host, at: usize, byte: u8, own: u8) -> Result<Served, SoupFault> {
     match at {
         0 => truncated(LOGIN_3.len()),
         1 => of_length(byte),
@@ -147,12 +129,7 @@ fn wanted(rt: &impl Abort, at: usize, byte: u8, own: u8) -> Result<Served, SoupF
 }
 
 // The login with each other byte at this place is answered as it has to be.
-fn check_byte<B: OrderBook>(
-    rt: &impl Abort,
-    alloc: Global,
-    market: &Market<B>,
-    at: usize,
-) -> Result<(), Fail> {
+fn check_byte<B: OrderBook>(rt: &impl Host, market: &Market<B>, at: usize) -> TestResult {
     assert!(rt; at < 49);
     let mut login = [0; 49];
     login.copy_from_slice(LOGIN_3);
@@ -160,26 +137,22 @@ fn check_byte<B: OrderBook>(
     for byte in 0..=255u8 {
         if byte != own {
             login[at] = byte;
-            is_answered(rt, alloc, market, &login, &wanted(rt, at, byte, own))?;
+            is_answered(rt, market, &login, &wanted(rt, at, byte, own))?;
         }
     }
     Ok(())
 }
 
-fn check_bytes<B: OrderBook>(
-    rt: &impl Abort,
-    alloc: Global,
-    market: &Market<B>,
-) -> Result<(), Fail> {
+fn check_bytes<B: OrderBook>(rt: &impl Host, market: &Market<B>) -> TestResult {
     for at in 0..49 {
-        check_byte(rt, alloc, market, at)?;
+        check_byte(rt, market, at)?;
     }
     Ok(())
 }
 
 #[test]
-fn each_byte_of_a_login(rt: HostRuntime) -> Result<(), Fail> {
-    check_bytes(&rt, rt.alloc(), &served_market(rt.alloc())?)
+fn each_byte_of_a_login(rt: HostRuntime) -> TestResult {
+    check_bytes(&rt, &served_market(rt.alloc())?)
 }
 
 // Ten thousand debug packets, and these bytes.
@@ -193,37 +166,29 @@ fn after_debug_packets(alloc: Global, rest: &[u8]) -> Result<Vec<u8>, AllocError
 }
 
 // Packets that a server passes over.
-fn check_debug_packets<B: OrderBook>(
-    rt: &impl Abort,
-    alloc: Global,
-    market: &Market<B>,
-) -> Result<(), Fail> {
+fn check_debug_packets<B: OrderBook>(rt: &impl Host, market: &Market<B>) -> TestResult {
     for (rest, want) in [(b"" as &[u8], Ok(Served::Left)), (LOGIN_3, accepted(rt, 3))] {
-        let input = after_debug_packets(alloc, rest)?;
-        is_answered(rt, alloc, market, &input, &want)?;
+        let input = after_debug_packets(rt.alloc(), rest)?;
+        is_answered(rt, market, &input, &want)?;
     }
     Ok(())
 }
 
 #[test]
-fn ten_thousand_debug_packets_before_a_login(rt: HostRuntime) -> Result<(), Fail> {
-    check_debug_packets(&rt, rt.alloc(), &served_market(rt.alloc())?)
+fn ten_thousand_debug_packets_before_a_login(rt: HostRuntime) -> TestResult {
+    check_debug_packets(&rt, &served_market(rt.alloc())?)
 }
 
 // A login is answered whose bytes come one at a time.
-fn is_answered_in_pieces<B: OrderBook>(
-    rt: &impl Abort,
-    alloc: Global,
-    market: &Market<B>,
-) -> Result<(), Fail> {
-    let mut writer = FuseWriter::new(alloc, 1, None);
+fn is_answered_in_pieces<B: OrderBook>(rt: &impl Host, market: &Market<B>) -> TestResult {
+    let mut writer = FuseWriter::new(rt.alloc(), 1, None);
     let reader = PieceReader::new(LOGIN_3, 1, None);
-    serve_from(rt, alloc, reader, &mut writer, market)?.expect(rt, "an answer");
+    serve_from(rt, reader, &mut writer, market)?.expect(rt, "an answer");
     same(rt, writer.written(), FROM_3);
     Ok(())
 }
 
 #[test]
-fn a_login_in_pieces_of_one_byte(rt: HostRuntime) -> Result<(), Fail> {
-    is_answered_in_pieces(&rt, rt.alloc(), &served_market(rt.alloc())?)
+fn a_login_in_pieces_of_one_byte(rt: HostRuntime) -> TestResult {
+    is_answered_in_pieces(&rt, &served_market(rt.alloc())?)
 }

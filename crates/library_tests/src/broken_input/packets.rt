@@ -1,20 +1,11 @@
 //! Blocks that are no packets.
-use crate::equal::same_shown;
+use crate::equal::{Host, TestResult, same_shown};
 use itch_soup::{Origin, SoupFault, parse_packet};
-use std::alloc::Global;
-use std::process::Abort;
-use std::test::Fail;
 
 // A block from this side has this fault.
-fn is_fault(
-    rt: &impl Abort,
-    alloc: Global,
-    block: &[u8],
-    from: Origin,
-    want: SoupFault,
-) -> Result<(), Fail> {
+fn is_fault(rt: &impl Host, from: Origin, block: &[u8], want: SoupFault) -> TestResult {
     let found = parse_packet(block, from).err().expect(rt, "a fault");
-    same_shown(rt, alloc, block, &found, &want)?;
+    same_shown(rt, block, &found, &want)?;
     Ok(())
 }
 
@@ -30,44 +21,38 @@ fn wrong_length(kind: u8, want: usize, got: usize) -> SoupFault {
 }
 
 #[test]
-fn from_a_client(rt: HostRuntime) -> Result<(), Fail> {
-    let (alloc, from) = (rt.alloc(), Origin::Client);
-    is_fault(&rt, alloc, b"", from, SoupFault::EmptyPacket)?;
-    is_fault(&rt, alloc, b"*", from, SoupFault::UnknownType(42))?;
-    is_fault(&rt, alloc, b"S", from, SoupFault::WrongSide(83))?;
-    is_fault(&rt, alloc, b"L", from, wrong_length(b'L', 47, 1))?;
-    is_fault(&rt, alloc, b"RR", from, wrong_length(b'R', 1, 2))
+fn from_a_client(rt: HostRuntime) -> TestResult {
+    let rows: [(&[u8], SoupFault); 5] = [
+        (b"", SoupFault::EmptyPacket),
+        (b"*", SoupFault::UnknownType(42)),
+        (b"S", SoupFault::WrongSide(83)),
+        (b"L", wrong_length(b'L', 47, 1)),
+        (b"RR", wrong_length(b'R', 1, 2)),
+    ];
+    for (block, fault) in rows {
+        is_fault(&rt, Origin::Client, block, fault)?;
+    }
+    Ok(())
 }
 
 #[test]
-fn logins_from_a_client(rt: HostRuntime) -> Result<(), Fail> {
-    let (alloc, from) = (rt.alloc(), Origin::Client);
-    is_fault(
-        &rt,
-        alloc,
-        UNPRINTABLE,
-        from,
-        SoupFault::BadText { offset: 1 },
-    )?;
-    is_fault(
-        &rt,
-        alloc,
-        LETTER,
-        from,
-        SoupFault::BadNumber { offset: 27 },
-    )?;
-    is_fault(&rt, alloc, NINES, from, SoupFault::BadNumber { offset: 27 })
+fn logins_from_a_client(rt: HostRuntime) -> TestResult {
+    let bad_number = SoupFault::BadNumber { offset: 27 };
+    let bad_text = SoupFault::BadText { offset: 1 };
+    is_fault(&rt, Origin::Client, UNPRINTABLE, bad_text)?;
+    is_fault(&rt, Origin::Client, LETTER, bad_number)?;
+    is_fault(&rt, Origin::Client, NINES, bad_number)
 }
 
 #[test]
-fn from_a_server(rt: HostRuntime) -> Result<(), Fail> {
-    let (alloc, from) = (rt.alloc(), Origin::Server);
-    is_fault(&rt, alloc, b"R", from, SoupFault::WrongSide(82))?;
-    is_fault(&rt, alloc, b"J  ", from, wrong_length(b'J', 2, 3))?;
+fn from_a_server(rt: HostRuntime) -> TestResult {
+    let from = Origin::Server;
+    is_fault(&rt, from, b"R", SoupFault::WrongSide(82))?;
+    is_fault(&rt, from, b"J  ", wrong_length(b'J', 2, 3))?;
     let zero = b"A  ITCHSNAP                   0";
-    is_fault(&rt, alloc, zero, from, SoupFault::BadNumber { offset: 11 })?;
+    is_fault(&rt, from, zero, SoupFault::BadNumber { offset: 11 })?;
     let tab = b"A\t ITCHSNAP                   x";
-    is_fault(&rt, alloc, tab, from, SoupFault::BadText { offset: 1 })?;
+    is_fault(&rt, from, tab, SoupFault::BadText { offset: 1 })?;
     assert!(rt; parse_packet(b"UA", from).is_ok());
     Ok(())
 }

@@ -1,8 +1,7 @@
 //! Each byte of each vector at each value.
-use super::vectors::*;
-use crate::equal::{holds_in, same};
+use super::vectors::VECTORS;
+use crate::equal::{Host, holds_in, same};
 use itch_codec::{CodecFault, Message, decode, encode};
-use std::process::Abort;
 
 // Whether the fault is about this byte at this place.
 fn is_fault_at(fault: CodecFault, at: usize, byte: u8) -> bool {
@@ -16,7 +15,7 @@ fn is_fault_at(fault: CodecFault, at: usize, byte: u8) -> bool {
 }
 
 // Sets each byte after the first to each value in turn, and counts the faults.
-fn faults_of_bytes(rt: &impl Abort, vector: &[u8]) -> u32 {
+fn faults_of_bytes(rt: &impl Host, vector: &[u8]) -> u32 {
     assert!(rt; vector.len() <= 48);
     let mut payload = [0; 48];
     let mut faults = 0u32;
@@ -43,28 +42,28 @@ fn faults_of_bytes(rt: &impl Abort, vector: &[u8]) -> u32 {
 #[test]
 fn each_byte_at_each_value(rt: HostRuntime) {
     let rows = [
-        (SYSTEM_EVENT, 0),
-        (STOCK_DIRECTORY, 8 * 161),
-        (TRADING_ACTION, 8 * 161),
-        (REG_SHO, 8 * 161),
-        (OPERATIONAL_HALT, 8 * 161),
-        (PARTICIPANT_POSITION, 12 * 161),
-        (ADD_ORDER, 254 + 8 * 161),
-        (GREATEST_ADD_ORDER, 254 + 8 * 161),
-        (ATTRIBUTED_ADD_ORDER, 254 + 12 * 161),
-        (ORDER_EXECUTED, 0),
-        (ORDER_EXECUTED_WITH_PRICE, 0),
-        (ORDER_CANCEL, 0),
-        (ORDER_DELETE, 0),
-        (ORDER_REPLACE, 0),
-        (TRADE, 254 + 8 * 161),
-        (CROSS_TRADE, 8 * 161),
-        (BROKEN_TRADE, 0),
-        (END, 18 * 255 + 245 + 247),
-        (UNDECODED, 0),
+        0,
+        8 * 161,
+        8 * 161,
+        8 * 161,
+        8 * 161,
+        12 * 161,
+        254 + 8 * 161,
+        254 + 8 * 161,
+        254 + 12 * 161,
+        0,
+        0,
+        0,
+        0,
+        0,
+        254 + 8 * 161,
+        8 * 161,
+        0,
+        18 * 255 + 245 + 247,
+        0,
     ];
-    for (vector, faults) in rows {
-        same(&rt, faults_of_bytes(&rt, vector), faults);
+    for (vector, faults) in VECTORS.iter().zip(rows.iter()) {
+        same(&rt, faults_of_bytes(&rt, vector), *faults);
     }
 }
 

@@ -1,51 +1,68 @@
-//! The public standard's layouts as bytes, written out by hand.
-pub(super) const SYSTEM_EVENT: &[u8] = b"S\x00\x00\x00\x00\x00\x00\x00\x00\x00\x00O";
+//! The public standard's layouts, a message of each type and the greatest order, written out by hand: as bytes, as lines of JSON and as
+//! lines with names. The rows of each table are in the same order, and each shows its type.
+pub(super) const VECTORS: [&[u8]; 19] = [
+    b"S\x00\x00\x00\x00\x00\x00\x00\x00\x00\x00O",
+    b"R\x00\x01\x00\x00\x00\x00\x00\x00\x00\x00AAPL    QN\x00\x00\x00dNCZ PNN1N\x00\x00\x00\x00N",
+    b"H\x00\x01\x00\x00\x00\x00\x00\x00\x00\x00AAPL    T     ",
+    b"Y\x00\x01\x00\x00\x00\x00\x00\x00\x00\x00AAPL    0",
+    b"h\x00\x01\x00\x00\x00\x00\x00\x00\x00\x00AAPL    QH",
+    b"L\x00\x01\x00\x00\x00\x00\x00\x00\x00\x00ABCDAAPL    NNA",
+    b"A\x00\x01\x00\x00\x00\x00\x00\x00\x00\x00\x00\x00\x00\x00\x00\x00\x00\x01B\x00\x00\x00dAAPL    \x00\x16\xe3`",
+    b"A\xff\xff\x00\x00\x00\x00\x00\x00\x00\x00\xff\xff\xff\xff\xff\xff\xff\xffS\xff\xff\xff\xffMAX     \xff\xff\xff\xff",
+    b"F\x00\x01\x00\x00\x00\x00\x00\x00\x00\x00\x00\x00\x00\x00\x00\x00\x00\x03B\x00\x00\x00dAAPL    \x00\x16\xe3`ABCD",
+    b"E\x00\x01\x00\x00\x00\x00\x00\x00\x00\x00\x00\x00\x00\x00\x00\x00\x00\x01\x00\x00\x00d\x00\x00\x00\x00\x00\x00\x00\x01",
+    b"C\x00\x01\x00\x00\x00\x00\x00\x00\x00\x00\x00\x00\x00\x00\x00\x00\x00\x01\x00\x00\x00d\x00\x00\x00\x00\x00\x00\x00\x01Y\x00\x16\xe3`",
+    b"X\x00\x01\x00\x00\x00\x00\x00\x00\x00\x00\x00\x00\x00\x00\x00\x00\x00\x01\x00\x00\x002",
+    b"D\x00\x01\x00\x00\x00\x00\x00\x00\x00\x00\x00\x00\x00\x00\x00\x00\x00\x01",
+    b"U\x00\x01\x00\x00\x00\x00\x00\x00\x00\x00\x00\x00\x00\x00\x00\x00\x00\x01\x00\x00\x00\x00\x00\x00\x00\x04\x00\x00\x00F\x00\x16\xe3`",
+    b"P\x00\x01\x00\x00\x00\x00\x00\x00\x00\x00\x00\x00\x00\x00\x00\x00\x00\x01B\x00\x00\x00dAAPL    \x00\x16\xe3`\x00\x00\x00\x00\x00\x00\x00\x01",
+    b"Q\x00\x01\x00\x00\x00\x00\x00\x00\x00\x00\x00\x00\x00\x00\x00\x00\x00\xc8AAPL    \x00\x16\xe3`\x00\x00\x00\x00\x00\x00\x00\x01O",
+    b"B\x00\x01\x00\x00\x00\x00\x00\x00\x00\x00\x00\x00\x00\x00\x00\x00\x00\x01",
+    b"G                   4",
+    b"N\x00\x01\x00\x00\x00\x00\x00\x00\x00\x00AAPL    \x00",
+];
 
-pub(super) const STOCK_DIRECTORY: &[u8] =
-    b"R\x00\x01\x00\x00\x00\x00\x00\x00\x00\x00AAPL    QN\x00\x00\x00dNCZ PNN1N\x00\x00\x00\x00N";
+/// With the message number 1.
+pub(super) const OBJECTS: [&str; 19] = [
+    "{\"number\":1,\"type\":\"S\",\"stock_locate\":0,\"tracking_number\":0,\"time\":\"00:00:00.000000000\",\"ns\":0,\"event_code\":\"O\"}\n",
+    "{\"number\":1,\"type\":\"R\",\"stock_locate\":1,\"tracking_number\":0,\"time\":\"00:00:00.000000000\",\"ns\":0,\"stock\":\"AAPL\",\"market_category\":\"Q\",\"financial_status_indicator\":\"N\",\"round_lot_size\":100,\"round_lots_only\":\"N\",\"issue_classification\":\"C\",\"issue_sub_type\":\"Z \",\"authenticity\":\"P\",\"short_sale_threshold_indicator\":\"N\",\"ipo_flag\":\"N\",\"luld_reference_price_tier\":\"1\",\"etp_flag\":\"N\",\"etp_leverage_factor\":0,\"inverse_indicator\":\"N\"}\n",
+    "{\"number\":1,\"type\":\"H\",\"stock_locate\":1,\"tracking_number\":0,\"time\":\"00:00:00.000000000\",\"ns\":0,\"stock\":\"AAPL\",\"trading_state\":\"T\",\"reserved\":\" \",\"reason\":\"    \"}\n",
+    "{\"number\":1,\"type\":\"Y\",\"stock_locate\":1,\"tracking_number\":0,\"time\":\"00:00:00.000000000\",\"ns\":0,\"stock\":\"AAPL\",\"reg_sho_action\":\"0\"}\n",
+    "{\"number\":1,\"type\":\"h\",\"stock_locate\":1,\"tracking_number\":0,\"time\":\"00:00:00.000000000\",\"ns\":0,\"stock\":\"AAPL\",\"market_code\":\"Q\",\"operational_halt_action\":\"H\"}\n",
+    "{\"number\":1,\"type\":\"L\",\"stock_locate\":1,\"tracking_number\":0,\"time\":\"00:00:00.000000000\",\"ns\":0,\"mpid\":\"ABCD\",\"stock\":\"AAPL\",\"primary_market_maker\":\"N\",\"market_maker_mode\":\"N\",\"market_participant_state\":\"A\"}\n",
+    "{\"number\":1,\"type\":\"A\",\"stock_locate\":1,\"tracking_number\":0,\"time\":\"00:00:00.000000000\",\"ns\":0,\"order_reference_number\":1,\"buy_sell_indicator\":\"B\",\"shares\":100,\"stock\":\"AAPL\",\"price\":\"150.0000\"}\n",
+    "{\"number\":1,\"type\":\"A\",\"stock_locate\":65535,\"tracking_number\":0,\"time\":\"00:00:00.000000000\",\"ns\":0,\"order_reference_number\":18446744073709551615,\"buy_sell_indicator\":\"S\",\"shares\":4294967295,\"stock\":\"MAX\",\"price\":\"429496.7295\"}\n",
+    "{\"number\":1,\"type\":\"F\",\"stock_locate\":1,\"tracking_number\":0,\"time\":\"00:00:00.000000000\",\"ns\":0,\"order_reference_number\":3,\"buy_sell_indicator\":\"B\",\"shares\":100,\"stock\":\"AAPL\",\"price\":\"150.0000\",\"attribution\":\"ABCD\"}\n",
+    "{\"number\":1,\"type\":\"E\",\"stock_locate\":1,\"tracking_number\":0,\"time\":\"00:00:00.000000000\",\"ns\":0,\"order_reference_number\":1,\"executed_shares\":100,\"match_number\":1}\n",
+    "{\"number\":1,\"type\":\"C\",\"stock_locate\":1,\"tracking_number\":0,\"time\":\"00:00:00.000000000\",\"ns\":0,\"order_reference_number\":1,\"executed_shares\":100,\"match_number\":1,\"printable\":\"Y\",\"execution_price\":\"150.0000\"}\n",
+    "{\"number\":1,\"type\":\"X\",\"stock_locate\":1,\"tracking_number\":0,\"time\":\"00:00:00.000000000\",\"ns\":0,\"order_reference_number\":1,\"cancelled_shares\":50}\n",
+    "{\"number\":1,\"type\":\"D\",\"stock_locate\":1,\"tracking_number\":0,\"time\":\"00:00:00.000000000\",\"ns\":0,\"order_reference_number\":1}\n",
+    "{\"number\":1,\"type\":\"U\",\"stock_locate\":1,\"tracking_number\":0,\"time\":\"00:00:00.000000000\",\"ns\":0,\"original_order_reference_number\":1,\"new_order_reference_number\":4,\"shares\":70,\"price\":\"150.0000\"}\n",
+    "{\"number\":1,\"type\":\"P\",\"stock_locate\":1,\"tracking_number\":0,\"time\":\"00:00:00.000000000\",\"ns\":0,\"order_reference_number\":1,\"buy_sell_indicator\":\"B\",\"shares\":100,\"stock\":\"AAPL\",\"price\":\"150.0000\",\"match_number\":1}\n",
+    "{\"number\":1,\"type\":\"Q\",\"stock_locate\":1,\"tracking_number\":0,\"time\":\"00:00:00.000000000\",\"ns\":0,\"shares\":200,\"stock\":\"AAPL\",\"cross_price\":\"150.0000\",\"match_number\":1,\"cross_type\":\"O\"}\n",
+    "{\"number\":1,\"type\":\"B\",\"stock_locate\":1,\"tracking_number\":0,\"time\":\"00:00:00.000000000\",\"ns\":0,\"match_number\":1}\n",
+    "{\"number\":1,\"type\":\"G\",\"sequence_number\":4}\n",
+    "{\"number\":1,\"type\":\"N\",\"length\":20}\n",
+];
 
-pub(super) const TRADING_ACTION: &[u8] = b"H\x00\x01\x00\x00\x00\x00\x00\x00\x00\x00AAPL    T     ";
-
-pub(super) const REG_SHO: &[u8] = b"Y\x00\x01\x00\x00\x00\x00\x00\x00\x00\x00AAPL    0";
-
-pub(super) const OPERATIONAL_HALT: &[u8] = b"h\x00\x01\x00\x00\x00\x00\x00\x00\x00\x00AAPL    QH";
-
-pub(super) const PARTICIPANT_POSITION: &[u8] =
-    b"L\x00\x01\x00\x00\x00\x00\x00\x00\x00\x00ABCDAAPL    NNA";
-
-pub(super) const ADD_ORDER: &[u8] =
-    b"A\x00\x01\x00\x00\x00\x00\x00\x00\x00\x00\x00\x00\x00\x00\x00\x00\x00\x01B\x00\x00\x00dAAPL    \x00\x16\xe3`";
-
-pub(super) const GREATEST_ADD_ORDER: &[u8] =
-    b"A\xff\xff\x00\x00\x00\x00\x00\x00\x00\x00\xff\xff\xff\xff\xff\xff\xff\xffS\xff\xff\xff\xffMAX     \xff\xff\xff\xff";
-
-pub(super) const ATTRIBUTED_ADD_ORDER: &[u8] =
-    b"F\x00\x01\x00\x00\x00\x00\x00\x00\x00\x00\x00\x00\x00\x00\x00\x00\x00\x03B\x00\x00\x00dAAPL    \x00\x16\xe3`ABCD";
-
-pub(super) const ORDER_EXECUTED: &[u8] =
-    b"E\x00\x01\x00\x00\x00\x00\x00\x00\x00\x00\x00\x00\x00\x00\x00\x00\x00\x01\x00\x00\x00d\x00\x00\x00\x00\x00\x00\x00\x01";
-
-pub(super) const ORDER_EXECUTED_WITH_PRICE: &[u8] =
-    b"C\x00\x01\x00\x00\x00\x00\x00\x00\x00\x00\x00\x00\x00\x00\x00\x00\x00\x01\x00\x00\x00d\x00\x00\x00\x00\x00\x00\x00\x01Y\x00\x16\xe3`";
-
-pub(super) const ORDER_CANCEL: &[u8] =
-    b"X\x00\x01\x00\x00\x00\x00\x00\x00\x00\x00\x00\x00\x00\x00\x00\x00\x00\x01\x00\x00\x002";
-
-pub(super) const ORDER_DELETE: &[u8] =
-    b"D\x00\x01\x00\x00\x00\x00\x00\x00\x00\x00\x00\x00\x00\x00\x00\x00\x00\x01";
-
-pub(super) const ORDER_REPLACE: &[u8] =
-    b"U\x00\x01\x00\x00\x00\x00\x00\x00\x00\x00\x00\x00\x00\x00\x00\x00\x00\x01\x00\x00\x00\x00\x00\x00\x00\x04\x00\x00\x00F\x00\x16\xe3`";
-
-pub(super) const TRADE: &[u8] =
-    b"P\x00\x01\x00\x00\x00\x00\x00\x00\x00\x00\x00\x00\x00\x00\x00\x00\x00\x01B\x00\x00\x00dAAPL    \x00\x16\xe3`\x00\x00\x00\x00\x00\x00\x00\x01";
-
-pub(super) const CROSS_TRADE: &[u8] =
-    b"Q\x00\x01\x00\x00\x00\x00\x00\x00\x00\x00\x00\x00\x00\x00\x00\x00\x00\xc8AAPL    \x00\x16\xe3`\x00\x00\x00\x00\x00\x00\x00\x01O";
-
-pub(super) const BROKEN_TRADE: &[u8] =
-    b"B\x00\x01\x00\x00\x00\x00\x00\x00\x00\x00\x00\x00\x00\x00\x00\x00\x00\x01";
-
-pub(super) const END: &[u8] = b"G                   4";
-
-pub(super) const UNDECODED: &[u8] = b"N\x00\x01\x00\x00\x00\x00\x00\x00\x00\x00AAPL    \x00";
+pub(super) const NAMED: [&str; 19] = [
+    "1 S 0 0 00:00:00.000000000 'O'\n",
+    "1 R 1 0 00:00:00.000000000 [AAPL] 'Q' 'N' 100 'N' 'C' 'Z ' 'P' 'N' 'N' '1' 'N' 0 'N'\n",
+    "1 H 1 0 00:00:00.000000000 [AAPL] 'T' ' ' '    '\n",
+    "1 Y 1 0 00:00:00.000000000 [AAPL] '0'\n",
+    "1 h 1 0 00:00:00.000000000 [AAPL] 'Q' 'H'\n",
+    "1 L 1 0 00:00:00.000000000 [ABCD] [AAPL] 'N' 'N' 'A'\n",
+    "1 A 1 0 00:00:00.000000000 1 B 100 [AAPL] 150.0000\n",
+    "1 A 65535 0 00:00:00.000000000 18446744073709551615 S 4294967295 [MAX] 429496.7295\n",
+    "1 F 1 0 00:00:00.000000000 3 B 100 [AAPL] 150.0000 [ABCD]\n",
+    "1 E 1 0 00:00:00.000000000 1 100 1\n",
+    "1 C 1 0 00:00:00.000000000 1 100 1 'Y' 150.0000\n",
+    "1 X 1 0 00:00:00.000000000 1 50\n",
+    "1 D 1 0 00:00:00.000000000 1\n",
+    "1 U 1 0 00:00:00.000000000 1 4 70 150.0000\n",
+    "1 P 1 0 00:00:00.000000000 1 B 100 [AAPL] 150.0000 1\n",
+    "1 Q 1 0 00:00:00.000000000 200 [AAPL] 150.0000 1 'O'\n",
+    "1 B 1 0 00:00:00.000000000 1\n",
+    "1 G 4\n",
+    "1 other 'N' 20\n",
+];

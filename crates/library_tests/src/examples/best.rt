@@ -1,7 +1,7 @@
 //! The example of the guide: the best bid and the best offer of a symbol, whenever a message of a day file changes them. The messages
 //! are those of `examples/quotes.itch`.
 use crate::doubles::PieceReader;
-use crate::equal::same;
+use crate::equal::{TestResult, same};
 use crate::files::blocks;
 use itch_book::{IndexedBook, Order, OrderBook};
 use itch_codec::{Side, decode};
@@ -67,7 +67,7 @@ fn follow<R: CountedRead + Drop, B: OrderBook>(
 }
 
 #[test]
-fn the_best_prices_are_followed(rt: HostRuntime) -> Result<(), Fail> {
+fn the_best_prices_are_followed(rt: HostRuntime) -> TestResult {
     let alloc = rt.alloc();
     let day = blocks(alloc, QUOTES)?;
     let reader = PieceReader::new(day.written(), 64, None);

@@ -1,26 +1,14 @@
 //! A day file replayed.
 use crate::book::has_len;
 use crate::doubles::PieceReader;
-use crate::equal::{holds_in, same_in};
-use crate::files::{REPLACED, blocks};
+use crate::equal::{Host, TestResult, holds_in, same_in};
+use crate::files::{Blocks, REPLACED, blocks, replayed};
 use itch_book::{IndexedBook, ListBook, OrderBook};
-use itch_frame::{BlockReader, CountedRead, FrameFault};
-use itch_market::{Market, Stop, replay};
-use std::alloc::{Allocator, Global};
-use std::process::Abort;
-use std::test::Fail;
+use itch_frame::{BlockReader, FrameFault};
+use itch_market::{Market, Stop};
 
 // Where the four blocks of the day end.
 const ENDS: [usize; 4] = [41, 83, 121, 158];
-
-// Replays what a reader has left, and returns how many messages were applied, and why no further one was.
-fn replayed<R: CountedRead, A: Allocator, B: OrderBook>(
-    reader: &mut BlockReader<R, A>,
-    market: &mut Market<B>,
-) -> (u64, Stop) {
-    let end = replay(reader, market);
-    (end.count, end.stop)
-}
 
 // How many blocks of the day end in its first `at` bytes.
 fn whole_blocks(at: usize) -> u64 {
@@ -28,9 +16,9 @@ fn whole_blocks(at: usize) -> u64 {
 }
 
 // The read of the byte after the first `at` fails: the messages before are counted, and a second replay goes on.
-fn goes_on<R: CountedRead, A: Allocator, B: OrderBook>(
-    rt: &impl Abort,
-    reader: &mut BlockReader<R, A>,
+fn goes_on<B: OrderBook>(
+    rt: &impl Host,
+    reader: &mut Blocks<'_>,
     market: &mut Market<B>,
     at: usize,
 ) {
@@ -44,33 +32,24 @@ fn goes_on<R: CountedRead, A: Allocator, B: OrderBook>(
     has_len(rt, market.book(), 2);
 }
 
-// The same of the day and a market over this memory.
-fn fails_and_goes_on<B: OrderBook>(
-    rt: &impl Abort,
-    alloc: Global,
-    memory: B::Alloc,
-    at: usize,
-) -> Result<(), Fail> {
-    let day = blocks(alloc, REPLACED)?;
-    let bytes = PieceReader::new(day.written(), 1, Some((at as u64).saturating_add(1)));
-    let mut reader = BlockReader::new(alloc, bytes)?;
-    let mut market: Market<B> = Market::new(memory);
-    goes_on(rt, &mut reader, &mut market, at);
-    Ok(())
-}
-
-#[test]
-fn a_replay_goes_on(rt: HostRuntime) -> Result<(), Fail> {
-    for at in 0..158 {
-        fails_and_goes_on::<IndexedBook>(&rt, rt.alloc(), rt.alloc(), at)?;
+// The same of each byte of the day, and a market over this memory.
+fn check_each<B: OrderBook>(rt: &impl Host, memory: B::Alloc) -> TestResult {
+    let day = blocks(rt.alloc(), REPLACED)?;
+    for at in 0..158usize {
+        let bytes = PieceReader::new(day.written(), 1, Some(at as u64 + 1));
+        let mut reader = BlockReader::new(rt.alloc(), bytes)?;
+        let mut market: Market<B> = Market::new(memory);
+        goes_on(rt, &mut reader, &mut market, at);
     }
     Ok(())
 }
 
 #[test]
-fn a_replay_over_a_list_goes_on(rt: HostRuntime) -> Result<(), Fail> {
-    for at in 0..158 {
-        fails_and_goes_on::<ListBook>(&rt, rt.alloc(), rt.alloc(), at)?;
-    }
-    Ok(())
+fn a_replay_goes_on(rt: HostRuntime) -> TestResult {
+    check_each::<IndexedBook>(&rt, rt.alloc())
+}
+
+#[test]
+fn a_replay_over_a_list_goes_on(rt: HostRuntime) -> TestResult {
+    check_each::<ListBook>(&rt, rt.alloc())
 }

@@ -1,15 +1,14 @@
 //! Blocks that lie at hand in a buffer.
 use super::{STREAM, copies_through};
 use crate::doubles::PieceReader;
-use crate::equal::same;
+use crate::equal::{Host, TestResult, same};
 use itch_frame::{Buffered, Counted, CountedRead};
 use std::alloc::Global;
 use std::io::BufReader;
-use std::process::Abort;
 use std::test::Fail;
 
 // Takes this block of those at hand, or none.
-fn takes<R: CountedRead>(rt: &impl Abort, reader: &mut R, room: usize, want: Option<&[u8]>) {
+fn takes<R: CountedRead>(rt: &impl Host, reader: &mut R, room: usize, want: Option<&[u8]>) {
     let mut buf = [0; 8];
     let size = reader.take_block(&mut buf[..room.min(8)]);
     same(rt, size.is_some(), want.is_some());
@@ -28,7 +27,7 @@ fn ahead(alloc: Global, bytes: &[u8]) -> Result<Buffered<PieceReader<'_>>, Fail>
 }
 
 #[test]
-fn a_block_is_taken_if_all_of_it_lies_at_hand(rt: HostRuntime) -> Result<(), Fail> {
+fn a_block_is_taken_if_all_of_it_lies_at_hand(rt: HostRuntime) -> TestResult {
     for (bytes, want) in [
         (b"z".as_slice(), None),
         (b"z\x00", None),
@@ -45,7 +44,7 @@ fn a_block_is_taken_if_all_of_it_lies_at_hand(rt: HostRuntime) -> Result<(), Fai
 }
 
 #[test]
-fn blocks_at_hand_are_taken_one_by_one(rt: HostRuntime) -> Result<(), Fail> {
+fn blocks_at_hand_are_taken_one_by_one(rt: HostRuntime) -> TestResult {
     let mut reader = ahead(rt.alloc(), b"z\x00\x01a\x00\x00\x00\x02bc\x00")?;
     takes(&rt, &mut reader, 2, None);
     for want in [
@@ -61,7 +60,7 @@ fn blocks_at_hand_are_taken_one_by_one(rt: HostRuntime) -> Result<(), Fail> {
 }
 
 #[test]
-fn nothing_lies_at_hand_without_a_buffer(rt: HostRuntime) -> Result<(), Fail> {
+fn nothing_lies_at_hand_without_a_buffer(rt: HostRuntime) -> TestResult {
     let mut reader = Counted::new(STREAM);
     takes(&rt, &mut reader, 8, None);
     let mut bytes = [0; 3];
@@ -72,13 +71,13 @@ fn nothing_lies_at_hand_without_a_buffer(rt: HostRuntime) -> Result<(), Fail> {
 
 // Pieces of all sizes, so that blocks lie at hand whole, in part and not at all.
 #[test]
-fn blocks_are_the_same_whatever_lies_at_hand(rt: HostRuntime) -> Result<(), Fail> {
+fn blocks_are_the_same_whatever_lies_at_hand(rt: HostRuntime) -> TestResult {
     for piece in 1..=STREAM.len() {
         for capacity in [8, 19, 64] {
             let source = PieceReader::new(STREAM, piece, Some(3));
             let source = BufReader::with_capacity(rt.alloc(), capacity, source)?;
             let case = (piece as u64, capacity);
-            copies_through(&rt, rt.alloc(), Buffered::new(source), case)?;
+            copies_through(&rt, Buffered::new(source), case)?;
         }
     }
     Ok(())

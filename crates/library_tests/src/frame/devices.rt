@@ -2,17 +2,15 @@
 ghost use Rattle.std.specs.Prelude.{None, IsErr};
 
 use crate::doubles::PieceReader;
-use crate::equal::same;
+use crate::equal::{Host, TestResult, same};
 use itch_frame::{
     BlockReader, Buffered, Counted, CountedRead, CountedWrite, FrameFault, write_block,
 };
 use std::alloc::Allocator;
 use std::io::{self, BufReader, ErrorKind, Read, Write};
-use std::process::Abort;
-use std::test::Fail;
 
 // What no clause can say: a standard reader's or writer's failure is not tried again, and its own error is passed on.
-fn fails_once<R: CountedRead>(rt: &impl Abort, reader: &mut R) -> Result<(), Fail> {
+fn fails_once<R: CountedRead>(rt: &impl Host, reader: &mut R) -> TestResult {
     let mut byte = [0];
     let error = reader.read_some(&mut byte).err().ok_or("an error")?;
     same(rt, error.kind(), ErrorKind::Other);
@@ -22,7 +20,7 @@ fn fails_once<R: CountedRead>(rt: &impl Abort, reader: &mut R) -> Result<(), Fai
 }
 
 #[test]
-fn a_failed_read_is_returned_at_once(rt: HostRuntime) -> Result<(), Fail> {
+fn a_failed_read_is_returned_at_once(rt: HostRuntime) -> TestResult {
     let mut reader = Counted::new(PieceReader::new(b"z", 1, Some(1)));
     fails_once(&rt, &mut reader)?;
     same(&rt, reader.failures().count(), 1);
@@ -73,7 +71,7 @@ fn is_reset(error: Option<io::Error>) -> bool {
 }
 
 // A reader that failed once with the error of its device.
-fn broken_reader(rt: &impl Abort) -> Counted<Broken> {
+fn broken_reader(rt: &impl Host) -> Counted<Broken> {
     let mut reader = Counted::new(Broken { calls: 0 });
     assert!(rt; is_reset(reader.read_some(&mut [0]).err()));
     assert!(rt; is_reset(reader.failures().last()));
@@ -82,7 +80,7 @@ fn broken_reader(rt: &impl Abort) -> Counted<Broken> {
 }
 
 // A writer that failed once with the error of its device.
-fn broken_writer(rt: &impl Abort) -> Counted<Broken> {
+fn broken_writer(rt: &impl Host) -> Counted<Broken> {
     let mut writer = Counted::new(Broken { calls: 0 });
     assert!(rt; is_reset(writer.write_some(b"z").err()));
     assert!(rt; is_reset(writer.failures().last()));
@@ -90,13 +88,13 @@ fn broken_writer(rt: &impl Abort) -> Counted<Broken> {
     writer
 }
 
-fn cannot_read<R: CountedRead, A: Allocator>(rt: &impl Abort, blocks: &mut BlockReader<R, A>) {
+fn cannot_read<R: CountedRead, A: Allocator>(rt: &impl Host, blocks: &mut BlockReader<R, A>) {
     assert!(rt;
         matches!(blocks.next_block(), Err(FrameFault::Read(error)) if is_reset(Some(error)))
     );
 }
 
-fn cannot_write<W: CountedWrite>(rt: &impl Abort, writer: &mut W) {
+fn cannot_write<W: CountedWrite>(rt: &impl Host, writer: &mut W) {
     let written = write_block(writer, b"z");
     assert!(rt;
         matches!(written, Err(FrameFault::Write { sent: 0, error }) if is_reset(Some(error)))
@@ -104,7 +102,7 @@ fn cannot_write<W: CountedWrite>(rt: &impl Abort, writer: &mut W) {
 }
 
 #[test]
-fn the_very_error_of_a_device_is_kept(rt: HostRuntime) -> Result<(), Fail> {
+fn the_very_error_of_a_device_is_kept(rt: HostRuntime) -> TestResult {
     let mut blocks = BlockReader::new(rt.alloc(), broken_reader(&rt))?;
     cannot_read(&rt, &mut blocks);
     let mut writer = broken_writer(&rt);

@@ -1,18 +1,12 @@
 //! Blocks that are looked at before they are passed.
 use super::STREAM;
 use crate::doubles::PieceReader;
-use crate::equal::same;
-use itch_frame::{BlockReader, CountedRead, FrameFault};
-use std::alloc::Allocator;
-use std::process::Abort;
-use std::test::Fail;
+use crate::equal::{Host, TestResult, same};
+use crate::files::Blocks;
+use itch_frame::{BlockReader, FrameFault};
 
 // The next block is this one, however often it is looked at; then it is passed.
-fn passes<R: CountedRead, A: Allocator>(
-    rt: &impl Abort,
-    reader: &mut BlockReader<R, A>,
-    payload: &[u8],
-) -> Result<(), FrameFault> {
+fn passes(rt: &impl Host, reader: &mut Blocks<'_>, payload: &[u8]) -> Result<(), FrameFault> {
     for _ in 0..2 {
         if !reader.load()? {
             same(rt, payload, b"a block");
@@ -27,10 +21,7 @@ fn passes<R: CountedRead, A: Allocator>(
 }
 
 // The blocks of the stream are passed; then none is left, and the end is not passed.
-fn passes_all<R: CountedRead, A: Allocator>(
-    rt: &impl Abort,
-    reader: &mut BlockReader<R, A>,
-) -> Result<(), FrameFault> {
+fn passes_all(rt: &impl Host, reader: &mut Blocks<'_>) -> Result<(), FrameFault> {
     for payload in [b"S".as_slice(), b"RR", b"", b"AAAAA", b"D"] {
         passes(rt, reader, payload)?;
     }
@@ -43,7 +34,7 @@ fn passes_all<R: CountedRead, A: Allocator>(
 }
 
 #[test]
-fn a_block_stays_the_next_one_until_it_is_passed(rt: HostRuntime) -> Result<(), Fail> {
+fn a_block_stays_the_next_one_until_it_is_passed(rt: HostRuntime) -> TestResult {
     for piece in [1, 3, 40] {
         let mut reader = BlockReader::new(rt.alloc(), PieceReader::new(STREAM, piece, None))?;
         passes_all(&rt, &mut reader)?;
@@ -52,10 +43,7 @@ fn a_block_stays_the_next_one_until_it_is_passed(rt: HostRuntime) -> Result<(), 
 }
 
 // The block that is next is the one that was looked at.
-fn is_next<R: CountedRead, A: Allocator>(
-    rt: &impl Abort,
-    reader: &mut BlockReader<R, A>,
-) -> Result<(), FrameFault> {
+fn is_next(rt: &impl Host, reader: &mut Blocks<'_>) -> Result<(), FrameFault> {
     same(rt, reader.load_at_hand(), false);
     same(rt, reader.load()?, true);
     same(rt, reader.next_block()?, Some(b"S".as_slice()));
@@ -63,7 +51,7 @@ fn is_next<R: CountedRead, A: Allocator>(
 }
 
 #[test]
-fn a_block_that_was_looked_at_is_the_next(rt: HostRuntime) -> Result<(), Fail> {
+fn a_block_that_was_looked_at_is_the_next(rt: HostRuntime) -> TestResult {
     let mut reader = BlockReader::new(rt.alloc(), PieceReader::new(STREAM, 40, None))?;
     is_next(&rt, &mut reader)?;
     Ok(())

@@ -1,12 +1,10 @@
 //! Memory that is refused, and the calls that take none.
 use super::{STREAM, copy_blocks, has_no_room, takes, write};
 use crate::doubles::{FuseWriter, PieceReader, Refusing};
-use crate::equal::same;
+use crate::equal::{Host, TestResult, same};
 use itch_frame::{BlockReader, Counted, CountedRead, FrameFault, Splitter};
 use linked_list_allocator::LocalHeap;
-use std::alloc::{Allocator, Global};
-use std::process::Abort;
-use std::test::Fail;
+use std::alloc::Allocator;
 
 // Whether a splitter can be made.
 fn has_splitter<A: Allocator>(alloc: A) -> bool {
@@ -19,7 +17,7 @@ fn has_reader<A: Allocator>(alloc: A) -> bool {
 }
 
 // A splitter and a reader each make one allocation.
-fn takes_one_allocation<A: Allocator + Copy>(rt: &impl Abort, alloc: &Refusing<A>, nth: u64) {
+fn takes_one_allocation<A: Allocator + Copy>(rt: &impl Host, alloc: &Refusing<A>, nth: u64) {
     alloc.arm(nth);
     same(rt, has_splitter(alloc), nth == 1);
     same(rt, alloc.has_refused(), nth == 0);
@@ -37,7 +35,7 @@ fn each_allocation_may_be_refused(rt: HostRuntime) {
 }
 
 // A writer over memory that is refused once writes the next block whole.
-fn goes_on<A: Allocator + Copy>(rt: &impl Abort, alloc: &Refusing<A>) -> Result<(), FrameFault> {
+fn goes_on<A: Allocator + Copy>(rt: &impl Host, alloc: &Refusing<A>) -> Result<(), FrameFault> {
     let mut writer = FuseWriter::new(alloc, 64, None);
     has_no_room(rt, &mut writer, 0);
     assert!(rt; alloc.has_refused());
@@ -47,14 +45,14 @@ fn goes_on<A: Allocator + Copy>(rt: &impl Abort, alloc: &Refusing<A>) -> Result<
 }
 
 #[test]
-fn a_writer_goes_on_after_want_of_memory(rt: HostRuntime) -> Result<(), Fail> {
+fn a_writer_goes_on_after_want_of_memory(rt: HostRuntime) -> TestResult {
     let alloc = Refusing::new(rt.alloc(), 0);
     goes_on(&rt, &alloc)?;
     Ok(())
 }
 
 // There is room for one splitter and not for a second one.
-fn has_room_for_one<A: Allocator + Copy>(rt: &impl Abort, memory: A) -> Result<(), Fail> {
+fn has_room_for_one<A: Allocator + Copy>(rt: &impl Host, memory: A) -> TestResult {
     let splitter = Splitter::new(memory)?;
     same(rt, splitter.held(), 0);
     assert!(rt; !has_splitter(memory));
@@ -63,13 +61,13 @@ fn has_room_for_one<A: Allocator + Copy>(rt: &impl Abort, memory: A) -> Result<(
 
 // A splitter takes its 65,537 bytes and no more, beyond what a heap of its own needs for itself.
 #[test]
-fn a_splitter_takes_room_for_the_longest_block_alone(rt: HostRuntime) -> Result<(), Fail> {
+fn a_splitter_takes_room_for_the_longest_block_alone(rt: HostRuntime) -> TestResult {
     let heap = LocalHeap::new(rt.alloc(), 66_000)?;
     has_room_for_one(&rt, &heap)
 }
 
 // Takes a block, and lets it go.
-fn takes_block<A: Allocator>(rt: &impl Abort, splitter: &mut Splitter<A>) {
+fn takes_block<A: Allocator>(rt: &impl Host, splitter: &mut Splitter<A>) {
     takes(rt, splitter, STREAM, (3, 3), Some(b"S"));
     splitter.clear();
     same(rt, splitter.held(), 0);
@@ -77,24 +75,23 @@ fn takes_block<A: Allocator>(rt: &impl Abort, splitter: &mut Splitter<A>) {
 
 // A reader and a splitter go through the stream, with memory for the writer alone.
 fn goes_through<R: CountedRead, A: Allocator>(
-    rt: &impl Abort,
-    alloc: Global,
+    rt: &impl Host,
     reader: &mut BlockReader<R, A>,
     splitter: &mut Splitter<A>,
 ) -> Result<(), FrameFault> {
-    let mut writer = FuseWriter::new(alloc, 2, None);
+    let mut writer = FuseWriter::new(rt.alloc(), 2, None);
     same(rt, copy_blocks(reader, &mut writer)?, 1);
     takes_block(rt, splitter);
     Ok(())
 }
 
 #[test]
-fn blocks_take_no_memory(rt: HostRuntime) -> Result<(), Fail> {
+fn blocks_take_no_memory(rt: HostRuntime) -> TestResult {
     let alloc = Refusing::new(rt.alloc(), 9);
     let mut splitter = Splitter::new(&alloc)?;
     let mut reader = BlockReader::new(&alloc, PieceReader::new(STREAM, 3, Some(2)))?;
     alloc.arm(0);
-    goes_through(&rt, rt.alloc(), &mut reader, &mut splitter)?;
+    goes_through(&rt, &mut reader, &mut splitter)?;
     assert!(rt; !alloc.has_refused());
     Ok(())
 }

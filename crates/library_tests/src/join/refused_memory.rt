@@ -1,17 +1,15 @@
 //! Each growth of a joiner refused in turn, and the calls that take no memory.
 use super::{
-    ADD_1_AT_9, ADD_3, ADD_4, BEFORE_6, BROKEN_TRADE, CLOSES, DELETE_3, END_3, END_6, EXECUTE_1,
-    JOINED_AT_3, NAMED_5, READ_2, REPLACE_1, Step, check_market, joiner, live, read, snapshot,
-    stands, take_steps,
+    BEFORE_6, JOINED_AT_3, READ_2, Step, check_market, joiner, live, read, snapshot, stands,
+    take_steps,
 };
 use crate::doubles::Refusing;
-use crate::equal::same;
-use crate::files::{AAPL, ADD_1, ADD_2, EVENT};
+use crate::equal::{Host, TestResult, same};
+use crate::payloads::*;
 use itch_book::{IndexedBook, OrderBook};
 use itch_join::{Cause, JoinFault, Joiner, Live, Snap};
 use itch_market::Refusal;
 use std::alloc::Global;
-use std::process::Abort;
 use std::test::Fail;
 
 type Index<'a> = IndexedBook<&'a Refusing<Global>>;
@@ -30,7 +28,7 @@ const NONE: u64 = 1_000_000;
 
 // A message of the live feed with its nth allocation refused, where it makes that many. Returns whether memory was refused.
 fn live_short<B: OrderBook>(
-    rt: &impl Abort,
+    rt: &impl Host,
     refusing: &Refusing<Global>,
     nth: u64,
     joiner: &mut Joiner<B>,
@@ -44,35 +42,10 @@ fn live_short<B: OrderBook>(
     is_refused
 }
 
-// What a message of a snapshot leads to.
-fn taken<B: OrderBook>(joiner: &mut Joiner<B>, payload: &[u8]) -> Result<Snap, JoinFault> {
-    joiner.snapshot(payload)
-}
-
-// The same of a message of a snapshot.
-fn snapshot_short<B: OrderBook>(
-    rt: &impl Abort,
-    refusing: &Refusing<Global>,
-    nth: u64,
-    joiner: &mut Joiner<B>,
-    payload: &[u8],
-) -> bool {
-    refusing.arm(nth);
-    let result = taken(joiner, payload);
-    let is_refused = refusing.has_refused();
-    let want = if is_refused {
-        Err(NOT_TAKEN)
-    } else {
-        Ok(Snap::More)
-    };
-    same(rt, result, want);
-    is_refused
-}
-
 // Delivers a message that has to wait with each of its allocations refused in turn, and then with memory. Returns how many
 // were refused.
 fn refuse_to_keep<B: OrderBook>(
-    rt: &impl Abort,
+    rt: &impl Host,
     refusing: &Refusing<Global>,
     joiner: &mut Joiner<B>,
     number: u64,
@@ -89,85 +62,79 @@ fn refuse_to_keep<B: OrderBook>(
     panic!(rt; "more than 16 allocations")
 }
 
-fn check_keeping<B: OrderBook>(
-    rt: &impl Abort,
-    refusing: &Refusing<Global>,
-    joiner: &mut Joiner<B>,
-) {
+fn check_keeping<B: OrderBook>(rt: &impl Host, refusing: &Refusing<Global>, memory: B::Alloc) {
+    let mut joiner: Joiner<B> = joiner(memory, 100);
     for waiting in 0..40usize {
         let number = waiting as u64 + 1;
-        assert!(rt; refuse_to_keep(rt, refusing, joiner, number, waiting) > 0);
+        assert!(rt; refuse_to_keep(rt, refusing, &mut joiner, number, waiting) > 0);
     }
 }
 
 #[test]
-fn a_message_that_would_wait(rt: HostRuntime) -> Result<(), Fail> {
-    check(&rt, rt.alloc(), 0, 100, Case::Keeping)
+fn a_message_that_would_wait(rt: HostRuntime) {
+    let refusing = Refusing::new(rt.alloc(), 0);
+    check_keeping::<Index<'_>>(&rt, &refusing, &refusing);
 }
 
 // Takes a message of the snapshot with each of its allocations refused in turn, and then with memory. Returns how many were
 // refused.
 fn refuse_to_read<B: OrderBook>(
-    rt: &impl Abort,
+    rt: &impl Host,
     refusing: &Refusing<Global>,
     joiner: &mut Joiner<B>,
     payload: &[u8],
 ) -> u64 {
     for nth in 0..16 {
-        if !snapshot_short(rt, refusing, nth, joiner, payload) {
+        refusing.arm(nth);
+        let result = joiner.snapshot(payload);
+        if !refusing.has_refused() {
+            same(rt, result, Ok(Snap::More));
             return nth;
         }
+        same(rt, result, Err(NOT_TAKEN));
     }
     panic!(rt; "more than 16 allocations")
 }
 
-// Takes each message of the snapshot so. Returns how many allocations were refused.
-fn refuse_to_read_each<B: OrderBook>(
-    rt: &impl Abort,
+fn check_reading<B: OrderBook>(
+    rt: &impl Host,
     refusing: &Refusing<Global>,
-    joiner: &mut Joiner<B>,
-) -> u64 {
+    memory: B::Alloc,
+) -> TestResult {
+    let mut joiner: Joiner<B> = joiner(memory, 2);
     let mut refused = 0u64;
     for payload in BEFORE_6 {
-        refused = refused.saturating_add(refuse_to_read(rt, refusing, joiner, payload));
+        refused = refused.saturating_add(refuse_to_read(rt, refusing, &mut joiner, payload));
     }
-    refused
-}
-
-fn check_reading<B: OrderBook>(
-    rt: &impl Abort,
-    alloc: Global,
-    refusing: &Refusing<Global>,
-    joiner: &mut Joiner<B>,
-) -> Result<(), Fail> {
-    assert!(rt; refuse_to_read_each(rt, refusing, joiner) > 0);
+    assert!(rt; refused > 0);
     refusing.arm(0);
-    snapshot(rt, joiner, END_6, Ok(Snap::Joined { next: 6 }));
+    snapshot(rt, &mut joiner, END_6, Ok(Snap::Joined { next: 6 }));
     assert!(rt; !refusing.has_refused());
-    check_market(rt, alloc, joiner, BEFORE_6)
+    check_market(rt, &joiner, BEFORE_6)
 }
 
 #[test]
-fn a_message_of_the_snapshot(rt: HostRuntime) -> Result<(), Fail> {
-    check(&rt, rt.alloc(), 0, 2, Case::Reading)
+fn a_message_of_the_snapshot(rt: HostRuntime) -> TestResult {
+    let refusing = Refusing::new(rt.alloc(), 0);
+    check_reading::<Index<'_>>(&rt, &refusing, &refusing)
 }
 
 // As many orders as there is room for, so that the replacement takes memory.
-const FOUR_ORDERS: &[&[u8]] = &[AAPL, ADD_1, ADD_2, ADD_3, NAMED_5];
+const FOUR_ORDERS: &[&[u8]] = &[AAPL, ADD_1, ADD_2, SELL_3, NAMED_5];
 
 const LEFT: &[&[u8]] = &[AAPL, ADD_2, ADD_4, NAMED_5];
 
 // The seventh and the eighth message wait, and five are in the snapshot.
 const JOINED_AT_6: &[Step<'static>] = &[
     Step::Live(8, DELETE_3, Ok(Live::Kept)),
-    Step::Live(7, REPLACE_1, Ok(Live::Kept)),
+    Step::Live(7, REPLACE_1_BY_4, Ok(Live::Kept)),
     Step::Read(FOUR_ORDERS),
     Step::Snapshot(END_6, Ok(Snap::Joined { next: 6 })),
 ];
 
 // Message 7, which waits already, is refused when it comes again, and then taken by `resume`.
 const REFUSED_AT_7: &[Step<'static>] = &[
-    Step::Live(7, REPLACE_1, Err(TAKEN)),
+    Step::Live(7, REPLACE_1_BY_4, Err(TAKEN)),
     Step::Stands(Some(7), 2),
 ];
 
@@ -179,48 +146,45 @@ const RESUMED_AT_7: &[Step<'static>] = &[
 ];
 
 fn resume_at_7<B: OrderBook>(
-    rt: &impl Abort,
-    alloc: Global,
+    rt: &impl Host,
     refusing: &Refusing<Global>,
     nth: u64,
     joiner: &mut Joiner<B>,
-) -> Result<(), Fail> {
+) -> TestResult {
     stands(rt, joiner, Some(7), 2);
     refusing.arm(nth);
-    take_steps(rt, alloc, joiner, REFUSED_AT_7)?;
+    take_steps(rt, joiner, REFUSED_AT_7)?;
     refusing.arm(nth);
-    take_steps(rt, alloc, joiner, RESUMED_AT_7)
+    take_steps(rt, joiner, RESUMED_AT_7)
 }
 
 // Message 6 is applied, and memory is refused at 7, which waits as 8 does. Returns whether memory was refused.
 fn refuse_at_7<B: OrderBook>(
-    rt: &impl Abort,
-    alloc: Global,
+    rt: &impl Host,
     refusing: &Refusing<Global>,
     nth: u64,
     joiner: &mut Joiner<B>,
 ) -> Result<bool, Fail> {
     refusing.arm(NONE);
-    take_steps(rt, alloc, joiner, JOINED_AT_6)?;
+    take_steps(rt, joiner, JOINED_AT_6)?;
     let results = [Ok(Live::Applied { next: 9 }), Err(TAKEN)];
     let is_refused = live_short(rt, refusing, nth, joiner, (6, EXECUTE_1), results);
     if is_refused {
-        resume_at_7(rt, alloc, refusing, nth, joiner)?;
+        resume_at_7(rt, refusing, nth, joiner)?;
     }
-    check_market(rt, alloc, joiner, LEFT)?;
+    check_market(rt, joiner, LEFT)?;
     Ok(is_refused)
 }
 
 // A joiner of its own for each allocation that is refused.
 fn refuse_waiting<B: OrderBook>(
-    rt: &impl Abort,
-    alloc: Global,
+    rt: &impl Host,
     memory: B::Alloc,
     refusing: &Refusing<Global>,
 ) -> Result<u64, Fail> {
     for nth in 0..16 {
         let mut joiner: Joiner<B> = joiner(memory, 2);
-        if !refuse_at_7(rt, alloc, refusing, nth, &mut joiner)? {
+        if !refuse_at_7(rt, refusing, nth, &mut joiner)? {
             return Ok(nth);
         }
     }
@@ -228,17 +192,16 @@ fn refuse_waiting<B: OrderBook>(
 }
 
 #[test]
-fn a_waiting_message(rt: HostRuntime) -> Result<(), Fail> {
+fn a_waiting_message(rt: HostRuntime) -> TestResult {
     let refusing = Refusing::new(rt.alloc(), NONE);
-    let refused = refuse_waiting::<Index<'_>>(&rt, rt.alloc(), &refusing, &refusing)?;
+    let refused = refuse_waiting::<Index<'_>>(&rt, &refusing, &refusing)?;
     assert!(rt; refused > 0);
     Ok(())
 }
 
 // A message that is next and does not wait is not taken, and is delivered again. Returns how many allocations were refused.
 fn refuse_at_3<B: OrderBook>(
-    rt: &impl Abort,
-    alloc: Global,
+    rt: &impl Host,
     refusing: &Refusing<Global>,
     joiner: &mut Joiner<B>,
 ) -> Result<u64, Fail> {
@@ -248,36 +211,37 @@ fn refuse_at_3<B: OrderBook>(
             return Ok(nth);
         }
         stands(rt, joiner, Some(3), 0);
-        check_market(rt, alloc, joiner, &[EVENT, AAPL])?;
+        check_market(rt, joiner, &[EVENT, AAPL])?;
     }
     panic!(rt; "more than 16 allocations")
 }
 
 fn check_next<B: OrderBook>(
-    rt: &impl Abort,
-    alloc: Global,
+    rt: &impl Host,
     refusing: &Refusing<Global>,
-    joiner: &mut Joiner<B>,
-) -> Result<(), Fail> {
-    take_steps(rt, alloc, joiner, &[READ_2, JOINED_AT_3])?;
-    assert!(rt; refuse_at_3(rt, alloc, refusing, joiner)? > 0);
-    check_market(rt, alloc, joiner, &[EVENT, AAPL, ADD_1])
+    memory: B::Alloc,
+) -> TestResult {
+    let mut joiner: Joiner<B> = joiner(memory, 2);
+    take_steps(rt, &mut joiner, &[READ_2, JOINED_AT_3])?;
+    assert!(rt; refuse_at_3(rt, refusing, &mut joiner)? > 0);
+    check_market(rt, &joiner, &[EVENT, AAPL, ADD_1])
 }
 
 #[test]
-fn the_next_message(rt: HostRuntime) -> Result<(), Fail> {
-    check(&rt, rt.alloc(), NONE, 2, Case::Next)
+fn the_next_message(rt: HostRuntime) -> TestResult {
+    let refusing = Refusing::new(rt.alloc(), NONE);
+    check_next::<Index<'_>>(&rt, &refusing, &refusing)
 }
 
 // The joiner has joined all the same, and goes on.
 fn check_end<B: OrderBook>(
-    rt: &impl Abort,
-    alloc: Global,
+    rt: &impl Host,
     refusing: &Refusing<Global>,
-    joiner: &mut Joiner<B>,
-) -> Result<(), Fail> {
-    live(rt, joiner, 3, ADD_1, Ok(Live::Kept));
-    read(rt, joiner, &[EVENT, AAPL]);
+    memory: B::Alloc,
+) -> TestResult {
+    let mut joiner: Joiner<B> = joiner(memory, 2);
+    live(rt, &mut joiner, 3, ADD_1, Ok(Live::Kept));
+    read(rt, &mut joiner, &[EVENT, AAPL]);
     refusing.arm(0);
     let steps = [
         Step::Snapshot(END_3, Err(TAKEN)),
@@ -286,12 +250,13 @@ fn check_end<B: OrderBook>(
         Step::Resume(Ok(Some(4))),
         Step::Market(&[EVENT, AAPL, ADD_1]),
     ];
-    take_steps(rt, alloc, joiner, &steps)
+    take_steps(rt, &mut joiner, &steps)
 }
 
 #[test]
-fn the_end_of_the_snapshot(rt: HostRuntime) -> Result<(), Fail> {
-    check(&rt, rt.alloc(), NONE, 2, Case::End)
+fn the_end_of_the_snapshot(rt: HostRuntime) -> TestResult {
+    let refusing = Refusing::new(rt.alloc(), NONE);
+    check_end::<Index<'_>>(&rt, &refusing, &refusing)
 }
 
 // No call takes memory before the second message.
@@ -322,69 +287,23 @@ const AFTER_MEMORY: &[Step<'static>] = &[
 ];
 
 fn check_without_memory<B: OrderBook>(
-    rt: &impl Abort,
-    alloc: Global,
+    rt: &impl Host,
     refusing: &Refusing<Global>,
-    joiner: &mut Joiner<B>,
-) -> Result<(), Fail> {
-    take_steps(rt, alloc, joiner, BEFORE_MEMORY)?;
+    memory: B::Alloc,
+) -> TestResult {
+    let mut joiner: Joiner<B> = joiner(memory, 1);
+    take_steps(rt, &mut joiner, BEFORE_MEMORY)?;
     assert!(rt; !refusing.has_refused());
     refusing.arm(NONE);
-    take_steps(rt, alloc, joiner, WITH_MEMORY)?;
+    take_steps(rt, &mut joiner, WITH_MEMORY)?;
     refusing.arm(0);
-    take_steps(rt, alloc, joiner, AFTER_MEMORY)?;
+    take_steps(rt, &mut joiner, AFTER_MEMORY)?;
     assert!(rt; !refusing.has_refused());
     Ok(())
 }
 
 #[test]
-fn calls_that_take_no_memory(rt: HostRuntime) -> Result<(), Fail> {
-    check(&rt, rt.alloc(), 0, 1, Case::Calls)
-}
-
-// What one joiner is tried at.
-#[derive(Clone, Copy)]
-enum Case {
-    Keeping,
-    Reading,
-    Next,
-    End,
-    Calls,
-}
-
-fn check_case<B: OrderBook>(
-    rt: &impl Abort,
-    alloc: Global,
-    refusing: &Refusing<Global>,
-    joiner: &mut Joiner<B>,
-    case: Case,
-) -> Result<(), Fail> {
-    match case {
-        Case::Keeping => {
-            check_keeping(rt, refusing, joiner);
-            Ok(())
-        }
-        Case::Reading => check_reading(rt, alloc, refusing, joiner),
-        Case::Next => check_next(rt, alloc, refusing, joiner),
-        Case::End => check_end(rt, alloc, refusing, joiner),
-        Case::Calls => check_without_memory(rt, alloc, refusing, joiner),
-    }
-}
-
-fn check_joiner<B: OrderBook>(
-    rt: &impl Abort,
-    alloc: Global,
-    memory: B::Alloc,
-    refusing: &Refusing<Global>,
-    cap: usize,
-    case: Case,
-) -> Result<(), Fail> {
-    let mut joiner: Joiner<B> = joiner(memory, cap);
-    check_case(rt, alloc, refusing, &mut joiner, case)
-}
-
-// A joiner for which `cap` messages may wait, whose memory is refused at first after `before` allocations.
-fn check(rt: &impl Abort, alloc: Global, before: u64, cap: usize, case: Case) -> Result<(), Fail> {
-    let refusing = Refusing::new(alloc, before);
-    check_joiner::<Index<'_>>(rt, alloc, &refusing, &refusing, cap, case)
+fn calls_that_take_no_memory(rt: HostRuntime) -> TestResult {
+    let refusing = Refusing::new(rt.alloc(), 0);
+    check_without_memory::<Index<'_>>(&rt, &refusing, &refusing)
 }

@@ -1,42 +1,28 @@
 //! Joiners restricted to a set of locates.
-use super::{ADD_1_AT_9, END_3, END_6, Step, take_steps};
-use crate::files::{AAPL, ADD_1, ADD_2, EVENT};
+use super::{Step, take_steps};
+use crate::equal::{Host, TestResult};
+use crate::payloads::*;
 use itch_book::{IndexedBook, OrderBook};
 use itch_codec::CodecFault;
 use itch_join::{Cause, JoinFault, Joiner, Live, Snap};
 use itch_market::{LocateSet, Refusal};
-use std::alloc::Global;
-use std::process::Abort;
-use std::test::Fail;
-
-const MSFT: &[u8] = b"R\0\x02\0\0\0\0\0\0\0\0MSFT    QN\0\0\0dNCZ PNN1N\0\0\0\0N";
 
 // A joiner of locate 1 for which `cap` messages may wait takes these steps.
 fn check<B: OrderBook>(
-    rt: &impl Abort,
-    alloc: Global,
+    rt: &impl Host,
     memory: B::Alloc,
     cap: usize,
     steps: &[Step<'_>],
-) -> Result<(), Fail> {
+) -> TestResult {
     let mut set = LocateSet::new(memory);
     set.insert(1)?;
     let mut joiner: Joiner<B> = Joiner::only(memory, cap, set);
-    take_steps(rt, alloc, &mut joiner, steps)
-}
-
-fn check_indexed(
-    rt: &impl Abort,
-    alloc: Global,
-    cap: usize,
-    steps: &[Step<'_>],
-) -> Result<(), Fail> {
-    check::<IndexedBook>(rt, alloc, alloc, cap, steps)
+    take_steps(rt, &mut joiner, steps)
 }
 
 // What is at other locates is counted in the snapshot and in the feed, and follows no rule.
 #[test]
-fn counts_what_it_skips(rt: HostRuntime) -> Result<(), Fail> {
+fn counts_what_it_skips(rt: HostRuntime) -> TestResult {
     let steps = [
         Step::Live(8, ADD_2, Ok(Live::Kept)),
         Step::Read(&[EVENT, ADD_1_AT_9, AAPL, MSFT]),
@@ -47,11 +33,11 @@ fn counts_what_it_skips(rt: HostRuntime) -> Result<(), Fail> {
         Step::Stands(Some(10), 0),
         Step::Market(&[EVENT, AAPL, ADD_1, ADD_2]),
     ];
-    check_indexed(&rt, rt.alloc(), 2, &steps)
+    check::<IndexedBook>(&rt, rt.alloc(), 2, &steps)
 }
 
 // This payload of message 4 halts it.
-fn check_halt(rt: &impl Abort, alloc: Global, payload: &[u8], cause: Cause) -> Result<(), Fail> {
+fn check_halt(rt: &impl Host, payload: &[u8], cause: Cause) -> TestResult {
     let halted = JoinFault::Halted { number: 4, cause };
     let steps = [
         Step::Read(&[EVENT, MSFT]),
@@ -61,17 +47,17 @@ fn check_halt(rt: &impl Abort, alloc: Global, payload: &[u8], cause: Cause) -> R
         Step::Stands(Some(4), 0),
         Step::Market(&[EVENT]),
     ];
-    check_indexed(rt, alloc, 0, &steps)
+    check::<IndexedBook>(rt, rt.alloc(), 0, &steps)
 }
 
 // A payload without a message halts it, whatever the set, and a rule broken at its own locate.
 #[test]
-fn is_halted_by_what_it_does_not_skip(rt: HostRuntime) -> Result<(), Fail> {
+fn is_halted_by_what_it_does_not_skip(rt: HostRuntime) -> TestResult {
     for (payload, cause) in [
         (b"" as &[u8], Cause::Codec(CodecFault::Empty)),
         (ADD_1, Cause::Rule(Refusal::UnknownLocate)),
     ] {
-        check_halt(&rt, rt.alloc(), payload, cause)?;
+        check_halt(&rt, payload, cause)?;
     }
     Ok(())
 }

@@ -1,10 +1,10 @@
 //! What a market holds, by its calls.
 use crate::book::{after, first, has_len};
+use crate::equal::Host;
 use itch_book::{Order, OrderBook};
 use itch_codec::{Alpha, Directory};
 use itch_market::{Action, Market, Security};
 use std::alloc::{AllocError, Allocator, Global};
-use std::process::Abort;
 
 /// The event, the securities with their locates, and the orders in snapshot order.
 #[derive(Debug, Drop, PartialEq)]
@@ -42,8 +42,8 @@ fn kept_at<A: Allocator>(
     })
 }
 
-fn push_orders<B: OrderBook>(
-    rt: &impl Abort,
+pub(crate) fn push_orders<B: OrderBook>(
+    rt: &impl Host,
     book: &B,
     locate: u16,
     orders: &mut Vec<Order>,
@@ -71,14 +71,13 @@ fn push_kept<B: OrderBook>(
 }
 
 pub(crate) fn content_of<B: OrderBook>(
-    rt: &impl Abort,
-    alloc: Global,
+    rt: &impl Host,
     market: &Market<B>,
 ) -> Result<Content, AllocError> {
-    let mut securities = Vec::new(alloc);
-    let mut orders = Vec::new(alloc);
+    let mut securities = Vec::new(rt.alloc());
+    let mut orders = Vec::new(rt.alloc());
     for locate in market.locates() {
-        push_kept(alloc, market, locate, &mut securities)?;
+        push_kept(rt.alloc(), market, locate, &mut securities)?;
         push_orders(rt, market.book(), locate, &mut orders)?;
     }
     has_len(rt, market.book(), orders.len());
@@ -89,20 +88,15 @@ pub(crate) fn content_of<B: OrderBook>(
     })
 }
 
-fn references_of(alloc: Global, orders: &[Order]) -> Result<Vec<u64>, AllocError> {
-    let mut references = Vec::new(alloc);
-    for order in orders {
+/// The references of the orders in snapshot order.
+pub(crate) fn references<B: OrderBook>(
+    rt: &impl Host,
+    market: &Market<B>,
+) -> Result<Vec<u64>, AllocError> {
+    let content = content_of(rt, market)?;
+    let mut references = Vec::new(rt.alloc());
+    for order in &content.orders {
         references.push(order.reference)?;
     }
     Ok(references)
-}
-
-/// The references of the orders in snapshot order.
-pub(crate) fn references<B: OrderBook>(
-    rt: &impl Abort,
-    alloc: Global,
-    market: &Market<B>,
-) -> Result<Vec<u64>, AllocError> {
-    let content = content_of(rt, alloc, market)?;
-    references_of(alloc, &content.orders)
 }

@@ -1,17 +1,13 @@
 //! Sets of locates, and the messages that they skip.
-use super::messages::{
-    add, attributed, cancel, delete, directory, end, event, executed, executed_with_price, halt,
-    made, position, reg_sho, replace, trading_action,
-};
+use crate::equal::{Host, TestResult};
+use crate::messages::*;
 use itch_codec::{Message, Side, decode};
 use itch_market::LocateSet;
 use std::alloc::{AllocError, Allocator, Global};
-use std::process::Abort;
-use std::test::Fail;
 
 // A locate is not in a set until it is inserted, once or twice.
 fn insert_twice<A: Allocator + Copy>(
-    rt: &impl Abort,
+    rt: &impl Host,
     set: &mut LocateSet<A>,
     locate: u16,
 ) -> Result<(), AllocError> {
@@ -24,7 +20,7 @@ fn insert_twice<A: Allocator + Copy>(
 }
 
 #[test]
-fn contains_what_was_inserted(rt: HostRuntime) -> Result<(), Fail> {
+fn contains_what_was_inserted(rt: HostRuntime) -> TestResult {
     let mut set = LocateSet::new(rt.alloc());
     for locate in [0u16, 2, 65535] {
         insert_twice(&rt, &mut set, locate)?;
@@ -47,22 +43,17 @@ fn skipped_by(alloc: Global, locate: u16, message: &Message<'_>) -> Result<bool,
     Ok(set.skips(message))
 }
 
-// The empty set skips a message, and that of all locates does not.
-fn check_least_and_greatest(rt: &impl Abort, alloc: Global, message: &Message<'_>) {
-    assert!(rt; LocateSet::new(alloc).skips(message));
-    assert!(rt; !LocateSet::all(alloc).skips(message));
-}
-
 // A message about a security or an order at locate 1 is skipped by the sets without it.
-fn check_skipped(rt: &impl Abort, alloc: Global, message: &Message<'_>) -> Result<(), AllocError> {
-    assert!(rt; !skipped_by(alloc, 1, message)?);
-    assert!(rt; skipped_by(alloc, 2, message)?);
-    check_least_and_greatest(rt, alloc, message);
+fn check_skipped(rt: &impl Host, message: &Message<'_>) -> Result<(), AllocError> {
+    assert!(rt; !skipped_by(rt.alloc(), 1, message)?);
+    assert!(rt; skipped_by(rt.alloc(), 2, message)?);
+    assert!(rt; LocateSet::new(rt.alloc()).skips(message));
+    assert!(rt; !LocateSet::all(rt.alloc()).skips(message));
     Ok(())
 }
 
 #[test]
-fn skips_the_messages_of_other_locates(rt: HostRuntime) -> Result<(), Fail> {
+fn skips_the_messages_of_other_locates(rt: HostRuntime) -> TestResult {
     let messages = [
         directory(1, "AAPL", 100),
         trading_action(1, "AAPL", b'T'),
@@ -78,7 +69,7 @@ fn skips_the_messages_of_other_locates(rt: HostRuntime) -> Result<(), Fail> {
         replace(1, 1, 3, 10, 1500000),
     ];
     for message in &messages {
-        check_skipped(&rt, rt.alloc(), made(message)?)?;
+        check_skipped(&rt, made(message)?)?;
     }
     Ok(())
 }
@@ -92,17 +83,17 @@ const OTHERS: &[&[u8]] = &[
 ];
 
 // The empty set does not skip this message.
-fn is_kept(rt: &impl Abort, alloc: Global, message: &Message<'_>) {
-    assert!(rt; !LocateSet::new(alloc).skips(message));
+fn is_kept(rt: &impl Host, message: &Message<'_>) {
+    assert!(rt; !LocateSet::new(rt.alloc()).skips(message));
 }
 
 #[test]
-fn skips_nothing_else(rt: HostRuntime) -> Result<(), Fail> {
+fn skips_nothing_else(rt: HostRuntime) -> TestResult {
     for message in &[event(b'O'), end(4)] {
-        is_kept(&rt, rt.alloc(), made(message)?);
+        is_kept(&rt, made(message)?);
     }
     for payload in OTHERS {
-        is_kept(&rt, rt.alloc(), &decode(payload)?);
+        is_kept(&rt, &decode(payload)?);
     }
     Ok(())
 }

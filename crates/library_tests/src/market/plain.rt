@@ -1,19 +1,15 @@
 //! The plainest message for each type of message, by hand.
 use super::market_of;
-use super::messages::{
-    add, attributed, cancel, delete, directory, end, event, executed, executed_with_price, halt,
-    header, made, position, reg_sho, replace, stock, trading_action,
-};
-use crate::equal::same_in;
+use crate::equal::{Host, TestResult, same_in};
+use crate::messages::*;
 use itch_book::{ListBook, OrderBook};
-use itch_codec::{BrokenTrade, Message, Side, TradingAction, decode, encode};
+use itch_codec::{Message, Side, TradingAction, decode, encode};
 use itch_market::{Market, same_message};
 use std::alloc::{AllocError, Global};
-use std::process::Abort;
 use std::test::Fail;
 
 // A message, and its plainest.
-type Row = (Option<Message<'static>>, Option<Message<'static>>);
+type Row = (Made, Made);
 
 // AAPL at locate 1 with all that can be set, and a bid for 100 shares of reference 1.
 fn begun<B: OrderBook>(alloc: B::Alloc) -> Result<Market<B>, Fail> {
@@ -30,15 +26,12 @@ fn begun<B: OrderBook>(alloc: B::Alloc) -> Result<Market<B>, Fail> {
 }
 
 // The message that stands for all that change nothing.
-fn nothing() -> Option<Message<'static>> {
-    Some(Message::BrokenTrade(BrokenTrade {
-        header: header(0)?,
-        match_number: 0,
-    }))
+fn nothing() -> Made {
+    broken_trade(0, 0)
 }
 
 // A halt of AAPL without its reserved byte.
-fn halted() -> Option<Message<'static>> {
+fn halted() -> Made {
     Some(Message::TradingAction(TradingAction {
         header: header(1)?,
         stock: stock("AAPL")?,
@@ -59,7 +52,7 @@ fn stamped(alloc: Global, message: &Message<'_>) -> Result<Vec<u8>, AllocError> 
 }
 
 fn check_plain<B: OrderBook>(
-    rt: &impl Abort,
+    rt: &impl Host,
     market: &Market<B>,
     row: usize,
     message: &Message<'_>,
@@ -69,16 +62,11 @@ fn check_plain<B: OrderBook>(
 }
 
 // Each message has its plainest, and so has it with another tracking number and timestamp.
-fn check_rows<B: OrderBook>(
-    rt: &impl Abort,
-    alloc: Global,
-    memory: B::Alloc,
-    rows: &[Row],
-) -> Result<(), Fail> {
+fn check_rows<B: OrderBook>(rt: &impl Host, memory: B::Alloc, rows: &[Row]) -> TestResult {
     let market: Market<B> = begun(memory)?;
     for (row, (message, want)) in rows.iter().enumerate() {
         let message = made(message)?;
-        let bytes = stamped(alloc, message)?;
+        let bytes = stamped(rt.alloc(), message)?;
         check_plain(rt, &market, row, message, made(want)?);
         check_plain(rt, &market, row, &decode(&bytes)?, made(want)?);
     }
@@ -86,7 +74,9 @@ fn check_rows<B: OrderBook>(
 }
 
 #[test]
-fn plain_messages_of_securities(rt: HostRuntime) -> Result<(), Fail> {
+fn plain_messages_of_securities(rt: HostRuntime) -> TestResult {
+    let no_more = || position(1, "ABCD", "AAPL", b'D');
+    let other = || position(1, "ZZZZ", "AAPL", b'A');
     let rows = [
         (event(b'O'), nothing()),
         (event(b'S'), event(b'S')),
@@ -101,25 +91,17 @@ fn plain_messages_of_securities(rt: HostRuntime) -> Result<(), Fail> {
         (halt(1, "AAPL", b'Q', b'T'), halt(1, "AAPL", b'Q', b'T')),
         (halt(1, "AAPL", b'X', b'H'), halt(1, "AAPL", b'X', b'H')),
         (position(1, "ABCD", "AAPL", b'A'), nothing()),
-        (
-            position(1, "ABCD", "AAPL", b'D'),
-            position(1, "ABCD", "AAPL", b'D'),
-        ),
-        (
-            position(1, "ZZZZ", "AAPL", b'A'),
-            position(1, "ZZZZ", "AAPL", b'A'),
-        ),
+        (no_more(), no_more()),
+        (other(), other()),
     ];
-    check_rows::<ListBook>(&rt, rt.alloc(), rt.alloc(), &rows)
+    check_rows::<ListBook>(&rt, rt.alloc(), &rows)
 }
 
 #[test]
-fn plain_messages_of_orders(rt: HostRuntime) -> Result<(), Fail> {
+fn plain_messages_of_orders(rt: HostRuntime) -> TestResult {
+    let sale = || add(1, 9, Side::Sell, 5, "AAPL", 1500100);
     let rows = [
-        (
-            add(1, 9, Side::Sell, 5, "AAPL", 1500100),
-            add(1, 9, Side::Sell, 5, "AAPL", 1500100),
-        ),
+        (sale(), sale()),
         (attributed(9, 5, 1500000), attributed(9, 5, 1500000)),
         (executed(1, 1, 0), nothing()),
         (executed(1, 1, 40), cancel(1, 1, 40)),
@@ -133,7 +115,7 @@ fn plain_messages_of_orders(rt: HostRuntime) -> Result<(), Fail> {
         (delete(1, 1), delete(1, 1)),
         (replace(1, 1, 9, 5, 1500100), replace(1, 1, 9, 5, 1500100)),
     ];
-    check_rows::<ListBook>(&rt, rt.alloc(), rt.alloc(), &rows)
+    check_rows::<ListBook>(&rt, rt.alloc(), &rows)
 }
 
 // Trades, and a message that is not decoded, each with locate 1.
@@ -144,7 +126,7 @@ const OTHERS: &[&[u8]] = &[
     b"N\0\x01\0\x02\0\0\0\0\0\x03AAPL    N",
 ];
 
-fn check_others<B: OrderBook>(rt: &impl Abort, memory: B::Alloc) -> Result<(), Fail> {
+fn check_others<B: OrderBook>(rt: &impl Host, memory: B::Alloc) -> TestResult {
     let market: Market<B> = begun(memory)?;
     let nothing = nothing();
     let want = made(&nothing)?;
@@ -156,12 +138,12 @@ fn check_others<B: OrderBook>(rt: &impl Abort, memory: B::Alloc) -> Result<(), F
 }
 
 #[test]
-fn trades_change_nothing(rt: HostRuntime) -> Result<(), Fail> {
+fn trades_change_nothing(rt: HostRuntime) -> TestResult {
     check_others::<ListBook>(&rt, rt.alloc())
 }
 
 #[test]
-fn messages_are_compared_by_type_and_fields(rt: HostRuntime) -> Result<(), Fail> {
+fn messages_are_compared_by_type_and_fields(rt: HostRuntime) -> TestResult {
     let all = [
         delete(1, 1),
         delete(1, 2),

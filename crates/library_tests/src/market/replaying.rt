@@ -1,93 +1,44 @@
 //! Replays that fail in the middle, and go on.
 use crate::doubles::PieceReader;
-use crate::equal::same;
+use crate::equal::{Host, TestResult, same};
+use crate::files::{Blocks, blocks, replayed};
+use crate::payloads::{AAPL, ADD_2};
 use itch_book::{ListBook, OrderBook};
-use itch_frame::{BlockReader, CountedRead};
-use itch_market::{Market, Refusal, Stop, replay, replay_first};
-use std::alloc::{Allocator, Global};
-use std::process::Abort;
-use std::test::Fail;
-
-// Stock Directory: AAPL at locate 1.
-const AAPL: &[u8; 41] =
-    b"\x00'R\x00\x01\x00\x00\x00\x00\x00\x00\x00\x00AAPL    QN\x00\x00\x00dNCZ PNN1N\x00\x00\x00\x00N";
-// Order 2: buy 200 at 150.0000.
-const BUY_2: &[u8; 38] =
-    b"\x00$A\x00\x01\x00\x00\x00\x00\x00\x00\x00\x00\x00\x00\x00\x00\x00\x00\x00\x02B\x00\x00\x00\xc8AAPL    \x00\x16\xe3`";
-
-fn day(alloc: Global, blocks: &[&[u8]]) -> Result<Vec<u8>, Fail> {
-    let mut bytes = Vec::new(alloc);
-    for block in blocks {
-        bytes.extend_from_slice(block)?;
-    }
-    Ok(bytes)
-}
-
-// Replays what a reader has left, and takes `want` messages of it.
-fn replayed<R: CountedRead, A: Allocator, B: OrderBook>(
-    rt: &impl Abort,
-    reader: &mut BlockReader<R, A>,
-    market: &mut Market<B>,
-    want: u64,
-) -> Stop {
-    let end = replay(reader, market);
-    same(rt, end.count, want);
-    end.stop
-}
+use itch_frame::BlockReader;
+use itch_market::{Market, Refusal, Stop, replay_first};
 
 // Takes the first two messages.
-fn replay_two<R: CountedRead, A: Allocator, B: OrderBook>(
-    rt: &impl Abort,
-    reader: &mut BlockReader<R, A>,
-    market: &mut Market<B>,
-) {
+fn replay_two<B: OrderBook>(rt: &impl Host, reader: &mut Blocks<'_>, market: &mut Market<B>) {
     let (count, stop) = replay_first(reader, market, 2);
     same(rt, count, 2);
     assert!(rt; stop.is_none());
 }
 
 // A refused message ends a replay, and the next replay begins after it.
-fn goes_on<R: CountedRead, A: Allocator, B: OrderBook>(
-    rt: &impl Abort,
-    reader: &mut BlockReader<R, A>,
-    market: &mut Market<B>,
-) {
-    let stop = replayed(rt, reader, market, 2);
+fn goes_on<B: OrderBook>(rt: &impl Host, reader: &mut Blocks<'_>, market: &mut Market<B>) {
+    let (count, stop) = replayed(reader, market);
+    same(rt, count, 2);
     assert!(rt; matches!(stop, Stop::Rule(Refusal::DuplicateRef)));
-    let stop = replayed(rt, reader, market, 1);
+    let (count, stop) = replayed(reader, market);
+    same(rt, count, 1);
     assert!(rt; matches!(stop, Stop::End));
 }
 
-// The third message is refused, and the fourth is taken.
-fn check_rest<B: OrderBook>(
-    rt: &impl Abort,
-    alloc: Global,
-    memory: B::Alloc,
-    bytes: &[u8],
-) -> Result<(), Fail> {
-    let mut reader = BlockReader::new(alloc, PieceReader::new(bytes, 64, None))?;
+// The first two messages are taken; of all, the third one is refused, and the fourth is taken.
+fn check<B: OrderBook>(rt: &impl Host, memory: B::Alloc, is_whole: bool) -> TestResult {
+    let day = blocks(rt.alloc(), &[AAPL, ADD_2, ADD_2, AAPL])?;
+    let mut reader = BlockReader::new(rt.alloc(), PieceReader::new(day.written(), 64, None))?;
     let mut market: Market<B> = Market::new(memory);
-    goes_on(rt, &mut reader, &mut market);
-    Ok(())
-}
-
-// The first two messages are taken.
-fn check_first<B: OrderBook>(
-    rt: &impl Abort,
-    alloc: Global,
-    memory: B::Alloc,
-    bytes: &[u8],
-) -> Result<(), Fail> {
-    let mut reader = BlockReader::new(alloc, PieceReader::new(bytes, 64, None))?;
-    let mut market: Market<B> = Market::new(memory);
-    replay_two(rt, &mut reader, &mut market);
+    if is_whole {
+        goes_on(rt, &mut reader, &mut market);
+    } else {
+        replay_two(rt, &mut reader, &mut market);
+    }
     Ok(())
 }
 
 #[test]
-fn a_refused_message_is_read_and_not_counted(rt: HostRuntime) -> Result<(), Fail> {
-    let alloc = rt.alloc();
-    let bytes = day(alloc, &[AAPL, BUY_2, BUY_2, AAPL])?;
-    check_rest::<ListBook>(&rt, alloc, alloc, bytes.as_slice())?;
-    check_first::<ListBook>(&rt, alloc, alloc, bytes.as_slice())
+fn a_refused_message_is_read_and_not_counted(rt: HostRuntime) -> TestResult {
+    check::<ListBook>(&rt, rt.alloc(), true)?;
+    check::<ListBook>(&rt, rt.alloc(), false)
 }

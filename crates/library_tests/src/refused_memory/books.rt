@@ -1,62 +1,32 @@
 //! Orders added and replaced.
-use crate::book::{after, first, has_len, live, next_price, total};
+use crate::book::{add, has_len, live, next_price, order, replace_at, total};
 use crate::doubles::Refusing;
-use crate::equal::same;
+use crate::equal::{Host, TestResult, same};
+use crate::market::content::push_orders;
 use itch_book::{IndexedBook, ListBook, Order, OrderBook, SettledBook};
 use itch_codec::Side;
 use std::alloc::{AllocError, Global};
-use std::process::Abort;
-use std::test::Fail;
 
-// An order to buy at locate 1.
-fn bid(reference: u64, shares: u32, price: u32) -> Order {
-    Order {
-        reference,
-        locate: 1,
-        side: Side::Buy,
-        shares,
-        price,
-        mpid: None,
-    }
-}
-
-// A call that may grow a book.
-#[derive(Clone, Copy)]
-struct Growth {
-    // The order that is replaced, or none where one is added.
+// A call that may grow a book: it adds an order, or replaces one by it.
+fn call<B: OrderBook>(
+    rt: &impl Host,
+    book: &mut B,
     original: Option<u64>,
     order: Order,
-}
-
-impl Growth {
-    fn call<B: OrderBook>(&self, rt: &impl Abort, book: &mut B) -> Result<(), AllocError> {
-        let order = self.order;
-        assert!(rt; order.shares > 0);
-        assert!(rt; book.get(order.reference).is_none());
-        match self.original {
-            None => book.add(order),
-            Some(original) => {
-                assert!(rt; book.get(original).is_some());
-                book.replace(original, 0, order.reference, order.shares, order.price)
-            }
+) -> Result<(), AllocError> {
+    match original {
+        None => add(rt, book, order),
+        Some(original) => {
+            let (shares, price) = (order.shares, order.price);
+            replace_at(rt, book, original, 0, order.reference, shares, price)
         }
     }
 }
 
 // The orders of locate 1, in snapshot order.
-fn listed<B: OrderBook>(
-    rt: &impl Abort,
-    alloc: Global,
-    book: &B,
-) -> Result<Vec<Order>, AllocError> {
-    let mut orders = Vec::new(alloc);
-    let mut next = first(book, 1);
-    for _ in 0..book.len() {
-        let Some(order) = next else { break };
-        let reference = order.reference;
-        orders.push(order)?;
-        next = after(rt, book, reference);
-    }
+fn listed<B: OrderBook>(rt: &impl Host, book: &B) -> Result<Vec<Order>, AllocError> {
+    let mut orders = Vec::new(rt.alloc());
+    push_orders(rt, book, 1, &mut orders)?;
     Ok(orders)
 }
 
@@ -69,121 +39,82 @@ fn level<B: OrderBook>(book: &B, order: &Order) -> (Option<u32>, (u128, u64)) {
 }
 
 // These are the orders of locate 1.
-fn has_orders<B: OrderBook>(
-    rt: &impl Abort,
-    alloc: Global,
-    book: &B,
-    want: &[Order],
-) -> Result<(), AllocError> {
-    same(rt, listed(rt, alloc, book)?.as_slice(), want);
+fn has_orders<B: OrderBook>(rt: &impl Host, book: &B, want: &[Order]) -> Result<(), AllocError> {
+    same(rt, listed(rt, book)?.as_slice(), want);
     Ok(())
 }
 
 // Makes a call with this allocation refused. Returns whether it was.
 fn refuse_one<B: OrderBook>(
-    rt: &impl Abort,
+    rt: &impl Host,
     refusing: &Refusing<Global>,
     book: &mut B,
-    growth: &Growth,
+    (original, order): (Option<u64>, Order),
     nth: u64,
 ) -> bool {
-    let order = growth.order;
-    let reference = order.reference;
     refusing.arm(nth);
-    if growth.call(rt, book).is_ok() {
-        assert!(rt; !refusing.has_refused());
-        same(rt, live(book, reference), Some(order));
-        return false;
-    }
-    assert!(rt; refusing.has_refused());
-    assert!(rt; live(book, reference).is_none());
-    true
+    let is_done = call(rt, book, original, order).is_ok();
+    same(rt, refusing.has_refused(), !is_done);
+    let want = if is_done { Some(order) } else { None };
+    same(rt, live(book, order.reference), want);
+    !is_done
 }
 
 // Makes a call with each of its allocations refused in turn, and then with memory. Returns how many were refused.
 fn refuse_each<B: OrderBook>(
-    rt: &impl Abort,
-    alloc: Global,
+    rt: &impl Host,
     refusing: &Refusing<Global>,
     book: &mut B,
-    growth: Growth,
+    original: Option<u64>,
+    order: Order,
 ) -> Result<u64, AllocError> {
-    let orders = listed(rt, alloc, book)?;
-    let before = level(book, &growth.order);
+    let orders = listed(rt, book)?;
+    let before = level(book, &order);
     for nth in 0..16 {
-        if !refuse_one(rt, refusing, book, &growth, nth) {
+        if !refuse_one(rt, refusing, book, (original, order), nth) {
             return Ok(nth);
         }
-        has_orders(rt, alloc, book, &orders)?;
-        same(rt, &level(book, &growth.order), &before);
+        has_orders(rt, book, &orders)?;
+        same(rt, &level(book, &order), &before);
     }
     panic!(rt; "more than 16 allocations")
-}
-
-// Adds an order at a price, and returns how many allocations were refused.
-fn add_one<B: OrderBook>(
-    rt: &impl Abort,
-    alloc: Global,
-    refusing: &Refusing<Global>,
-    book: &mut B,
-    (number, price): (u64, u32),
-) -> Result<u64, AllocError> {
-    let added = Growth {
-        original: None,
-        order: bid(number, 10, price),
-    };
-    refuse_each(rt, alloc, refusing, book, added)
-}
-
-// Replaces an order by one at a price, and returns how many allocations were refused.
-fn replace_one<B: OrderBook>(
-    rt: &impl Abort,
-    alloc: Global,
-    refusing: &Refusing<Global>,
-    book: &mut B,
-    (number, price): (u64, u32),
-) -> Result<u64, AllocError> {
-    let replaced = Growth {
-        original: Some(number),
-        order: bid(number.wrapping_add(100), 20, price),
-    };
-    let refused = refuse_each(rt, alloc, refusing, book, replaced)?;
-    assert!(rt; live(book, number).is_none());
-    Ok(refused)
 }
 
 // Adds forty orders, each so far above the price before, and replaces every `every`-th by one as far above it.
 // Returns how many allocations of the additions and of the replacements were refused.
 fn grow<B: OrderBook>(
-    rt: &impl Abort,
-    alloc: Global,
+    rt: &impl Host,
     refusing: &Refusing<Global>,
     book: &mut B,
-    step: u32,
-    every: u64,
+    (step, every): (u32, u64),
 ) -> Result<(u64, u64), AllocError> {
     let mut additions = 0u64;
     let mut replacements = 0u64;
     for number in 1..41u64 {
         let price = 1500000u32.wrapping_add(step.wrapping_mul(2 * number as u32));
-        let refused = add_one(rt, alloc, refusing, book, (number, price))?;
+        let added = order(number, Side::Buy, 10, price);
+        let refused = refuse_each(rt, refusing, book, None, added)?;
         additions = additions.saturating_add(refused);
         if number.checked_rem(every) == Some(0) {
-            let price = price.wrapping_add(step);
-            let refused = replace_one(rt, alloc, refusing, book, (number, price))?;
+            let replacement = order(number + 100, Side::Buy, 20, price.wrapping_add(step));
+            let refused = refuse_each(rt, refusing, book, Some(number), replacement)?;
             replacements = replacements.saturating_add(refused);
+            assert!(rt; live(book, number).is_none());
         }
     }
     has_len(rt, book, 40);
     Ok((additions, replacements))
 }
 
+// How far apart the prices are, and which orders are replaced.
+const WAYS: [(u32, u64); 4] = [(0, 1), (0, 3), (100, 1), (100, 3)];
+
 #[test]
-fn a_list_book_stays_as_it_was(rt: HostRuntime) -> Result<(), Fail> {
-    for (step, every) in [(0, 1), (0, 3), (100, 1), (100, 3)] {
+fn a_list_book_stays_as_it_was(rt: HostRuntime) -> TestResult {
+    for (step, every) in WAYS {
         let refusing = Refusing::new(rt.alloc(), 0);
         let mut book: ListBook<&Refusing<Global>> = ListBook::new(&refusing);
-        let (additions, replacements) = grow(&rt, rt.alloc(), &refusing, &mut book, step, every)?;
+        let (additions, replacements) = grow(&rt, &refusing, &mut book, (step, every))?;
         assert!(rt; additions > 1);
         // The order that is replaced leaves room.
         same(&rt, replacements, 0);
@@ -194,11 +125,11 @@ fn a_list_book_stays_as_it_was(rt: HostRuntime) -> Result<(), Fail> {
 // A call that is refused keeps room that it made, so that three calls for the first order are refused. A replacement of every
 // order takes the allocations that follow, a replacement of every third leaves them to the additions.
 #[test]
-fn an_indexed_book_stays_as_it_was(rt: HostRuntime) -> Result<(), Fail> {
-    for (step, every) in [(0, 1), (0, 3), (100, 1), (100, 3)] {
+fn an_indexed_book_stays_as_it_was(rt: HostRuntime) -> TestResult {
+    for (step, every) in WAYS {
         let refusing = Refusing::new(rt.alloc(), 0);
         let mut book: IndexedBook<&Refusing<Global>> = IndexedBook::new(&refusing);
-        let (additions, replacements) = grow(&rt, rt.alloc(), &refusing, &mut book, step, every)?;
+        let (additions, replacements) = grow(&rt, &refusing, &mut book, (step, every))?;
         assert!(rt; additions >= 3);
         assert!(rt; additions > 3 || every == 1);
         assert!(rt; replacements > 3 || every == 3);
@@ -207,33 +138,28 @@ fn an_indexed_book_stays_as_it_was(rt: HostRuntime) -> Result<(), Fail> {
 }
 
 // Adds three hundred levels, which are more than one line of an indexed book takes.
-fn fill_line<B: OrderBook>(rt: &impl Abort, book: &mut B) -> Result<(), AllocError> {
+fn fill_line<B: OrderBook>(rt: &impl Host, book: &mut B) -> Result<(), AllocError> {
     for number in 1000..1300u32 {
-        let added = Growth {
-            original: None,
-            order: bid(u64::from(number), 10, 1000000 + number),
-        };
-        added.call(rt, book)?;
+        add(
+            rt,
+            book,
+            order(u64::from(number), Side::Buy, 10, 1000000 + number),
+        )?;
     }
     Ok(())
 }
 
 // Levels that find their line full are refused in turn too, above and below those that are there.
 #[test]
-fn an_indexed_book_with_a_full_line_stays_as_it_was(rt: HostRuntime) -> Result<(), Fail> {
+fn an_indexed_book_with_a_full_line_stays_as_it_was(rt: HostRuntime) -> TestResult {
     let refusing = Refusing::new(rt.alloc(), u64::MAX);
     let mut book: IndexedBook<&Refusing<Global>> = IndexedBook::new(&refusing);
     fill_line(&rt, &mut book)?;
     let mut refused = 0u64;
     for number in 1..21u32 {
         for price in [1000000 + number, 1002000 + number] {
-            let added = add_one(
-                &rt,
-                rt.alloc(),
-                &refusing,
-                &mut book,
-                (u64::from(price), price),
-            )?;
+            let added = order(u64::from(price), Side::Buy, 10, price);
+            let added = refuse_each(&rt, &refusing, &mut book, None, added)?;
             refused = refused.saturating_add(added);
         }
     }
@@ -243,11 +169,11 @@ fn an_indexed_book_with_a_full_line_stays_as_it_was(rt: HostRuntime) -> Result<(
 }
 
 #[test]
-fn a_settled_book_stays_as_it_was(rt: HostRuntime) -> Result<(), Fail> {
-    for (step, every) in [(0, 1), (0, 3), (100, 1), (100, 3)] {
+fn a_settled_book_stays_as_it_was(rt: HostRuntime) -> TestResult {
+    for (step, every) in WAYS {
         let refusing = Refusing::new(rt.alloc(), 0);
         let mut book: SettledBook<&Refusing<Global>> = SettledBook::new(&refusing);
-        let (additions, replacements) = grow(&rt, rt.alloc(), &refusing, &mut book, step, every)?;
+        let (additions, replacements) = grow(&rt, &refusing, &mut book, (step, every))?;
         assert!(rt; additions > 1);
         assert!(rt; replacements > 0 || every == 3);
     }
@@ -256,15 +182,15 @@ fn a_settled_book_stays_as_it_was(rt: HostRuntime) -> Result<(), Fail> {
 
 // Orders are sorted where they stand.
 #[test]
-fn a_book_is_settled_without_memory(rt: HostRuntime) -> Result<(), Fail> {
+fn a_book_is_settled_without_memory(rt: HostRuntime) -> TestResult {
     let refusing = Refusing::new(rt.alloc(), 0);
     let mut book: SettledBook<&Refusing<Global>> = SettledBook::new(&refusing);
-    grow(&rt, rt.alloc(), &refusing, &mut book, 100, 3)?;
-    let orders = listed(&rt, rt.alloc(), &book)?;
+    grow(&rt, &refusing, &mut book, (100, 3))?;
+    let orders = listed(&rt, &book)?;
     refusing.arm(0);
     book.settle();
     assert!(rt; !refusing.has_refused());
     assert!(rt; book.is_settled());
-    has_orders(&rt, rt.alloc(), &book, &orders)?;
+    has_orders(&rt, &book, &orders)?;
     Ok(())
 }

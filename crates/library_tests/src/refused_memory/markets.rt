@@ -1,22 +1,23 @@
 //! Messages applied to a market, and a day file replayed.
 use crate::book::has_len;
 use crate::doubles::{PieceReader, Refusing};
-use crate::equal::same;
-use crate::files::{REPLACED, blocks};
+use crate::equal::{Host, TestResult, same};
+use crate::files::{Blocks, REPLACED, blocks, replayed};
+use crate::frame::gives;
 use crate::market::content::{Content, content_of};
+use crate::payloads::*;
 use itch_book::{IndexedBook, ListBook, OrderBook};
 use itch_codec::{Message, decode};
-use itch_frame::{BlockReader, CountedRead, FrameFault};
-use itch_market::{LocateSet, Market, Refusal, Stop, replay};
+use itch_frame::{BlockReader, FrameFault};
+use itch_market::{LocateSet, Market, Refusal, Stop};
 use std::alloc::{AllocError, Allocator, Global};
-use std::process::Abort;
 use std::test::Fail;
 
 type Refused<'a> = &'a Refusing<Global>;
 
 // Applies a message with this allocation refused. Returns whether it was.
 fn refuse_one<B: OrderBook>(
-    rt: &impl Abort,
+    rt: &impl Host,
     refusing: &Refusing<Global>,
     market: &mut Market<B>,
     message: &Message<'_>,
@@ -24,47 +25,42 @@ fn refuse_one<B: OrderBook>(
 ) -> bool {
     refusing.arm(nth);
     let result = market.apply(message);
-    if refusing.has_refused() {
-        same(rt, result, Err(Refusal::OutOfMemory));
-    } else {
-        same(rt, result, Ok(()));
-    }
-    refusing.has_refused()
+    let is_refused = refusing.has_refused();
+    let refused = Refusal::OutOfMemory;
+    same(rt, result, if is_refused { Err(refused) } else { Ok(()) });
+    is_refused
 }
 
 // The market holds this.
 fn holds<B: OrderBook>(
-    rt: &impl Abort,
-    alloc: Global,
+    rt: &impl Host,
     market: &Market<B>,
     content: &Content,
 ) -> Result<(), AllocError> {
-    same(rt, &content_of(rt, alloc, market)?, content);
+    same(rt, &content_of(rt, market)?, content);
     Ok(())
 }
 
 // Applies a message with each of its allocations refused in turn, and then with memory. Returns how many were refused.
 fn refuse_to_apply<B: OrderBook>(
-    rt: &impl Abort,
-    alloc: Global,
+    rt: &impl Host,
     refusing: &Refusing<Global>,
     market: &mut Market<B>,
     message: &Message<'_>,
 ) -> Result<u64, AllocError> {
-    let before = content_of(rt, alloc, market)?;
+    let before = content_of(rt, market)?;
     for nth in 0..16 {
         if !refuse_one(rt, refusing, market, message, nth) {
             return Ok(nth);
         }
-        holds(rt, alloc, market, &before)?;
+        holds(rt, market, &before)?;
     }
     panic!(rt; "more than 16 allocations")
 }
 
 // The same of forty messages: that of `payload`, whose numbers at these places count up from 1.
 fn refuse_forty<B: OrderBook>(
-    rt: &impl Abort,
-    alloc: Global,
+    rt: &impl Host,
     refusing: &Refusing<Global>,
     market: &mut Market<B>,
     payload: &[u8],
@@ -72,21 +68,18 @@ fn refuse_forty<B: OrderBook>(
 ) -> Result<u64, Fail> {
     let mut refused = 0u64;
     for number in 1..41u8 {
-        let mut payload = Vec::from_slice(alloc, payload)?;
+        let mut payload = Vec::from_slice(rt.alloc(), payload)?;
         for place in places {
             if let Some(byte) = payload.get_mut(*place) {
                 *byte = byte.wrapping_add(number);
             }
         }
         let message = decode(&payload)?;
-        let one = refuse_to_apply(rt, alloc, refusing, market, &message)?;
+        let one = refuse_to_apply(rt, refusing, market, &message)?;
         refused = refused.saturating_add(one);
     }
     Ok(refused)
 }
-
-// Directory entries of locates 2 to 41.
-const LISTS: &[u8] = b"R\0\x01\0\0\0\0\0\0\0\0AAPL    QN\0\0\0dNCZ PNN1N\0\0\0\0N";
 
 // Orders 1 to 40 at as many prices, and with attribution 65 to 104.
 const ADDS: &[u8] = b"A\0\x02\0\0\0\0\0\0\0\0\0\0\0\0\0\0\0\0B\0\0\0dAAPL    \0\x16\xe3\0";
@@ -102,15 +95,16 @@ const HALTS: &[u8] = b"h\0\x02\0\0\0\0\0\0\0\0AAPL    \0H";
 
 const POSITIONS: &[u8] = b"L\0\x02\0\0\0\0\0\0\0\0ABC\x40AAPL    NNA";
 
-// Returns how many allocations of the replacements were refused.
-fn refuse_each_growth<B: OrderBook>(
-    rt: &impl Abort,
-    alloc: Global,
+// Each growth of a market over this memory. Returns how many allocations of the replacements were refused.
+fn refuse_growth<B: OrderBook>(
+    rt: &impl Host,
     refusing: &Refusing<Global>,
-    market: &mut Market<B>,
+    memory: B::Alloc,
 ) -> Result<u64, Fail> {
+    let mut market: Market<B> = Market::new(memory);
     for (payload, places, grows) in [
-        (LISTS, [2].as_slice(), true),
+        // Directory entries of locates 2 to 41.
+        (AAPL, [2].as_slice(), true),
         (HALTS, &[19], true),
         // What is there already takes none.
         (HALTS, &[19], false),
@@ -119,45 +113,34 @@ fn refuse_each_growth<B: OrderBook>(
         (ADDS, &[18, 35], true),
         (NAMES, &[18, 35], true),
     ] {
-        let refused = refuse_forty(rt, alloc, refusing, market, payload, places)?;
+        let refused = refuse_forty(rt, refusing, &mut market, payload, places)?;
         same(rt, refused > 0, grows);
     }
-    let refused = refuse_forty(rt, alloc, refusing, market, REPLACES, &[18, 26, 34])?;
+    let refused = refuse_forty(rt, refusing, &mut market, REPLACES, &[18, 26, 34])?;
     has_len(rt, market.book(), 80);
     Ok(refused)
 }
 
-// The same of a market over this memory.
-fn refuse_growth<B: OrderBook>(
-    rt: &impl Abort,
-    alloc: Global,
-    refusing: &Refusing<Global>,
-    memory: B::Alloc,
-) -> Result<u64, Fail> {
-    let mut market: Market<B> = Market::new(memory);
-    refuse_each_growth(rt, alloc, refusing, &mut market)
-}
-
 // The order that is replaced leaves room.
 #[test]
-fn a_market_of_a_list_stays_as_it_was(rt: HostRuntime) -> Result<(), Fail> {
+fn a_market_of_a_list_stays_as_it_was(rt: HostRuntime) -> TestResult {
     let refusing = Refusing::new(rt.alloc(), 0);
-    let refused = refuse_growth::<ListBook<Refused<'_>>>(&rt, rt.alloc(), &refusing, &refusing)?;
+    let refused = refuse_growth::<ListBook<Refused<'_>>>(&rt, &refusing, &refusing)?;
     same(&rt, refused, 0);
     Ok(())
 }
 
 #[test]
-fn a_market_of_an_index_stays_as_it_was(rt: HostRuntime) -> Result<(), Fail> {
+fn a_market_of_an_index_stays_as_it_was(rt: HostRuntime) -> TestResult {
     let refusing = Refusing::new(rt.alloc(), 0);
-    let refused = refuse_growth::<IndexedBook<Refused<'_>>>(&rt, rt.alloc(), &refusing, &refusing)?;
+    let refused = refuse_growth::<IndexedBook<Refused<'_>>>(&rt, &refusing, &refusing)?;
     assert!(rt; refused > 0);
     Ok(())
 }
 
 // Inserts a locate with memory refused, and again with memory, and once more. Returns whether it was refused.
 fn insert_refused<A: Allocator + Copy>(
-    rt: &impl Abort,
+    rt: &impl Host,
     refusing: &Refusing<Global>,
     set: &mut LocateSet<A>,
     locate: u16,
@@ -175,21 +158,9 @@ fn insert_refused<A: Allocator + Copy>(
     Ok(was_refused)
 }
 
-// The set of all locates takes no memory.
-fn insert_into_all<A: Allocator + Copy>(
-    rt: &impl Abort,
-    refusing: &Refusing<Global>,
-    set: &mut LocateSet<A>,
-) -> Result<(), AllocError> {
-    refusing.arm(0);
-    set.insert(7)?;
-    assert!(rt; set.contains(8));
-    Ok(())
-}
-
 // A set of locates stays as it was where memory is refused, and a locate that it contains takes none.
 #[test]
-fn a_set_of_locates_stays_as_it_was(rt: HostRuntime) -> Result<(), Fail> {
+fn a_set_of_locates_stays_as_it_was(rt: HostRuntime) -> TestResult {
     let refusing = Refusing::new(rt.alloc(), 0);
     let mut set = LocateSet::new(&refusing);
     let mut was_refused = false;
@@ -197,35 +168,20 @@ fn a_set_of_locates_stays_as_it_was(rt: HostRuntime) -> Result<(), Fail> {
         was_refused |= insert_refused(&rt, &refusing, &mut set, locate)?;
     }
     assert!(rt; was_refused);
-    insert_into_all(&rt, &refusing, &mut LocateSet::all(&refusing))?;
-    Ok(())
-}
-
-// Replays what a reader has left, and returns how many messages were applied, and why no further one was.
-fn replayed<R: CountedRead, A: Allocator, B: OrderBook>(
-    reader: &mut BlockReader<R, A>,
-    market: &mut Market<B>,
-) -> (u64, Stop) {
-    let end = replay(reader, market);
-    (end.count, end.stop)
-}
-
-// The next block is this one, or there is none.
-fn gives<R: CountedRead, A: Allocator>(
-    rt: &impl Abort,
-    reader: &mut BlockReader<R, A>,
-    want: Option<&[u8]>,
-) -> Result<(), FrameFault> {
-    same(rt, reader.next_block()?, want);
+    // The set of all locates takes no memory.
+    let mut all = LocateSet::all(&refusing);
+    refusing.arm(0);
+    all.insert(7)?;
+    assert!(rt; all.contains(8));
     Ok(())
 }
 
 // A replay of the day into an empty market, whose memory is refused once, stops there, with the message read and not counted.
 // Returns whether it was.
-fn stops_at_the_message<R: CountedRead, A: Allocator, B: OrderBook>(
-    rt: &impl Abort,
+fn stops_at_the_message<B: OrderBook>(
+    rt: &impl Host,
     refusing: &Refusing<Global>,
-    reader: &mut BlockReader<R, A>,
+    reader: &mut Blocks<'_>,
     market: &mut Market<B>,
 ) -> Result<bool, FrameFault> {
     let (count, stop) = replayed(reader, market);
@@ -243,22 +199,25 @@ fn stops_at_the_message<R: CountedRead, A: Allocator, B: OrderBook>(
 
 // The same of a market over this memory.
 fn refuse_to_replay<B: OrderBook>(
-    rt: &impl Abort,
-    alloc: Global,
+    rt: &impl Host,
     refusing: &Refusing<Global>,
     memory: B::Alloc,
 ) -> Result<bool, Fail> {
-    let day = blocks(alloc, REPLACED)?;
-    let mut reader = BlockReader::new(alloc, PieceReader::new(day.written(), 64, None))?;
+    let day = blocks(rt.alloc(), REPLACED)?;
+    let mut reader = BlockReader::new(rt.alloc(), PieceReader::new(day.written(), 64, None))?;
     let mut market: Market<B> = Market::new(memory);
     Ok(stops_at_the_message(rt, refusing, &mut reader, &mut market)?)
 }
 
-#[test]
-fn a_replay_stops_at_the_message(rt: HostRuntime) -> Result<(), Fail> {
+// Each allocation of a replay is refused in turn.
+fn refuse_each_replay<B: OrderBook>(
+    rt: &impl Host,
+    refusing: &Refusing<Global>,
+    memory: B::Alloc,
+) -> TestResult {
     for nth in 0..16 {
-        let refusing = Refusing::new(rt.alloc(), nth);
-        if !refuse_to_replay::<IndexedBook<Refused<'_>>>(&rt, rt.alloc(), &refusing, &refusing)? {
+        refusing.arm(nth);
+        if !refuse_to_replay::<B>(rt, refusing, memory)? {
             assert!(rt; nth > 1);
             return Ok(());
         }
@@ -267,13 +226,13 @@ fn a_replay_stops_at_the_message(rt: HostRuntime) -> Result<(), Fail> {
 }
 
 #[test]
-fn a_replay_over_a_list_stops_at_the_message(rt: HostRuntime) -> Result<(), Fail> {
-    for nth in 0..16 {
-        let refusing = Refusing::new(rt.alloc(), nth);
-        if !refuse_to_replay::<ListBook<Refused<'_>>>(&rt, rt.alloc(), &refusing, &refusing)? {
-            assert!(rt; nth > 1);
-            return Ok(());
-        }
-    }
-    panic!(rt; "more than 16 allocations")
+fn a_replay_stops_at_the_message(rt: HostRuntime) -> TestResult {
+    let refusing = Refusing::new(rt.alloc(), 0);
+    refuse_each_replay::<IndexedBook<Refused<'_>>>(&rt, &refusing, &refusing)
+}
+
+#[test]
+fn a_replay_over_a_list_stops_at_the_message(rt: HostRuntime) -> TestResult {
+    let refusing = Refusing::new(rt.alloc(), 0);
+    refuse_each_replay::<ListBook<Refused<'_>>>(&rt, &refusing, &refusing)
 }

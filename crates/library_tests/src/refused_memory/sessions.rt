@@ -1,6 +1,6 @@
 //! A session fetched, and one served, which takes no memory.
 use crate::doubles::{PieceReader, Refusing};
-use crate::equal::same;
+use crate::equal::{Host, TestResult, same};
 use crate::files::market;
 use crate::sessions::{
     FROM_1, FROM_3, LOGIN_1, LOGIN_3, REST_3, SERVED, fetched, is_served_market, serve,
@@ -12,7 +12,6 @@ use itch_market::{Market, Refusal};
 use itch_snapshot::SnapFault;
 use itch_soup::SoupFault;
 use std::alloc::{Allocator, Global};
-use std::process::Abort;
 use std::test::Fail;
 
 type Refused<'a> = &'a Refusing<Global>;
@@ -30,23 +29,26 @@ fn wants_memory(fault: &SoupFault) -> bool {
 
 // Fetches with one allocation refused. Returns whether it was.
 fn refuse_to_fetch<B: OrderBook>(
-    rt: &impl Abort,
-    alloc: Global,
+    rt: &impl Host,
     refusing: &Refusing<Global>,
     memory: B::Alloc,
 ) -> Result<bool, Fail> {
-    match fetched::<_, B>(rt, alloc, memory, PieceReader::new(FROM_1, 64, None))? {
-        Ok((found, next)) => is_served_market(rt, alloc, &found, next)?,
+    match fetched::<B>(rt, memory, PieceReader::new(FROM_1, 64, None))? {
+        Ok((found, next)) => is_served_market(rt, &found, next)?,
         Err(fault) => assert!(rt; refusing.has_refused() && wants_memory(&fault)),
     }
     Ok(refusing.has_refused())
 }
 
-#[test]
-fn no_market_is_fetched(rt: HostRuntime) -> Result<(), Fail> {
+// Each allocation of a fetch is refused in turn.
+fn refuse_each_fetch<B: OrderBook>(
+    rt: &impl Host,
+    refusing: &Refusing<Global>,
+    memory: B::Alloc,
+) -> TestResult {
     for nth in 0..16 {
-        let refusing = Refusing::new(rt.alloc(), nth);
-        if !refuse_to_fetch::<IndexedBook<Refused<'_>>>(&rt, rt.alloc(), &refusing, &refusing)? {
+        refusing.arm(nth);
+        if !refuse_to_fetch::<B>(rt, refusing, memory)? {
             assert!(rt; nth > 1);
             return Ok(());
         }
@@ -55,24 +57,20 @@ fn no_market_is_fetched(rt: HostRuntime) -> Result<(), Fail> {
 }
 
 #[test]
-fn no_market_is_fetched_over_a_list(rt: HostRuntime) -> Result<(), Fail> {
-    for nth in 0..16 {
-        let refusing = Refusing::new(rt.alloc(), nth);
-        if !refuse_to_fetch::<ListBook<Refused<'_>>>(&rt, rt.alloc(), &refusing, &refusing)? {
-            assert!(rt; nth > 1);
-            return Ok(());
-        }
-    }
-    panic!(rt; "more than 16 allocations")
+fn no_market_is_fetched(rt: HostRuntime) -> TestResult {
+    let refusing = Refusing::new(rt.alloc(), 0);
+    refuse_each_fetch::<IndexedBook<Refused<'_>>>(&rt, &refusing, &refusing)
+}
+
+#[test]
+fn no_market_is_fetched_over_a_list(rt: HostRuntime) -> TestResult {
+    let refusing = Refusing::new(rt.alloc(), 0);
+    refuse_each_fetch::<ListBook<Refused<'_>>>(&rt, &refusing, &refusing)
 }
 
 // Fetches a rest with one allocation refused. Returns whether it was.
-fn refuse_a_rest(
-    rt: &impl Abort,
-    alloc: Global,
-    refusing: &Refusing<Global>,
-) -> Result<bool, Fail> {
-    match third_fetched(rt, alloc, refusing, PieceReader::new(FROM_3, 64, None))? {
+fn refuse_a_rest(rt: &impl Host, refusing: &Refusing<Global>) -> Result<bool, Fail> {
+    match third_fetched(rt, refusing, PieceReader::new(FROM_3, 64, None))? {
         Ok(rest) => same(rt, rest.bytes(), REST_3),
         Err(fault) => assert!(rt; refusing.has_refused() && wants_memory(&fault)),
     }
@@ -80,10 +78,10 @@ fn refuse_a_rest(
 }
 
 #[test]
-fn no_rest_is_fetched(rt: HostRuntime) -> Result<(), Fail> {
+fn no_rest_is_fetched(rt: HostRuntime) -> TestResult {
     for nth in 0..16 {
         let refusing = Refusing::new(rt.alloc(), nth);
-        if !refuse_a_rest(&rt, rt.alloc(), &refusing)? {
+        if !refuse_a_rest(&rt, &refusing)? {
             assert!(rt; nth > 1);
             return Ok(());
         }
@@ -93,7 +91,7 @@ fn no_rest_is_fetched(rt: HostRuntime) -> Result<(), Fail> {
 
 // Serves into this memory with every allocation refused. Returns how many bytes of it are left.
 fn serve_into<R: CountedRead, A: Allocator, B: OrderBook>(
-    rt: &impl Abort,
+    rt: &impl Host,
     refusing: &Refusing<Global>,
     reader: &mut BlockReader<R, A>,
     market: &Market<B>,
@@ -108,12 +106,12 @@ fn serve_into<R: CountedRead, A: Allocator, B: OrderBook>(
 
 // Serves a login over fixed memory with every allocation refused.
 fn serve_without_memory<B: OrderBook>(
-    rt: &impl Abort,
+    rt: &impl Host,
     refusing: &Refusing<Global>,
     market: &Market<B>,
     login: &[u8],
     answer: &[u8],
-) -> Result<(), Fail> {
+) -> TestResult {
     refusing.arm(1000);
     let mut reader = BlockReader::new(refusing, PieceReader::new(login, 64, None))?;
     let mut memory = [0; 256];
@@ -124,12 +122,11 @@ fn serve_without_memory<B: OrderBook>(
 }
 
 fn serve_each<B: OrderBook>(
-    rt: &impl Abort,
-    alloc: Global,
+    rt: &impl Host,
     refusing: &Refusing<Global>,
     memory: B::Alloc,
-) -> Result<(), Fail> {
-    let market: Market<B> = market(alloc, memory, SERVED)?;
+) -> TestResult {
+    let market: Market<B> = market(rt.alloc(), memory, SERVED)?;
     for (login, answer) in [
         (LOGIN_1, FROM_1),
         (LOGIN_3, FROM_3),
@@ -141,7 +138,7 @@ fn serve_each<B: OrderBook>(
 }
 
 #[test]
-fn serving_takes_no_memory(rt: HostRuntime) -> Result<(), Fail> {
+fn serving_takes_no_memory(rt: HostRuntime) -> TestResult {
     let refusing = Refusing::new(rt.alloc(), 1000);
-    serve_each::<IndexedBook<Refused<'_>>>(&rt, rt.alloc(), &refusing, &refusing)
+    serve_each::<IndexedBook<Refused<'_>>>(&rt, &refusing, &refusing)
 }

@@ -1,17 +1,13 @@
 //! Snapshots written, read and written again, and a day cut at each of its messages.
-use super::{
-    AAPL_LATER, ADD_2_OF_200, ADD_7_OF_150, END_1, END_6, MSFT, REPLACED_SNAPSHOT, RESTRICTS,
-    TRADES, TRADES_X, are_same, blocks, market, seq, write,
-};
+use super::{REPLACED_SNAPSHOT, are_same, blocks, market, seq, write};
 use crate::doubles::{FuseWriter, PieceReader};
-use crate::equal::same;
-use crate::files::{AAPL, END_4, EVENT, NAMED_1, REPLACE_1, read, replay_from};
+use crate::equal::{Host, TestResult, same};
+use crate::files::{read, replay_from};
+use crate::payloads::*;
 use itch_book::{ListBook, OrderBook};
 use itch_codec::Seq;
 use itch_market::{Market, Stop};
 use itch_snapshot::laws;
-use std::alloc::Global;
-use std::process::Abort;
 use std::test::Fail;
 
 #[test]
@@ -25,58 +21,34 @@ fn the_laws_of_files() {
 
 // The snapshot of a small market, closed with this number.
 fn written<B: OrderBook>(
-    rt: &impl Abort,
-    alloc: Global,
+    rt: &impl Host,
     market: &Market<B>,
     next: Seq,
 ) -> Result<FuseWriter, Fail> {
-    let mut writer = FuseWriter::new(alloc, 3, None);
+    let mut writer = FuseWriter::new(rt.alloc(), 3, None);
     write(rt, market, next, &mut writer)?;
     Ok(writer)
 }
 
-// The snapshot of a market has these bytes.
-fn is_written<B: OrderBook>(
-    rt: &impl Abort,
-    alloc: Global,
-    market: &Market<B>,
-    next: Seq,
-    want: &[u8],
-) -> Result<(), Fail> {
-    same(rt, written(rt, alloc, market, next)?.written(), want);
+// The market of these payloads is written as those, and so is what is read from them.
+fn check_file<B: OrderBook>(
+    rt: &impl Host,
+    memory: B::Alloc,
+    file: &[&[u8]],
+    want: &[&[u8]],
+) -> TestResult {
+    let (file, want) = (blocks(rt.alloc(), file)?, blocks(rt.alloc(), want)?);
+    let (market, next): (Market<B>, Seq) = read(rt.alloc(), memory, file.written())?;
+    same(rt, written(rt, &market, next)?.written(), want.written());
+    let (again, number): (Market<B>, Seq) = read(rt.alloc(), memory, want.written())?;
+    assert!(rt; are_same(rt, &market, &again));
+    same(rt, number.value(), next.value());
+    same(rt, written(rt, &again, number)?.written(), want.written());
     Ok(())
 }
 
-// The market of a file is written as these bytes, and so is what is read from them.
-fn check_file<B: OrderBook>(
-    rt: &impl Abort,
-    alloc: Global,
-    memory: B::Alloc,
-    file: &[u8],
-    want: &[u8],
-) -> Result<(), Fail> {
-    let (market, next): (Market<B>, Seq) = read(alloc, memory, file)?;
-    is_written(rt, alloc, &market, next, want)?;
-    let (again, number): (Market<B>, Seq) = read(alloc, memory, want)?;
-    assert!(rt; are_same(rt, &market, &again));
-    same(rt, number.value(), next.value());
-    is_written(rt, alloc, &again, number, want)
-}
-
-// The same of the blocks of these payloads.
-fn check_payloads(
-    rt: &impl Abort,
-    alloc: Global,
-    file: &[&[u8]],
-    want: &[&[u8]],
-) -> Result<(), Fail> {
-    let file = blocks(alloc, file)?;
-    let want = blocks(alloc, want)?;
-    check_file::<ListBook>(rt, alloc, alloc, file.written(), want.written())
-}
-
 #[test]
-fn written_again_all_bytes_are_equal(rt: HostRuntime) -> Result<(), Fail> {
+fn written_again_all_bytes_are_equal(rt: HostRuntime) -> TestResult {
     let files: [(&[&[u8]], &[&[u8]]); 4] = [
         (&[END_1], &[END_1]),
         (REPLACED_SNAPSHOT, REPLACED_SNAPSHOT),
@@ -90,77 +62,54 @@ fn written_again_all_bytes_are_equal(rt: HostRuntime) -> Result<(), Fail> {
         ),
     ];
     for (file, want) in files {
-        check_payloads(&rt, rt.alloc(), file, want)?;
+        check_file::<ListBook>(&rt, rt.alloc(), file, want)?;
     }
     Ok(())
 }
 
 // What the snapshot of a beginning of a day stands for.
 fn late_start<B: OrderBook>(
-    rt: &impl Abort,
-    alloc: Global,
+    rt: &impl Host,
     memory: B::Alloc,
     early: &[&[u8]],
 ) -> Result<Market<B>, Fail> {
     let next = seq(rt, (early.len() as u64).saturating_add(1));
-    let early: Market<B> = market(alloc, memory, early)?;
-    let snapshot = written(rt, alloc, &early, next)?;
-    let (late, _next) = read(alloc, memory, snapshot.written())?;
+    let early: Market<B> = market(rt.alloc(), memory, early)?;
+    let snapshot = written(rt, &early, next)?;
+    let (late, _next) = read(rt.alloc(), memory, snapshot.written())?;
     Ok(late)
-}
-
-// Each of these payloads is taken.
-fn check_replay<B: OrderBook>(
-    rt: &impl Abort,
-    alloc: Global,
-    market: &mut Market<B>,
-    payloads: &[&[u8]],
-) -> Result<(), Fail> {
-    let bytes = blocks(alloc, payloads)?;
-    let end = replay_from(alloc, PieceReader::new(bytes.written(), 7, None), market)?;
-    same(rt, end.count, payloads.len() as u64);
-    assert!(rt; matches!(end.stop, Stop::End));
-    Ok(())
 }
 
 // A day leaves the same as the snapshot of its first messages and the others.
 fn check_cut<B: OrderBook>(
-    rt: &impl Abort,
-    alloc: Global,
+    rt: &impl Host,
     memory: B::Alloc,
     (early, rest): (&[&[u8]], &[&[u8]]),
     whole: &Market<B>,
-) -> Result<(), Fail> {
-    let mut late: Market<B> = late_start(rt, alloc, memory, early)?;
-    check_replay(rt, alloc, &mut late, rest)?;
+) -> TestResult {
+    let mut late: Market<B> = late_start(rt, memory, early)?;
+    let bytes = blocks(rt.alloc(), rest)?;
+    let reader = PieceReader::new(bytes.written(), 7, None);
+    let end = replay_from(rt.alloc(), reader, &mut late)?;
+    same(rt, end.count, rest.len() as u64);
+    assert!(rt; matches!(end.stop, Stop::End));
     assert!(rt; are_same(rt, whole, &late));
     Ok(())
 }
 
-fn check_cuts<B: OrderBook>(
-    rt: &impl Abort,
-    alloc: Global,
-    memory: B::Alloc,
-    day: &[&[u8]],
-) -> Result<(), Fail> {
-    let whole: Market<B> = market(alloc, memory, day)?;
+fn check_cuts<B: OrderBook>(rt: &impl Host, memory: B::Alloc, day: &[&[u8]]) -> TestResult {
+    let whole: Market<B> = market(rt.alloc(), memory, day)?;
     for cut in 0..=day.len() {
-        check_cut(rt, alloc, memory, day.split_at(cut), &whole)?;
+        check_cut(rt, memory, day.split_at(cut), &whole)?;
     }
     Ok(())
 }
 
+const DAY: &[&[u8]] = &[
+    EVENT, AAPL, NAMED_1, ADD_2, REPLACE_1, RESTRICTS, TRADES, MSFT,
+];
+
 #[test]
-fn a_snapshot_stands_for_the_messages_before_it(rt: HostRuntime) -> Result<(), Fail> {
-    let day: [&[u8]; 8] = [
-        EVENT,
-        AAPL,
-        NAMED_1,
-        ADD_2_OF_200,
-        REPLACE_1,
-        RESTRICTS,
-        TRADES,
-        MSFT,
-    ];
-    check_cuts::<ListBook>(&rt, rt.alloc(), rt.alloc(), &day)
+fn a_snapshot_stands_for_the_messages_before_it(rt: HostRuntime) -> TestResult {
+    check_cuts::<ListBook>(&rt, rt.alloc(), DAY)
 }

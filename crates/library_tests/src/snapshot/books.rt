@@ -1,61 +1,12 @@
 //! The worked files over both books: what a replay says of each, and the snapshot of what it leaves.
-use super::{
-    AAPL_LATER, ADD_2_HIGHER, ADD_3, ADD_4_HIGHER, ADD_7, ADD_7_OF_150, CANCEL_7, END_1, END_3,
-    END_6, EXECUTE_7, MSFT, MSFT_AT_1, REPLACED, REPLACED_SNAPSHOT, RESTRICTS, TRADES, TRADES_0,
-    TRADES_X, check_snapshot, file_of,
-};
+
+use super::{check_snapshot, file_of};
 use crate::doubles::{FuseWriter, PieceReader};
-use crate::equal::{same, same_words};
-use crate::files::{AAPL, ADD_1, END_4, END_5, EVENT, replay_from};
+use crate::equal::{Host, TestResult, same, same_words};
+use crate::files::{REPLACED, REPLACED_SNAPSHOT, replay_from};
+use crate::payloads::*;
 use itch_book::{IndexedBook, ListBook, OrderBook};
 use itch_market::Market;
-use std::alloc::Global;
-use std::process::Abort;
-use std::test::Fail;
-
-const MAX: &[u8] = b"R\xff\xff\0\0\0\0\0\0\0\0MAX     QN\0\0\0dNCZ PNN1N\0\0\0\0N";
-
-const SELL_MAX: &[u8] =
-    b"A\xff\xff\0\0\0\0\0\0\0\0\xff\xff\xff\xff\xff\xff\xff\xffS\xff\xff\xff\xffMAX     \xff\xff\xff\xff";
-
-const AAPL_OF_200: &[u8] = b"R\0\x01\0\0\0\0\0\0\0\0AAPL    QN\0\0\0\xc8NCZ PNN1N\0\0\0\0N";
-
-const ADD_0: &[u8] = b"A\0\x01\0\0\0\0\0\0\0\0\0\0\0\0\0\0\0\x01B\0\0\0\0AAPL    \0\x16\xe3\x60";
-
-const ADD_1_OF_60: &[u8] =
-    b"A\0\x01\0\0\0\0\0\0\0\0\0\0\0\0\0\0\0\x01B\0\0\0<AAPL    \0\x16\xe3\x60";
-
-const ADD_9_AT_3: &[u8] =
-    b"A\0\x03\0\0\0\0\0\0\0\0\0\0\0\0\0\0\0\x09B\0\0\0\x01AAPL    \0\x16\xe3\x60";
-
-const EXECUTE_0: &[u8] = b"E\0\x01\0\0\0\0\0\0\0\0\0\0\0\0\0\0\0\x01\0\0\0\0\0\0\0\0\0\0\0\x01";
-
-const EXECUTE_100: &[u8] = b"E\0\x01\0\0\0\0\0\0\0\0\0\0\0\0\0\0\0\x01\0\0\0d\0\0\0\0\0\0\0\x01";
-
-const EXECUTE_101: &[u8] = b"E\0\x01\0\0\0\0\0\0\0\0\0\0\0\0\0\0\0\x01\0\0\0e\0\0\0\0\0\0\0\x01";
-
-const EXECUTE_AT_2: &[u8] =
-    b"E\0\x02\0\0\0\0\0\0\0\0\0\0\0\0\0\0\0\x01\0\0\0\x0a\0\0\0\0\0\0\0\x01";
-
-const CANCEL_40: &[u8] = b"X\0\x01\0\0\0\0\0\0\0\0\0\0\0\0\0\0\0\x01\0\0\0(";
-
-const PRICED_61: &[u8] =
-    b"C\0\x01\0\0\0\0\0\0\0\0\0\0\0\0\0\0\0\x01\0\0\0=\0\0\0\0\0\0\0\x01Y\0\x16\xe3\x60";
-
-const DELETE_1: &[u8] = b"D\0\x01\0\0\0\0\0\0\0\0\0\0\0\0\0\0\0\x01";
-
-const DELETE_9: &[u8] = b"D\0\x01\0\0\0\0\0\0\0\0\0\0\0\0\0\0\0\x09";
-
-const REPLACE_BY_ITSELF: &[u8] =
-    b"U\0\x01\0\0\0\0\0\0\0\0\0\0\0\0\0\0\0\x01\0\0\0\0\0\0\0\x01\0\0\0\x32\0\x16\xe3\x60";
-
-const REPLACE_BY_0: &[u8] =
-    b"U\0\x01\0\0\0\0\0\0\0\0\0\0\0\0\0\0\0\x01\0\0\0\0\0\0\0\x01\0\0\0\0\0\x16\xe3\x60";
-
-const REPLACE_AT_2: &[u8] =
-    b"U\0\x02\0\0\0\0\0\0\0\0\0\0\0\0\0\0\0\x01\0\0\0\0\0\0\0\x05\0\0\0\0\0\x16\xe3\x60";
-
-const END_2: &[u8] = b"G                   2";
 
 // A file, what a replay says of it, and the snapshot of what it leaves.
 #[derive(Clone, Copy)]
@@ -63,183 +14,176 @@ struct File<'a> {
     payloads: &'a [&'a [u8]],
     // The bytes after their blocks.
     rest: &'a [u8],
-    count: u64,
+    // Why no further message is applied, and how many messages of the file are not.
     stop: &'a str,
+    left: u64,
     snapshot: &'a [&'a [u8]],
-}
-
-// A replay of a file says what it has to.
-fn check_replay<B: OrderBook>(
-    rt: &impl Abort,
-    alloc: Global,
-    market: &mut Market<B>,
-    file: File<'_>,
-) -> Result<(), Fail> {
-    let bytes = file_of(alloc, file.payloads, file.rest)?;
-    let end = replay_from(alloc, PieceReader::new(&bytes, 1, None), market)?;
-    same(rt, end.count, file.count);
-    same_words(rt, alloc, &end.stop, file.stop)?;
-    Ok(())
 }
 
 // A market with nothing in it is left by a file as it has to be.
 fn check_market<B: OrderBook>(
-    rt: &impl Abort,
-    alloc: Global,
+    rt: &impl Host,
     market: &mut Market<B>,
     file: File<'_>,
-) -> Result<(), Fail> {
-    check_replay(rt, alloc, market, file)?;
-    let next = file.count.saturating_add(1);
-    let writer = FuseWriter::new(alloc, 64, None);
-    check_snapshot(rt, alloc, market, next, writer, file.snapshot)
+) -> TestResult {
+    let bytes = file_of(rt.alloc(), file.payloads, file.rest)?;
+    let end = replay_from(rt.alloc(), PieceReader::new(&bytes, 1, None), market)?;
+    same(
+        rt,
+        end.count,
+        (file.payloads.len() as u64).saturating_sub(file.left),
+    );
+    same_words(rt, &end.stop, file.stop)?;
+    for piece in [1, 64] {
+        let writer = FuseWriter::new(rt.alloc(), piece, None);
+        check_snapshot(
+            rt,
+            market,
+            end.count.saturating_add(1),
+            writer,
+            file.snapshot,
+        )?;
+    }
+    Ok(())
 }
 
 // Checks a file over a book whose memory comes from `memory`.
-fn check<B: OrderBook>(
-    rt: &impl Abort,
-    alloc: Global,
-    memory: B::Alloc,
-    file: File<'_>,
-) -> Result<(), Fail> {
+fn check<B: OrderBook>(rt: &impl Host, memory: B::Alloc, file: File<'_>) -> TestResult {
     let mut market: Market<B> = Market::new(memory);
-    check_market(rt, alloc, &mut market, file)
+    check_market(rt, &mut market, file)
 }
 
-// Files that end, what stands after them, and their snapshots.
-const WHOLE: [(&[&[u8]], &[u8], &[&[u8]]); 14] = [
-    (&[], b"", &[END_1]),
-    (&[EVENT, AAPL, ADD_1], b"", &[EVENT, AAPL, ADD_1, END_4]),
-    (
-        &[EVENT, AAPL, ADD_1],
-        b"\0\0\xde\xad\xbe\xef\x01",
-        &[EVENT, AAPL, ADD_1, END_4],
-    ),
-    (&[MAX, SELL_MAX], b"", &[MAX, SELL_MAX, END_3]),
+// Files that end, and their snapshots.
+const WHOLE: [(&[&[u8]], &[&[u8]]); 13] = [
+    (&[], &[END_1]),
+    (&[EVENT, AAPL, ADD_1], &[EVENT, AAPL, ADD_1, END_4]),
+    (&[MAX, SELL_MAX], &[MAX, SELL_MAX, END_3]),
     (
         &[AAPL, ADD_1, ADD_2_HIGHER, ADD_3, ADD_4_HIGHER],
-        b"",
         &[AAPL, ADD_2_HIGHER, ADD_4_HIGHER, ADD_1, ADD_3, END_6],
     ),
     (
         &[AAPL, ADD_2_HIGHER, ADD_4_HIGHER, ADD_1, ADD_3],
-        b"",
         &[AAPL, ADD_2_HIGHER, ADD_4_HIGHER, ADD_1, ADD_3, END_6],
     ),
     (
         &[AAPL, TRADES_0, ADD_7, EXECUTE_7, CANCEL_7],
-        b"",
         &[AAPL, TRADES, ADD_7_OF_150, END_6],
     ),
     (
         &[AAPL_LATER, TRADES_X, ADD_7_OF_150],
-        b"",
         &[AAPL, TRADES, ADD_7_OF_150, END_4],
     ),
-    (REPLACED, b"", REPLACED_SNAPSHOT),
-    (&[AAPL, ADD_1, DELETE_1, ADD_1], b"", &[AAPL, ADD_1, END_5]),
-    (&[AAPL, ADD_1, EXECUTE_0], b"", &[AAPL, ADD_1, END_4]),
-    (&[AAPL, ADD_1, EXECUTE_100], b"", &[AAPL, END_4]),
-    (
-        &[AAPL, ADD_1, AAPL_OF_200],
-        b"",
-        &[AAPL_OF_200, ADD_1, END_4],
-    ),
+    (REPLACED, REPLACED_SNAPSHOT),
+    (&[AAPL, ADD_1, DELETE_1, ADD_1], &[AAPL, ADD_1, END_5]),
+    (&[AAPL, ADD_1, EXECUTE_0], &[AAPL, ADD_1, END_4]),
+    (&[AAPL, ADD_1, EXECUTE_100], &[AAPL, END_4]),
+    (&[AAPL, ADD_1, AAPL_OF_200], &[AAPL_OF_200, ADD_1, END_4]),
     (
         &[MSFT, EVENT, AAPL, RESTRICTS, TRADES],
-        b"",
         &[EVENT, AAPL, TRADES, RESTRICTS, MSFT, END_6],
     ),
 ];
 
-// Checks the files that end.
-fn check_whole<B: OrderBook>(rt: &impl Abort, alloc: Global, memory: B::Alloc) -> Result<(), Fail> {
-    for (payloads, rest, snapshot) in WHOLE {
-        let (count, stop) = (payloads.len() as u64, "end of input");
-        let file = File {
-            payloads,
-            rest,
-            count,
-            stop,
-            snapshot,
-        };
-        check::<B>(rt, alloc, memory, file)?;
+// Checks the files that end, and what stands after an end.
+fn check_whole<B: OrderBook>(rt: &impl Host, memory: B::Alloc) -> TestResult {
+    let mut file = File {
+        payloads: &[EVENT, AAPL, ADD_1],
+        rest: b"\0\0\xde\xad\xbe\xef\x01",
+        stop: "end of input",
+        left: 0,
+        snapshot: &[EVENT, AAPL, ADD_1, END_4],
+    };
+    check::<B>(rt, memory, file)?;
+    file.rest = b"";
+    for (payloads, snapshot) in WHOLE {
+        file.payloads = payloads;
+        file.snapshot = snapshot;
+        check::<B>(rt, memory, file)?;
     }
     Ok(())
 }
 
-// Files whose last message is refused, why, and the snapshots of those before.
-const REFUSED: [(&[&[u8]], &str, &[&[u8]]); 5] = [
+// Files whose last message is refused or is no message, why, and the snapshots of those before.
+const REFUSED: [(&str, &[&[u8]], &[&[u8]]); 13] = [
+    ("duplicate reference", &[AAPL, ADD_1, ADD_1], ONE_ORDER_3),
     (
-        &[AAPL, ADD_1, ADD_1],
-        "duplicate reference",
-        &[AAPL, ADD_1, END_3],
-    ),
-    (
-        &[AAPL, ADD_1, EXECUTE_100, DELETE_1],
         "unknown reference",
+        &[AAPL, ADD_1, EXECUTE_100, DELETE_1],
         &[AAPL, END_4],
     ),
     (
-        &[AAPL, ADD_1, EXECUTE_101],
         "too many shares, 100 remain",
-        &[AAPL, ADD_1, END_3],
+        &[AAPL, ADD_1, EXECUTE_101],
+        ONE_ORDER_3,
     ),
     (
-        &[AAPL, ADD_1, CANCEL_40, PRICED_61],
         "too many shares, 60 remain",
+        &[AAPL, ADD_1, CANCEL_40, PRICED_61],
         &[AAPL, ADD_1_OF_60, END_4],
     ),
-    (&[AAPL, MSFT_AT_1], "stock mismatch", &[AAPL, END_2]),
+    ("stock mismatch", &[AAPL, MSFT_AT_1], &[AAPL, END_2]),
+    (
+        "locate mismatch",
+        &[AAPL, MSFT, ADD_1, EXECUTE_AT_2],
+        TWO_STOCKS,
+    ),
+    (
+        "duplicate reference",
+        &[AAPL, MSFT, ADD_1, REPLACE_BY_ITSELF],
+        TWO_STOCKS,
+    ),
+    (
+        "zero shares",
+        &[AAPL, MSFT, ADD_1, REPLACE_BY_0],
+        TWO_STOCKS,
+    ),
+    (
+        "locate mismatch",
+        &[AAPL, MSFT, ADD_1, REPLACE_AT_2],
+        TWO_STOCKS,
+    ),
+    ("zero shares", &[AAPL, MSFT, ADD_1, ADD_0], TWO_STOCKS),
+    (
+        "unknown locate",
+        &[AAPL, MSFT, ADD_1, ADD_9_AT_3],
+        TWO_STOCKS,
+    ),
+    (
+        "unknown reference",
+        &[AAPL, MSFT, ADD_1, DELETE_9],
+        TWO_STOCKS,
+    ),
+    ("unexpected end", &[AAPL, MSFT, ADD_1, END_4], TWO_STOCKS),
 ];
 
-// Checks the files whose last message is refused, or is no message.
-fn check_refused<B: OrderBook>(
-    rt: &impl Abort,
-    alloc: Global,
-    memory: B::Alloc,
-) -> Result<(), Fail> {
-    for (message, stop) in [
-        (EXECUTE_AT_2, "locate mismatch"),
-        (REPLACE_BY_ITSELF, "duplicate reference"),
-        (REPLACE_BY_0, "zero shares"),
-        (REPLACE_AT_2, "locate mismatch"),
-        (ADD_0, "zero shares"),
-        (ADD_9_AT_3, "unknown locate"),
-        (DELETE_9, "unknown reference"),
-        (END_4, "unexpected end"),
-    ] {
-        let file = File {
-            payloads: &[AAPL, MSFT, ADD_1, message],
-            rest: b"",
-            count: 3,
-            stop,
-            snapshot: &[AAPL, ADD_1, MSFT, END_4],
-        };
-        check::<B>(rt, alloc, memory, file)?;
-    }
-    for (payloads, stop, snapshot) in REFUSED {
-        let count = (payloads.len() as u64).saturating_sub(1);
+const ONE_ORDER_3: &[&[u8]] = &[AAPL, ADD_1, END_3];
+
+const TWO_STOCKS: &[&[u8]] = &[AAPL, ADD_1, MSFT, END_4];
+
+// Checks the files whose last message is refused.
+fn check_refused<B: OrderBook>(rt: &impl Host, memory: B::Alloc) -> TestResult {
+    for (stop, payloads, snapshot) in REFUSED {
         let file = File {
             payloads,
             rest: b"",
-            count,
             stop,
+            left: 1,
             snapshot,
         };
-        check::<B>(rt, alloc, memory, file)?;
+        check::<B>(rt, memory, file)?;
     }
     Ok(())
 }
 
 #[test]
-fn the_list_book_gives_the_worked_files(rt: HostRuntime) -> Result<(), Fail> {
-    check_whole::<ListBook>(&rt, rt.alloc(), rt.alloc())?;
-    check_refused::<ListBook>(&rt, rt.alloc(), rt.alloc())
+fn the_list_book_gives_the_worked_files(rt: HostRuntime) -> TestResult {
+    check_whole::<ListBook>(&rt, rt.alloc())?;
+    check_refused::<ListBook>(&rt, rt.alloc())
 }
 
 #[test]
-fn the_indexed_book_gives_the_worked_files(rt: HostRuntime) -> Result<(), Fail> {
-    check_whole::<IndexedBook>(&rt, rt.alloc(), rt.alloc())?;
-    check_refused::<IndexedBook>(&rt, rt.alloc(), rt.alloc())
+fn the_indexed_book_gives_the_worked_files(rt: HostRuntime) -> TestResult {
+    check_whole::<IndexedBook>(&rt, rt.alloc())?;
+    check_refused::<IndexedBook>(&rt, rt.alloc())
 }

@@ -2,21 +2,16 @@
 ghost use Rattle.std.specs.Prelude.{◌<◌, ◌^◌, length};
 ghost use Rattle.itch_snapshot.specs.Snapshot.{snap};
 
-use super::{END_3, END_6, MSFT, MSFT_AT_1, blocks, market};
+use super::{blocks, market};
 use crate::doubles::FuseWriter;
-use crate::equal::{same, same_words};
-use crate::files::{AAPL, ADD_1, END_4, EVENT, REPLACE_1};
+use crate::equal::{Host, TestResult, same, same_words};
+use crate::payloads::*;
 use itch_book::{ListBook, OrderBook};
 use itch_codec::Seq;
 use itch_market::{LocateSet, Market};
 use itch_snapshot::{SnapFault, SnapshotIter, SnapshotReader, laws, snapshot_len, write_partial};
-use std::alloc::{AllocError, Allocator, Global};
-use std::process::Abort;
+use std::alloc::{AllocError, Allocator};
 use std::test::Fail;
-
-// An add order message at locate 2.
-const ADD_2_OF_MSFT: &[u8] =
-    b"A\0\x02\0\0\0\0\0\0\0\0\0\0\0\0\0\0\0\x02B\0\0\0\x0aMSFT    \0\x16\xe3\x60";
 
 const WHOLE: &[&[u8]] = &[EVENT, AAPL, ADD_1, MSFT, ADD_2_OF_MSFT];
 
@@ -51,17 +46,16 @@ fn write<B: OrderBook>(
 
 // The snapshot of a small market cut down to a set has these payloads.
 fn check_partial<B: OrderBook>(
-    rt: &impl Abort,
-    alloc: Global,
+    rt: &impl Host,
     market: &Market<B>,
     set: &LocateSet<B::Alloc>,
     want: &[&[u8]],
-) -> Result<(), Fail> {
+) -> TestResult {
     assert!(rt; snapshot_len(market) < 9);
     same(rt, count(market, set).saturating_add(1), want.len());
-    let mut writer = FuseWriter::new(alloc, 1, None);
+    let mut writer = FuseWriter::new(rt.alloc(), 1, None);
     same(rt, write(market, set, &mut writer)?, want.len() as u64);
-    same(rt, writer.written(), blocks(alloc, want)?.written());
+    same(rt, writer.written(), blocks(rt.alloc(), want)?.written());
     Ok(())
 }
 
@@ -70,7 +64,7 @@ fn the_laws_of_parts() {
     laws::parts_of_a_market();
 }
 
-fn check_parts<B: OrderBook>(rt: &impl Abort, alloc: Global, memory: B::Alloc) -> Result<(), Fail> {
+fn check_parts<B: OrderBook>(rt: &impl Host, memory: B::Alloc) -> TestResult {
     let both: &[&[u8]] = &[EVENT, AAPL, ADD_1, MSFT, ADD_2_OF_MSFT, END_6];
     let rows: [(&[u16], &[&[u8]]); 5] = [
         (&[], &[EVENT, END_6]),
@@ -79,22 +73,22 @@ fn check_parts<B: OrderBook>(rt: &impl Abort, alloc: Global, memory: B::Alloc) -
         (&[2], &[EVENT, MSFT, ADD_2_OF_MSFT, END_6]),
         (&[2, 1], both),
     ];
-    let market: Market<B> = market(alloc, memory, WHOLE)?;
+    let market: Market<B> = market(rt.alloc(), memory, WHOLE)?;
     for (locates, want) in rows {
         let set = set_of(memory, locates)?;
-        check_partial(rt, alloc, &market, &set, want)?;
+        check_partial(rt, &market, &set, want)?;
     }
-    check_partial(rt, alloc, &market, &LocateSet::all(memory), both)
+    check_partial(rt, &market, &LocateSet::all(memory), both)
 }
 
 #[test]
-fn writes_the_locates_of_a_set(rt: HostRuntime) -> Result<(), Fail> {
-    check_parts::<ListBook>(&rt, rt.alloc(), rt.alloc())
+fn writes_the_locates_of_a_set(rt: HostRuntime) -> TestResult {
+    check_parts::<ListBook>(&rt, rt.alloc())
 }
 
 // Reads payloads of a snapshot cut down to a set, of which none ends it.
 fn check_more<B: OrderBook>(
-    rt: &impl Abort,
+    rt: &impl Host,
     snapshot: &mut SnapshotReader<B>,
     set: &LocateSet<B::Alloc>,
     payloads: &[&[u8]],
@@ -104,83 +98,59 @@ fn check_more<B: OrderBook>(
     }
 }
 
-// Reads this End of Snapshot, and no second one.
-fn check_end<B: OrderBook>(
-    rt: &impl Abort,
-    snapshot: &mut SnapshotReader<B>,
-    set: &LocateSet<B::Alloc>,
-    end: &[u8],
-    next: u64,
-) -> Result<(), Fail> {
-    same(rt, snapshot.message_only(set, end)?, Seq::new(next));
-    assert!(rt; matches!(snapshot.message_only(set, end), Err(SnapFault::AfterEnd)));
-    Ok(())
-}
-
 // Messages of other locates are decoded and counted, and follow no rule.
-fn check_read<B: OrderBook>(rt: &impl Abort, memory: B::Alloc) -> Result<(), Fail> {
+fn check_read<B: OrderBook>(rt: &impl Host, memory: B::Alloc) -> TestResult {
     let set = set_of(memory, &[2])?;
     let mut snapshot: SnapshotReader<B> = SnapshotReader::new(memory);
     let payloads = [ADD_1, AAPL, MSFT_AT_1, MSFT, REPLACE_1, ADD_2_OF_MSFT];
     check_more(rt, &mut snapshot, &set, &payloads);
     same(rt, snapshot.taken(), 6);
     same(rt, snapshot_len(snapshot.market()), 2);
-    check_end(rt, &mut snapshot, &set, END_4, 4)
+    same(rt, snapshot.message_only(&set, END_4)?, Seq::new(4));
+    assert!(rt; matches!(snapshot.message_only(&set, END_4), Err(SnapFault::AfterEnd)));
+    Ok(())
 }
 
 #[test]
-fn reads_the_locates_of_a_set(rt: HostRuntime) -> Result<(), Fail> {
+fn reads_the_locates_of_a_set(rt: HostRuntime) -> TestResult {
     check_read::<ListBook>(&rt, rt.alloc())
 }
 
-// The fault of a payload that is refused.
-fn fault_of<B: OrderBook>(
-    rt: &impl Abort,
-    snapshot: &mut SnapshotReader<B>,
-    set: &LocateSet<B::Alloc>,
-    payload: &[u8],
-) -> SnapFault {
-    let result = snapshot.message_only(set, payload);
-    result.err().expect(rt, "a fault")
-}
-
-// This payload is refused so for good.
+// After a message that is skipped, this payload is refused so for good.
 fn check_fault<B: OrderBook>(
-    rt: &impl Abort,
-    alloc: Global,
+    rt: &impl Host,
     snapshot: &mut SnapshotReader<B>,
     set: &LocateSet<B::Alloc>,
     payload: &[u8],
     want: &str,
-) -> Result<(), Fail> {
+) -> TestResult {
+    check_more(rt, snapshot, set, &[ADD_1]);
     for payload in [payload, END_3] {
-        let fault = fault_of(rt, snapshot, set, payload);
-        same_words(rt, alloc, &fault, want)?;
+        let fault = snapshot.message_only(set, payload).err();
+        same_words(rt, &fault.expect(rt, "a fault"), want)?;
     }
     Ok(())
 }
 
-// After a message that is skipped, this payload is refused so for good.
+// The same of a snapshot of its own.
 fn check_refused<B: OrderBook>(
-    rt: &impl Abort,
-    alloc: Global,
+    rt: &impl Host,
     memory: B::Alloc,
     payload: &[u8],
     want: &str,
-) -> Result<(), Fail> {
+) -> TestResult {
     let set = set_of(memory, &[2])?;
     let mut snapshot: SnapshotReader<B> = SnapshotReader::new(memory);
-    check_more(rt, &mut snapshot, &set, &[ADD_1]);
-    check_fault(rt, alloc, &mut snapshot, &set, payload, want)
+    check_fault(rt, &mut snapshot, &set, payload, want)
 }
 
 #[test]
-fn refuses_what_is_not_skipped(rt: HostRuntime) -> Result<(), Fail> {
+fn refuses_what_is_not_skipped(rt: HostRuntime) -> TestResult {
     for (payload, want) in [
         (ADD_2_OF_MSFT, "message 2: unknown locate"),
         (b"", "message 2: empty message"),
     ] {
-        check_refused::<ListBook>(&rt, rt.alloc(), rt.alloc(), payload, want)?;
+        check_refused::<ListBook>(&rt, rt.alloc(), payload, want)?;
     }
     Ok(())
 }

@@ -1,72 +1,35 @@
 //! One served and one fetched session over memory, row by row.
 use crate::doubles::{FuseWriter, PieceReader};
-use crate::equal::{same, same_in};
-use crate::files::seq;
+use crate::equal::{Host, TestResult, same, same_in, same_words};
+use crate::files::{Blocks, seq};
+use crate::frame::gives;
 use crate::sessions::{
     FROM_1, FROM_3, LOGIN_1, LOGIN_3, fetch, fetch_fault, fetched, is_served_market, serve,
     serve_from, served_market,
 };
 use itch_book::{ListBook, OrderBook};
-use itch_frame::{BlockReader, CountedRead, FrameFault};
+use itch_frame::{BlockReader, FrameFault};
 use itch_market::Market;
 use itch_soup::{Served, SoupFault, laws, write_data};
-use std::alloc::{Allocator, Global};
-use std::process::Abort;
-use std::test::Fail;
 
+// Logins for the message of this number: blank, in capitals and for the session, after other packets, for another session, and with
+// another password.
+const LOGIN_0: &[u8] = b"\0\x2fLuser  secret                                 0";
+
+const LOGIN_BLANK: &[u8] = b"\0\x2fLuser  secret                                  ";
+
+const CAPITALS_3: &[u8] = b"\0\x2fLUSER  secret    ITCHSNAP                     3";
+
+const LATE_6: &[u8] = b"\0\x01R\0\x01U\0\x01+\0\x2fLuser  secret                                 6";
+
+const LOGIN_7: &[u8] = b"\0\x2fLuser  secret                                 7";
+
+const OTHER_3: &[u8] = b"\0\x2fLuser  secret    OTHER                        3";
+
+const WRONG_3: &[u8] = b"\0\x2fLuser  wrong                                  3";
+
+// An answer.
 const FROM_6: &[u8] = b"\0\x1fA  ITCHSNAP                   6\0\x01Z";
-
-// Logins that are accepted, from which message on, how many packets follow, and the bytes of the answer.
-const ACCEPTED: [(&[u8], u64, u64, &[u8]); 6] = [
-    (LOGIN_3, 3, 3, FROM_3),
-    (LOGIN_1, 1, 5, FROM_1),
-    (
-        b"\0\x2fLuser  secret                                 0",
-        1,
-        5,
-        FROM_1,
-    ),
-    (
-        b"\0\x2fLuser  secret                                  ",
-        1,
-        5,
-        FROM_1,
-    ),
-    (
-        b"\0\x01R\0\x01U\0\x01+\0\x2fLuser  secret                                 6",
-        6,
-        0,
-        FROM_6,
-    ),
-    (
-        b"\0\x2fLUSER  secret    ITCHSNAP                     3",
-        3,
-        3,
-        FROM_3,
-    ),
-];
-
-// What else comes before a login or in its place, what it leads to, and the bytes of the answer.
-const NOT_ACCEPTED: [(&[u8], Served, &[u8]); 6] = [
-    (
-        b"\0\x2fLuser  secret                                 7",
-        Served::Rejected(b'S'),
-        b"\0\x02JS",
-    ),
-    (
-        b"\0\x2fLuser  wrong                                  3",
-        Served::Rejected(b'A'),
-        b"\0\x02JA",
-    ),
-    (
-        b"\0\x2fLuser  secret    OTHER                        3",
-        Served::Rejected(b'S'),
-        b"\0\x02JS",
-    ),
-    (b"\0\x01O", Served::Left, b""),
-    (b"\0\x01R\0\x01O", Served::Left, b""),
-    (b"\0\x01R", Served::Left, b""),
-];
 
 #[test]
 fn the_laws_of_sessions() {
@@ -78,92 +41,78 @@ fn the_laws_of_sessions() {
     laws::waits_by_the_table();
 }
 
-// A login that comes in pieces of this length is served so, and answered by these bytes.
-fn check_answer<B: OrderBook>(
-    rt: &impl Abort,
-    alloc: Global,
-    market: &Market<B>,
-    input: &[u8],
-    piece: usize,
-    want: &Served,
-    bytes: &[u8],
-) -> Result<(), Fail> {
-    assert!(rt; piece > 0);
-    let mut writer = FuseWriter::new(alloc, piece, None);
-    let reader = PieceReader::new(input, piece, None);
-    let served = serve_from(rt, alloc, reader, &mut writer, market)?;
-    same_in(rt, input, &served.expect(rt, "an answer"), want);
-    same(rt, writer.written(), bytes);
-    Ok(())
-}
-
+// A login is served so, in pieces of whatever length, and answered by these bytes.
 fn check_login<B: OrderBook>(
-    rt: &impl Abort,
-    alloc: Global,
+    rt: &impl Host,
     market: &Market<B>,
     input: &[u8],
     want: &Served,
     bytes: &[u8],
-) -> Result<(), Fail> {
+) -> TestResult {
     for piece in [1, 64] {
-        check_answer(rt, alloc, market, input, piece, want, bytes)?;
+        let mut writer = FuseWriter::new(rt.alloc(), piece, None);
+        let reader = PieceReader::new(input, piece, None);
+        let served = serve_from(rt, reader, &mut writer, market)?;
+        same_in(rt, input, &served.expect(rt, "an answer"), want);
+        same(rt, writer.written(), bytes);
     }
     Ok(())
 }
 
-fn check_logins<B: OrderBook>(
-    rt: &impl Abort,
-    alloc: Global,
-    market: &Market<B>,
-) -> Result<(), Fail> {
-    for (input, from, packets, bytes) in ACCEPTED {
+// Logins that are accepted from this message on: packets before them mean nothing, and only the case of a password counts.
+fn check_accepted<B: OrderBook>(rt: &impl Host, market: &Market<B>) -> TestResult {
+    let rows: [(u64, u64, &[u8], &[&[u8]]); 3] = [
+        (1, 5, FROM_1, &[LOGIN_1, LOGIN_0, LOGIN_BLANK]),
+        (3, 3, FROM_3, &[LOGIN_3, CAPITALS_3]),
+        (6, 0, FROM_6, &[LATE_6]),
+    ];
+    for (from, packets, answer, logins) in rows {
         let from = seq(rt, from);
         let want = Served::Accepted { from, packets };
-        check_login(rt, alloc, market, input, &want, bytes)?;
+        for login in logins {
+            check_login(rt, market, login, &want, answer)?;
+        }
     }
-    for (input, want, bytes) in NOT_ACCEPTED {
-        check_login(rt, alloc, market, input, &want, bytes)?;
+    Ok(())
+}
+
+// What else comes before a login or in its place.
+fn check_not_accepted<B: OrderBook>(rt: &impl Host, market: &Market<B>) -> TestResult {
+    let rows: [(Served, &[u8], &[&[u8]]); 3] = [
+        (Served::Rejected(b'S'), b"\0\x02JS", &[LOGIN_7, OTHER_3]),
+        (Served::Rejected(b'A'), b"\0\x02JA", &[WRONG_3]),
+        (
+            Served::Left,
+            b"",
+            &[b"\0\x01O", b"\0\x01R\0\x01O", b"\0\x01R"],
+        ),
+    ];
+    for (want, answer, inputs) in rows {
+        for input in inputs {
+            check_login(rt, market, input, &want, answer)?;
+        }
     }
     Ok(())
 }
 
 #[test]
-fn logins_are_served(rt: HostRuntime) -> Result<(), Fail> {
-    check_logins(&rt, rt.alloc(), &served_market(rt.alloc())?)
+fn logins_are_served(rt: HostRuntime) -> TestResult {
+    check_accepted(&rt, &served_market(rt.alloc())?)
 }
 
-// This input has a fault, and is not answered.
-fn check_fault<B: OrderBook>(
-    rt: &impl Abort,
-    alloc: Global,
-    market: &Market<B>,
-    input: &[u8],
-    want: &str,
-) -> Result<(), Fail> {
-    let mut writer = FuseWriter::new(alloc, 64, None);
-    let reader = PieceReader::new(input, 5, None);
-    let fault = serve_from(rt, alloc, reader, &mut writer, market)?.err();
-    same(rt, writer.written(), b"".as_slice());
-    same_text(rt, alloc, fault, want)
+#[test]
+fn other_logins_are_not_served(rt: HostRuntime) -> TestResult {
+    check_not_accepted(&rt, &served_market(rt.alloc())?)
 }
 
 // There is a fault with these words.
-fn same_text(
-    rt: &impl Abort,
-    alloc: Global,
-    fault: Option<SoupFault>,
-    want: &str,
-) -> Result<(), Fail> {
-    let fault = fault.expect(rt, "a fault");
-    same(rt, fault.to_string(alloc)?.as_str(), want);
+pub(super) fn same_text(rt: &impl Host, fault: Option<SoupFault>, want: &str) -> TestResult {
+    same_words(rt, &fault.expect(rt, "a fault"), want)?;
     Ok(())
 }
 
-fn check_faults<B: OrderBook>(
-    rt: &impl Abort,
-    alloc: Global,
-    market: &Market<B>,
-) -> Result<(), Fail> {
+// Inputs with a fault, which are not answered.
+fn check_faults<B: OrderBook>(rt: &impl Host, market: &Market<B>) -> TestResult {
     let rows: [(&[u8], &str); 5] = [
         (b"\0\0", "empty packet"),
         (b"\0\x01R\0\x01*", "unknown packet type 0x2a"),
@@ -172,129 +121,108 @@ fn check_faults<B: OrderBook>(
         (b"\0\x01R\0\x2fLuser", "truncated, 7 bytes held"),
     ];
     for (input, want) in rows {
-        check_fault(rt, alloc, market, input, want)?;
+        let mut writer = FuseWriter::new(rt.alloc(), 64, None);
+        let reader = PieceReader::new(input, 5, None);
+        let fault = serve_from(rt, reader, &mut writer, market)?.err();
+        same(rt, writer.written(), b"".as_slice());
+        same_text(rt, fault, want)?;
     }
     Ok(())
 }
 
 #[test]
-fn faults_before_a_login_are_not_answered(rt: HostRuntime) -> Result<(), Fail> {
-    check_faults(&rt, rt.alloc(), &served_market(rt.alloc())?)
-}
-
-// The next block is this one.
-fn gives<R: CountedRead, A: Allocator>(
-    rt: &impl Abort,
-    reader: &mut BlockReader<R, A>,
-    want: &[u8],
-) -> Result<(), FrameFault> {
-    same(rt, reader.next_block()?, Some(want));
-    Ok(())
+fn faults_before_a_login_are_not_answered(rt: HostRuntime) -> TestResult {
+    check_faults(&rt, &served_market(rt.alloc())?)
 }
 
 // Serves the login of this input, after which the next block is this one.
 fn check_after_login<B: OrderBook>(
-    rt: &impl Abort,
-    alloc: Global,
+    rt: &impl Host,
     market: &Market<B>,
     input: &[u8],
     want: &[u8],
-) -> Result<(), Fail> {
-    let mut reader = BlockReader::new(alloc, PieceReader::new(input, 64, None))?;
-    let mut writer = FuseWriter::new(alloc, 64, None);
+) -> TestResult {
+    let mut reader = BlockReader::new(rt.alloc(), PieceReader::new(input, 64, None))?;
+    let mut writer = FuseWriter::new(rt.alloc(), 64, None);
     serve(rt, &mut reader, &mut writer, market).expect(rt, "an answer");
-    gives(rt, &mut reader, want)?;
+    gives(rt, &mut reader, Some(want))?;
     Ok(())
 }
 
 #[test]
-fn nothing_is_read_after_the_login(rt: HostRuntime) -> Result<(), Fail> {
+fn nothing_is_read_after_the_login(rt: HostRuntime) -> TestResult {
     let input = b"\0\x2fLuser  secret                                 3\0\x01O";
     let market = served_market(rt.alloc())?;
-    check_after_login(&rt, rt.alloc(), &market, input, b"O")
+    check_after_login(&rt, &market, input, b"O")
 }
 
 // The market that was served is fetched over this reader.
 fn check_fetched<B: OrderBook>(
-    rt: &impl Abort,
-    alloc: Global,
+    rt: &impl Host,
     memory: B::Alloc,
     reader: PieceReader<'_>,
-) -> Result<(), Fail> {
-    match fetched::<_, B>(rt, alloc, memory, reader)? {
-        Ok((found, next)) => is_served_market(rt, alloc, &found, next),
+) -> TestResult {
+    match fetched::<B>(rt, memory, reader)? {
+        Ok((found, next)) => is_served_market(rt, &found, next),
         Err(fault) => panic!(rt; "{fault}"),
     }
 }
 
 #[test]
-fn answers_are_fetched(rt: HostRuntime) -> Result<(), Fail> {
+fn answers_are_fetched(rt: HostRuntime) -> TestResult {
     for piece in [1, 64] {
         let reader = PieceReader::new(FROM_1, piece, None);
-        check_fetched::<ListBook>(&rt, rt.alloc(), rt.alloc(), reader)?;
+        check_fetched::<ListBook>(&rt, rt.alloc(), reader)?;
     }
     Ok(())
 }
 
 // Fetches a market, after which the next block is this one.
-fn check_after_fetch<R: CountedRead, A: Allocator, B: OrderBook>(
-    rt: &impl Abort,
+fn check_after_fetch<B: OrderBook>(
+    rt: &impl Host,
     memory: B::Alloc,
-    reader: &mut BlockReader<R, A>,
+    reader: &mut Blocks<'_>,
     writer: &mut FuseWriter,
     want: &[u8],
 ) -> Result<(), FrameFault> {
-    match fetch::<R, A, B>(rt, memory, reader, writer) {
-        Ok(_) => gives(rt, reader, want),
+    match fetch::<B>(rt, memory, reader, writer) {
+        Ok(_) => gives(rt, reader, Some(want)),
         Err(fault) => panic!(rt; "{fault}"),
     }
 }
 
 #[test]
-fn nothing_is_read_after_the_end_of_snapshot(rt: HostRuntime) -> Result<(), Fail> {
+fn nothing_is_read_after_the_end_of_snapshot(rt: HostRuntime) -> TestResult {
     let mut reader = BlockReader::new(rt.alloc(), PieceReader::new(FROM_1, 64, None))?;
     let mut writer = FuseWriter::new(rt.alloc(), 64, None);
-    check_after_fetch::<_, _, ListBook>(&rt, rt.alloc(), &mut reader, &mut writer, b"Z")?;
+    check_after_fetch::<ListBook>(&rt, rt.alloc(), &mut reader, &mut writer, b"Z")?;
     Ok(())
 }
 
-// The fetch of this input has this fault.
-fn check_fetch_fault(rt: &impl Abort, alloc: Global, input: &[u8], want: &str) -> Result<(), Fail> {
-    let fault = fetch_fault(rt, alloc, PieceReader::new(input, 5, None))?;
-    same_text(rt, alloc, fault, want)
-}
-
 #[test]
-fn other_answers_are_faults(rt: HostRuntime) -> Result<(), Fail> {
-    let rows: [(&[u8], &str); 10] = [
-        (FROM_3, "accepted from 3, not from 1"),
-        (b"\0\x02JA", "login rejected with A"),
-        (
-            b"\0\x1fA  ITCHSNAP                   1\0\x01Z",
-            "ended early",
-        ),
-        (b"\0\x01H\0\x01Z", "ended early"),
-        (b"\0\x1fA  ITCHSNAP                   1", "ended early"),
-        (b"\0\x1fA  ITCHSNAP", "truncated, 13 bytes held"),
-        (b"\0\x01S", "packet S before the login was accepted"),
-        (b"\0\x01R", "packet R from the wrong side"),
-        (
-            b"\0\x1fA  ITCHSNAP                   1\0\x02JA",
-            "second login",
-        ),
-        (
-            b"\0\x1fA  ITCHSNAP                   1\0\x14SD\0\x01\0\0\0\0\0\0\0\0\0\0\0\0\0\0\0\x01",
-            "message 1: unknown reference",
-        ),
-    ];
-    for (input, want) in rows {
-        check_fetch_fault(&rt, rt.alloc(), input, want)?;
+fn other_answers_are_faults(rt: HostRuntime) -> TestResult {
+    let fault = fetch_fault(&rt, PieceReader::new(FROM_3, 5, None))?;
+    same_text(&rt, fault, "accepted from 3, not from 1")?;
+    for row in [
+        "\0\x02JA => login rejected with A",
+        "\0\x1fA  ITCHSNAP                   1\0\x01Z => ended early",
+        "\0\x01H\0\x01Z => ended early",
+        "\0\x1fA  ITCHSNAP                   1 => ended early",
+        "\0\x1fA  ITCHSNAP => truncated, 13 bytes held",
+        "\0\x01S => packet S before the login was accepted",
+        "\0\x01R => packet R from the wrong side",
+        "\0\x1fA  ITCHSNAP                   1\0\x02JA => second login",
+        "\0\x1fA  ITCHSNAP                   1\0\x14SD\0\x01\0\0\0\0\0\0\0\0\0\0\0\0\0\0\0\x01 => message 1: unknown reference",
+    ] {
+        let (input, want) = row.split_once(" => ").ok_or("two columns")?;
+        let fault = fetch_fault(&rt, PieceReader::new(input.as_bytes(), 5, None))?;
+        same_text(&rt, fault, want)?;
     }
     Ok(())
 }
 
 #[test]
-fn data_is_written(rt: HostRuntime) -> Result<(), Fail> {
+fn data_is_written(rt: HostRuntime) -> TestResult {
     let mut writer = FuseWriter::new(rt.alloc(), 64, None);
     write_data(&mut writer, b"GG")?;
     write_data(&mut writer, b"")?;

@@ -1,11 +1,10 @@
 //! A hundred thousand calls, each beside the same one of a hash map.
 use super::calls::{has, put, set, take};
+use crate::equal::{Host, TestResult};
 use itch_book::table::Table;
 use std::alloc::{AllocError, Global};
 use std::collections::HashMap;
 use std::hash::{BuildHasherDefault, FoldHasher};
-use std::process::Abort;
-use std::test::Fail;
 
 type Map = HashMap<u64, u32, BuildHasherDefault<FoldHasher>, Global>;
 
@@ -29,7 +28,7 @@ fn key_of(number: u64) -> u64 {
 
 // One call on both: a new key is put in, and a known one gets another link or is taken out.
 fn call_both(
-    rt: &impl Abort,
+    rt: &impl Host,
     table: &mut Table,
     map: &mut Map,
     number: u64,
@@ -52,14 +51,14 @@ fn call_both(
 }
 
 // Each key of the map has its link.
-fn agree(rt: &impl Abort, table: &Table, map: &Map) {
+fn agree(rt: &impl Host, table: &Table, map: &Map) {
     for (key, link) in map.iter() {
         has(rt, table, *key, Some(*link));
     }
 }
 
 #[test]
-fn calls_beside_a_map(rt: HostRuntime) -> Result<(), Fail> {
+fn calls_beside_a_map(rt: HostRuntime) -> TestResult {
     let mut table: Table = Table::new(rt.alloc());
     let mut map: Map = HashMap::new(rt.alloc());
     let mut number = 88_172_645_463_325_252u64;

@@ -1,10 +1,9 @@
 //! Keys chosen to take as much memory as they can, and the memory that they take.
 use super::calls::{has, put, take};
+use crate::equal::{Host, TestResult};
 use itch_book::table::Table;
 use linked_list_allocator::LocalHeap;
 use std::alloc::AllocError;
-use std::process::Abort;
-use std::test::Fail;
 
 // Twice what the pages of any keys may take at first, and what a heap needs for itself: vectors double as they grow.
 const START: usize = 8_500_000;
@@ -13,7 +12,7 @@ const FOR_KEY: usize = 128;
 
 // Puts in so many keys, so far apart, and checks the memory that they take.
 fn fill(
-    rt: &impl Abort,
+    rt: &impl Host,
     heap: &LocalHeap,
     table: &mut Table<&LocalHeap>,
     step: u64,
@@ -23,12 +22,8 @@ fn fill(
         put(rt, table, u64::from(number).wrapping_mul(step), number)?;
     }
     for number in 0..count {
-        has(
-            rt,
-            table,
-            u64::from(number).wrapping_mul(step),
-            Some(number),
-        );
+        let key = u64::from(number).wrapping_mul(step);
+        has(rt, table, key, Some(number));
     }
     let bound = START.saturating_add(FOR_KEY.saturating_mul(count as usize));
     assert!(rt; heap.used() <= bound, "{count} keys {step} apart");
@@ -36,7 +31,7 @@ fn fill(
 }
 
 // Takes out all of them.
-fn empty(rt: &impl Abort, table: &mut Table<&LocalHeap>, step: u64, count: u32) {
+fn empty(rt: &impl Host, table: &mut Table<&LocalHeap>, step: u64, count: u32) {
     for number in 0..count {
         let key = u64::from(number).wrapping_mul(step);
         assert!(rt; take(rt, table, key) == number);
@@ -46,7 +41,7 @@ fn empty(rt: &impl Abort, table: &mut Table<&LocalHeap>, step: u64, count: u32) 
 
 // A page for each key, or eight; so far apart that hardly any gets a page; and spread over all numbers.
 #[test]
-fn sparse_keys_take_bounded_memory(rt: HostRuntime) -> Result<(), Fail> {
+fn sparse_keys_take_bounded_memory(rt: HostRuntime) -> TestResult {
     for step in [32, 33, 256, 10_000, 1_000_000_007, 0x0000_1234_5678_9abd] {
         let heap = LocalHeap::new(rt.alloc(), 128 << 20)?;
         let mut table: Table<&LocalHeap> = Table::new(&heap);
@@ -63,7 +58,7 @@ fn sparse_keys_take_bounded_memory(rt: HostRuntime) -> Result<(), Fail> {
 
 // So many that the pages of the first ones are few: one key of a page each, or two or four.
 #[test]
-fn many_sparse_keys_take_little_more_than_a_map(rt: HostRuntime) -> Result<(), Fail> {
+fn many_sparse_keys_take_little_more_than_a_map(rt: HostRuntime) -> TestResult {
     for step in [8, 16, 32, 100, 256, 1 << 20, 0x0000_1234_5678_9abd] {
         let heap = LocalHeap::new(rt.alloc(), 64 << 20)?;
         let mut table: Table<&LocalHeap> = Table::new(&heap);
@@ -74,7 +69,7 @@ fn many_sparse_keys_take_little_more_than_a_map(rt: HostRuntime) -> Result<(), F
 
 // Keys that stand side by side take a few bytes each, also after so many keys with a page each that no more of them get one.
 #[test]
-fn dense_keys_after_sparse_ones_get_pages(rt: HostRuntime) -> Result<(), Fail> {
+fn dense_keys_after_sparse_ones_get_pages(rt: HostRuntime) -> TestResult {
     let heap = LocalHeap::new(rt.alloc(), 64 << 20)?;
     let mut table: Table<&LocalHeap> = Table::new(&heap);
     fill(&rt, &heap, &mut table, 32, 100_000)?;
@@ -89,7 +84,7 @@ fn dense_keys_after_sparse_ones_get_pages(rt: HostRuntime) -> Result<(), Fail> {
 
 // The greatest keys, and those at the ends of pages.
 #[test]
-fn keys_at_the_ends(rt: HostRuntime) -> Result<(), Fail> {
+fn keys_at_the_ends(rt: HostRuntime) -> TestResult {
     let heap = LocalHeap::new(rt.alloc(), 1 << 20)?;
     let mut table: Table<&LocalHeap> = Table::new(&heap);
     let keys = [
@@ -116,7 +111,7 @@ fn keys_at_the_ends(rt: HostRuntime) -> Result<(), Fail> {
 
 // A key that comes and goes a million times takes memory once.
 #[test]
-fn a_key_used_again(rt: HostRuntime) -> Result<(), Fail> {
+fn a_key_used_again(rt: HostRuntime) -> TestResult {
     let heap = LocalHeap::new(rt.alloc(), 1 << 20)?;
     let mut table: Table<&LocalHeap> = Table::new(&heap);
     for key in [7, u64::MAX] {
@@ -133,7 +128,7 @@ fn a_key_used_again(rt: HostRuntime) -> Result<(), Fail> {
 
 // Of a million rising keys a hundred are known at a time: a few pages serve them, and the directory has a word for each page.
 #[test]
-fn rising_keys_use_pages_again(rt: HostRuntime) -> Result<(), Fail> {
+fn rising_keys_use_pages_again(rt: HostRuntime) -> TestResult {
     let heap = LocalHeap::new(rt.alloc(), 4 << 20)?;
     let mut table: Table<&LocalHeap> = Table::new(&heap);
     for key in 0..1_000_000u64 {

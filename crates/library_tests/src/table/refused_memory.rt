@@ -1,32 +1,25 @@
 //! Keys put in with each allocation refused in turn: the directory's, the pages' and the hash map's.
 use super::calls::{has, put, take};
 use crate::doubles::Refusing;
+use crate::equal::{Host, TestResult};
 use itch_book::table::Table;
 use std::alloc::{Allocator, Global};
-use std::process::Abort;
-use std::test::Fail;
 
 // The keys below `count`, so far apart, have their own numbers as links, and no others have any.
-fn has_first<A: Allocator>(rt: &impl Abort, table: &Table<A>, step: u64, count: u32) {
+fn has_first<A: Allocator>(rt: &impl Host, table: &Table<A>, step: u64, count: u32) {
     for number in 0..count {
         let key = u64::from(number).wrapping_mul(step);
         has(rt, table, key, Some(number));
-        has(
-            rt,
-            table,
-            key.wrapping_add(1),
-            if step == 1 && number.wrapping_add(1) < count {
-                Some(number.wrapping_add(1))
-            } else {
-                None
-            },
-        );
+        let next = number.wrapping_add(1);
+        let is_there = step == 1 && next < count;
+        let want = if is_there { Some(next) } else { None };
+        has(rt, table, key.wrapping_add(1), want);
     }
 }
 
 // Puts a key in with each of its allocations refused in turn, and then with memory. Returns how many were refused.
 fn refuse_each(
-    rt: &impl Abort,
+    rt: &impl Host,
     refusing: &Refusing<Global>,
     table: &mut Table<&Refusing<Global>>,
     step: u64,
@@ -48,7 +41,7 @@ fn refuse_each(
 
 // Dense keys, keys of a page each, and keys that are beyond the pages.
 #[test]
-fn a_table_stays_as_it_was(rt: HostRuntime) -> Result<(), Fail> {
+fn a_table_stays_as_it_was(rt: HostRuntime) -> TestResult {
     for (step, least) in [(1, 4), (32, 10), (1_000, 10), (0x0fed_cba9_8765_4321, 4)] {
         let refusing = Refusing::new(rt.alloc(), 0);
         let mut table: Table<&Refusing<Global>> = Table::new(&refusing);
@@ -64,7 +57,7 @@ fn a_table_stays_as_it_was(rt: HostRuntime) -> Result<(), Fail> {
 
 // A key is taken out, and put in again where it was, with no allocation.
 #[test]
-fn a_key_goes_and_comes_without_memory(rt: HostRuntime) -> Result<(), Fail> {
+fn a_key_goes_and_comes_without_memory(rt: HostRuntime) -> TestResult {
     let refusing = Refusing::new(rt.alloc(), 0);
     let mut table: Table<&Refusing<Global>> = Table::new(&refusing);
     refusing.arm(100);

@@ -1,6 +1,5 @@
 //! Commands over files, with files of their own, and what they write of them.
-use super::blocks::*;
-use super::files::file;
+use super::blocks::file;
 use itch_commands::book::book;
 use itch_commands::canon::canon;
 use itch_commands::check::check;
@@ -12,7 +11,8 @@ use itch_commands::{
     Book, BookForm, Command, FeedPart, FileKind, Filters, Limit, PairCommand, Selection, ShowForm,
     ToolFault, perform, perform_pair, read_locates,
 };
-use itch_frame::{BlockReader, CountedRead, CountedWrite};
+use itch_frame::BlockReader;
+use library_tests::doubles::{FuseWriter, PieceReader};
 use std::alloc::Global;
 use std::test::Fail;
 
@@ -41,9 +41,9 @@ pub(super) enum Double {
     JoinStocks,
 }
 
-pub(super) const DAY: [&str; 4] = [AAPL, ATTRIBUTED_1, BUY_2_OF_200, REPLACE_1_BY_3];
+pub(super) const DAY: &str = "AAPL ATTRIBUTED_1 BUY_2_OF_200 REPLACE_1_BY_3";
 
-pub(super) const SNAPSHOT: [&str; 4] = [AAPL, BUY_2_OF_200, ATTRIBUTED_3, END_5];
+pub(super) const SNAPSHOT: &str = "AAPL BUY_2_OF_200 ATTRIBUTED_3 END_5";
 
 const LINES: &[u8] = b"1 R 1 0 0 [AAPL] 51 4e 100 4e 43 5a20 50 4e 4e 31 4e 0 4e\n\
     2 F 1 0 0 1 B 100 [AAPL] 150.0000 [ABCD]\n\
@@ -61,83 +61,53 @@ const SNAPSHOT_LINES: &[u8] =
     \"shares\":200,\"stock\":\"AAPL\",\"price\":\"150.0000\"}\n\
     {\"number\":4,\"type\":\"G\",\"sequence_number\":5}\n";
 
+/// What a command answers.
+pub(super) type Answer = Result<bool, ToolFault>;
+
 // Each command without its contract, so that what calls one of them does not carry it.
-fn checked<R: CountedRead + Drop, W: CountedWrite>(
-    alloc: Global,
-    reader: R,
-    out: &mut W,
-) -> Result<bool, ToolFault> {
+fn checked(alloc: Global, reader: PieceReader<'_>, out: &mut FuseWriter) -> Answer {
     check(alloc, reader, out)
 }
 
-fn snapped<R: CountedRead + Drop, W: CountedWrite>(
-    alloc: Global,
-    reader: R,
-    out: &mut W,
-) -> Result<bool, ToolFault> {
+fn snapped(alloc: Global, reader: PieceReader<'_>, out: &mut FuseWriter) -> Answer {
     snap(alloc, reader, None, None, out)
 }
 
-fn made_canonical<R: CountedRead + Drop, W: CountedWrite>(
-    alloc: Global,
-    reader: R,
-    check: bool,
-    out: &mut W,
-) -> Result<bool, ToolFault> {
+fn canonical(alloc: Global, reader: PieceReader<'_>, check: bool, out: &mut FuseWriter) -> Answer {
     canon(alloc, reader, check, out)
 }
 
-fn shown<R: CountedRead + Drop, W: CountedWrite>(
-    alloc: Global,
-    reader: R,
-    out: &mut W,
-) -> Result<bool, ToolFault> {
+fn shown(alloc: Global, reader: PieceReader<'_>, out: &mut FuseWriter) -> Answer {
     show(alloc, reader, out)
 }
 
-fn booked<R: CountedRead + Drop, W: CountedWrite>(
-    alloc: Global,
-    reader: R,
-    out: &mut W,
-) -> Result<bool, ToolFault> {
+fn booked(alloc: Global, reader: PieceReader<'_>, out: &mut FuseWriter) -> Answer {
     book(alloc, 1, reader, out)
 }
 
-fn compared<R: CountedRead + Drop, S: CountedRead + Drop, W: CountedWrite>(
-    alloc: Global,
-    first: R,
-    second: S,
-    out: &mut W,
-) -> Result<bool, ToolFault> {
+// The readers of the files of a command over two.
+type Files<'a> = (PieceReader<'a>, PieceReader<'a>);
+
+fn compared(alloc: Global, (first, second): Files<'_>, out: &mut FuseWriter) -> Answer {
     compare(alloc, first, second, out)
 }
 
-fn compared_first<R: CountedRead + Drop, S: CountedRead + Drop, W: CountedWrite>(
-    alloc: Global,
-    first: R,
-    second: S,
-    out: &mut W,
-) -> Result<bool, ToolFault> {
+fn compared_first(alloc: Global, (first, second): Files<'_>, out: &mut FuseWriter) -> Answer {
     compare_first(alloc, first, second, out)
 }
 
-fn joined<R: CountedRead + Drop, S: CountedRead + Drop, W: CountedWrite>(
-    alloc: Global,
-    snapshot: R,
-    feed: S,
-    out: &mut W,
-) -> Result<bool, ToolFault> {
+fn joined(alloc: Global, (snapshot, feed): Files<'_>, out: &mut FuseWriter) -> Answer {
     join(alloc, snapshot, feed, None, out)
 }
 
 // What a command says, with the list of the locates that are wanted, if it has one.
-fn performed<R: CountedRead + Drop, W: CountedWrite>(
+fn performed(
     alloc: Global,
     command: Command<'_>,
     list: Option<&str>,
-    reader: R,
-    out: &mut W,
-) -> Result<bool, ToolFault> {
+    reader: PieceReader<'_>,
+    out: &mut FuseWriter,
+) -> Answer {
     let set = match list {
         Some(list) => Some(read_locates(alloc, list)?),
         None => None,
@@ -146,12 +116,7 @@ fn performed<R: CountedRead + Drop, W: CountedWrite>(
     perform::<_, _, Book<Global>, _>(alloc, command, set.as_ref(), &mut reader, out)
 }
 
-fn joined_of_stocks<R: CountedRead + Drop, S: CountedRead + Drop, W: CountedWrite>(
-    alloc: Global,
-    snapshot: R,
-    feed: S,
-    out: &mut W,
-) -> Result<bool, ToolFault> {
+fn joined_of_stocks(alloc: Global, (snapshot, feed): Files<'_>, out: &mut FuseWriter) -> Answer {
     let command = PairCommand::Join {
         part: FeedPart::whole(),
         selection: Selection::Stocks("AAPL"),
@@ -211,18 +176,19 @@ const WHOLE_DAY: Limit = Limit {
 
 const WHOLE: FileKind = FileKind::Day(WHOLE_DAY);
 
-/// Performs a command over this reader of its file.
-pub(super) fn perform_single<R: CountedRead + Drop, W: CountedWrite>(
+/// Performs a command over this file.
+pub(super) fn perform_single(
     command: Single,
     alloc: Global,
-    reader: R,
-    out: &mut W,
-) -> Result<bool, ToolFault> {
+    bytes: &[u8],
+    out: &mut FuseWriter,
+) -> Answer {
+    let reader = PieceReader::new(bytes, 64, None);
     match command {
         Single::Check => checked(alloc, reader, out),
         Single::Snap => snapped(alloc, reader, out),
-        Single::Canon => made_canonical(alloc, reader, false, out),
-        Single::CanonCheck => made_canonical(alloc, reader, true, out),
+        Single::Canon => canonical(alloc, reader, false, out),
+        Single::CanonCheck => canonical(alloc, reader, true, out),
         Single::Show => shown(alloc, reader, out),
         Single::Book => booked(alloc, reader, out),
         Single::ShowChosen => performed(alloc, SHOW_CHOSEN, Some("1-3"), reader, out),
@@ -233,19 +199,20 @@ pub(super) fn perform_single<R: CountedRead + Drop, W: CountedWrite>(
     }
 }
 
-/// Performs a command over these readers of its files.
-pub(super) fn perform_double<R: CountedRead + Drop, S: CountedRead + Drop, W: CountedWrite>(
+/// Performs a command over these files.
+pub(super) fn perform_double(
     command: Double,
     alloc: Global,
-    first: R,
-    second: S,
-    out: &mut W,
-) -> Result<bool, ToolFault> {
+    (first, second): (&[u8], &[u8]),
+    out: &mut FuseWriter,
+) -> Answer {
+    let first = PieceReader::new(first, 64, None);
+    let files = (first, PieceReader::new(second, 64, None));
     match command {
-        Double::Compare => compared(alloc, first, second, out),
-        Double::CompareFirst => compared_first(alloc, first, second, out),
-        Double::Join => joined(alloc, first, second, out),
-        Double::JoinStocks => joined_of_stocks(alloc, first, second, out),
+        Double::Compare => compared(alloc, files, out),
+        Double::CompareFirst => compared_first(alloc, files, out),
+        Double::Join => joined(alloc, files, out),
+        Double::JoinStocks => joined_of_stocks(alloc, files, out),
     }
 }
 
@@ -259,6 +226,6 @@ pub(super) fn wanted(alloc: Global, command: Single) -> Result<Vec<u8>, Fail> {
         Single::ShowSnapshot => Ok(Vec::from_slice(alloc, SNAPSHOT_LINES)?),
         Single::Book => Ok(Vec::from_slice(alloc, b"1 AAPL\nB 150.0000 300 2\n")?),
         Single::BookLocates | Single::BookStocks => Ok(Vec::from_slice(alloc, AS_CSV)?),
-        Single::Snap | Single::SnapStocks | Single::Canon => file(alloc, &SNAPSHOT),
+        Single::Snap | Single::SnapStocks | Single::Canon => file(alloc, SNAPSHOT),
     }
 }

@@ -1,7 +1,6 @@
 //! A pass over a day file, with a snapshot at each of its points.
-use super::blocks::*;
-use super::files::file;
-use crate::equal::{holds_in, same};
+use super::blocks::file;
+use crate::equal::{TestResult, holds_in, same};
 use itch_commands::snap::{Mark, Pass};
 use itch_commands::{Book, Limit};
 use itch_frame::{BlockReader, Counted, CountedRead};
@@ -13,7 +12,7 @@ use std::test::Fail;
 fn writes<R: CountedRead, A: Allocator>(
     alloc: Global,
     pass: &Pass<R, A, Book<Global>>,
-    blocks: &[&str],
+    blocks: &str,
 ) -> Result<bool, Fail> {
     let mut out = FuseWriter::new(alloc, 512, None);
     Ok(pass.write(None, &mut out)? && out.written() == file(alloc, blocks)?.as_slice())
@@ -34,9 +33,9 @@ fn read_more<R: CountedRead, A: Allocator>(
 }
 
 #[test]
-fn a_pass_stands_at_each_point(rt: HostRuntime) -> Result<(), Fail> {
+fn a_pass_stands_at_each_point(rt: HostRuntime) -> TestResult {
     let alloc = rt.alloc();
-    let day = file(alloc, &[START_STAMPED, AAPL_LATE, BUY_1_STAMPED])?;
+    let day = file(alloc, "START_STAMPED AAPL_LATE BUY_1_STAMPED")?;
     let reader = BlockReader::new(alloc, Counted::new(day.as_slice()))?;
     let mut pass: Pass<_, _, Book<Global>> = Pass::new(alloc, reader);
     let until = Limit {
@@ -44,11 +43,11 @@ fn a_pass_stands_at_each_point(rt: HostRuntime) -> Result<(), Fail> {
         until: Some(5),
     };
     same(&rt, read_to(&mut pass, until)?, 1);
-    holds_in(&rt, 1, writes(alloc, &pass, &[START, END_2])?);
+    holds_in(&rt, 1, writes(alloc, &pass, "START END_2")?);
     holds_in(&rt, 2, read_more(&mut pass, 1)?);
-    holds_in(&rt, 2, writes(alloc, &pass, &[START, AAPL, END_3])?);
+    holds_in(&rt, 2, writes(alloc, &pass, "START AAPL END_3")?);
     holds_in(&rt, 3, !read_more(&mut pass, 2)?);
-    holds_in(&rt, 3, writes(alloc, &pass, &[START, AAPL, BUY_1, END_4])?);
+    holds_in(&rt, 3, writes(alloc, &pass, "START AAPL BUY_1 END_4")?);
     same(&rt, read_to(&mut pass, Limit::whole())?, 3);
     let end = Mark {
         count: 3,

@@ -1,6 +1,6 @@
 //! The line and the status of each fault.
 
-use crate::equal::{same, same_in};
+use crate::equal::{Host, TestResult, same, same_in};
 use itch_codec::CodecFault;
 use itch_commands::snap::{Latest, Mark};
 use itch_commands::{
@@ -9,94 +9,57 @@ use itch_commands::{
 use itch_frame::FrameFault;
 use itch_market::{Refusal, ReplayEnd, Stop};
 use itch_snapshot::SnapFault;
-use std::alloc::Global;
 use std::io;
-use std::test::Fail;
+
+// A fault has this status and, after it, this line.
+fn is_told(rt: &impl Host, fault: &ToolFault, wanted: &str) -> TestResult {
+    let told = format!(in rt.alloc(); "{} {fault}", fault.status())?;
+    same(rt, told.as_str(), wanted);
+    Ok(())
+}
 
 #[test]
-fn every_fault_has_its_line_and_status(rt: HostRuntime) -> Result<(), Fail> {
-    let alloc = rt.alloc();
+fn every_fault_has_its_line_and_status(rt: HostRuntime) -> TestResult {
     let error = io::Error::from(io::ErrorKind::Other);
-    let want_of_memory = ReplayEnd {
-        count: 1,
-        stop: Stop::Rule(Refusal::OutOfMemory),
+    let stopped = |file, count, stop| ToolFault::Stopped {
+        file,
+        end: ReplayEnd { count, stop },
     };
-    let too_many = ReplayEnd {
-        count: 9_999_999_999_999_999_999,
-        stop: Stop::TooManyMessages,
-    };
-    let cases = [
-        (
-            ToolFault::Stopped {
-                file: Source::Only,
-                end: want_of_memory,
-            },
-            "message 2: out of memory",
-            4,
-        ),
-        (
-            ToolFault::Stopped {
-                file: Source::First,
-                end: too_many,
-            },
-            "first: message 10000000000000000000: too many messages",
-            1,
-        ),
-        (
-            ToolFault::Short {
-                file: Source::Only,
-                count: 3,
-            },
-            "only 3 messages",
-            1,
-        ),
-        (
-            ToolFault::Short {
-                file: Source::Second,
-                count: 0,
-            },
-            "second: only 0 messages",
-            1,
-        ),
-        (
-            ToolFault::Unmet(Unmet::More { expected: 2 }),
-            "more than 2 messages",
-            1,
-        ),
-        (ToolFault::Unmet(Unmet::NoEnd), "no end of messages", 1),
-        (
-            ToolFault::Misfit(Misfit::Gap {
-                next: 5,
-                before: u64::MAX,
-            }),
-            "gap: message 5 is next, and the feed begins with 18446744073709551616",
-            1,
-        ),
-        (
-            ToolFault::Misfit(Misfit::Beyond { held: 4, wanted: 3 }),
-            "snapshot: 4 messages, more than 3",
-            1,
-        ),
-        (
-            ToolFault::Misfit(Misfit::Late { number: 2 }),
-            "snapshot: message 2 is too late",
-            1,
-        ),
-        (ToolFault::Write(error), "write failed", 3),
-        (ToolFault::OutOfMemory, "out of memory", 4),
-        (
-            ToolFault::Open {
-                file: Source::Second,
-                error,
-            },
-            "cannot open",
-            3,
-        ),
+    let most = 9_999_999_999_999_999_999;
+    let short = |file, count| ToolFault::Short { file, count };
+    let gap = |next, before| ToolFault::Misfit(Misfit::Gap { next, before });
+    let beyond = Misfit::Beyond { held: 4, wanted: 3 };
+    let (file, number) = (Source::Second, 2);
+    let faults = [
+        stopped(Source::Only, 1, Stop::Rule(Refusal::OutOfMemory)),
+        stopped(Source::First, most, Stop::TooManyMessages),
+        short(Source::Only, 3),
+        short(Source::Second, 0),
+        ToolFault::Unmet(Unmet::More { expected: 2 }),
+        ToolFault::Unmet(Unmet::NoEnd),
+        gap(5, u64::MAX),
+        ToolFault::Misfit(beyond),
+        ToolFault::Misfit(Misfit::Late { number }),
+        ToolFault::Write(error),
+        ToolFault::OutOfMemory,
+        ToolFault::Open { file, error },
     ];
-    for (fault, reason, wanted) in cases.iter() {
-        let line = format!(in alloc; "itchsnap: {reason}")?;
-        same(&rt, format!(in alloc; "{fault}")?.as_str(), line.as_str());
-        same_in(&rt, reason, fault.status(), *wanted);
+    let lines = [
+        "4 itchsnap: message 2: out of memory",
+        "1 itchsnap: first: message 10000000000000000000: too many messages",
+        "1 itchsnap: only 3 messages",
+        "1 itchsnap: second: only 0 messages",
+        "1 itchsnap: more than 2 messages",
+        "1 itchsnap: no end of messages",
+        "1 itchsnap: gap: message 5 is next, and the feed begins with 18446744073709551616",
+        "1 itchsnap: snapshot: 4 messages, more than 3",
+        "1 itchsnap: snapshot: message 2 is too late",
+        "3 itchsnap: write failed",
+        "4 itchsnap: out of memory",
+        "3 itchsnap: cannot open",
+    ];
+    for (fault, line) in faults.iter().zip(lines.iter()) {
+        is_told(&rt, fault, line)?;
     }
     same(&rt, status(&Err(ToolFault::Write(error))), 3);
     same(&rt, status(&Ok(true)), 0);
@@ -104,65 +67,39 @@ fn every_fault_has_its_line_and_status(rt: HostRuntime) -> Result<(), Fail> {
     Ok(())
 }
 
-// How a file of so many messages whose last system event is this one differs from what is expected, in words.
-fn difference(
-    alloc: Global,
-    expected: Expected,
-    count: u64,
+// How a file of so many messages whose last system event is this one differs from what is expected.
+fn differs(
+    rt: &impl Host,
+    (count, end): (Option<u64>, bool),
+    found: u64,
     event: Option<u8>,
-) -> Result<String, Fail> {
-    match expected.check(count, event) {
-        Ok(()) => Ok(String::from_str(alloc, "none")?),
-        Err(fault) => Ok(format!(in alloc; "{fault}")?),
+    wanted: &str,
+) -> TestResult {
+    match (Expected { count, end }).check(found, event) {
+        Ok(()) => same(rt, "none", wanted),
+        Err(fault) => is_told(rt, &fault, wanted)?,
     }
+    Ok(())
 }
 
 #[test]
-fn a_file_is_as_expected_or_not(rt: HostRuntime) -> Result<(), Fail> {
-    let exactly = |count, end| Expected { count, end };
-    let cases = [
-        (exactly(None, false), 0, None, "none"),
-        (exactly(None, true), 7, Some(b'C'), "none"),
-        (
-            exactly(None, true),
-            7,
-            Some(b'M'),
-            "itchsnap: no end of messages",
-        ),
-        (exactly(None, true), 7, None, "itchsnap: no end of messages"),
-        (exactly(Some(7), false), 7, None, "none"),
-        (exactly(Some(7), true), 7, Some(b'C'), "none"),
-        (
-            exactly(Some(8), false),
-            7,
-            Some(b'C'),
-            "itchsnap: only 7 messages",
-        ),
-        (
-            exactly(Some(6), false),
-            7,
-            Some(b'C'),
-            "itchsnap: more than 6 messages",
-        ),
-        (
-            exactly(Some(6), true),
-            7,
-            None,
-            "itchsnap: more than 6 messages",
-        ),
-        (
-            exactly(Some(7), true),
-            7,
-            Some(b'E'),
-            "itchsnap: no end of messages",
-        ),
-    ];
-    for (expected, count, event, wanted) in cases {
-        same(
-            &rt,
-            difference(rt.alloc(), expected, count, event)?.as_str(),
-            wanted,
-        );
+fn a_file_is_as_expected_or_not(rt: HostRuntime) -> TestResult {
+    let no_end = "1 itchsnap: no end of messages";
+    let less = "1 itchsnap: only 7 messages";
+    let more = "1 itchsnap: more than 6 messages";
+    for (expected, count, event, wanted) in [
+        ((None, false), 0, None, "none"),
+        ((None, true), 7, Some(b'C'), "none"),
+        ((None, true), 7, Some(b'M'), no_end),
+        ((None, true), 7, None, no_end),
+        ((Some(7), false), 7, None, "none"),
+        ((Some(7), true), 7, Some(b'C'), "none"),
+        ((Some(8), false), 7, Some(b'C'), less),
+        ((Some(6), false), 7, Some(b'C'), more),
+        ((Some(6), true), 7, None, more),
+        ((Some(7), true), 7, Some(b'E'), no_end),
+    ] {
+        differs(&rt, expected, count, event, wanted)?;
     }
     Ok(())
 }
@@ -171,50 +108,33 @@ fn a_file_is_as_expected_or_not(rt: HostRuntime) -> Result<(), Fail> {
 fn want_of_memory_has_its_own_fault(rt: HostRuntime) {
     let refused = io::Error::from(io::ErrorKind::OutOfMemory);
     let missing = io::Error::from(io::ErrorKind::NotFound);
-    assert!(rt;
-        matches!(
-            system_fault(refused, ToolFault::Write(refused)),
-            ToolFault::OutOfMemory
-        )
-    );
-    assert!(rt;
-        matches!(
-            system_fault(missing, ToolFault::Write(missing)),
-            ToolFault::Write(_)
-        )
-    );
+    let fault = system_fault(refused, ToolFault::Write(refused));
+    assert!(rt; matches!(fault, ToolFault::OutOfMemory));
+    let fault = system_fault(missing, ToolFault::Write(missing));
+    assert!(rt; matches!(fault, ToolFault::Write(_)));
 }
 
 #[test]
-fn faults_of_snapshots_have_their_lines_and_statuses(rt: HostRuntime) -> Result<(), Fail> {
-    let alloc = rt.alloc();
+fn faults_of_snapshots_have_their_lines_and_statuses(rt: HostRuntime) -> TestResult {
     let error = io::Error::from(io::ErrorKind::Other);
-    let cases = [
-        (SnapFault::Frame(FrameFault::Read(error)), "read failed", 3),
-        (
-            SnapFault::Rule {
-                place: 2,
-                reason: Refusal::OutOfMemory,
-            },
-            "out of memory",
-            4,
-        ),
+    let (place, reason) = (2, Refusal::OutOfMemory);
+    let (seventh, bad) = (7, CodecFault::BadNumber);
+    for (fault, status, words) in [
+        (SnapFault::Frame(FrameFault::Read(error)), 3, "read failed"),
+        (SnapFault::Rule { place, reason }, 4, "out of memory"),
         (
             SnapFault::Codec {
-                place: 7,
-                fault: CodecFault::BadNumber,
+                place: seventh,
+                fault: bad,
             },
-            "message 7: bad number",
             1,
+            "message 7: bad number",
         ),
-        (SnapFault::TooManyMessages, "too many messages", 1),
-    ];
-    for (fault, reason, status) in cases {
-        for (file, words) in [(Source::Only, ""), (Source::Snapshot, "snapshot: ")] {
-            let fault = ToolFault::Snap { file, fault };
-            let line = format!(in alloc; "itchsnap: {words}{reason}")?;
-            same(&rt, format!(in alloc; "{fault}")?.as_str(), line.as_str());
-            same_in(&rt, reason, fault.status(), status);
+        (SnapFault::TooManyMessages, 1, "too many messages"),
+    ] {
+        for (file, before) in [(Source::Only, ""), (Source::Snapshot, "snapshot: ")] {
+            let wanted = format!(in rt.alloc(); "{status} itchsnap: {before}{words}")?;
+            is_told(&rt, &ToolFault::Snap { file, fault }, wanted.as_str())?;
         }
     }
     Ok(())
@@ -267,11 +187,8 @@ fn the_nearest_checkpoint_is_not_beyond(rt: HostRuntime) {
         same_in(&rt, mark, mark.is_nearer(&at(1, None), limit), wanted);
     }
     let read = |latest: Latest, limit| latest.mark(2, 200, limit);
-    same(
-        &rt,
-        read(Latest::Known(Some(5)), before(6)),
-        Some(at(2, Some(5))),
-    );
+    let known = read(Latest::Known(Some(5)), before(6));
+    same(&rt, known, Some(at(2, Some(5))));
     same(&rt, read(Latest::Known(None), before(6)), Some(at(2, None)));
     same(&rt, read(Latest::Unknown, before(6)), None);
     same(&rt, read(Latest::Unknown, after(3)), Some(at(2, None)));

@@ -1,14 +1,13 @@
 //! Stocks that are looked up by their names.
 
-use super::blocks::*;
-use super::files::file;
-use crate::equal::{holds_in, same, same_in};
+use super::blocks::file;
+use crate::equal::{TestResult, holds_in, same, same_in};
 use itch_codec::Seq;
 use itch_commands::{Book, FileKind, Limit, Source, ToolFault, file_market, stock_locates};
 use itch_frame::BlockReader;
 use itch_market::{LocateSet, Market};
 use library_tests::doubles::{PieceReader, Refusing};
-use std::alloc::{Allocator, Global};
+use std::alloc::Allocator;
 use std::test::Fail;
 
 // The locates of the directory of a day file that have one of these stocks.
@@ -24,9 +23,9 @@ fn looked_up<A: Allocator + Copy>(
 }
 
 #[test]
-fn stocks_are_looked_up(rt: HostRuntime) -> Result<(), Fail> {
+fn stocks_are_looked_up(rt: HostRuntime) -> TestResult {
     let alloc = rt.alloc();
-    let day = file(alloc, &[AAPL, MSFT, MAX, AAPL_AT_3])?;
+    let day = file(alloc, "AAPL MSFT MAX AAPL_AT_3")?;
     let cases: [(&str, &[u16], &[u16]); 5] = [
         ("AAPL", &[1, 3], &[0, 2, 65535]),
         ("MSFT", &[2], &[1, 3]),
@@ -47,9 +46,9 @@ fn stocks_are_looked_up(rt: HostRuntime) -> Result<(), Fail> {
 }
 
 #[test]
-fn other_names_are_unknown(rt: HostRuntime) -> Result<(), Fail> {
+fn other_names_are_unknown(rt: HostRuntime) -> TestResult {
     let alloc = rt.alloc();
-    let day = file(alloc, &[AAPL, MSFT])?;
+    let day = file(alloc, "AAPL MSFT")?;
     for names in [
         "",
         ",",
@@ -81,9 +80,9 @@ fn other_names_are_unknown(rt: HostRuntime) -> Result<(), Fail> {
 
 // Each allocation is refused in turn: of the file's blocks and market, and of the set.
 #[test]
-fn stocks_without_memory(rt: HostRuntime) -> Result<(), Fail> {
+fn stocks_without_memory(rt: HostRuntime) -> TestResult {
     let alloc = rt.alloc();
-    let day = file(alloc, &[AAPL, MSFT, MAX])?;
+    let day = file(alloc, "AAPL MSFT MAX")?;
     for nth in 0..64 {
         let refusing = Refusing::new(alloc, nth);
         let set = looked_up(&refusing, day.as_slice(), "MSFT,AAPL,MAX");

@@ -1,25 +1,22 @@
 //! Clients: what each is sent, beside the others, and when it is cut off.
 use super::messages::{
-    AAPL, ACCEPTED_1, ADD_1, ADD_2, CLIENT_HEARTBEAT, END_3, EVENT, FEED_FROM_1, HEARTBEAT, LOGIN,
-    LOGIN_2, LOGIN_BLANK, LOGIN_OTHER, LOGIN_WRONG, LOGOUT, REFUSED_SESSION, REFUSED_USER,
-    SNAPSHOT_2, SNAPSHOT_4, WELCOME,
+    AAPL, ADD_1, ADD_2, CLIENT_HEARTBEAT, END_3, EVENT, HEARTBEAT, LOGIN, LOGIN_2, LOGIN_BLANK,
+    LOGIN_OTHER, LOGIN_WRONG, LOGOUT, REFUSED_SESSION, REFUSED_USER, SNAPSHOT_2, SNAPSHOT_4,
+    WELCOME,
 };
 use super::steps::{Brought, Standing, Step, UNKNOWN, check, desk_of, take_steps};
-use crate::equal::same_in;
-use itch_book::{IndexedBook, OrderBook};
+use crate::equal::TestResult;
+use itch_book::IndexedBook;
 use itch_live::{Desk, Gone, laws};
 use library_tests::doubles::FuseWriter;
 use std::alloc::Global;
-use std::process::Abort;
-use std::test::Fail;
 
 type Index = IndexedBook<Global>;
 
 // Two messages of the feed come, and a client; two more come, and another. Each is accepted at once, and sent the snapshot of its
 // moment.
 const TWO_CLIENTS: &[Step<'static>] = &[
-    Step::Connect(FEED_FROM_1),
-    Step::Feed(ACCEPTED_1, Brought::Accepted(1)),
+    Step::Begin,
     Step::Feed(EVENT, Brought::Taken(2)),
     Step::Feed(AAPL, Brought::Taken(3)),
     Step::Admit(Some(0)),
@@ -71,8 +68,8 @@ const TWO_CLIENTS: &[Step<'static>] = &[
 ];
 
 #[test]
-fn two_clients(rt: HostRuntime) -> Result<(), Fail> {
-    check::<Index>(&rt, rt.alloc(), rt.alloc(), false, TWO_CLIENTS)
+fn two_clients(rt: HostRuntime) -> TestResult {
+    check::<Index>(&rt, rt.alloc(), false, TWO_CLIENTS)
 }
 
 // A login waits until there is a market.
@@ -82,8 +79,7 @@ const EARLY: &[Step<'static>] = &[
     Step::Answer,
     Step::Pending(0, WELCOME),
     Step::Take(0, 33),
-    Step::Connect(FEED_FROM_1),
-    Step::Feed(ACCEPTED_1, Brought::Accepted(1)),
+    Step::Begin,
     Step::Feed(EVENT, Brought::Nothing),
     Step::Feed(AAPL, Brought::Nothing),
     Step::Answer,
@@ -94,8 +90,8 @@ const EARLY: &[Step<'static>] = &[
 ];
 
 #[test]
-fn before_the_market(rt: HostRuntime) -> Result<(), Fail> {
-    check::<Index>(&rt, rt.alloc(), rt.alloc(), true, EARLY)
+fn before_the_market(rt: HostRuntime) -> TestResult {
+    check::<Index>(&rt, rt.alloc(), true, EARLY)
 }
 
 // While a login waits, its client is sent a heartbeat a second, and is not cut off while it takes them, also where no moment was told
@@ -107,38 +103,29 @@ const WAITING: &[Step<'static>] = &[
     Step::Hear(1, LOGIN),
     Step::Take(0, 33),
     Step::Take(1, 33),
-    Step::At(1_000),
-    Step::Tick,
+    Step::TickAt(1_000),
     Step::Pending(0, b""),
-    Step::At(1_001),
-    Step::Tick,
+    Step::TickAt(1_001),
     Step::Pending(0, HEARTBEAT),
     Step::Pending(1, HEARTBEAT),
-    Step::At(3_000),
-    Step::Tick,
+    Step::TickAt(3_000),
     Step::Pending(0, HEARTBEAT),
     Step::Take(0, 3),
-    Step::At(14_999),
-    Step::Tick,
+    Step::TickAt(14_999),
     Step::Pending(0, HEARTBEAT),
     Step::Take(0, 3),
-    Step::At(16_000),
-    Step::Tick,
+    Step::TickAt(16_000),
     Step::Pending(0, HEARTBEAT),
     Step::Take(0, 3),
     Step::Stands(1, Standing::There),
-    Step::At(16_001),
-    Step::Tick,
+    Step::TickAt(16_001),
     Step::Stands(1, Standing::Gone(Gone::Silent)),
-    Step::At(60_000),
-    Step::Tick,
+    Step::TickAt(60_000),
     Step::Pending(0, HEARTBEAT),
-    Step::At(60_001),
-    Step::Tick,
+    Step::TickAt(60_001),
     Step::Stands(0, Standing::There),
     Step::Take(0, 1),
-    Step::Connect(FEED_FROM_1),
-    Step::Feed(ACCEPTED_1, Brought::Accepted(1)),
+    Step::Begin,
     Step::Feed(EVENT, Brought::Nothing),
     Step::Feed(AAPL, Brought::Nothing),
     Step::Feed(END_3, Brought::Joined(3)),
@@ -146,17 +133,15 @@ const WAITING: &[Step<'static>] = &[
     Step::Pending(0, b"\x01H"),
     Step::Take(0, 2),
     Step::Pending(0, SNAPSHOT_2),
-    Step::At(70_000),
-    Step::Tick,
+    Step::TickAt(70_000),
     Step::Pending(0, SNAPSHOT_2),
-    Step::At(75_001),
-    Step::Tick,
+    Step::TickAt(75_001),
     Step::Stands(0, Standing::Gone(Gone::Silent)),
 ];
 
 #[test]
-fn heartbeats_while_waiting(rt: HostRuntime) -> Result<(), Fail> {
-    check::<Index>(&rt, rt.alloc(), rt.alloc(), true, WAITING)
+fn heartbeats_while_waiting(rt: HostRuntime) -> TestResult {
+    check::<Index>(&rt, rt.alloc(), true, WAITING)
 }
 
 // A login that is refused is told so, whatever follows it, and what is no login cuts off.
@@ -198,16 +183,15 @@ const REFUSED: &[Step<'static>] = &[
     Step::Hear(1, LOGOUT),
     Step::Stands(1, Standing::Gone(Gone::Left)),
     Step::Pending(0, REFUSED_SESSION),
-    Step::At(15_000),
-    Step::Tick,
+    Step::TickAt(15_000),
     Step::Stands(1, Standing::Gone(Gone::Left)),
     Step::Stands(0, Standing::Gone(Gone::Silent)),
     Step::Rejected(0, Some(b'S')),
 ];
 
 #[test]
-fn refused(rt: HostRuntime) -> Result<(), Fail> {
-    check::<Index>(&rt, rt.alloc(), rt.alloc(), false, REFUSED)
+fn refused(rt: HostRuntime) -> TestResult {
+    check::<Index>(&rt, rt.alloc(), false, REFUSED)
 }
 
 // 15 seconds without a word before the login, without taking the answer, and after the last byte of it: these cut off. Heartbeats do not help one
@@ -216,28 +200,22 @@ const CUT_OFF: &[Step<'static>] = &[
     Step::Admit(Some(0)),
     Step::Admit(Some(1)),
     Step::At(14_000),
-    Step::Hear(1, LOGIN),
-    Step::Take(1, 33),
-    Step::At(14_999),
-    Step::Tick,
+    Step::Login(1),
+    Step::TickAt(14_999),
     Step::Stands(0, Standing::There),
-    Step::At(15_000),
-    Step::Tick,
+    Step::TickAt(15_000),
     Step::Stands(0, Standing::Gone(Gone::Silent)),
     Step::Leave(0),
     Step::Answer,
-    Step::At(29_999),
-    Step::Tick,
+    Step::TickAt(29_999),
     Step::Stands(1, Standing::There),
     Step::Take(1, 1),
     Step::Hear(1, CLIENT_HEARTBEAT),
-    Step::At(30_000),
-    Step::Tick,
+    Step::TickAt(30_000),
     Step::Stands(1, Standing::Gone(Gone::Silent)),
     Step::Leave(1),
     Step::Admit(Some(0)),
-    Step::Hear(0, LOGIN),
-    Step::Take(0, 33),
+    Step::Login(0),
     Step::Answer,
     Step::At(40_000),
     Step::Take(0, 27),
@@ -246,14 +224,13 @@ const CUT_OFF: &[Step<'static>] = &[
     Step::Hear(0, CLIENT_HEARTBEAT),
     Step::Tick,
     Step::Stands(0, Standing::Closing),
-    Step::At(55_000),
-    Step::Tick,
+    Step::TickAt(55_000),
     Step::Stands(0, Standing::Gone(Gone::Silent)),
 ];
 
 #[test]
-fn cut_off(rt: HostRuntime) -> Result<(), Fail> {
-    check::<Index>(&rt, rt.alloc(), rt.alloc(), false, CUT_OFF)
+fn cut_off(rt: HostRuntime) -> TestResult {
+    check::<Index>(&rt, rt.alloc(), false, CUT_OFF)
 }
 
 // The snapshot after two system events.
@@ -262,8 +239,7 @@ const SNAPSHOT_3: &[u8] = b"\0\x0dSS\0\0\0\0\0\0\0\0\0\0O\0\x16SG               
 // A snapshot of no message has 27 bytes, and one of a system event 42; 171 might be needed for that. The first is sent whatever is
 // allowed, since none is in use; the others once they fit beside those in use, to the byte; and one that is in use always.
 const WITHIN: &[Step<'static>] = &[
-    Step::Connect(FEED_FROM_1),
-    Step::Feed(ACCEPTED_1, Brought::Accepted(1)),
+    Step::Begin,
     Step::Admit(Some(0)),
     Step::Hear(0, LOGIN),
     Step::AnswerWithin(0),
@@ -271,8 +247,7 @@ const WITHIN: &[Step<'static>] = &[
     Step::Kept(27),
     Step::Feed(EVENT, Brought::Taken(2)),
     Step::Admit(Some(1)),
-    Step::Hear(1, LOGIN),
-    Step::Take(1, 33),
+    Step::Login(1),
     Step::AnswerWithin(27 + 170),
     Step::Pending(1, b""),
     Step::Stands(1, Standing::There),
@@ -280,8 +255,7 @@ const WITHIN: &[Step<'static>] = &[
     Step::Kept(27 + 42),
     Step::Feed(EVENT, Brought::Taken(3)),
     Step::Admit(Some(2)),
-    Step::Hear(2, LOGIN),
-    Step::Take(2, 33),
+    Step::Login(2),
     Step::AnswerWithin(69 + 170),
     Step::Pending(2, b""),
     Step::Leave(0),
@@ -292,8 +266,7 @@ const WITHIN: &[Step<'static>] = &[
     Step::Pending(2, SNAPSHOT_3),
     Step::Kept(42 + 42),
     Step::Admit(Some(0)),
-    Step::Hear(0, LOGIN),
-    Step::Take(0, 33),
+    Step::Login(0),
     Step::AnswerWithin(0),
     Step::Pending(0, SNAPSHOT_3),
     Step::Kept(42 + 42),
@@ -302,7 +275,7 @@ const WITHIN: &[Step<'static>] = &[
 ];
 
 #[test]
-fn snapshots_within_a_limit(rt: HostRuntime) -> Result<(), Fail> {
+fn snapshots_within_a_limit(rt: HostRuntime) -> TestResult {
     let mut desk: Desk<Index> = desk_of(&rt, rt.alloc(), UNKNOWN, false, 3)?;
     let mut record = FuseWriter::new(rt.alloc(), 5, None);
     take_steps(&rt, &mut desk, &mut record, WITHIN)

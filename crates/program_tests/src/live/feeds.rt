@@ -4,28 +4,25 @@ use super::messages::{
     FEED_FROM_1, FEED_FROM_3, FEED_FROM_5, HEARTBEAT, MONDAY_FROM_1, REJECTED,
 };
 use super::steps::{Brought, Step, check, desk, take_steps};
-use itch_book::{IndexedBook, OrderBook};
+use crate::equal::TestResult;
+use itch_book::IndexedBook;
 use itch_live::Desk;
 use itch_soup::Tick;
 use library_tests::doubles::FuseWriter;
 use std::alloc::Global;
-use std::process::Abort;
-use std::test::Fail;
 
 type Index = IndexedBook<Global>;
 
 // The connection ends in the middle of message 3, which is asked for again, in the session that was named first.
 const LOST: &[Step<'static>] = &[
-    Step::Connect(FEED_FROM_1),
-    Step::Feed(ACCEPTED_1, Brought::Accepted(1)),
+    Step::Begin,
     Step::Feed(EVENT, Brought::Taken(2)),
     Step::Feed(HEARTBEAT, Brought::Nothing),
     Step::Feed(AAPL, Brought::Taken(3)),
     Step::Feed(b"\0\x25SA\0\x01\0\0\0", Brought::Nothing),
     Step::Next(Some(3)),
     Step::At(2_000),
-    Step::Connect(FEED_FROM_3),
-    Step::Feed(ACCEPTED_3, Brought::Accepted(3)),
+    Step::GoOn,
     Step::Feed(ADD_1, Brought::Taken(4)),
     Step::Feed(ADD_2, Brought::Taken(5)),
     Step::Feed(ENDED, Brought::Ended),
@@ -36,15 +33,14 @@ const LOST: &[Step<'static>] = &[
 ];
 
 #[test]
-fn lost_in_a_message(rt: HostRuntime) -> Result<(), Fail> {
-    check::<Index>(&rt, rt.alloc(), rt.alloc(), false, LOST)
+fn lost_in_a_message(rt: HostRuntime) -> TestResult {
+    check::<Index>(&rt, rt.alloc(), false, LOST)
 }
 
 // The next day's server accepts the login in its own name: nothing of that connection is taken, though its numbers would do. The same
 // name padded elsewhere is the same.
 const NEXT_DAY: &[Step<'static>] = &[
-    Step::Connect(FEED_FROM_1),
-    Step::Feed(ACCEPTED_1, Brought::Accepted(1)),
+    Step::Begin,
     Step::Feed(EVENT, Brought::Taken(2)),
     Step::Feed(AAPL, Brought::Taken(3)),
     Step::Connect(FEED_FROM_3),
@@ -68,14 +64,13 @@ const NEXT_DAY: &[Step<'static>] = &[
 ];
 
 #[test]
-fn the_next_day(rt: HostRuntime) -> Result<(), Fail> {
-    check::<Index>(&rt, rt.alloc(), rt.alloc(), false, NEXT_DAY)
+fn the_next_day(rt: HostRuntime) -> TestResult {
+    check::<Index>(&rt, rt.alloc(), false, NEXT_DAY)
 }
 
 // A feed that begins lower than it was asked to repeats messages, and one that begins higher is not taken.
 const ELSEWHERE: &[Step<'static>] = &[
-    Step::Connect(FEED_FROM_1),
-    Step::Feed(ACCEPTED_1, Brought::Accepted(1)),
+    Step::Begin,
     Step::Feed(EVENT, Brought::Taken(2)),
     Step::Feed(AAPL, Brought::Taken(3)),
     Step::Connect(FEED_FROM_3),
@@ -96,15 +91,14 @@ const ELSEWHERE: &[Step<'static>] = &[
 ];
 
 #[test]
-fn begun_elsewhere(rt: HostRuntime) -> Result<(), Fail> {
-    check::<Index>(&rt, rt.alloc(), rt.alloc(), false, ELSEWHERE)
+fn begun_elsewhere(rt: HostRuntime) -> TestResult {
+    check::<Index>(&rt, rt.alloc(), false, ELSEWHERE)
 }
 
 // The snapshot of a GLIMPSE server, lost once, and then the feed from its number on, in the session that the GLIMPSE server named.
 const GLIMPSE: &[Step<'static>] = &[
     Step::Next(None),
-    Step::Connect(FEED_FROM_1),
-    Step::Feed(ACCEPTED_1, Brought::Accepted(1)),
+    Step::Begin,
     Step::Feed(EVENT, Brought::Nothing),
     Step::Connect(MONDAY_FROM_1),
     Step::Feed(ACCEPTED_1, Brought::Accepted(1)),
@@ -112,8 +106,7 @@ const GLIMPSE: &[Step<'static>] = &[
     Step::Feed(AAPL, Brought::Nothing),
     Step::Feed(END_3, Brought::Joined(3)),
     Step::Next(Some(3)),
-    Step::Connect(FEED_FROM_3),
-    Step::Feed(ACCEPTED_3, Brought::Accepted(3)),
+    Step::GoOn,
     Step::Feed(ADD_1, Brought::Taken(4)),
     Step::Feed(ADD_2, Brought::Taken(5)),
     Step::Recorded(DAY_FROM_3),
@@ -121,65 +114,51 @@ const GLIMPSE: &[Step<'static>] = &[
 ];
 
 #[test]
-fn begun_with_a_snapshot(rt: HostRuntime) -> Result<(), Fail> {
-    check::<Index>(&rt, rt.alloc(), rt.alloc(), true, GLIMPSE)
+fn begun_with_a_snapshot(rt: HostRuntime) -> TestResult {
+    check::<Index>(&rt, rt.alloc(), true, GLIMPSE)
 }
 
 const SILENT: &[Step<'static>] = &[
     Step::Connect(FEED_FROM_1),
     Step::FeedTick(Tick::Nothing),
     Step::Feed(ACCEPTED_1, Brought::Accepted(1)),
-    Step::At(1_000),
-    Step::FeedTick(Tick::Nothing),
-    Step::At(1_001),
-    Step::FeedTick(Tick::Heartbeat),
-    Step::At(14_999),
-    Step::FeedTick(Tick::Heartbeat),
-    Step::At(15_000),
-    Step::FeedTick(Tick::Lost),
+    Step::FeedTickAt(1_000, Tick::Nothing),
+    Step::FeedTickAt(1_001, Tick::Heartbeat),
+    Step::FeedTickAt(14_999, Tick::Heartbeat),
+    Step::FeedTickAt(15_000, Tick::Lost),
 ];
 
 #[test]
-fn silent(rt: HostRuntime) -> Result<(), Fail> {
-    check::<Index>(&rt, rt.alloc(), rt.alloc(), false, SILENT)
+fn silent(rt: HostRuntime) -> TestResult {
+    check::<Index>(&rt, rt.alloc(), false, SILENT)
 }
 
 // A packet of no type, and an order at a locate that the feed has not named: the joiner refuses it for good.
 const BROKEN: &[Step<'static>] = &[
     Step::Connect(FEED_FROM_1),
     Step::Feed(b"\0\x01Q", Brought::Broken),
-    Step::Connect(FEED_FROM_1),
-    Step::Feed(ACCEPTED_1, Brought::Accepted(1)),
+    Step::Begin,
     Step::Feed(ADD_AT_9, Brought::Refused),
     Step::Next(Some(1)),
     Step::Recorded(b""),
 ];
 
 #[test]
-fn broken(rt: HostRuntime) -> Result<(), Fail> {
-    check::<Index>(&rt, rt.alloc(), rt.alloc(), false, BROKEN)
+fn broken(rt: HostRuntime) -> TestResult {
+    check::<Index>(&rt, rt.alloc(), false, BROKEN)
 }
 
 // The second write fails, that of the payload: the market has the message, and the record its length alone.
 const UNRECORDED: &[Step<'static>] = &[
-    Step::Connect(FEED_FROM_1),
-    Step::Feed(ACCEPTED_1, Brought::Accepted(1)),
+    Step::Begin,
     Step::Feed(EVENT, Brought::Unrecorded),
     Step::Next(Some(2)),
     Step::Recorded(b"\0\x0c"),
 ];
 
-fn check_unrecorded<B: OrderBook>(
-    rt: &impl Abort,
-    alloc: Global,
-    memory: B::Alloc,
-) -> Result<(), Fail> {
-    let mut desk: Desk<B> = desk(rt, memory, false)?;
-    let mut record = FuseWriter::new(alloc, 5, Some(2));
-    take_steps(rt, &mut desk, &mut record, UNRECORDED)
-}
-
 #[test]
-fn unrecorded(rt: HostRuntime) -> Result<(), Fail> {
-    check_unrecorded::<Index>(&rt, rt.alloc(), rt.alloc())
+fn unrecorded(rt: HostRuntime) -> TestResult {
+    let mut desk: Desk<Index> = desk(&rt, rt.alloc(), false)?;
+    let mut record = FuseWriter::new(rt.alloc(), 5, Some(2));
+    take_steps(&rt, &mut desk, &mut record, UNRECORDED)
 }

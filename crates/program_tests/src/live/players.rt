@@ -1,12 +1,10 @@
 //! A client of a played feed: what it is sent, byte by byte, and when it is cut off.
 use super::messages::{CLIENT_HEARTBEAT, LOGIN, LOGIN_2, LOGIN_OTHER, LOGIN_WRONG, LOGOUT};
 use super::steps::{Standing, config, how_it_stands};
-use crate::equal::{holds_in, same_in};
+use crate::equal::{Host, TestResult, holds_in, same_in};
 use itch_live::{Gone, Player, laws};
 use library_tests::doubles::Refusing;
 use std::alloc::{Allocator, Global};
-use std::process::Abort;
-use std::test::Fail;
 
 /// What is done, and what has to come of it.
 #[derive(Clone, Copy)]
@@ -22,6 +20,8 @@ enum Turn<'a> {
     PlayLong(usize),
     End,
     Tick,
+    /// The same at this moment, which is that from here on.
+    TickAt(u64),
     /// Exactly this is pending.
     Pending(&'a [u8]),
     /// So many bytes are pending.
@@ -68,7 +68,7 @@ fn take<A: Allocator>(player: &mut Player<A>, count: usize, now: u64) -> bool {
 }
 
 fn take_turn<A: Allocator>(
-    rt: &impl Abort,
+    rt: &impl Host,
     player: &mut Player<A>,
     (at, now): (usize, u64),
     turn: Turn<'_>,
@@ -81,6 +81,10 @@ fn take_turn<A: Allocator>(
         Turn::PlayLong(count) => holds_in(rt, at, play(player, &LONG[..count.min(65_534)], now)),
         Turn::End => player.end(now),
         Turn::Tick => player.tick(now),
+        Turn::TickAt(now) => {
+            player.tick(now);
+            return now;
+        }
         Turn::Pending(want) => same_in(rt, at, player.pending(), want),
         Turn::Waits(want) => same_in(rt, at, player.pending().len(), want),
         Turn::Take(count) => holds_in(rt, at, take(player, count, now)),
@@ -95,13 +99,17 @@ fn take_turn<A: Allocator>(
     now
 }
 
-// A client of a feed of three messages, taken through these turns.
-fn check<A: Allocator + Copy>(rt: &impl Abort, memory: A, turns: &[Turn<'_>]) -> Result<(), Fail> {
-    let mut player = Player::new(memory, config(rt), 3, 0)?;
+fn take_turns<A: Allocator>(rt: &impl Host, player: &mut Player<A>, turns: &[Turn<'_>]) {
     let mut now = 0;
     for at in 0..turns.len() {
-        now = take_turn(rt, &mut player, (at, now), turns[at]);
+        now = take_turn(rt, player, (at, now), turns[at]);
     }
+}
+
+// A client of a feed of three messages, taken through these turns.
+fn check<A: Allocator + Copy>(rt: &impl Host, memory: A, turns: &[Turn<'_>]) -> TestResult {
+    let mut player = Player::new(memory, config(rt), 3, 0)?;
+    take_turns(rt, &mut player, turns);
     Ok(())
 }
 
@@ -119,15 +127,12 @@ const ALL: &[Turn<'static>] = &[
     Turn::Pending(b"\0\x1fA  ITCHSNAP                   1\0\x04Sone"),
     Turn::Take(34),
     Turn::Pending(b"\x04Sone"),
-    Turn::At(2_000),
-    Turn::Tick,
+    Turn::TickAt(2_000),
     Turn::Pending(b"\x04Sone"),
     Turn::Take(5),
-    Turn::At(3_000),
-    Turn::Tick,
+    Turn::TickAt(3_000),
     Turn::Pending(b""),
-    Turn::At(3_001),
-    Turn::Tick,
+    Turn::TickAt(3_001),
     Turn::Pending(b"\0\x01H"),
     Turn::Play(b""),
     Turn::End,
@@ -141,21 +146,18 @@ const ALL: &[Turn<'static>] = &[
     Turn::Take(17),
     Turn::Stands(Standing::Closing),
     Turn::From(Some(1)),
-    Turn::At(9_000),
-    Turn::Tick,
+    Turn::TickAt(9_000),
     Turn::Hear(LOGIN),
     Turn::Pending(b""),
     Turn::Stands(Standing::Closing),
-    Turn::At(18_000),
-    Turn::Tick,
+    Turn::TickAt(18_000),
     Turn::Stands(Standing::Closing),
-    Turn::At(18_001),
-    Turn::Tick,
+    Turn::TickAt(18_001),
     Turn::Stands(Standing::Gone(Gone::Silent)),
 ];
 
 #[test]
-fn all_messages(rt: HostRuntime) -> Result<(), Fail> {
+fn all_messages(rt: HostRuntime) -> TestResult {
     check(&rt, rt.alloc(), ALL)
 }
 
@@ -187,21 +189,19 @@ const FROM_4: &[Turn<'static>] = &[
     Turn::Pending(b"\0\x1fA  ITCHSNAP                   4"),
     Turn::Wanted(None),
     Turn::Take(33),
-    Turn::At(1_001),
-    Turn::Tick,
+    Turn::TickAt(1_001),
     Turn::Pending(b"\0\x01H"),
     Turn::Tick,
     Turn::Pending(b"\0\x01H"),
     Turn::Take(3),
-    Turn::At(2_002),
-    Turn::Tick,
+    Turn::TickAt(2_002),
     Turn::Pending(b"\0\x01H"),
     Turn::Hear(LOGIN),
     Turn::Stands(Standing::Gone(Gone::Fault)),
 ];
 
 #[test]
-fn from_a_number_on(rt: HostRuntime) -> Result<(), Fail> {
+fn from_a_number_on(rt: HostRuntime) -> TestResult {
     check(&rt, rt.alloc(), FROM_3)?;
     check(&rt, rt.alloc(), FROM_4)
 }
@@ -213,15 +213,13 @@ const WRONG: &[Turn<'static>] = &[
     Turn::Hear(LOGIN),
     Turn::Wanted(None),
     Turn::End,
-    Turn::At(1_001),
-    Turn::Tick,
+    Turn::TickAt(1_001),
     Turn::Pending(b"\0\x02JA"),
     Turn::Take(4),
     Turn::Stands(Standing::Closing),
     Turn::Rejected(Some(b'A')),
     Turn::From(None),
-    Turn::At(3_000),
-    Turn::Tick,
+    Turn::TickAt(3_000),
     Turn::Pending(b""),
 ];
 
@@ -243,7 +241,7 @@ const NONSENSE: &[Turn<'static>] = &[
 ];
 
 #[test]
-fn refused(rt: HostRuntime) -> Result<(), Fail> {
+fn refused(rt: HostRuntime) -> TestResult {
     check(&rt, rt.alloc(), WRONG)?;
     check(&rt, rt.alloc(), BEYOND)?;
     check(&rt, rt.alloc(), OTHER)?;
@@ -252,22 +250,17 @@ fn refused(rt: HostRuntime) -> Result<(), Fail> {
 
 // 15 seconds without a word before the login; then with neither a word nor a byte taken. Each is a sign of life.
 const SILENT: &[Turn<'static>] = &[
-    Turn::At(14_999),
-    Turn::Tick,
+    Turn::TickAt(14_999),
     Turn::Hear(LOGIN_2),
-    Turn::At(29_998),
-    Turn::Tick,
+    Turn::TickAt(29_998),
     Turn::Stands(Standing::There),
     Turn::Take(1),
-    Turn::At(44_997),
-    Turn::Tick,
+    Turn::TickAt(44_997),
     Turn::Stands(Standing::There),
     Turn::Hear(CLIENT_HEARTBEAT),
-    Turn::At(59_996),
-    Turn::Tick,
+    Turn::TickAt(59_996),
     Turn::Stands(Standing::There),
-    Turn::At(59_997),
-    Turn::Tick,
+    Turn::TickAt(59_997),
     Turn::Stands(Standing::Gone(Gone::Silent)),
     Turn::Leave,
     Turn::Stands(Standing::Gone(Gone::Silent)),
@@ -275,8 +268,7 @@ const SILENT: &[Turn<'static>] = &[
 ];
 
 const NO_LOGIN: &[Turn<'static>] = &[
-    Turn::At(15_000),
-    Turn::Tick,
+    Turn::TickAt(15_000),
     Turn::Stands(Standing::Gone(Gone::Silent)),
 ];
 
@@ -284,15 +276,14 @@ const LEFT: &[Turn<'static>] = &[
     Turn::Hear(LOGIN),
     Turn::Leave,
     Turn::Stands(Standing::Gone(Gone::Left)),
-    Turn::At(15_000),
-    Turn::Tick,
+    Turn::TickAt(15_000),
     Turn::Stands(Standing::Gone(Gone::Left)),
     Turn::Wanted(None),
     Turn::Pending(b""),
 ];
 
 #[test]
-fn cut_off(rt: HostRuntime) -> Result<(), Fail> {
+fn cut_off(rt: HostRuntime) -> TestResult {
     check(&rt, rt.alloc(), SILENT)?;
     check(&rt, rt.alloc(), NO_LOGIN)?;
     check(&rt, rt.alloc(), LEFT)
@@ -318,7 +309,7 @@ const FULL: &[Turn<'static>] = &[
 ];
 
 #[test]
-fn full(rt: HostRuntime) -> Result<(), Fail> {
+fn full(rt: HostRuntime) -> TestResult {
     check(&rt, rt.alloc(), FULL)
 }
 
@@ -328,17 +319,14 @@ fn played_in_order() {
 }
 
 // A client with each of its allocations refused in turn; with memory it takes none later.
-fn refuse<A: Allocator + Copy>(rt: &impl Abort, memory: A, refusing: &Refusing<Global>) -> u64 {
+fn refuse<A: Allocator + Copy>(rt: &impl Host, memory: A, refusing: &Refusing<Global>) -> u64 {
     for nth in 0..16 {
         refusing.arm(nth);
         let made = Player::new(memory, config(rt), 3, 0);
         holds_in(rt, 0, made.is_ok() != refusing.has_refused());
         if let Ok(mut player) = made {
             refusing.arm(0);
-            let mut now = 0;
-            for at in 0..ALL.len() {
-                now = take_turn(rt, &mut player, (at, now), ALL[at]);
-            }
+            take_turns(rt, &mut player, ALL);
             holds_in(rt, 1, !refusing.has_refused());
             return nth;
         }

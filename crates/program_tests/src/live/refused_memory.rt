@@ -1,16 +1,11 @@
 //! Each allocation refused in turn: what was there before is there still, and the same call succeeds with memory.
-use super::messages::{
-    AAPL, ACCEPTED_1, ACCEPTED_3, ADD_1, EVENT, FEED_FROM_1, FEED_FROM_3, LOGIN, SNAPSHOT_2,
-    WELCOME,
-};
+use super::messages::{AAPL, ADD_1, EVENT, LOGIN, SNAPSHOT_2, WELCOME};
 use super::steps::{Brought, Standing, Step, desk, take_steps};
-use crate::equal::{holds_in, same_in};
+use crate::equal::{Host, TestResult, holds_in, same_in};
 use itch_book::{IndexedBook, OrderBook};
 use itch_live::Desk;
 use library_tests::doubles::{FuseWriter, Refusing};
 use std::alloc::Global;
-use std::process::Abort;
-use std::test::Fail;
 
 type Index<'a> = IndexedBook<&'a Refusing<Global>>;
 
@@ -18,18 +13,13 @@ type Index<'a> = IndexedBook<&'a Refusing<Global>>;
 const NONE: u64 = 1_000_000;
 
 const TWO_MESSAGES: &[Step<'static>] = &[
-    Step::Connect(FEED_FROM_1),
-    Step::Feed(ACCEPTED_1, Brought::Accepted(1)),
+    Step::Begin,
     Step::Feed(EVENT, Brought::Taken(2)),
     Step::Feed(AAPL, Brought::Taken(3)),
 ];
 
 // A desk with each of its allocations refused in turn. Returns how many were refused.
-fn refuse_desk<B: OrderBook>(
-    rt: &impl Abort,
-    memory: B::Alloc,
-    refusing: &Refusing<Global>,
-) -> u64 {
+fn refuse_desk<B: OrderBook>(rt: &impl Host, memory: B::Alloc, refusing: &Refusing<Global>) -> u64 {
     for nth in 0..16 {
         refusing.arm(nth);
         let made = desk::<B>(rt, memory, false).is_ok();
@@ -43,7 +33,7 @@ fn refuse_desk<B: OrderBook>(
 
 // A client is admitted so.
 fn refuse_client<B: OrderBook>(
-    rt: &impl Abort,
+    rt: &impl Host,
     refusing: &Refusing<Global>,
     desk: &mut Desk<B>,
 ) -> u64 {
@@ -61,7 +51,7 @@ fn refuse_client<B: OrderBook>(
 
 // It is answered so.
 fn refuse_answer<B: OrderBook>(
-    rt: &impl Abort,
+    rt: &impl Host,
     refusing: &Refusing<Global>,
     desk: &mut Desk<B>,
 ) -> u64 {
@@ -79,13 +69,12 @@ fn refuse_answer<B: OrderBook>(
 }
 
 fn check_clients<B: OrderBook>(
-    rt: &impl Abort,
-    alloc: Global,
+    rt: &impl Host,
     memory: B::Alloc,
     refusing: &Refusing<Global>,
-) -> Result<(), Fail> {
+) -> TestResult {
     let mut desk: Desk<B> = desk(rt, memory, false)?;
-    let mut record = FuseWriter::new(alloc, 5, None);
+    let mut record = FuseWriter::new(rt.alloc(), 5, None);
     take_steps(rt, &mut desk, &mut record, TWO_MESSAGES)?;
     holds_in(rt, 3, refuse_client(rt, refusing, &mut desk) > 0);
     refusing.arm(0);
@@ -108,38 +97,36 @@ fn check_clients<B: OrderBook>(
 }
 
 #[test]
-fn a_desk_and_its_clients(rt: HostRuntime) -> Result<(), Fail> {
+fn a_desk_and_its_clients(rt: HostRuntime) -> TestResult {
     let refusing = Refusing::new(rt.alloc(), NONE);
     assert!(rt; refuse_desk::<Index<'_>>(&rt, &refusing, &refusing) > 1);
     refusing.arm(NONE);
-    check_clients::<Index<'_>>(&rt, rt.alloc(), &refusing, &refusing)
+    check_clients::<Index<'_>>(&rt, &refusing, &refusing)
 }
 
 // A message for which memory is refused is asked for again.
 const REFUSED_AT_3: &[Step<'static>] = &[
     Step::Feed(ADD_1, Brought::NoMemory),
     Step::Next(Some(3)),
-    Step::Connect(FEED_FROM_3),
-    Step::Feed(ACCEPTED_3, Brought::Accepted(3)),
+    Step::GoOn,
     Step::Feed(ADD_1, Brought::Taken(4)),
     Step::Next(Some(4)),
 ];
 
 fn check_feed<B: OrderBook>(
-    rt: &impl Abort,
-    alloc: Global,
+    rt: &impl Host,
     memory: B::Alloc,
     refusing: &Refusing<Global>,
-) -> Result<(), Fail> {
+) -> TestResult {
     let mut desk: Desk<B> = desk(rt, memory, false)?;
-    let mut record = FuseWriter::new(alloc, 5, None);
+    let mut record = FuseWriter::new(rt.alloc(), 5, None);
     take_steps(rt, &mut desk, &mut record, TWO_MESSAGES)?;
     refusing.arm(0);
     take_steps(rt, &mut desk, &mut record, REFUSED_AT_3)
 }
 
 #[test]
-fn a_message_of_the_feed(rt: HostRuntime) -> Result<(), Fail> {
+fn a_message_of_the_feed(rt: HostRuntime) -> TestResult {
     let refusing = Refusing::new(rt.alloc(), NONE);
-    check_feed::<Index<'_>>(&rt, rt.alloc(), &refusing, &refusing)
+    check_feed::<Index<'_>>(&rt, &refusing, &refusing)
 }

@@ -4,28 +4,26 @@ use super::messages::{
     FEED_FROM_3_BLANK, MONDAY_FROM_1, SNAPSHOTS_1, SNAPSHOTS_FROM_1, TUESDAY_1, TUESDAY_3,
 };
 use super::steps::{Brought, Step, UNKNOWN, config, desk_of, feed, follower_of, known, take_steps};
-use crate::equal::same_in;
+use crate::equal::{Host, TestResult, same_in};
 use itch_book::{IndexedBook, OrderBook};
-use itch_live::{Desk, Follower, Sessions};
+use itch_live::{Desk, Follower};
 use library_tests::doubles::FuseWriter;
 use std::alloc::Global;
-use std::process::Abort;
-use std::test::Fail;
 
 type Index = IndexedBook<Global>;
 
 const TUESDAY: Brought = Brought::OtherSession(*b"   TUESDAY");
 
 fn check<B: OrderBook>(
-    rt: &impl Abort,
-    alloc: Global,
+    rt: &impl Host,
     memory: B::Alloc,
-    sessions: Sessions,
-    glimpse: bool,
+    (feed, glimpse): (Option<&str>, Option<&str>),
+    has_glimpse: bool,
     steps: &[Step<'_>],
-) -> Result<(), Fail> {
-    let mut desk: Desk<B> = desk_of(rt, memory, sessions, glimpse, 1)?;
-    let mut record = FuseWriter::new(alloc, 5, None);
+) -> TestResult {
+    let sessions = known(rt, feed, glimpse);
+    let mut desk: Desk<B> = desk_of(rt, memory, sessions, has_glimpse, 1)?;
+    let mut record = FuseWriter::new(rt.alloc(), 5, None);
     take_steps(rt, &mut desk, &mut record, steps)
 }
 
@@ -47,16 +45,14 @@ const BEFOREHAND: &[Step<'static>] = &[
 ];
 
 #[test]
-fn known_beforehand(rt: HostRuntime) -> Result<(), Fail> {
-    let sessions = known(&rt, Some("MONDAY"), None);
-    check::<Index>(&rt, rt.alloc(), rt.alloc(), sessions, false, BEFOREHAND)
+fn known_beforehand(rt: HostRuntime) -> TestResult {
+    check::<Index>(&rt, rt.alloc(), (Some("MONDAY"), None), false, BEFOREHAND)
 }
 
 // The session that a server of snapshots names first is the feed's: a feed of another day is not joined to the snapshot.
-const NAMED_BY_THE_SNAPSHOT: &[Step<'static>] = &[
+const NAMED: &[Step<'static>] = &[
     Step::Session(None),
-    Step::Connect(FEED_FROM_1),
-    Step::Feed(ACCEPTED_1, Brought::Accepted(1)),
+    Step::Begin,
     Step::Session(Some(b"    MONDAY")),
     Step::Feed(EVENT, Brought::Nothing),
     Step::Feed(AAPL, Brought::Nothing),
@@ -69,20 +65,12 @@ const NAMED_BY_THE_SNAPSHOT: &[Step<'static>] = &[
 ];
 
 #[test]
-fn named_by_the_snapshot(rt: HostRuntime) -> Result<(), Fail> {
-    let sessions = known(&rt, None, None);
-    check::<Index>(
-        &rt,
-        rt.alloc(),
-        rt.alloc(),
-        sessions,
-        true,
-        NAMED_BY_THE_SNAPSHOT,
-    )
+fn named_by_the_snapshot(rt: HostRuntime) -> TestResult {
+    check::<Index>(&rt, rt.alloc(), (None, None), true, NAMED)
 }
 
 // A snapshot of another day than the one that is known is not taken.
-const SNAPSHOT_OF_ANOTHER_DAY: &[Step<'static>] = &[
+const ANOTHER_DAY: &[Step<'static>] = &[
     Step::Connect(MONDAY_FROM_1),
     Step::Feed(TUESDAY_1, TUESDAY),
     Step::Feed(EVENT, Brought::Broken),
@@ -94,16 +82,8 @@ const SNAPSHOT_OF_ANOTHER_DAY: &[Step<'static>] = &[
 ];
 
 #[test]
-fn a_snapshot_of_another_day(rt: HostRuntime) -> Result<(), Fail> {
-    let sessions = known(&rt, Some("MONDAY"), None);
-    check::<Index>(
-        &rt,
-        rt.alloc(),
-        rt.alloc(),
-        sessions,
-        true,
-        SNAPSHOT_OF_ANOTHER_DAY,
-    )
+fn a_snapshot_of_another_day(rt: HostRuntime) -> TestResult {
+    check::<Index>(&rt, rt.alloc(), (Some("MONDAY"), None), true, ANOTHER_DAY)
 }
 
 // A server of snapshots with its own name for the session has to accept in that, and says nothing of the feed's.
@@ -123,9 +103,8 @@ const TWO_NAMES: &[Step<'static>] = &[
 ];
 
 #[test]
-fn two_names(rt: HostRuntime) -> Result<(), Fail> {
-    let sessions = known(&rt, None, Some("SNAPSHOTS"));
-    check::<Index>(&rt, rt.alloc(), rt.alloc(), sessions, true, TWO_NAMES)
+fn two_names(rt: HostRuntime) -> TestResult {
+    check::<Index>(&rt, rt.alloc(), (None, Some("SNAPSHOTS")), true, TWO_NAMES)
 }
 
 const GONE_ON: &[Step<'static>] = &[
@@ -137,13 +116,9 @@ const GONE_ON: &[Step<'static>] = &[
     Step::Recorded(DAY),
 ];
 
-fn check_connected<B: OrderBook>(
-    rt: &impl Abort,
-    alloc: Global,
-    memory: B::Alloc,
-) -> Result<(), Fail> {
+fn check_connected<B: OrderBook>(rt: &impl Host, memory: B::Alloc) -> TestResult {
     let mut follower: Follower<B> = follower_of(rt, memory, UNKNOWN, false)?;
-    let mut record = FuseWriter::new(alloc, 5, None);
+    let mut record = FuseWriter::new(rt.alloc(), 5, None);
     same_in(rt, 0, &follower.connect(0)[..], FEED_FROM_1);
     feed(&mut follower, ACCEPTED_1, 7, 0, &mut record);
     feed(&mut follower, EVENT, 7, 0, &mut record);
@@ -154,6 +129,6 @@ fn check_connected<B: OrderBook>(
 
 // A desk whose follower is connected already goes on with that connection.
 #[test]
-fn connected_before(rt: HostRuntime) -> Result<(), Fail> {
-    check_connected::<Index>(&rt, rt.alloc(), rt.alloc())
+fn connected_before(rt: HostRuntime) -> TestResult {
+    check_connected::<Index>(&rt, rt.alloc())
 }

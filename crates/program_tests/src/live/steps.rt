@@ -1,13 +1,13 @@
 //! A desk that is taken through steps, each at its moment.
-use crate::equal::{holds_in, same_in};
+use super::messages::{ACCEPTED_1, ACCEPTED_3, FEED_FROM_1, FEED_FROM_3, LOGIN, WELCOME};
+use crate::equal::{Host, TestResult, holds_in, same_in};
 use itch_book::OrderBook;
 use itch_codec::Alpha;
 use itch_join::{JoinFault, Joiner};
 use itch_live::{Desk, Follower, Gone, News, Sessions};
 use itch_soup::{Credentials, ServerConfig, Tick};
 use library_tests::doubles::FuseWriter;
-use std::alloc::{AllocError, Global};
-use std::process::Abort;
+use std::alloc::AllocError;
 use std::test::Fail;
 
 /// What is done, and what has to come of it.
@@ -17,10 +17,16 @@ pub(crate) enum Step<'a> {
     At(u64),
     /// A connection to the feed begins with this login.
     Connect(&'a [u8]),
+    /// A connection to the feed begins with the first message, and is accepted so.
+    Begin,
+    /// The same with the third message.
+    GoOn,
     /// The feed sends this, in one piece and in pieces of one byte, and the last news is this one.
     Feed(&'a [u8], Brought),
     /// What is due to the feed.
     FeedTick(Tick),
+    /// The same at this moment, which is that from here on.
+    FeedTickAt(u64, Tick),
     /// The number of the next message.
     Next(Option<u64>),
     /// The feed's session, as a server writes it.
@@ -29,6 +35,8 @@ pub(crate) enum Step<'a> {
     Admit(Option<usize>),
     /// A client says this, of which all is taken.
     Hear(usize, &'a [u8]),
+    /// A client logs in for all messages, and takes the answer to that.
+    Login(usize),
     /// Those who wait are answered.
     Answer,
     /// They are answered where all snapshots may have so many bytes.
@@ -41,6 +49,8 @@ pub(crate) enum Step<'a> {
     Take(usize, usize),
     /// The clients are told the moment.
     Tick,
+    /// The same at this moment, which is that from here on.
+    TickAt(u64),
     /// A client is there, is closing, or is gone.
     Stands(usize, Standing),
     /// The login of a client was accepted, or was not.
@@ -96,11 +106,11 @@ pub(crate) fn what_came(news: &News) -> Brought {
     }
 }
 
-fn alpha<const N: usize>(rt: &impl Abort, text: &str) -> Alpha<N> {
+fn alpha<const N: usize>(rt: &impl Host, text: &str) -> Alpha<N> {
     Alpha::from_text(text).expect(rt, "a text that fits")
 }
 
-pub(crate) fn config(rt: &impl Abort) -> ServerConfig {
+pub(crate) fn config(rt: &impl Host) -> ServerConfig {
     ServerConfig {
         username: alpha(rt, "user"),
         password: alpha(rt, "secret"),
@@ -108,7 +118,7 @@ pub(crate) fn config(rt: &impl Abort) -> ServerConfig {
     }
 }
 
-pub(crate) fn credentials(rt: &impl Abort) -> Credentials {
+pub(crate) fn credentials(rt: &impl Host) -> Credentials {
     Credentials {
         username: alpha(rt, "user"),
         password: alpha(rt, "secret"),
@@ -123,7 +133,7 @@ pub(crate) const UNKNOWN: Sessions = Sessions {
 };
 
 /// These sessions are known beforehand.
-pub(crate) fn known(rt: &impl Abort, feed: Option<&str>, glimpse: Option<&str>) -> Sessions {
+pub(crate) fn known(rt: &impl Host, feed: Option<&str>, glimpse: Option<&str>) -> Sessions {
     Sessions {
         feed: feed.map(|name| alpha(rt, name)),
         glimpse: glimpse.map(|name| alpha(rt, name)),
@@ -132,7 +142,7 @@ pub(crate) fn known(rt: &impl Abort, feed: Option<&str>, glimpse: Option<&str>) 
 
 /// A desk with two places, whose market is that of no messages, or none yet where it begins with a GLIMPSE server.
 pub(crate) fn desk<B: OrderBook>(
-    rt: &impl Abort,
+    rt: &impl Host,
     memory: B::Alloc,
     glimpse: bool,
 ) -> Result<Desk<B>, AllocError> {
@@ -141,7 +151,7 @@ pub(crate) fn desk<B: OrderBook>(
 
 /// The same with so many places, and with these sessions.
 pub(crate) fn desk_of<B: OrderBook>(
-    rt: &impl Abort,
+    rt: &impl Host,
     memory: B::Alloc,
     sessions: Sessions,
     glimpse: bool,
@@ -153,7 +163,7 @@ pub(crate) fn desk_of<B: OrderBook>(
 
 /// What follows a feed with these sessions, whose market is that of no messages, or none yet.
 pub(crate) fn follower_of<B: OrderBook>(
-    rt: &impl Abort,
+    rt: &impl Host,
     memory: B::Alloc,
     sessions: Sessions,
     glimpse: bool,
@@ -183,10 +193,7 @@ fn stands_at<B: OrderBook>(desk: &Desk<B>, place: usize) -> Standing {
 }
 
 fn is_accepted_at<B: OrderBook>(desk: &Desk<B>, place: usize) -> bool {
-    match desk.guest(place) {
-        None => false,
-        Some(guest) => guest.is_accepted(),
-    }
+    desk.guest(place).is_some_and(|guest| guest.is_accepted())
 }
 
 // Whether the feed's session is this one.
@@ -199,10 +206,7 @@ fn is_session<B: OrderBook>(desk: &Desk<B>, want: Option<&[u8]>) -> bool {
 }
 
 fn rejection_at<B: OrderBook>(desk: &Desk<B>, place: usize) -> Option<u8> {
-    match desk.guest(place) {
-        None => None,
-        Some(guest) => guest.rejection_code(),
-    }
+    desk.guest(place)?.rejection_code()
 }
 
 /// The feed sends this in pieces of so many bytes. Returns the last news.
@@ -245,9 +249,22 @@ fn take<B: OrderBook>(desk: &mut Desk<B>, place: usize, count: usize, now: u64) 
     fits
 }
 
+// A desk sends this login to the feed, which accepts it from this message on.
+fn begin<B: OrderBook>(
+    rt: &impl Host,
+    desk: &mut Desk<B>,
+    record: &mut FuseWriter,
+    (at, now): (usize, u64),
+    (login, accepted, next): (&[u8], &[u8], u64),
+) {
+    same_in(rt, at, &desk.follower_mut().connect(now)[..], login);
+    let news = feed(desk.follower_mut(), accepted, 7, now, record);
+    same_in(rt, at, news, Brought::Accepted(next));
+}
+
 /// Takes a step of a desk at this moment. Returns the moment from then on.
 pub(crate) fn take_step<B: OrderBook>(
-    rt: &impl Abort,
+    rt: &impl Host,
     desk: &mut Desk<B>,
     record: &mut FuseWriter,
     (at, now): (usize, u64),
@@ -256,17 +273,43 @@ pub(crate) fn take_step<B: OrderBook>(
     match step {
         Step::At(now) => return Ok(now),
         Step::Connect(login) => same_in(rt, at, &desk.follower_mut().connect(now)[..], login),
-        Step::Feed(bytes, want) => same_in(
-            rt,
-            at,
-            feed(desk.follower_mut(), bytes, 7, now, record),
-            want,
-        ),
+        Step::Begin => begin(rt, desk, record, (at, now), (FEED_FROM_1, ACCEPTED_1, 1)),
+        Step::GoOn => begin(rt, desk, record, (at, now), (FEED_FROM_3, ACCEPTED_3, 3)),
+        Step::Feed(bytes, want) => {
+            let brought = feed(desk.follower_mut(), bytes, 7, now, record);
+            same_in(rt, at, brought, want);
+        }
         Step::FeedTick(want) => same_in(rt, at, desk.follower_mut().tick(now), want),
+        Step::FeedTickAt(now, want) => {
+            same_in(rt, at, desk.follower_mut().tick(now), want);
+            return Ok(now);
+        }
         Step::Next(want) => same_in(rt, at, desk.follower().next(), want),
         Step::Session(want) => holds_in(rt, at, is_session(desk, want)),
+        Step::Recorded(want) => same_in(rt, at, record.written(), want),
+        Step::TickAt(now) => {
+            desk.tick(now);
+            return Ok(now);
+        }
+        step => take_client_step(rt, desk, (at, now), step)?,
+    }
+    Ok(now)
+}
+
+// The same of a step of the clients.
+fn take_client_step<B: OrderBook>(
+    rt: &impl Host,
+    desk: &mut Desk<B>,
+    (at, now): (usize, u64),
+    step: Step<'_>,
+) -> TestResult {
+    match step {
         Step::Admit(want) => same_in(rt, at, desk.admit(now)?, want),
         Step::Hear(place, bytes) => same_in(rt, at, hear(desk, place, bytes, now), bytes.len()),
+        Step::Login(place) => {
+            same_in(rt, at, hear(desk, place, LOGIN, now), LOGIN.len());
+            holds_in(rt, at, take(desk, place, WELCOME.len(), now));
+        }
         Step::Answer => desk.answer(u64::MAX, now)?,
         Step::AnswerWithin(limit) => desk.answer(limit, now)?,
         Step::Kept(want) => same_in(rt, at, desk.snapshot_bytes(), want),
@@ -277,18 +320,18 @@ pub(crate) fn take_step<B: OrderBook>(
         Step::Accepted(place, want) => same_in(rt, at, is_accepted_at(desk, place), want),
         Step::Rejected(place, want) => same_in(rt, at, rejection_at(desk, place), want),
         Step::Leave(place) => desk.leave(place),
-        Step::Recorded(want) => same_in(rt, at, record.written(), want),
+        _ => panic!(rt; "step {at} is not of a client"),
     }
-    Ok(now)
+    Ok(())
 }
 
 /// Takes a desk through these steps, from moment 0 on.
 pub(crate) fn take_steps<B: OrderBook>(
-    rt: &impl Abort,
+    rt: &impl Host,
     desk: &mut Desk<B>,
     record: &mut FuseWriter,
     steps: &[Step<'_>],
-) -> Result<(), Fail> {
+) -> TestResult {
     let mut now = 0;
     for at in 0..steps.len() {
         now = take_step(rt, desk, record, (at, now), steps[at])?;
@@ -298,13 +341,12 @@ pub(crate) fn take_steps<B: OrderBook>(
 
 /// A desk of its own for these steps.
 pub(crate) fn check<B: OrderBook>(
-    rt: &impl Abort,
-    alloc: Global,
+    rt: &impl Host,
     memory: B::Alloc,
     glimpse: bool,
     steps: &[Step<'_>],
-) -> Result<(), Fail> {
+) -> TestResult {
     let mut desk: Desk<B> = desk(rt, memory, glimpse)?;
-    let mut record = FuseWriter::new(alloc, 5, None);
+    let mut record = FuseWriter::new(rt.alloc(), 5, None);
     take_steps(rt, &mut desk, &mut record, steps)
 }

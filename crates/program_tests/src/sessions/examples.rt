@@ -1,12 +1,12 @@
 //! The examples of the crates' pages, run.
 
+use crate::equal::TestResult;
 use itch_codec::Alpha;
 use itchsnap_cli::input::Tally;
 use itchsnap_live::sessions::{Login, default_session};
-use std::test::Fail;
 
 #[test]
-fn whole_messages_are_counted(rt: HostRuntime) -> Result<(), Fail> {
+fn whole_messages_are_counted(rt: HostRuntime) -> TestResult {
     let mut tally = Tally::new();
     tally.pass(b"\0\x02hi\0\x02");
     tally.pass(b"ho");

@@ -1,5 +1,5 @@
 //! The write of each byte of a fetched snapshot failing, with no buffer before it, and the flush of an answer.
-use crate::equal::{same, same_in};
+use crate::equal::{Host, TestResult, same, same_in};
 use itch_book::OrderBook;
 use itch_codec::{Alpha, Seq};
 use itch_commands::Book;
@@ -12,7 +12,6 @@ use itchsnap_live::sessions::{Login, Sending, default_session, fetch, fetch_rest
 use library_tests::doubles::{FuseWriter, PieceReader};
 use std::alloc::{Allocator, Global};
 use std::io::{self, Write};
-use std::process::Abort;
 use std::test::Fail;
 
 const LOGIN: &[u8] = b"\0\x2fLuser  secret                                 1";
@@ -40,14 +39,14 @@ const REST_4: &[u8] =
     b"\0\x24A\0\x01\0\0\0\0\0\0\0\0\0\0\0\0\0\0\0\x02B\0\0\0\xc8AAPL    \0\x16\xe3\x60\
     \0\x15G                   5";
 
-fn login(rt: &impl Abort) -> Login {
+fn login(rt: &impl Host) -> Login {
     let Ok(login) = Login::new("user", "secret") else {
         panic!(rt; "a login");
     };
     login
 }
 
-fn credentials(rt: &impl Abort) -> Credentials {
+fn credentials(rt: &impl Host) -> Credentials {
     let Ok(any) = Alpha::from_text("") else {
         panic!(rt; "a session");
     };
@@ -63,28 +62,25 @@ fn status(answer: &Result<bool, SessionFault>) -> u8 {
     }
 }
 
-// A fetch over these devices fails with status 3.
-fn fetch_fails(
-    rt: &impl Abort,
-    alloc: Global,
-    reader: &mut BlockReader<PieceReader<'_>, Global>,
-    writer: &mut FuseWriter,
+// The status of a fetch of the whole answer, which is written up to a write that fails.
+fn fetch_whole(
+    rt: &impl Host,
     credentials: &Credentials,
     out: &mut FuseWriter,
-) {
-    let answer = fetch(alloc, reader, writer, credentials, out);
-    same(rt, status(&answer), 3);
+) -> Result<u8, Fail> {
+    let mut reader = BlockReader::new(rt.alloc(), PieceReader::new(ANSWER, 64, None))?;
+    let mut writer = FuseWriter::new(rt.alloc(), 64, None);
+    let answer = fetch(rt.alloc(), &mut reader, &mut writer, credentials, out);
+    Ok(status(&answer))
 }
 
 #[test]
-fn writes_of_a_fetched_snapshot(rt: HostRuntime) -> Result<(), Fail> {
-    let alloc = rt.alloc();
+fn writes_of_a_fetched_snapshot(rt: HostRuntime) -> TestResult {
     let credentials = credentials(&rt);
     for at in 0..SNAPSHOT.len() {
-        let mut reader = BlockReader::new(alloc, PieceReader::new(ANSWER, 64, None))?;
-        let mut writer = FuseWriter::new(alloc, 64, None);
-        let mut out = FuseWriter::new(alloc, 1, Some((at as u64).saturating_add(1)));
-        fetch_fails(&rt, alloc, &mut reader, &mut writer, &credentials, &mut out);
+        let mut out = FuseWriter::new(rt.alloc(), 1, Some((at as u64).saturating_add(1)));
+        let status = fetch_whole(&rt, &credentials, &mut out)?;
+        same_in(&rt, ("status", at), status, 3);
         same_in(&rt, ("write", at), Some(out.written()), SNAPSHOT.get(..at));
     }
     Ok(())
@@ -92,34 +88,29 @@ fn writes_of_a_fetched_snapshot(rt: HostRuntime) -> Result<(), Fail> {
 
 // Fetches the rest of a snapshot, which is written up to a write that fails, if one does.
 fn fetch_fourth(
-    rt: &impl Abort,
-    alloc: Global,
+    rt: &impl Host,
     credentials: &Credentials,
     out: &mut FuseWriter,
 ) -> Result<u8, Fail> {
     let from = Seq::new(4).ok_or("a number")?;
-    let mut reader = BlockReader::new(alloc, PieceReader::new(ANSWER_4, 64, None))?;
-    let mut writer = FuseWriter::new(alloc, 64, None);
-    let answer = fetch_rest(alloc, &mut reader, &mut writer, credentials, from, out);
+    let mut reader = BlockReader::new(rt.alloc(), PieceReader::new(ANSWER_4, 64, None))?;
+    let mut writer = FuseWriter::new(rt.alloc(), 64, None);
+    let answer = fetch_rest(rt.alloc(), &mut reader, &mut writer, credentials, from, out);
     Ok(status(&answer))
 }
 
 #[test]
-fn writes_of_a_rest(rt: HostRuntime) -> Result<(), Fail> {
+fn writes_of_a_rest(rt: HostRuntime) -> TestResult {
     let alloc = rt.alloc();
     let credentials = credentials(&rt);
     for at in 0..REST_4.len() {
         let mut out = FuseWriter::new(alloc, 1, Some((at as u64).saturating_add(1)));
-        same_in(
-            &rt,
-            ("status", at),
-            fetch_fourth(&rt, alloc, &credentials, &mut out)?,
-            3,
-        );
+        let status = fetch_fourth(&rt, &credentials, &mut out)?;
+        same_in(&rt, ("status", at), status, 3);
         same_in(&rt, ("write", at), Some(out.written()), REST_4.get(..at));
     }
     let mut out = FuseWriter::new(alloc, 1, None);
-    same(&rt, fetch_fourth(&rt, alloc, &credentials, &mut out)?, 0);
+    same(&rt, fetch_fourth(&rt, &credentials, &mut out)?, 0);
     same(&rt, out.written(), REST_4);
     Ok(())
 }
@@ -140,7 +131,7 @@ impl Write for Stuck {
 
 // Serves a market of nothing, and returns whether that is a fault. It is kept over any book, so that what owns the market is proved once.
 fn is_fault<R: CountedRead, A: Allocator, B: OrderBook, W: Write>(
-    rt: &impl Abort,
+    rt: &impl Host,
     alloc: B::Alloc,
     reader: &mut BlockReader<R, A>,
     writer: &mut Sending<W>,
@@ -153,7 +144,7 @@ fn is_fault<R: CountedRead, A: Allocator, B: OrderBook, W: Write>(
 }
 
 #[test]
-fn a_flush_of_an_answer(rt: HostRuntime) -> Result<(), Fail> {
+fn a_flush_of_an_answer(rt: HostRuntime) -> TestResult {
     let alloc = rt.alloc();
     let next = Seq::new(1).ok_or("a number")?;
     let mut reader = BlockReader::new(alloc, PieceReader::new(LOGIN, 64, None))?;

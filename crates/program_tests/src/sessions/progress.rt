@@ -1,13 +1,12 @@
 //! What passes through a reader that is watched.
 
-use crate::equal::{same, same_in};
+use crate::equal::{TestResult, same, same_in};
 use itchsnap_cli::input::{Amount, Progress, Tally, Watched};
 use std::io::Read;
-use std::test::Fail;
 use std::time::Duration;
 
 #[test]
-fn messages_are_counted_in_pieces(rt: HostRuntime) -> Result<(), Fail> {
+fn messages_are_counted_in_pieces(rt: HostRuntime) -> TestResult {
     let stream = [0, 2, 7, 7, 0, 0, 0, 1, 9, 1, 0];
     for length in 1..stream.len() {
         let mut tally = Tally::new();
@@ -20,7 +19,7 @@ fn messages_are_counted_in_pieces(rt: HostRuntime) -> Result<(), Fail> {
 }
 
 #[test]
-fn a_watched_reader_reads_what_is_inside(rt: HostRuntime) -> Result<(), Fail> {
+fn a_watched_reader_reads_what_is_inside(rt: HostRuntime) -> TestResult {
     let stream = [0, 1, 9, 0];
     let progress = Progress::begin(&rt);
     let mut reader = Watched::new(&stream[..], progress.as_ref());
@@ -33,52 +32,35 @@ fn a_watched_reader_reads_what_is_inside(rt: HostRuntime) -> Result<(), Fail> {
 }
 
 #[test]
-fn an_amount_has_its_line(rt: HostRuntime) -> Result<(), Fail> {
+fn an_amount_has_its_line(rt: HostRuntime) -> TestResult {
     let alloc = rt.alloc();
-    let rows = [
-        (
-            (67_108_864, 2_127_521, 1_300_000, None),
-            "67108864 bytes, 2127521 messages,    51 MB/s",
-        ),
-        (
-            (134_217_728, 1, 1_000_000, None),
-            "134217728 bytes, 1 messages,   134 MB/s",
-        ),
-        (
-            (67_108_864, 0, 100_000_000, None),
-            "67108864 bytes, 0 messages,     0 MB/s",
-        ),
-        (
-            (67_108_864, 7, 0, None),
-            "67108864 bytes, 7 messages, 67108864 MB/s",
-        ),
-        (
-            (67_108_864, 9, 2_000_000, Some(671_088_640)),
-            "67108864 bytes, 9 messages,    33 MB/s,  10 %, 18 s left",
-        ),
-        (
-            (67_108_864, 9, 2_999_999, Some(201_326_592)),
-            "67108864 bytes, 9 messages,    22 MB/s,  33 %, 5 s left",
-        ),
-        (
-            (67_108_864, 9, 1_000_000, Some(67_108_864)),
-            "67108864 bytes, 9 messages,    67 MB/s, 100 %, 0 s left",
-        ),
+    let amounts = [
+        (67_108_864, 2_127_521, 1_300_000, None),
+        (134_217_728, 1, 1_000_000, None),
+        (67_108_864, 0, 100_000_000, None),
+        (67_108_864, 7, 0, None),
+        (67_108_864, 9, 2_000_000, Some(671_088_640)),
+        (67_108_864, 9, 2_999_999, Some(201_326_592)),
+        (67_108_864, 9, 1_000_000, Some(67_108_864)),
         // A file that has grown meanwhile.
-        (
-            (67_108_864, 9, 1_000_000, Some(67_108_863)),
-            "67108864 bytes, 9 messages,    67 MB/s",
-        ),
-        (
-            (u64::MAX, 9, 1_000_000, Some(u64::MAX)),
-            "18446744073709551615 bytes, 9 messages, 18446744073709 MB/s, 100 %, 0 s left",
-        ),
-        (
-            (0, 0, 0, Some(0)),
-            "0 bytes, 0 messages,     0 MB/s,   0 %, 0 s left",
-        ),
+        (67_108_864, 9, 1_000_000, Some(67_108_863)),
+        (u64::MAX, 9, 1_000_000, Some(u64::MAX)),
+        (0, 0, 0, Some(0)),
     ];
-    for ((bytes, messages, micros, total), line) in rows {
+    let lines = [
+        "67108864 bytes, 2127521 messages,    51 MB/s",
+        "134217728 bytes, 1 messages,   134 MB/s",
+        "67108864 bytes, 0 messages,     0 MB/s",
+        "67108864 bytes, 7 messages, 67108864 MB/s",
+        "67108864 bytes, 9 messages,    33 MB/s,  10 %, 18 s left",
+        "67108864 bytes, 9 messages,    22 MB/s,  33 %, 5 s left",
+        "67108864 bytes, 9 messages,    67 MB/s, 100 %, 0 s left",
+        "67108864 bytes, 9 messages,    67 MB/s",
+        "18446744073709551615 bytes, 9 messages, 18446744073709 MB/s, 100 %, 0 s left",
+        "0 bytes, 0 messages,     0 MB/s,   0 %, 0 s left",
+    ];
+    for (amount, line) in amounts.iter().zip(lines.iter()) {
+        let (bytes, messages, micros, total) = *amount;
         let elapsed = Duration::from_micros(micros);
         let amount = Amount {
             bytes,
@@ -86,7 +68,7 @@ fn an_amount_has_its_line(rt: HostRuntime) -> Result<(), Fail> {
             elapsed,
             total,
         };
-        same(&rt, format!(in alloc; "{amount}")?.as_str(), line);
+        same(&rt, format!(in alloc; "{amount}")?.as_str(), *line);
     }
     Ok(())
 }

@@ -1,7 +1,7 @@
 //! What the words of `live`, `follow` and `feed` ask for.
 
-use super::{asked, words};
-use crate::equal::{holds_in, same_in};
+use super::{ask_for, asked, columns, words};
+use crate::equal::{TestResult, holds_in, same_in};
 use itchsnap_cli::words::{Job, Password, read_job};
 use std::test::Fail;
 
@@ -10,140 +10,109 @@ const FEED: &str =
 
 const LOGIN: &str = "LoginWords { user: \"user\", .. }";
 
-#[test]
-fn words_of_a_live_server_are_read(rt: HostRuntime) -> Result<(), Fail> {
-    let cases = [
-        (
-            "",
-            "glimpse: None, address: 127.0.0.1:0",
-            "session: None, glimpse_session: None, clients: 64, clients_per_address: None, snapshot_memory: None, record: None, snapshots: None, stay: false",
-        ),
-        (
-            "--record day.itch --stay --clients 007 --clients-per-address 2",
-            "glimpse: None, address: 127.0.0.1:0",
-            "session: None, glimpse_session: None, clients: 7, clients_per_address: Some(2), snapshot_memory: None, \
+// More words of a live server, where it begins, and what it keeps.
+const LIVE: [(&str, &str, &str); 4] = [
+    (
+        "",
+        "glimpse: None, address: 127.0.0.1:0",
+        "session: None, glimpse_session: None, clients: 64, clients_per_address: None, snapshot_memory: None, record: None, snapshots: None, stay: false",
+    ),
+    (
+        "--record day.itch --stay --clients 007 --clients-per-address 2",
+        "glimpse: None, address: 127.0.0.1:0",
+        "session: None, glimpse_session: None, clients: 7, clients_per_address: Some(2), snapshot_memory: None, \
              record: Some(RecordWords { path: \"day.itch\", sync: EverySecond, is_optional: false }), snapshots: None, stay: true",
-        ),
-        (
-            "--record r --sync message --record-optional",
-            "glimpse: None, address: 127.0.0.1:0",
-            "session: None, glimpse_session: None, clients: 64, clients_per_address: None, snapshot_memory: None, \
+    ),
+    (
+        "--record r --sync message --record-optional",
+        "glimpse: None, address: 127.0.0.1:0",
+        "session: None, glimpse_session: None, clients: 64, clients_per_address: None, snapshot_memory: None, \
              record: Some(RecordWords { path: \"r\", sync: EveryMessage, is_optional: true }), snapshots: None, stay: false",
-        ),
-        (
-            "--bind ::1 --glimpse [::1]:65535 --snapshots s --every 1000",
-            "glimpse: Some(Place { words: \"[::1]:65535\", host: \"::1\", port: 65535 }), address: [::1]:0",
-            "session: None, glimpse_session: None, clients: 64, clients_per_address: None, snapshot_memory: None, record: None, \
+    ),
+    (
+        "--bind ::1 --glimpse [::1]:65535 --snapshots s --every 1000",
+        "glimpse: Some(Place { words: \"[::1]:65535\", host: \"::1\", port: 65535 }), address: [::1]:0",
+        "session: None, glimpse_session: None, clients: 64, clients_per_address: None, snapshot_memory: None, record: None, \
              snapshots: Some(SnapshotWords { folder: \"s\", every: 1000 }), stay: false",
-        ),
-    ];
-    for (line, place, kept) in cases {
+    ),
+];
+
+#[test]
+fn words_of_a_live_server_are_read(rt: HostRuntime) -> TestResult {
+    for (more, place, kept) in LIVE {
         let line = format!(in rt.alloc();
-            "live --feed h:1 --port 0 --user user --pass secret {line}"
+            "live --feed h:1 --port 0 --user user --pass secret {more}"
         )?;
         let wanted = format!(in rt.alloc();
             "Live(LiveWords {{ {FEED}, {place}, login: {LOGIN}, feed_login: {LOGIN}, {kept} }})"
         )?;
-        let words = words(rt.alloc(), line.as_str())?;
-        let found = asked(rt.alloc(), words.as_slice())?;
-        same_in(&rt, line.as_str(), found.as_str(), wanted.as_str());
+        ask_for(&rt, line.as_str(), wanted.as_str())?;
     }
     Ok(())
 }
 
+// More words of a live server, and a part of what they ask for.
+const PARTS: [&str; 8] = [
+    "--feed g:2 => others: [Some(Place { words: \"g:2\", host: \"g\", port: 2 }), None, None, None, None, None, None] }",
+    "--feed b:2 --feed c:3 --feed d:4 --feed e:5 --feed f:6 --feed g:7 --feed [::1]:8 => Some(Place { words: \"[::1]:8\", host: \"::1\", port: 8 })] }",
+    "--snapshot-memory 1 => snapshot_memory: Some(1),",
+    "--snapshot-memory 1000000 => snapshot_memory: Some(1000000),",
+    "--snapshot-memory 512K => snapshot_memory: Some(524288),",
+    "--snapshot-memory 256M => snapshot_memory: Some(268435456),",
+    "--snapshot-memory 2G => snapshot_memory: Some(2147483648),",
+    "--snapshot-memory 17179869183G => snapshot_memory: Some(18446744072635809792),",
+];
+
 #[test]
-fn a_feed_may_have_several_servers(rt: HostRuntime) -> Result<(), Fail> {
-    let cases = [
-        (
-            "--feed g:2",
-            "others: [Some(Place { words: \"g:2\", host: \"g\", port: 2 }), None, None, None, None, None, None] }",
-        ),
-        (
-            "--feed b:2 --feed c:3 --feed d:4 --feed e:5 --feed f:6 --feed g:7 --feed [::1]:8",
-            "Some(Place { words: \"[::1]:8\", host: \"::1\", port: 8 })] }",
-        ),
-    ];
-    for (more, wanted) in cases {
+fn several_servers_and_bytes_in_units_are_read(rt: HostRuntime) -> TestResult {
+    for row in PARTS {
+        let (more, wanted) = columns(row)?;
         let line = format!(in rt.alloc();
-            "live --feed h:1 {more} --port 0 --user user --pass secret"
+            "live --feed h:1 --port 0 --user user --pass secret {more}"
         )?;
         let words = words(rt.alloc(), line.as_str())?;
         let found = asked(rt.alloc(), words.as_slice())?;
-        holds_in(&rt, line.as_str(), found.as_str().contains(wanted));
+        holds_in(&rt, row, found.as_str().contains(wanted));
     }
     Ok(())
 }
 
 #[test]
-fn bytes_are_counted_in_units(rt: HostRuntime) -> Result<(), Fail> {
-    let cases = [
-        ("1", "snapshot_memory: Some(1),"),
-        ("1000000", "snapshot_memory: Some(1000000),"),
-        ("512K", "snapshot_memory: Some(524288),"),
-        ("256M", "snapshot_memory: Some(268435456),"),
-        ("2G", "snapshot_memory: Some(2147483648),"),
-        (
-            "17179869183G",
-            "snapshot_memory: Some(18446744072635809792),",
-        ),
-    ];
-    for (size, wanted) in cases {
+fn words_of_a_follower_are_read(rt: HostRuntime) -> TestResult {
+    for (more, form) in [("", "Blocks"), ("--whole", "Whole"), ("--json", "Json")] {
         let line = format!(in rt.alloc();
-            "live --feed h:1 --port 0 --user user --pass secret --snapshot-memory {size}"
-        )?;
-        let words = words(rt.alloc(), line.as_str())?;
-        let found = asked(rt.alloc(), words.as_slice())?;
-        holds_in(&rt, line.as_str(), found.as_str().contains(wanted));
-    }
-    Ok(())
-}
-
-#[test]
-fn words_of_a_follower_are_read(rt: HostRuntime) -> Result<(), Fail> {
-    for (line, form) in [("", "Blocks"), ("--whole", "Whole"), ("--json", "Json")] {
-        let line = format!(in rt.alloc();
-            "follow --feed h:1 --glimpse g.example:2 --user user --pass secret {line}"
+            "follow --feed h:1 --glimpse g.example:2 --user user --pass secret {more}"
         )?;
         let wanted = format!(in rt.alloc();
             "Follow(FollowWords {{ {FEED}, glimpse: Place {{ words: \"g.example:2\", host: \"g.example\", port: 2 }}, \
              login: {LOGIN}, session: None, glimpse_session: None, form: {form} }})"
         )?;
-        let words = words(rt.alloc(), line.as_str())?;
-        let found = asked(rt.alloc(), words.as_slice())?;
-        same_in(&rt, line.as_str(), found.as_str(), wanted.as_str());
+        ask_for(&rt, line.as_str(), wanted.as_str())?;
     }
     Ok(())
 }
 
 #[test]
-fn words_of_a_played_feed_are_read(rt: HostRuntime) -> Result<(), Fail> {
-    let cases = [
-        ("", "pace: Free, count: None, stay: false"),
-        (
-            "--rate 1000 --stay",
-            "pace: Rate(1000), count: None, stay: true",
-        ),
-        (
-            "--clock 10 --count 2",
-            "pace: Clock(10), count: Some(2), stay: false",
-        ),
-    ];
-    for (line, rest) in cases {
+fn words_of_a_played_feed_are_read(rt: HostRuntime) -> TestResult {
+    for row in [
+        " => pace: Free, count: None, stay: false",
+        "--rate 1000 --stay => pace: Rate(1000), count: None, stay: true",
+        "--clock 10 --count 2 => pace: Clock(10), count: Some(2), stay: false",
+    ] {
+        let (more, rest) = columns(row)?;
         let line = format!(in rt.alloc();
-            "feed day.itch --port 5 --user user --pass secret {line}"
+            "feed day.itch --port 5 --user user --pass secret {more}"
         )?;
         let wanted = format!(in rt.alloc();
             "Feed(FeedWords {{ file: \"day.itch\", address: 127.0.0.1:5, login: {LOGIN}, session: None, {rest} }})"
         )?;
-        let words = words(rt.alloc(), line.as_str())?;
-        let found = asked(rt.alloc(), words.as_slice())?;
-        same_in(&rt, line.as_str(), found.as_str(), wanted.as_str());
+        ask_for(&rt, line.as_str(), wanted.as_str())?;
     }
     Ok(())
 }
 
 #[test]
-fn a_live_server_may_have_a_login_of_its_own(rt: HostRuntime) -> Result<(), Fail> {
+fn a_live_server_may_have_a_login_of_its_own(rt: HostRuntime) -> TestResult {
     let line =
         "live --feed h:1 --port 0 --user user --pass secret --feed-user other --feed-pass-file p";
     let words = words(rt.alloc(), line)?;
@@ -158,7 +127,7 @@ fn a_live_server_may_have_a_login_of_its_own(rt: HostRuntime) -> Result<(), Fail
 }
 
 #[test]
-fn sessions_are_named_by_words(rt: HostRuntime) -> Result<(), Fail> {
+fn sessions_are_named_by_words(rt: HostRuntime) -> TestResult {
     let line =
         "live --feed h:1 --glimpse h:2 --port 0 --user user --pass secret --session DAY1 --glimpse-session OTHER";
     let words = words(rt.alloc(), line)?;

@@ -1,52 +1,33 @@
 //! What the words of `serve` and `fetch` ask for.
 
-use super::{asked, words};
-use crate::equal::{holds_in, same_in};
+use super::{ask_for, asked, columns, words};
+use crate::equal::{TestResult, holds_in, same_in};
 use itch_codec::Alpha;
 use itchsnap_cli::words::{Job, Password, read_job};
 use std::alloc::Global;
 use std::test::Fail;
 
+// The words of `serve` but for some, the file and the kind of file that they name, and where it listens.
+const SERVERS: [&str; 5] = [
+    "day.itch --port 65535 => file: Some(\"day.itch\"), kind: Day(Limit { after: None, until: None }), address: 127.0.0.1:65535",
+    "day.itch --port 00 => file: Some(\"day.itch\"), kind: Day(Limit { after: None, until: None }), address: 127.0.0.1:0",
+    "- --progress --port 1 => file: None, kind: Day(Limit { after: None, until: None }), address: 127.0.0.1:1",
+    "day.itch --bind 0.0.0.0 --port 1 --until 10 => file: Some(\"day.itch\"), kind: Day(Limit { after: None, until: Some(10) }), address: 0.0.0.0:1",
+    "day.itch --bind=::1 --snapshot --port 1 => file: Some(\"day.itch\"), kind: Snapshot, address: [::1]:1",
+];
+
 #[test]
-fn words_of_a_server_are_read(rt: HostRuntime) -> Result<(), Fail> {
-    let day = "Some(\"day.itch\")";
-    let whole = "Day(Limit { after: None, until: None })";
-    let cases = [
-        (
-            "day.itch --port 65535",
-            day,
-            whole,
-            "127.0.0.1:65535",
-            false,
-        ),
-        ("day.itch --port 00", day, whole, "127.0.0.1:0", false),
-        ("- --progress --port 1", "None", whole, "127.0.0.1:1", true),
-        (
-            "day.itch --bind 0.0.0.0 --port 1 --until 10",
-            day,
-            "Day(Limit { after: None, until: Some(10) })",
-            "0.0.0.0:1",
-            false,
-        ),
-        (
-            "day.itch --bind=::1 --snapshot --port 1",
-            day,
-            "Snapshot",
-            "[::1]:1",
-            false,
-        ),
-    ];
-    for (line, file, kind, address, progress) in cases {
+fn words_of_a_server_are_read(rt: HostRuntime) -> TestResult {
+    for row in SERVERS {
+        let (some, place) = columns(row)?;
+        let progress = some.contains("--progress");
         let line = format!(in rt.alloc();
-            "serve --count 01000000 {line} --user user --pass=secret"
+            "serve --count 01000000 {some} --user user --pass=secret"
         )?;
-        let words = words(rt.alloc(), line.as_str())?;
         let wanted = format!(in rt.alloc();
-            "Serve {{ file: {file}, kind: {kind}, address: {address}, login: LoginWords {{ user: \"user\", .. }}, \
-             session: None, count: 1000000, progress: {progress} }}"
+            "Serve {{ {place}, login: LoginWords {{ user: \"user\", .. }}, session: None, count: 1000000, progress: {progress} }}"
         )?;
-        let found = asked(rt.alloc(), words.as_slice())?;
-        same_in(&rt, address, found.as_str(), wanted.as_str());
+        ask_for(&rt, line.as_str(), wanted.as_str())?;
     }
     Ok(())
 }
@@ -77,7 +58,7 @@ fn server(
 }
 
 #[test]
-fn words_of_a_client_are_read(rt: HostRuntime) -> Result<(), Fail> {
+fn words_of_a_client_are_read(rt: HostRuntime) -> TestResult {
     let cases = [
         ("--port 65535", None, "127.0.0.1", 65_535, None),
         ("--port=01", Some("S"), "127.0.0.1", 1, None),
@@ -99,55 +80,43 @@ fn words_of_a_client_are_read(rt: HostRuntime) -> Result<(), Fail> {
     Ok(())
 }
 
-// The number of the first message that a fetch with these words asks for, if they have one.
-fn first_asked(alloc: Global, line: &str) -> Result<Option<u64>, Fail> {
+// The number of the first message that a fetch with these words asks for, if they have one, or none if they are no fetch.
+fn first_asked(alloc: Global, line: &str) -> Result<Option<Option<u64>>, Fail> {
     let line = format!(in alloc; "fetch --port 1 --user user --pass secret {line}")?;
     let words = words(alloc, line.as_str())?;
     let job = read_job(alloc, words.as_slice(), false, None);
     match &job {
-        Ok(Job::Fetch { from, .. }) => Ok(from.map(|from| from.value())),
-        _ => Err(Fail::from("no fetch")),
+        Ok(Job::Fetch { from, .. }) => Ok(Some(from.map(|from| from.value()))),
+        _ => Ok(None),
     }
-}
-
-fn is_a_fetch(alloc: Global, line: &str) -> Result<bool, Fail> {
-    let line = format!(in alloc; "fetch --port 1 --user user --pass secret {line}")?;
-    let words = words(alloc, line.as_str())?;
-    let job = read_job(alloc, words.as_slice(), false, None);
-    Ok(matches!(job, Ok(Job::Fetch { .. })))
 }
 
 #[test]
-fn the_first_message_of_a_fetch_is_read(rt: HostRuntime) -> Result<(), Fail> {
-    let cases = [
-        ("", None),
-        ("--from 1", Some(1)),
-        ("--from=007 --session S", Some(7)),
+fn the_first_message_of_a_fetch_is_read(rt: HostRuntime) -> TestResult {
+    for (line, wanted) in [
+        ("", Some(None)),
+        ("--from 1", Some(Some(1))),
+        ("--from=007 --session S", Some(Some(7))),
         (
             "--from 9999999999999999999",
-            Some(9_999_999_999_999_999_999),
+            Some(Some(9_999_999_999_999_999_999)),
         ),
-    ];
-    for (line, wanted) in cases {
-        same_in(&rt, line, first_asked(rt.alloc(), line)?, wanted);
-    }
-    for line in [
-        "--from 0",
-        "--from +1",
-        "--from=-1",
-        "--from x",
-        "--from=",
-        "--from 10000000000000000000",
-        "--from 99999999999999999999",
-        "--from 1 --from 2",
+        ("--from 0", None),
+        ("--from +1", None),
+        ("--from=-1", None),
+        ("--from x", None),
+        ("--from=", None),
+        ("--from 10000000000000000000", None),
+        ("--from 99999999999999999999", None),
+        ("--from 1 --from 2", None),
     ] {
-        holds_in(&rt, line, !is_a_fetch(rt.alloc(), line)?);
+        same_in(&rt, line, first_asked(rt.alloc(), line)?, wanted);
     }
     Ok(())
 }
 
 #[test]
-fn a_password_has_three_places(rt: HostRuntime) -> Result<(), Fail> {
+fn a_password_has_three_places(rt: HostRuntime) -> TestResult {
     let rows = [
         ("--pass secret", None, Some(Password::Word("secret"))),
         (
@@ -180,7 +149,7 @@ fn a_password_has_three_places(rt: HostRuntime) -> Result<(), Fail> {
 }
 
 #[test]
-fn a_password_is_not_shown(rt: HostRuntime) -> Result<(), Fail> {
+fn a_password_is_not_shown(rt: HostRuntime) -> TestResult {
     let words = words(rt.alloc(), "fetch --port 1 --user user --pass secret")?;
     let shown = asked(rt.alloc(), words.as_slice())?;
     assert!(rt; shown.contains("user"));

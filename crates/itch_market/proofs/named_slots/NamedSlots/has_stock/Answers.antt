@@ -12,7 +12,7 @@ returns-in-Some g c =
     let known = c.in-Some.known.now in
     let at = c.in-Some.ensures.lookup.3 in
     let read = rw c.deref.ensures.value at at in
-    let same = rw c.bytes.ensures.bytes at c.eq.ensures in
+    let same = rw c.bytes.ensures.bytes at c.are_same.ensures in
     same ∙ ap (λ k. bytes_eq k c.args.stock) (stock_read _ slots c.args.at known c.self.invariant read.0 (read.1 known))
     ∙ stock_compared (slot slots c.args.at) c.args.stock c.bytes.ensures.printable c.bytes.ensures.width
     ∙ ap (λ (xs : List (Option Listing)). has_stock (slot xs c.args.at) c.args.stock) c.self.view_is

@@ -1,22 +1,24 @@
 //! Messages of one line each, with tracking number and timestamp 0, or `None` where a field does not fit.
 use itch_codec::{
-    AddOrder, Alpha, AttributedAddOrder, Directory, Header, Message, OperationalHalt, OrderCancel,
-    OrderDelete, OrderExecuted, OrderExecutedWithPrice, OrderReplace, ParticipantPosition, RegSho,
-    Seq, Side, Stamp, StockDirectory, SystemEvent, TradingAction,
+    AddOrder, Alpha, AttributedAddOrder, BrokenTrade, CrossTrade, Directory, Header, Message,
+    OperationalHalt, OrderCancel, OrderDelete, OrderExecuted, OrderExecutedWithPrice, OrderReplace,
+    ParticipantPosition, RegSho, Seq, Side, Stamp, StockDirectory, SystemEvent, Trade,
+    TradingAction,
 };
 
+/// A message, unless a field does not fit.
+pub(crate) type Made = Option<Message<'static>>;
+
 /// A message that was made, or else an error.
-pub(super) fn made<'a>(
-    message: &'a Option<Message<'static>>,
-) -> Result<&'a Message<'static>, &'static str> {
+pub(crate) fn made(message: &Made) -> Result<&Message<'static>, &'static str> {
     message.as_ref().ok_or("a message that can be made")
 }
 
-pub(super) fn stock(text: &str) -> Option<Alpha<8>> {
+pub(crate) fn stock(text: &str) -> Option<Alpha<8>> {
     Alpha::from_text(text).ok()
 }
 
-pub(super) fn header(locate: u16) -> Option<Header> {
+pub(crate) fn header(locate: u16) -> Option<Header> {
     Some(Header {
         locate,
         tracking: 0,
@@ -24,14 +26,14 @@ pub(super) fn header(locate: u16) -> Option<Header> {
     })
 }
 
-pub(super) fn event(code: u8) -> Option<Message<'static>> {
+pub(crate) fn event(code: u8) -> Made {
     Some(Message::SystemEvent(SystemEvent {
         header: header(0)?,
         code,
     }))
 }
 
-pub(super) fn directory(locate: u16, text: &str, lot: u32) -> Option<Message<'static>> {
+pub(crate) fn directory(locate: u16, text: &str, lot: u32) -> Made {
     Some(Message::StockDirectory(StockDirectory {
         header: header(locate)?,
         entry: Directory {
@@ -53,7 +55,7 @@ pub(super) fn directory(locate: u16, text: &str, lot: u32) -> Option<Message<'st
     }))
 }
 
-pub(super) fn trading_action(locate: u16, text: &str, state: u8) -> Option<Message<'static>> {
+pub(crate) fn trading_action(locate: u16, text: &str, state: u8) -> Made {
     Some(Message::TradingAction(TradingAction {
         header: header(locate)?,
         stock: stock(text)?,
@@ -63,7 +65,7 @@ pub(super) fn trading_action(locate: u16, text: &str, state: u8) -> Option<Messa
     }))
 }
 
-pub(super) fn reg_sho(locate: u16, text: &str, action: u8) -> Option<Message<'static>> {
+pub(crate) fn reg_sho(locate: u16, text: &str, action: u8) -> Made {
     Some(Message::RegSho(RegSho {
         header: header(locate)?,
         stock: stock(text)?,
@@ -71,12 +73,7 @@ pub(super) fn reg_sho(locate: u16, text: &str, action: u8) -> Option<Message<'st
     }))
 }
 
-pub(super) fn halt(
-    locate: u16,
-    text: &str,
-    market_code: u8,
-    action: u8,
-) -> Option<Message<'static>> {
+pub(crate) fn halt(locate: u16, text: &str, market_code: u8, action: u8) -> Made {
     Some(Message::Halt(OperationalHalt {
         header: header(locate)?,
         stock: stock(text)?,
@@ -85,7 +82,7 @@ pub(super) fn halt(
     }))
 }
 
-pub(super) fn position(locate: u16, mpid: &str, text: &str, state: u8) -> Option<Message<'static>> {
+pub(crate) fn position(locate: u16, mpid: &str, text: &str, state: u8) -> Made {
     Some(Message::Position(ParticipantPosition {
         header: header(locate)?,
         mpid: Alpha::from_text(mpid).ok()?,
@@ -114,19 +111,19 @@ fn add_order(
     })
 }
 
-pub(super) fn add(
+pub(crate) fn add(
     locate: u16,
     reference: u64,
     side: Side,
     shares: u32,
     text: &str,
     price: u32,
-) -> Option<Message<'static>> {
+) -> Made {
     Some(Message::AddOrder(add_order(locate, reference, side, shares, text, price)?))
 }
 
 /// An order of AAPL at locate 1 to buy, attributed to ABCD.
-pub(super) fn attributed(reference: u64, shares: u32, price: u32) -> Option<Message<'static>> {
+pub(crate) fn attributed(reference: u64, shares: u32, price: u32) -> Made {
     Some(Message::AttributedAddOrder(AttributedAddOrder {
         order: add_order(1, reference, Side::Buy, shares, "AAPL", price)?,
         attribution: Alpha::from_text("ABCD").ok()?,
@@ -142,16 +139,11 @@ fn execution(locate: u16, reference: u64, shares: u32) -> Option<OrderExecuted> 
     })
 }
 
-pub(super) fn executed(locate: u16, reference: u64, shares: u32) -> Option<Message<'static>> {
+pub(crate) fn executed(locate: u16, reference: u64, shares: u32) -> Made {
     Some(Message::OrderExecuted(execution(locate, reference, shares)?))
 }
 
-pub(super) fn executed_with_price(
-    locate: u16,
-    reference: u64,
-    shares: u32,
-    price: u32,
-) -> Option<Message<'static>> {
+pub(crate) fn executed_with_price(locate: u16, reference: u64, shares: u32, price: u32) -> Made {
     Some(Message::OrderExecutedWithPrice(OrderExecutedWithPrice {
         execution: execution(locate, reference, shares)?,
         printable: b'Y',
@@ -159,7 +151,7 @@ pub(super) fn executed_with_price(
     }))
 }
 
-pub(super) fn cancel(locate: u16, reference: u64, shares: u32) -> Option<Message<'static>> {
+pub(crate) fn cancel(locate: u16, reference: u64, shares: u32) -> Made {
     Some(Message::OrderCancel(OrderCancel {
         header: header(locate)?,
         reference,
@@ -167,20 +159,14 @@ pub(super) fn cancel(locate: u16, reference: u64, shares: u32) -> Option<Message
     }))
 }
 
-pub(super) fn delete(locate: u16, reference: u64) -> Option<Message<'static>> {
+pub(crate) fn delete(locate: u16, reference: u64) -> Made {
     Some(Message::OrderDelete(OrderDelete {
         header: header(locate)?,
         reference,
     }))
 }
 
-pub(super) fn replace(
-    locate: u16,
-    original: u64,
-    reference: u64,
-    shares: u32,
-    price: u32,
-) -> Option<Message<'static>> {
+pub(crate) fn replace(locate: u16, original: u64, reference: u64, shares: u32, price: u32) -> Made {
     Some(Message::OrderReplace(OrderReplace {
         header: header(locate)?,
         original,
@@ -190,7 +176,39 @@ pub(super) fn replace(
     }))
 }
 
-pub(super) fn end(next: u64) -> Option<Message<'static>> {
+/// Order 1 of AAPL at locate 1, to buy 100 at 150.0000, is executed unseen.
+pub(crate) fn trade() -> Made {
+    Some(Message::Trade(Trade {
+        header: header(1)?,
+        reference: 1,
+        side: Side::Buy,
+        shares: 100,
+        stock: stock("AAPL")?,
+        price: 1_500_000,
+        match_number: 1,
+    }))
+}
+
+/// A cross of 200 of AAPL at locate 1 at 150.0000.
+pub(crate) fn cross_trade() -> Made {
+    Some(Message::CrossTrade(CrossTrade {
+        header: header(1)?,
+        shares: 200,
+        stock: stock("AAPL")?,
+        price: 1_500_000,
+        match_number: 1,
+        cross_type: b'O',
+    }))
+}
+
+pub(crate) fn broken_trade(locate: u16, match_number: u64) -> Made {
+    Some(Message::BrokenTrade(BrokenTrade {
+        header: header(locate)?,
+        match_number,
+    }))
+}
+
+pub(crate) fn end(next: u64) -> Made {
     Some(Message::End {
         next: Seq::new(next)?,
     })
