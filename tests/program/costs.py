@@ -46,7 +46,7 @@ def orders_apart(step):
 
 def references_far_apart_take_little_memory(program):
     """With a page of the table of references for each order, or for each order and seven more pages beside it."""
-    dense, *sparse = (orders_apart(step) for step in (1, 32, 256))
+    dense, *sparse = (orders_apart(step) for step in (1, 128, 1024))
     with folder_with(dense=dense, pages=sparse[0], eighths=sparse[1]) as folder:
         least = cost(program, "snap", folder / "dense")
         yield from differs("dense", least.status, 0)
