@@ -3,6 +3,7 @@ ghost use Rattle.std.specs.Prelude.{◌≡◌, ℕ, ◌+◌, ◌<◌, ◌≤◌,
 ghost use Rattle.itch_frame.specs.Blocks.{IsBlock};
 ghost use Rattle.itch_frame.specs.Reading.{Reading};
 ghost use Rattle.itch_day.specs.Limits.{IsLate, IsNotLate, IsBefore};
+ghost use Rattle.itch_day.specs.Batches.{StepsAtHand};
 ghost use Rattle.itch_day.specs.Parts.{GoesOnTo, ReadsPart, Steps, TakesHeld, TakesPayload, TakesSome, UnlessRefused};
 ghost use Rattle.itch_day.specs.Sinks.{Decodes};
 ghost use Rattle.itch_day.specs.declared.limit.Limit.{Limit as AnyLimit};
@@ -37,9 +38,13 @@ pub fn read_part<R: CountedRead, A: Allocator, T: Sink>(
     while *count < limit.most() {
         take_at_hand(reader, count, sink, limit);
         if *count < limit.most() {
-            match take_next(reader, count, sink, limit) {
-                Ok(()) => {}
-                Err(stop) => return stop,
+            match take_loaded(reader, count, sink, limit) {
+                Ok(true) => {}
+                Ok(false) => match take_from_input(reader, count, sink, limit) {
+                    Ok(()) => {}
+                    Err(stop) => return stop,
+                },
+                Err(why) => return stop_of(why),
             }
         }
     }
@@ -97,26 +102,26 @@ fn take_at_hand<R: CountedRead, A: Allocator, T: Sink>(
     *count = batch.count;
 }
 
-// Takes the next message, or returns why it is not taken.
+// Takes the next message if its block lies at hand (true), or returns why it is not taken. Where none lies at hand, nothing changes.
 #[inline(always)]
-fn take_next<R: CountedRead, A: Allocator, T: Sink>(
+fn take_loaded<R: CountedRead, A: Allocator, T: Sink>(
     reader: &mut BlockReader<R, A>,
     count: &mut u64,
     sink: &mut T,
     limit: Limit,
-) -> Result<(), Stop<T::Fault>>
+) -> Result<bool, NotTaken<T::Fault>>
     requires ready { T.is_ready sink.old (count.old + 1) }
     requires few { count.old ≤ 10 ^ 19 - 1 }
     requires before { IsBefore limit count.old }
-    ensures steps { Steps R.remaining R.failures T.takes T.refuses limit reader.old reader.new count.old count.new sink.old result sink.new }
+    ensures steps { StepsAtHand R.remaining R.failures T.takes T.refuses limit reader.old reader.new count.old count.new sink.old result sink.new }
     ensures ready { OnOk result (T.is_ready sink.new (count.new + 1)) }
 {
     if !reader.load_at_hand() {
-        return take_from_input(reader, count, sink, limit);
+        return Ok(false);
     }
     match take_held(reader, count, sink, limit) {
-        Ok(()) => Ok(()),
-        Err(why) => Err(stop_of(why)),
+        Ok(()) => Ok(true),
+        Err(why) => Err(why),
     }
 }
 
