@@ -5,6 +5,7 @@ RUNS has a function for each run, named for what it shows; it is given the progr
 import contextlib
 import fcntl
 import functools
+import itertools
 import os
 import re
 import resource
@@ -537,15 +538,21 @@ def lines_that_nobody_takes_do_not_end_it(program):
 
 def a_feed_at_full_speed_hinders_no_client(program):
     """One that always has more to read, of messages as short as they can be: who comes is told the snapshot within a few seconds."""
-    end, piece = threading.Event(), b"\0\x02Sz" * 50_000
+    end, flows, piece = threading.Event(), threading.Event(), b"\0\x02Sz" * 50_000
 
     def endless(peer, login):
         peer.sendall(acceptance(number_in(login)))
-        while not end.is_set():
+        for count in itertools.count():
+            if end.is_set():
+                break
             peer.sendall(piece)
+            if count == 100:  # more than the sockets hold, so that messages were read
+                flows.set()
 
     with Feed(endless) as feed, live(program, feed.port) as server:
         server.said("feed: accepted")
+        if not flows.wait(4 * SLACK):
+            yield "the feed is not read"
         for _ in range(3):
             told = told_within(server.port, 4 * SLACK)
             whole = told.data.startswith(acceptance(1)) and told.data.endswith(ENDED) and number_of(told.data[:-len(ENDED)]) > 1
