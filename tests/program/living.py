@@ -226,6 +226,14 @@ def told(port, data):
     return b"reset"
 
 
+def without_first_beats(data):
+    """What a client is told without the heartbeats after its acceptance, which come while it waits for its snapshot."""
+    first = last = len(acceptance(1))
+    while data.startswith(BEAT, last):
+        last += len(BEAT)
+    return data[:first] + data[last:]
+
+
 def day_of(count, symbols=20):
     return large.orders(count, symbols=symbols)
 
