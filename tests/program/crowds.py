@@ -4,7 +4,6 @@ RUNS has a function for each run, named for what it shows; it is given the progr
 """
 import collections
 import contextlib
-import re
 import shutil
 import socket
 import struct
@@ -17,18 +16,12 @@ from pathlib import Path
 
 import large
 from common import differs, split
-from living import (ENDED, LOGIN, Feed, acceptance, answer, connect, day_of, feeding, fetch, folder_with, large_server, live, number_of, packet, plays,
-                    received, sends, told, without_first_beats)
+from living import (ENDED, LOGIN, Feed, acceptance, answer, connect, day_of, feeding, fetch, folder_with, large_server, live, memory_of, number_of, packet,
+                    plays, received, sends, told, without_first_beats)
 from standby import waits_for
 
 PLACES = 64
 PORT = 5100
-
-
-def memory_of(process):
-    """The most memory that a process had so far, in kilobytes: of addresses, and of what it has written to."""
-    status = Path(f"/proc/{process.pid}/status").read_text()
-    return {kind: int(kilobytes) for kind, kilobytes in re.findall(r"^(VmPeak|VmHWM):\s+(\d+) kB$", status, re.M)}
 
 
 def told_at_a_byte_a_second(port, seconds):
