@@ -16,7 +16,8 @@ from pathlib import Path
 
 import large
 from common import differs, split
-from living import (ENDED, LOGIN, Feed, acceptance, answer, connect, day_of, feeding, fetch, folder_with, large_server, live, memory_of, number_of, packet,
+from hostile import told_within
+from living import (ENDED, LOGIN, PATIENCE, Feed, acceptance, answer, connect, day_of, feeding, fetch, folder_with, large_server, live, memory_of, number_of, packet,
                     plays, received, sends, told, without_first_beats)
 from standby import waits_for
 
@@ -48,8 +49,8 @@ def sixty_four_clients_at_once(program):
         nonsense = clients.submit(told, server.port, b"\0\x05?abcd")
         with connect(server.port) as peer:
             peer.sendall(LOGIN)
-        answers = [clients.submit(told, server.port, LOGIN) for _ in range(fast)]
-        right = sum(without_first_beats(it.result()) == whole for it in answers)
+        answers = [clients.submit(told_within, server.port, 2 * PATIENCE) for _ in range(fast)]
+        right = sum(without_first_beats(it.result().data) == whole for it in answers)
         yield from differs("clients with their answer", right, fast)
         yield from differs("nonsense is told", nonsense.result(), b"")
         if not whole.startswith(without_first_beats(slow.result())):
