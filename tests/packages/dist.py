@@ -59,6 +59,15 @@ def packages_stay_where_packing_fails():
         yield from differs("left beside", sorted(it.name for it in Path(name).iterdir()), ["dist", "tools"])
 
 
+def packages_are_the_same_whoever_packs_them():
+    """Whatever the mask is, and the language, of the one who does."""
+    with tempfile.TemporaryDirectory() as name:
+        folder = Path(name) / "dist"
+        words = "sh", "-c", 'umask 077; exec "$@"', "sh", TOP / "tools/pack", folder
+        yield from fails("pack", *words, LC_ALL="C.UTF-8", TZ="Asia/Tokyo")
+        yield from differs("the checksums", (folder / "SHA256SUMS").read_text(), (packed() / "SHA256SUMS").read_text())
+
+
 def lintian_finds_no_error():
     need("lintian")
     yield from fails("lintian", "lintian", "--fail-on", "error", *sorted(packed().glob("*.deb")))
@@ -111,6 +120,7 @@ RUNS = [
     the_checksums_are_of_each_package,
     another_folder_is_left_alone,
     packages_stay_where_packing_fails,
+    packages_are_the_same_whoever_packs_them,
     lintian_finds_no_error,
     the_archive_has_the_program_and_what_belongs_to_it,
     the_packages_ask_for_the_glibc_of_their_symbols,

@@ -11,8 +11,8 @@ import time
 from concurrent.futures import ThreadPoolExecutor
 
 from common import differs, ended_in, split
-from living import (CLIENT_BEAT, ENDED, LOGIN, Feed, acceptance, answer, connect, day_of, feeding, fetch, folder_with, follow, live, number_of,
-                    packet, plays, received, sends, snapshot_after, told)
+from living import (CLIENT_BEAT, ENDED, LOGIN, Feed, acceptance, answer, connect, day_of, feeding, fetch, folder_with, follow, live, memory_of,
+                    number_of, packet, plays, received, sends, snapshot_after, told)
 from standby import waits_for
 from starts import TOP
 
@@ -21,7 +21,7 @@ PLACES = 64
 LOOK, SECONDS = 1, 10
 # The longest message that fits a packet.
 LONGEST = 65_534
-# The end of a snapshot of nothing.
+# In place of a snapshot that was not fetched: its number is 1.
 END_1 = b"1"
 
 
@@ -83,6 +83,18 @@ def so_many_clients_have_a_place(program):
         for look in looked:
             yield from look.result()
         begin.set()
+
+
+def a_client_of_a_feed_takes_little_memory(program):
+    """What it hears and what it is sent, and what is read of its file: less than half a megabyte together."""
+    day, _ = day_of(20)
+    with folder_with(day=day) as folder, feeding(program, folder / "day", "--stay") as server, contextlib.ExitStack() as held:
+        before = memory_of(server.process)
+        crowd = Crowd(server.port, PLACES, held)
+        yield from differs(f"{PLACES} are accepted", crowd.are_accepted(PLACES), True)
+        for kind, kilobytes in memory_of(server.process).items():
+            if kilobytes - before[kind] > 512 * PLACES:
+                yield f"{kind} rose by {kilobytes - before[kind]} kB"
 
 
 def a_place_of_an_address_is_free_again_once_a_client_has_all(program):
@@ -158,6 +170,7 @@ def more_than_a_million_messages_wait_in_a_joiner(_program):
 
 RUNS = [
     so_many_clients_have_a_place,
+    a_client_of_a_feed_takes_little_memory,
     a_place_of_an_address_is_free_again_once_a_client_has_all,
     messages_of_each_length_are_passed_on,
     a_feed_is_played_from_each_number,

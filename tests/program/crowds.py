@@ -4,7 +4,6 @@ RUNS has a function for each run, named for what it shows; it is given the progr
 """
 import collections
 import contextlib
-import re
 import shutil
 import socket
 import struct
@@ -17,18 +16,13 @@ from pathlib import Path
 
 import large
 from common import differs, split
-from living import (ENDED, LOGIN, Feed, acceptance, answer, connect, day_of, feeding, fetch, folder_with, large_server, live, number_of, packet, plays,
-                    received, sends, told)
+from hostile import told_within
+from living import (ENDED, LOGIN, PATIENCE, Feed, acceptance, answer, connect, day_of, feeding, fetch, folder_with, large_server, live, memory_of, number_of, packet,
+                    plays, received, sends, told, without_first_beats)
 from standby import waits_for
 
 PLACES = 64
 PORT = 5100
-
-
-def memory_of(process):
-    """The most memory that a process had so far, in kilobytes: of addresses, and of what it has written to."""
-    status = Path(f"/proc/{process.pid}/status").read_text()
-    return {kind: int(kilobytes) for kind, kilobytes in re.findall(r"^(VmPeak|VmHWM):\s+(\d+) kB$", status, re.M)}
 
 
 def told_at_a_byte_a_second(port, seconds):
@@ -55,11 +49,11 @@ def sixty_four_clients_at_once(program):
         nonsense = clients.submit(told, server.port, b"\0\x05?abcd")
         with connect(server.port) as peer:
             peer.sendall(LOGIN)
-        answers = [clients.submit(told, server.port, LOGIN) for _ in range(fast)]
-        right = sum(it.result() == whole for it in answers)
+        answers = [clients.submit(told_within, server.port, 2 * PATIENCE) for _ in range(fast)]
+        right = sum(without_first_beats(it.result().data) == whole for it in answers)
         yield from differs("clients with their answer", right, fast)
         yield from differs("nonsense is told", nonsense.result(), b"")
-        if not whole.startswith(slow.result()):
+        if not whole.startswith(without_first_beats(slow.result())):
             yield "a client that takes a byte a second was told something else"
         with contextlib.suppress(OSError):
             got = received(never)

@@ -10,7 +10,7 @@ from pathlib import Path
 
 import failing
 from common import differs, ended_in, split
-from living import (ENDED, LOGIN, PATIENCE, WORDS, Feed, Running, acceptance, answer, day_of, fetch, folder_with, follow, live, number_of, plays,
+from living import (ENDED, LOGIN, PATIENCE, SILENCE, WORDS, Feed, Running, acceptance, answer, day_of, fetch, folder_with, follow, live, number_of, plays,
                     recorded, sends, session_in, snapshot_after, told)
 
 YESTERDAY = recorded(split(day_of(5)[0])[0], "DAY1")
@@ -65,9 +65,13 @@ def a_feed_that_rejects_the_session_of_a_record_is_asked_for_its_own(program):
             got = live_in(folder, program, feed.port, "--record", "record")
             yield from differs("no answer", (got[:2], [session_in(it).strip() for it in feed.logins]), ((0, b""), [b"DAY1", b"", b"DAY1"]))
         (folder / "record").write_bytes(kept)
+        begun = time.monotonic()
         with Feed(rejected, lambda peer, login: peer.recv(1), plays(day, then=ENDED, session=b"DAY1")) as feed:
             got = live_in(folder, program, feed.port, "--record", "record")
             yield from differs("silent", (got[:2], [session_in(it).strip() for it in feed.logins]), ((0, b""), [b"DAY1", b"", b"DAY1"]))
+        # The answer is waited for two seconds, and not for as long as a server may be silent.
+        if time.monotonic() - begun > SILENCE - 3:
+            yield f"silent: asked again after {time.monotonic() - begun:.1f} seconds"
 
 
 def a_record_keeps_its_session(program):

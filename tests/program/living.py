@@ -226,6 +226,20 @@ def told(port, data):
     return b"reset"
 
 
+def memory_of(process):
+    """The most memory that a process had so far, in kilobytes: of addresses, and of what it has written to."""
+    status = Path(f"/proc/{process.pid}/status").read_text()
+    return {kind: int(kilobytes) for kind, kilobytes in re.findall(r"^(VmPeak|VmHWM):\s+(\d+) kB$", status, re.M)}
+
+
+def without_first_beats(data):
+    """What a client is told without the heartbeats after its acceptance, which come while it waits for its snapshot."""
+    first = last = len(acceptance(1))
+    while data.startswith(BEAT, last):
+        last += len(BEAT)
+    return data[:first] + data[last:]
+
+
 def day_of(count, symbols=20):
     return large.orders(count, symbols=symbols)
 

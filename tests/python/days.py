@@ -233,12 +233,14 @@ def a_large_day_takes_no_memory_but_that_of_its_market():
 
 
 def a_day_may_be_in_a_buffer_of_wider_items():
-    data = (DAY + b"\0\0" + bytes(7))[:len(DAY) + 2 + (-len(DAY) - 2) % 8]
+    whole, times = timed(), [570 * MINUTE, 571 * MINUTE, 590 * MINUTE]
+    data = whole + bytes(2 + (-len(whole) - 2) % 8)
     for kind in "HIQ":
         day = Day.of(array.array(kind, data))
-        yield from differs(f"items {kind}", (day.check(), bytes(day.blocks), day.snapshot()), (11, data, Day.of(DAY).snapshot()))
-        pieces = [bytes(blocks) for _, blocks in day.pieces(["00:01"])]
-        yield from differs(f"pieces of items {kind}", pieces, [bytes(blocks) for _, blocks in Day.of(data).pieces(["00:01"])])
+        yield from differs(f"items {kind}", (day.check(), bytes(day.blocks), day.snapshot()), (Day.of(whole).check(), data, Day.of(whole).snapshot()))
+        pieces = [bytes(blocks) for _, blocks in day.pieces(times)]
+        yield from differs(f"pieces of items {kind}", pieces, [bytes(blocks) for _, blocks in Day.of(data).pieces(times)])
+        yield from differs("pieces", len(set(pieces)), len(times))
 
 
 def other_threads_go_on_during_a_call():

@@ -1,0 +1,157 @@
+"""Runs of `live` among clients that read slowly: they have room as long as there is memory, and the slowest makes room where there is none.
+
+RUNS has a function for each run, named for what it shows; it is given the program, and yields what differs.
+"""
+import contextlib
+import re
+import threading
+import time
+
+from common import differs, split
+from hostile import ACCEPTED, PAUSE, SLACK, busy_server, market, told_within
+from living import BEAT, LOGIN, PATIENCE, SILENCE, block_in, connect, received
+from standby import waits_for
+
+# For how long a client waits for room before another one makes room, and by when one that takes 100 KB a second is slow.
+ROOM, SLOW = 0.5, 6
+
+
+class Reader:
+    """A client that takes so many bytes a second, as long as it is let."""
+
+    def __init__(self, port, rate, room=None):
+        self.peer, self.rate, self.count, self.is_open, self.leaves = connect(port, room), rate, 0, True, threading.Event()
+        self.peer.sendall(LOGIN)
+        self.count += len(self.peer.recv(ACCEPTED))
+        self.thread = threading.Thread(target=self.read)
+        self.thread.start()
+
+    def read(self):
+        begun, turns = time.monotonic(), 0
+        with contextlib.suppress(OSError):
+            while not self.leaves.is_set():
+                turns += 1
+                if not (piece := self.peer.recv(self.rate // 10)):
+                    break
+                self.count += len(piece)
+                time.sleep(max(0, begun + turns / 10 - time.monotonic()))
+        self.is_open = self.leaves.is_set()
+
+    def has_begun(self):
+        """Waits until its snapshot has begun."""
+        while self.is_open and self.count < ACCEPTED + 1000:
+            time.sleep(0.01)
+        return self
+
+    def __enter__(self):
+        return self
+
+    def __exit__(self, *_):
+        self.leaves.set()
+        self.thread.join()
+        self.peer.close()
+
+
+def endings(server, what):
+    """How many connections ended so."""
+    return sum(line.endswith(what) for line in b"".join(server.output).decode().splitlines())
+
+
+def lines_of(server):
+    """The number of each connection that has ended, and how, in the order of their ends."""
+    lines = b"".join(server.output).decode().splitlines()
+    return [(int(number), ending) for number, ending in (it.removeprefix("connection ").split(": ", 1) for it in lines)]
+
+
+class Coming:
+    """A client that logs in, and is told its snapshot after some seconds."""
+
+    def __init__(self, port):
+        self.peer, self.begun = connect(port), time.monotonic()
+        self.peer.sendall(LOGIN)
+        self.accepted = received(self.peer, ACCEPTED)
+
+    def told(self):
+        """In how many seconds its snapshot began, and all that it is told."""
+        block = block_in(self.peer)
+        while block == BEAT:
+            block = block_in(self.peer)
+        seconds = time.monotonic() - self.begun
+        with contextlib.suppress(ConnectionError):
+            return seconds, self.accepted + block + received(self.peer)
+        return seconds, b""
+
+
+def twelve_slow_readers_have_room(program):
+    """Each has a snapshot of its own: the next client has one at once, and none is cut off for it."""
+    with busy_server(program) as (server, _), contextlib.ExitStack() as held:
+        for _ in range(12):
+            held.enter_context(Reader(server.port, 100_000, 4096)).has_begun()
+        told = told_within(server.port, 10)
+        if told.pause > PAUSE or not market().is_told(told.data):
+            yield f"the next one had {len(told.data)} bytes after {told.seconds:.1f} seconds, and nothing for {told.pause:.1f}"
+        yield from differs("cut off", endings(server, "cut off as the slowest"), 0)
+
+
+def a_snapshot_waits_for_memory(program):
+    """Where no two fit, the second client hears that the server is there until the first has its own, and each has a whole one."""
+    with busy_server(program, "--snapshot-memory", "1M") as (server, _), Reader(server.port, 1_500_000, 1 << 18) as first:
+        first.has_begun()
+        told = told_within(server.port)
+        first.thread.join()
+        yield from differs("the second is told the market", market().is_told(told.data), True)
+        yield from differs("it waits", BEAT in split(told.data), True)
+        if abs(first.count - len(told.data)) > 1000:
+            yield f"the first has {first.count} bytes, and the second {len(told.data)}"
+
+
+def the_reader_that_was_slow_for_longest_makes_room(program):
+    """There is memory for two. The first one is cut off once a client has waited for half a second."""
+    with busy_server(program, "--snapshot-memory", "20M") as (server, _), contextlib.ExitStack() as held:
+        for _ in range(2):
+            held.enter_context(Reader(server.port, 100_000, 4096)).has_begun()
+        # By now each has taken less than a megabyte a second, what the system holds for it included.
+        time.sleep(SLOW)
+        coming = Coming(server.port)
+        waits_for(lambda: endings(server, "cut off as the slowest"))
+        seconds, (_, told) = time.monotonic() - coming.begun, coming.told()
+        if seconds < ROOM - 0.02:
+            yield f"the slowest is cut off after {seconds:.3f} seconds"
+        yield from differs("the next one is told the market", market().is_told(told), True)
+        coming.peer.close()
+        waits_for(lambda: lines_of(server)[-1][1].startswith("accepted at "))
+        (slowest, _), (next_one, _) = lines_of(server)[-2:]
+        yield from differs("the slowest, the other, and the next one came one after another", next_one - slowest, 2)
+        yield from differs("cut off as the slowest", endings(server, "cut off as the slowest"), 1)
+
+
+def eight_slow_readers_hinder_no_other(program):
+    """There is memory for the snapshot of each: the ninth is accepted at once, told each second that the server is there, and has its snapshot
+    within four times what that takes alone."""
+    with busy_server(program, "--snapshot-memory", "64M") as (server, _), contextlib.ExitStack() as readers:
+        bound = 4 * told_within(server.port).seconds + SLACK
+        for _ in range(8):
+            readers.enter_context(Reader(server.port, 100_000, 4096))
+        told = told_within(server.port, 10)
+        if told.seconds > bound or told.pause > PAUSE or not market().is_told(told.data):
+            yield f"the ninth had {len(told.data)} bytes after {told.seconds:.1f} seconds, and nothing for {told.pause:.1f}"
+
+
+def a_slow_reader_is_not_cut_off(program):
+    """One that takes 64 KiB in 15 seconds is slow enough to be kept, whatever room it has to receive."""
+    rows = [(60_000, None), (60_000, 4096), (30_000, 4096), (10_000, 4096), (5_000, 4096), (30_000, None)]
+    with busy_server(program) as (server, _), contextlib.ExitStack() as held:
+        readers = [held.enter_context(Reader(server.port, *row)) for row in rows]
+        time.sleep(SILENCE + 5)
+        yield from differs("cut off", endings(server, "cut off"), 0)
+        for row, reader in zip(rows, readers):
+            yield from differs(f"the reader of {row} is open", reader.is_open, True)
+
+
+RUNS = [
+    twelve_slow_readers_have_room,
+    a_snapshot_waits_for_memory,
+    the_reader_that_was_slow_for_longest_makes_room,
+    eight_slow_readers_hinder_no_other,
+    a_slow_reader_is_not_cut_off,
+]
