@@ -188,6 +188,15 @@ impl Clients {
         false
     }
 
+    /// The same. Where nobody does, also since whoever did has left, the next one has not waited yet.
+    pub(crate) fn somebody_waits<B: OrderBook>(&mut self, desk: &Desk<B>) -> bool {
+        let waits = self.any_waits(desk);
+        if !waits {
+            self.crowded_ms = None;
+        }
+        waits
+    }
+
     // Each who is sent the snapshot of this number has it noted for its line, with how many packets it has.
     fn note_answers<B: OrderBook>(&mut self, desk: &Desk<B>, next: u64, packets: u64, now_ms: u64) {
         for (place, seat) in self.seats.iter_mut().enumerate() {
@@ -207,8 +216,7 @@ impl Clients {
         desk: &mut Desk<B>,
         now_ms: u64,
     ) {
-        if !self.any_waits(desk) {
-            self.crowded_ms = None;
+        if !self.somebody_waits(desk) {
             return;
         }
         let since_ms = *self.crowded_ms.get_or_insert(now_ms);

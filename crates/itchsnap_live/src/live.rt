@@ -464,7 +464,7 @@ where
 
     // Answers all who wait, as often as the time allows.
     fn answer(&mut self, now_ms: u64) -> Result<(), LiveFault> {
-        if !self.clients.any_waits(&self.desk) || self.desk.follower().market().is_none() {
+        if !self.clients.somebody_waits(&self.desk) || self.desk.follower().market().is_none() {
             return Ok(());
         }
         let idle = !self.feed.is_busy() && !self.clients.is_telling(&self.desk);
