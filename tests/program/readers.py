@@ -106,12 +106,21 @@ def a_snapshot_waits_for_memory(program):
 
 
 def the_reader_that_was_slow_for_longest_makes_room(program):
-    """There is memory for two. The first one is cut off once a client has waited for half a second."""
+    """There is memory for two. The first one is cut off once a client has waited for half a second: an earlier one, which has left, does not count."""
     with busy_server(program, "--snapshot-memory", "20M") as (server, _), contextlib.ExitStack() as held:
         for _ in range(2):
             held.enter_context(Reader(server.port, 100_000, 4096)).has_begun()
         # By now each has taken less than a megabyte a second, what the system holds for it included.
         time.sleep(SLOW)
+        with Coming(server.port).peer as early:
+            # It waits for less than half a second.
+            early.settimeout(ROOM / 2)
+            with contextlib.suppress(TimeoutError):
+                received(early, 1)
+            early.settimeout(PATIENCE)
+            early.sendall(b"\0\x01O")
+            received(early)
+        time.sleep(ROOM)
         coming = Coming(server.port)
         waits_for(lambda: endings(server, "cut off as the slowest"))
         seconds, (_, told) = time.monotonic() - coming.begun, coming.told()
@@ -121,7 +130,7 @@ def the_reader_that_was_slow_for_longest_makes_room(program):
         coming.peer.close()
         waits_for(lambda: lines_of(server)[-1][1].startswith("accepted at "))
         (slowest, _), (next_one, _) = lines_of(server)[-2:]
-        yield from differs("the slowest, the other, and the next one came one after another", next_one - slowest, 2)
+        yield from differs("the slowest, the other, the early one, and the next one came one after another", next_one - slowest, 3)
         yield from differs("cut off as the slowest", endings(server, "cut off as the slowest"), 1)
 
 
