@@ -10,7 +10,7 @@ split_is bytes size within (p, (fits, is)) =
     let whole : bytes ≡ block p ++ drop size bytes = sym (take-append-drop size bytes) ∙ ap (λ front. front ++ drop size bytes) is in
     let long : size ≡ length (block p) = sym (length-take-le size bytes within) ∙ ap length is in
     let payload : take (size - 2) (drop 2 bytes) ≡ p =
-        ap (λ all. take (size - 2) (drop 2 all)) whole ∙ take_at p (drop size bytes) (size - 2) (omega (arith, long)) in (
+    ap (λ all. take (size - 2) (drop 2 all)) whole ∙ take_at p (drop size bytes) (size - 2) (omega (arith, long)) in (
       subst IsPayload (sym payload) fits,
       whole ∙ ap (λ front. block front ++ drop size bytes) (sym payload) ∙ ap (λ rest. block (take (size - 2) (drop 2 bytes)) ++ rest) (sym (take_rest bytes size)),
     )
