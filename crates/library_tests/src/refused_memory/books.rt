@@ -95,14 +95,15 @@ fn grow<B: OrderBook>(
     let mut replacements = 0u64;
     for number in 1..41u64 {
         let price = 1500000u32.wrapping_add(step.wrapping_mul(2 * number as u32));
-        let added = order(number, Side::Buy, 10, price);
+        let reference = number * 4;
+        let added = order(reference, Side::Buy, 10, price);
         let refused = refuse_each(rt, refusing, book, None, added)?;
         additions = additions.saturating_add(refused);
         if number.checked_rem(every) == Some(0) {
-            let replacement = order(number + 100, Side::Buy, 20, price.wrapping_add(step));
-            let refused = refuse_each(rt, refusing, book, Some(number), replacement)?;
+            let replacement = order(reference + 400, Side::Buy, 20, price.wrapping_add(step));
+            let refused = refuse_each(rt, refusing, book, Some(reference), replacement)?;
             replacements = replacements.saturating_add(refused);
-            assert!(rt; live(book, number).is_none());
+            assert!(rt; live(book, reference).is_none());
         }
     }
     has_len(rt, book, 40);

@@ -86,7 +86,7 @@ const ADDS: &[u8] = b"A\0\x02\0\0\0\0\0\0\0\0\0\0\0\0\0\0\0\0B\0\0\0dAAPL    \0\
 
 const NAMES: &[u8] = b"F\0\x02\0\0\0\0\0\0\0\0\0\0\0\0\0\0\0\x40S\0\0\0dAAPL    \0\x26\xe3\0ABCD";
 
-// Orders 129 to 168 in place of 1 to 40, at other prices.
+// Orders 256 apart in place of 1 to 40, at other prices.
 const REPLACES: &[u8] =
     b"U\0\x02\0\0\0\0\0\0\0\0\0\0\0\0\0\0\0\0\0\0\0\0\0\0\0\x80\0\0\0d\0\x17\xe3\0";
 
@@ -116,7 +116,7 @@ fn refuse_growth<B: OrderBook>(
         let refused = refuse_forty(rt, refusing, &mut market, payload, places)?;
         same(rt, refused > 0, grows);
     }
-    let refused = refuse_forty(rt, refusing, &mut market, REPLACES, &[18, 26, 34])?;
+    let refused = refuse_forty(rt, refusing, &mut market, REPLACES, &[18, 25, 34])?;
     has_len(rt, market.book(), 80);
     Ok(refused)
 }

@@ -42,15 +42,20 @@ fn refuse_each(
 // Dense keys, keys of a page each, and keys that are beyond the pages.
 #[test]
 fn a_table_stays_as_it_was(rt: HostRuntime) -> TestResult {
-    for (step, least) in [(1, 4), (32, 10), (1_000, 10), (0x0fed_cba9_8765_4321, 4)] {
+    for (step, count, least) in [
+        (1, 800, 4),
+        (128, 200, 10),
+        (4_000, 200, 10),
+        (0x0fed_cba9_8765_4321, 200, 4),
+    ] {
         let refusing = Refusing::new(rt.alloc(), 0);
         let mut table: Table<&Refusing<Global>> = Table::new(&refusing);
         let mut refused = 0u64;
-        for number in 0..200 {
+        for number in 0..count {
             refused = refused.saturating_add(refuse_each(&rt, &refusing, &mut table, step, number));
         }
         assert!(rt; refused >= least, "{refused} refusals of keys {step} apart");
-        has_first(&rt, &table, step, 200);
+        has_first(&rt, &table, step, count);
     }
     Ok(())
 }
