@@ -1,4 +1,5 @@
--- Links under keys, in pages of 128 neighbouring keys, which are found by their numbers. No public clause cites this module.
+-- Links under keys, in pages of 128 neighbouring keys, which are found by their numbers. Of the public clauses only that of
+-- `Table::has_room` cites this module.
 use Rattle.std.specs.Prelude.{◌≡◌, ℕ, ◌/◌, ◌%◌, ◌^◌, ◌<◌, ◌≤◌, List, [], length, eqb, cond, Option, Some, None, is_some, count_by, slice_index_or}
 use Rattle.itch_book.specs.declared.table.pages.Page.{Page}
 

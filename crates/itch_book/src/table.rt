@@ -79,7 +79,7 @@ impl<A: Allocator> Table<A> {
         self.far.get(&key).copied()
     }
 
-    /// Whether a link can be put under a new key without taking memory.
+    /// Whether the page of a key stands: then a link is put under the key without taking memory.
     #[inline(always)]
     pub fn has_room(&self, key: u64) -> bool
         ensures { result ≡ is_some (place_at self.now.near.directory (key / 128)) }
