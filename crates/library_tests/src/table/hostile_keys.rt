@@ -39,10 +39,18 @@ fn empty(rt: &impl Host, table: &mut Table<&LocalHeap>, step: u64, count: u32) {
     }
 }
 
-// A page for each key, or eight; so far apart that hardly any gets a page; and spread over all numbers.
+// A page for eight keys, or for each; so far apart that hardly any gets a page; and spread over all numbers.
 #[test]
 fn sparse_keys_take_bounded_memory(rt: HostRuntime) -> TestResult {
-    for step in [32, 33, 256, 10_000, 1_000_000_007, 0x0000_1234_5678_9abd] {
+    for step in [
+        16,
+        128,
+        129,
+        1_024,
+        40_000,
+        1_000_000_007,
+        0x0000_1234_5678_9abd,
+    ] {
         let heap = LocalHeap::new(rt.alloc(), 128 << 20)?;
         let mut table: Table<&LocalHeap> = Table::new(&heap);
         fill(&rt, &heap, &mut table, step, 20_000)?;
@@ -56,10 +64,20 @@ fn sparse_keys_take_bounded_memory(rt: HostRuntime) -> TestResult {
     Ok(())
 }
 
-// So many that the pages of the first ones are few: one key of a page each, or two or four.
+// So many that the pages of the first ones are few: one key of a page each, or up to sixteen.
 #[test]
 fn many_sparse_keys_take_little_more_than_a_map(rt: HostRuntime) -> TestResult {
-    for step in [8, 16, 32, 100, 256, 1 << 20, 0x0000_1234_5678_9abd] {
+    for step in [
+        8,
+        16,
+        32,
+        64,
+        128,
+        400,
+        1_024,
+        1 << 20,
+        0x0000_1234_5678_9abd,
+    ] {
         let heap = LocalHeap::new(rt.alloc(), 64 << 20)?;
         let mut table: Table<&LocalHeap> = Table::new(&heap);
         fill(&rt, &heap, &mut table, step, 140_000)?;
@@ -72,9 +90,9 @@ fn many_sparse_keys_take_little_more_than_a_map(rt: HostRuntime) -> TestResult {
 fn dense_keys_after_sparse_ones_get_pages(rt: HostRuntime) -> TestResult {
     let heap = LocalHeap::new(rt.alloc(), 64 << 20)?;
     let mut table: Table<&LocalHeap> = Table::new(&heap);
-    fill(&rt, &heap, &mut table, 32, 100_000)?;
+    fill(&rt, &heap, &mut table, 128, 100_000)?;
     let used = heap.used();
-    for key in 4_000_000..4_400_000u64 {
+    for key in 16_000_000..16_400_000u64 {
         put(&rt, &mut table, key, 1)?;
     }
     let more = heap.used().saturating_sub(used);
@@ -89,13 +107,13 @@ fn keys_at_the_ends(rt: HostRuntime) -> TestResult {
     let mut table: Table<&LocalHeap> = Table::new(&heap);
     let keys = [
         0,
-        31,
-        32,
-        63,
-        64,
+        127,
+        128,
+        255,
+        256,
         u64::MAX,
-        u64::MAX - 31,
-        u64::MAX - 32,
+        u64::MAX - 127,
+        u64::MAX - 128,
         1 << 32,
         1 << 63,
     ];
