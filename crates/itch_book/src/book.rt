@@ -120,6 +120,11 @@ pub trait OrderBook: Drop {
         let _references = references;
     }
 
+    /// Tells the book that the orders of a locate are asked for next, first to last, so that it may read them ahead.
+    fn walk_ahead(&self, locate: u16) {
+        let _locate = locate;
+    }
+
     // The list is in snapshot order, each order has a reference of its own, shares, and a locate.
     ghost is_book: { (b : Self) → IsBook (orders b) };
 }

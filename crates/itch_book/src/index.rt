@@ -11,12 +11,14 @@ ghost use Rattle.itch_book.specs.Orders.{get, is_in, is_of, first, after, next_p
 ghost use Rattle.itch_book.specs.TakenShares.{IsLeft};
 ghost use Rattle.itch_book.specs.Indexed.{queue_of_side, Place, indexed, IsIndexed, IsBusy, IsBusyBut, IsWhole};
 
+use crate::ahead::{MANY, links_of};
 use crate::order::{Order, Placed, Taken, order_of};
 use crate::prices::Prices;
 use crate::queues::Queues;
 use crate::table::Table;
 use itch_codec::Side;
 use std::alloc::{AllocError, Allocator, Global};
+use std::cell::Cell;
 use std::marker::Model;
 
 /// The live orders as queues of one price each, seen as the list in snapshot order.
@@ -26,6 +28,8 @@ pub(crate) struct Index<A: Allocator = Global> {
     references: Table<A>,
     prices: Prices<A>,
     queues: Queues<A>,
+    // What was last read ahead. Nothing is made of it; but what nobody keeps, a compiler need not read.
+    touched: Cell<u64>,
 }
 
 impl<A: Allocator> Model for Index<A> {
@@ -51,6 +55,7 @@ impl<A: Allocator + Copy> Index<A> {
             references: Table::new(alloc),
             prices: Prices::new(alloc),
             queues: Queues::new(alloc),
+            touched: Cell::new(0),
         }
     }
 
@@ -184,6 +189,21 @@ impl<A: Allocator + Copy> Index<A> {
             Side::Buy => self.best(order.locate, Side::Sell),
             Side::Sell => None,
         }
+    }
+
+    /// Has the orders of the first of these references read into the processor's cache, with what changes beside them.
+    pub(crate) fn look_ahead(&self, references: &[u64]) {
+        if self.len() >= MANY {
+            let nodes = links_of(&self.references, references);
+            self.touched.set(self.queues.read_around(&nodes));
+        }
+    }
+
+    /// Has the first orders at each price of a locate read into the processor's cache.
+    pub(crate) fn walk_ahead(&self, locate: u16) {
+        let bids = self.queues.read_ahead(self.prices.line(locate, Side::Buy));
+        let asks = self.queues.read_ahead(self.prices.line(locate, Side::Sell));
+        self.touched.set(bids ^ asks);
     }
 
     /// The first order of a locate.

@@ -84,6 +84,14 @@ impl<A: Allocator + Copy> OrderBook for IndexedBook<A> {
         self.index.replace(original, reference, shares, price)
     }
 
+    fn look_ahead(&mut self, references: &[u64]) {
+        self.index.look_ahead(references);
+    }
+
+    fn walk_ahead(&self, locate: u16) {
+        self.index.walk_ahead(locate);
+    }
+
     // The index is kept with each change.
     fn settle(&mut self) {}
 

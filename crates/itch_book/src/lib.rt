@@ -14,6 +14,7 @@
 //! ```
 #![tactic(auto)]
 
+mod ahead;
 mod arrivals;
 mod arrived;
 mod book;

@@ -8,7 +8,7 @@ ghost use Rattle.itch_book.specs.Indexed.{queue_of_side, is_there, place_cmp, Is
 ghost use Rattle.itch_book.specs.Near.{queue_on, levels_on, IsLadder};
 
 use crate::ladder::{Ladder, cut_on, next_on, no_levels, put_on, queue_on};
-use crate::near::Level;
+use crate::near::{Level, line_of};
 use crate::queues::Queues;
 use itch_codec::Side;
 use std::alloc::{AllocError, Allocator, Global};
@@ -30,6 +30,16 @@ impl<A: Allocator> Model for Prices<A> {
     ghost view = { λ p. record { bids = levels_on p.bids; asks = levels_on p.asks } };
 
     ghost invariant = { λ p. IsLadder Buy p.bids × IsLadder Sell p.asks };
+}
+
+impl<A: Allocator> Prices<A> {
+    /// The levels in the line of a locate and side.
+    pub(crate) fn line(&self, locate: u16, side: Side) -> &[Level] {
+        match side {
+            Side::Buy => line_of(&self.bids.near, locate),
+            Side::Sell => line_of(&self.asks.near, locate),
+        }
+    }
 }
 
 impl<A: Allocator + Copy> Prices<A> {

@@ -6,6 +6,8 @@ ghost use Rattle.itch_book.specs.Links.{at_key, with_after, with_before, unlinke
 ghost use Rattle.itch_book.specs.Queued.{keys_at, order_at, without_key, found, totals_of, left_with};
 ghost use Rattle.itch_book.specs.declared.queues.Node.{Node};
 
+mod ahead;
+
 use crate::link::Link;
 use crate::order::Order;
 use slab::Slab;

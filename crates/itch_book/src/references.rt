@@ -9,6 +9,7 @@ ghost use Rattle.itch_book.specs.Settled.{comes_before, its_order, settled, want
 ghost use Rattle.itch_book.specs.Referred.{references_of, IsAt, IsKnown, IsPlaced};
 ghost use Rattle.itch_book.specs.Table.{at};
 
+use crate::ahead::{AHEAD, MANY, links_of};
 use crate::arrived::{Arrived, Wanted, comes_before, sooner, wants};
 use crate::line::{stands_at, total_in};
 use crate::order::Placed;
@@ -21,12 +22,6 @@ use std::mem::size_of;
 
 // Two orders to a cache line of 64 bytes.
 const _: () = prove!(size_of::<Arrived>() == 32);
-
-// How many orders are looked at ahead at once.
-const AHEAD: usize = 16;
-
-// Fewer orders than this lie in a processor's cache anyway.
-const MANY: usize = 1 << 14;
 
 /// The orders under their references.
 ///
@@ -111,7 +106,7 @@ impl<A: Allocator> References<A> {
         ensures { self.new ≡ self.old }
     {
         if self.orders.len() >= MANY {
-            let places = places_of(&self.places, references);
+            let places = links_of(&self.places, references);
             self.seen = seen_at(&self.orders, &places);
         }
     }
@@ -125,16 +120,6 @@ impl<A: Allocator> References<A> {
         sort(&mut self.orders);
         write_places(&mut self.places, &self.orders);
     }
-}
-
-// The places of the first references in the table. Those that it does not have are given the first place.
-#[inline(always)]
-fn places_of<A: Allocator>(table: &Table<A>, references: &[u64]) -> [u32; AHEAD] {
-    let mut places = [0; AHEAD];
-    for (place, reference) in places.iter_mut().zip(references) {
-        *place = table.get(*reference).unwrap_or(0);
-    }
-    places
 }
 
 // Something of each order at these places, so that all of them have to be read.

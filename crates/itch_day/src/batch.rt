@@ -5,9 +5,6 @@ ghost use Rattle.itch_frame.specs.Blocks.{block, IsFull};
 use crate::sink::Sink;
 use itch_frame::{Consumer, split_first_block};
 
-// A sink is told so often what comes next.
-const AHEAD: u64 = 16;
-
 /// A sink that takes messages from the bytes at hand, as long as it takes their payloads as they are.
 #[derive(Drop)]
 pub(crate) struct Batch<'s, T> {
@@ -16,6 +13,8 @@ pub(crate) struct Batch<'s, T> {
     pub(crate) count: u64,
     // No more than this many are to be taken.
     pub(crate) most: u64,
+    // The sink has looked at so many.
+    pub(crate) seen: u64,
 }
 
 impl<'s, T: Sink> Consumer for Batch<'s, T> {
@@ -31,7 +30,7 @@ impl<'s, T: Sink> Consumer for Batch<'s, T> {
     fn consume(&mut self, bytes: &[u8]) -> usize {
         let mut rest = bytes;
         for at in self.count..self.most {
-            look_ahead(self.sink, at, rest);
+            look_ahead(self.sink, at, &mut self.seen, rest);
             match take_first(self.sink, at + 1, rest) {
                 Some(after) => {
                     rest = after;
@@ -62,12 +61,12 @@ fn take_first<'a, T: Sink>(sink: &mut T, number: u64, blocks: &'a [u8]) -> Optio
     Some(after)
 }
 
-// Tells a sink what comes next, before each sixteenth message. Nothing changes.
+// Tells a sink what comes next, where it has looked at no more messages than were taken. Nothing changes.
 #[inline(always)]
-pub(crate) fn look_ahead<T: Sink>(sink: &mut T, count: u64, blocks: &[u8])
+pub(crate) fn look_ahead<T: Sink>(sink: &mut T, count: u64, seen: &mut u64, blocks: &[u8])
     ensures { sink.new ≡ sink.old }
 {
-    if count % AHEAD == 0 {
-        sink.look_ahead(blocks);
+    if *seen <= count {
+        *seen = count.saturating_add(sink.look_ahead(blocks));
     }
 }

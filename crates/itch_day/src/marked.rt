@@ -45,8 +45,8 @@ impl<S: Sink> Sink for Marked<S> {
     }
 
     #[inline(always)]
-    fn look_ahead(&mut self, blocks: &[u8]) {
-        self.sink.look_ahead(blocks);
+    fn look_ahead(&mut self, blocks: &[u8]) -> u64 {
+        self.sink.look_ahead(blocks)
     }
 }
 

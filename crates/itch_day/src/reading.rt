@@ -35,8 +35,9 @@ pub fn read_part<R: CountedRead, A: Allocator, T: Sink>(
     ensures ready { UnlessRefused result (T.is_ready sink.new (count.new + 1)) }
     ensures few { count.new ≤ 10 ^ 19 - 1 }
 {
+    let mut seen = 0;
     while *count < limit.most() {
-        take_at_hand(reader, count, sink, limit);
+        take_at_hand(reader, count, sink, limit, &mut seen);
         if *count < limit.most() {
             match take_loaded(reader, count, sink, limit) {
                 Ok(true) => {}
@@ -72,13 +73,15 @@ pub fn read_further<R: CountedRead, A: Allocator, T: Sink>(
     read_part(reader, count, sink, limit)
 }
 
-// Takes as many of the next messages as lie at hand and as the sink takes without their being decoded, which may be none.
+// Takes as many of the next messages as lie at hand and as the sink takes without their being decoded, which may be none. The sink has
+// looked at as many messages as `seen` counts.
 #[inline(always)]
 fn take_at_hand<R: CountedRead, A: Allocator, T: Sink>(
     reader: &mut BlockReader<R, A>,
     count: &mut u64,
     sink: &mut T,
     limit: Limit,
+    seen: &mut u64,
 )
     requires ready { T.is_ready sink.old (count.old + 1) }
     requires few { count.old ≤ 10 ^ 19 - 1 }
@@ -89,7 +92,7 @@ fn take_at_hand<R: CountedRead, A: Allocator, T: Sink>(
 {
     // (whether a message is late is known once it is decoded)
     if limit.until.is_some() {
-        look_ahead(sink, *count, reader.at_hand());
+        look_ahead(sink, *count, seen, reader.at_hand());
         return;
     }
     let most = limit.most().min(MOST_MESSAGES);
@@ -97,9 +100,11 @@ fn take_at_hand<R: CountedRead, A: Allocator, T: Sink>(
         sink,
         count: *count,
         most,
+        seen: *seen,
     };
     let _used = reader.offer(&mut batch);
     *count = batch.count;
+    *seen = batch.seen;
 }
 
 // Takes the next message if its block lies at hand (true), or returns why it is not taken. Where none lies at hand, nothing changes.

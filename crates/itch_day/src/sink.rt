@@ -50,10 +50,12 @@ pub trait Sink {
         false
     }
 
-    /// Is told, before each sixteenth message, which bytes come next, as far as they lie at hand. Nothing changes.
-    fn look_ahead(&mut self, blocks: &[u8])
+    /// Is told which bytes come next, as far as they lie at hand, and returns how many of their messages it has looked at: after those
+    /// it is told again. Nothing changes.
+    fn look_ahead(&mut self, blocks: &[u8]) -> u64
         ensures { self.new ≡ self.old }
     {
         let _blocks = blocks;
+        u64::MAX
     }
 }

@@ -13,7 +13,7 @@ mod at_hand;
 mod plain;
 mod rules;
 
-use crate::ahead::references_in;
+use crate::ahead::Ahead;
 use crate::locates::Locates;
 use crate::refusal::Refusal;
 use crate::securities::Securities;
@@ -110,12 +110,14 @@ impl<B: OrderBook> Market<B> {
         self.book.settle();
     }
 
-    /// Tells the market's book which orders are asked for next, if these are the blocks of the messages that come next. Nothing
-    /// changes, and no memory is taken.
-    pub fn look_ahead(&mut self, blocks: &[u8])
+    /// Tells the market's book which orders are asked for next, if these are the blocks of the messages that come next, and returns
+    /// how many of the messages were looked at. Nothing changes, and no memory is taken.
+    pub fn look_ahead(&mut self, blocks: &[u8]) -> u64
         ensures { self.new ≡ self.old }
     {
-        self.book.look_ahead(&references_in(blocks));
+        let ahead = Ahead::of(blocks);
+        self.book.look_ahead(ahead.references());
+        ahead.messages
     }
 
     /// The live orders.

@@ -42,7 +42,7 @@ impl<B: OrderBook> Sink for Market<B> {
     }
 
     #[inline(always)]
-    fn look_ahead(&mut self, blocks: &[u8]) {
-        Market::look_ahead(self, blocks);
+    fn look_ahead(&mut self, blocks: &[u8]) -> u64 {
+        Market::look_ahead(self, blocks)
     }
 }

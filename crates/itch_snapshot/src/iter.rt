@@ -125,6 +125,7 @@ impl<'a, B: OrderBook> Iterator for SnapshotIter<'a, B> {
         let security = self.market.security(locate)?;
         let entry = security.entry;
         self.states = Some(States::new(locate, security));
+        book.walk_ahead(locate);
         self.order = named(entry.stock, book.first(locate));
         let header = header_at(locate);
         Some(Message::StockDirectory(StockDirectory { header, entry }))

@@ -77,8 +77,8 @@ impl<B: OrderBook> Sink for TrackedMarket<B> {
     }
 
     #[inline(always)]
-    fn look_ahead(&mut self, blocks: &[u8]) {
-        self.market.look_ahead(blocks);
+    fn look_ahead(&mut self, blocks: &[u8]) -> u64 {
+        self.market.look_ahead(blocks)
     }
 }
 
