@@ -25,3 +25,6 @@ pub mod Runs
 pub mod Stocks
 pub mod Requests
 pub mod Expectations
+pub mod OrderForms
+pub mod OrdersBehind
+pub mod ListedOrders

@@ -11,7 +11,7 @@ use Rattle.itch_commands.specs.declared.filters.Filters.{Filters}
 use Rattle.itch_commands.specs.declared.request.Request.{Request}
 use Rattle.itch_commands.specs.declared.request.Request.TheVariants.{One, Two, At}
 use Rattle.itch_commands.specs.declared.request.Command.{Command}
-use Rattle.itch_commands.specs.declared.request.Command.TheVariants.{Snap, Check, Show, Canon, Book}
+use Rattle.itch_commands.specs.declared.request.Command.TheVariants.{Snap, Check, Show, ShowOrders, Canon, Book}
 use Rattle.itch_commands.specs.declared.request.PairCommand.{PairCommand}
 use Rattle.itch_commands.specs.declared.request.PairCommand.TheVariants.{Compare, CompareFirst, Join}
 use Rattle.itch_commands.specs.Choices.{Chosen, chosen_by}
@@ -23,6 +23,7 @@ use Rattle.itch_commands.specs.declared.kind.FileKind.TheVariants as kind
 use Rattle.itch_day.specs.declared.limit.Limit.{Limit}
 use Rattle.itch_commands.specs.declared.selection.Selection.{Selection}
 use Rattle.itch_commands.specs.declared.selection.Selection.TheVariants.{All, Locates, Stocks}
+use Rattle.itch_commands.specs.ListedOrders.{ListsFile}
 use Rattle.itch_commands.specs.Readings.{FromBlocks}
 use Rattle.itch_commands.specs.Showing.{Shows}
 use Rattle.itch_commands.specs.Stocks.{names_of}
@@ -38,6 +39,7 @@ abbrev pub list_of_command : Command → Option (List ℕ)
 list_of_command (Snap limit selection) = list_of selection
 list_of_command (Book selection depth kind form) = list_of selection
 list_of_command (Show kind form filters) = option_map (λ list. list.now) filters.only
+list_of_command (ShowOrders limit form filters) = option_map (λ list. list.now) filters.only
 list_of_command command = None
 
 abbrev pub list_of_pair : PairCommand → Option (List ℕ)
@@ -93,6 +95,7 @@ module _ {R W : Type 0} (remaining : R → Option (List ℕ)) (failed_reads : R 
   Performs (Snap limit selection) set old new = PerformsSnap limit selection set old new
   Performs (Check limit expected form) set old new = Checks remaining failed_reads contents failed_writes form limit expected (FromBlocks old new)
   Performs (Show kind form filters) set old new = ShowsFile kind form set filters old new
+  Performs (ShowOrders limit form filters) set old new = ListsFile contents failed_writes remaining failed_reads limit form set filters old new
   Performs (Canon false) set old new = WritesCanon remaining failed_reads contents failed_writes (FromBlocks old new)
   Performs (Canon true) set old new = ChecksCanon remaining failed_reads contents failed_writes (FromBlocks old new)
   Performs (Book selection depth kind form) set old new = PerformsBook form selection set depth kind old new

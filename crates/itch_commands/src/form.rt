@@ -30,3 +30,16 @@ pub enum ShowForm {
     /// A line with a JSON object (RFC 8259).
     Json,
 }
+
+/// How messages are shown with the orders behind them.
+#[derive(Clone, Copy, Debug, PartialEq, Eq)]
+pub enum OrderForm {
+    /// A line of text.
+    Text,
+    /// The same with codes as characters, and timestamps as times of the day.
+    Named,
+    /// A line with a JSON object (RFC 8259).
+    Json,
+    /// Comma-separated values (RFC 4180): a line with the names of the columns, and then a line for each message.
+    Csv,
+}

@@ -1,5 +1,6 @@
 //! A line of output, made part by part.
-ghost use Rattle.std.specs.Prelude.{◌≡◌, ◌+◌, ◌*◌, ◌≤◌, ◌++◌, [], length};
+ghost use Rattle.std.specs.Prelude.{◌≡◌, ◌+◌, ◌*◌, ◌%◌, ◌≤◌, ◌++◌, [], length};
+ghost use Rattle.itch_codec.specs.Clock.{clock};
 ghost use Rattle.itch_codec.specs.Lines.{price_text};
 ghost use Rattle.itch_commands.specs.Forms.{csv_text, json_text, quoted_char};
 ghost use Rattle.std.specs.List.{flat_map};
@@ -73,6 +74,39 @@ impl Line {
         self.text(&decimals);
     }
 
+    /// Appends nanoseconds since midnight as a time of the day.
+    #[tactic(auto, unfolding(itch_codec::specs::Clock::clock, itch_codec::specs::Clock::two_digits, itch_codec::specs::Clock::nine_digits))]
+    pub fn clock(&mut self, nanoseconds: u64)
+        requires { length self.old ≤ 238 }
+        ensures clock { self.new ≡ self.old ++ clock nanoseconds }
+        ensures short { length self.new ≡ length self.old + 18 }
+    {
+        let hours = nanoseconds / 3_600_000_000_000;
+        let minutes = nanoseconds / 60_000_000_000 % 60;
+        let seconds = nanoseconds / 1_000_000_000 % 60;
+        let digits = [
+            digit(hours / 10),
+            digit(hours),
+            b':',
+            digit(minutes / 10),
+            digit(minutes),
+            b':',
+            digit(seconds / 10),
+            digit(seconds),
+            b'.',
+            digit(nanoseconds / 100_000_000),
+            digit(nanoseconds / 10_000_000),
+            digit(nanoseconds / 1_000_000),
+            digit(nanoseconds / 100_000),
+            digit(nanoseconds / 10_000),
+            digit(nanoseconds / 1_000),
+            digit(nanoseconds / 100),
+            digit(nanoseconds / 10),
+            digit(nanoseconds),
+        ];
+        self.text(&digits);
+    }
+
     /// Appends a printable text within a string of JSON.
     pub fn json_text(&mut self, text: &[u8])
         requires { length self.old + 2 * length text.now ≤ 256 }
@@ -115,4 +149,11 @@ impl Line {
             self.text(&[byte]);
         }
     }
+}
+
+// The last decimal digit of a number.
+fn digit(number: u64) -> u8
+    ensures { result ≡ 48 + number % 10 }
+{
+    b'0' + (number % 10) as u8
 }

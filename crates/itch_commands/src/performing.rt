@@ -15,7 +15,7 @@ use crate::join::{join_blocks, join_stocks};
 use crate::kind::FileKind;
 use crate::request::{Command, PairCommand};
 use crate::selection::Selection;
-use crate::show::{show_blocks, show_snapshot};
+use crate::show::{orders_blocks, show_blocks, show_snapshot};
 use crate::snap::{snap_blocks, snap_stocks};
 use itch_book::OrderBook;
 use itch_day::Limit;
@@ -47,6 +47,11 @@ pub fn perform<R: CountedRead, A: Allocator, B: OrderBook, W: CountedWrite>(
             form,
             filters,
         } => show_file::<R, A, B, W>(alloc, kind, form, filters, only, reader, out),
+        Command::ShowOrders {
+            limit,
+            form,
+            filters,
+        } => orders_blocks::<R, A, B, W>(alloc, reader, limit, form, filters, only, out),
         Command::Canon { check } => canon_blocks::<R, A, B, W>(alloc, reader, check, out),
         Command::Book {
             selection,

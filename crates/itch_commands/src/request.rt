@@ -5,7 +5,7 @@ ghost use Rattle.itch_commands.specs.Requests.{is_binary, only_of};
 use crate::expected::Expected;
 use crate::feed_part::FeedPart;
 use crate::filters::Filters;
-use crate::form::{BookForm, Form, ShowForm};
+use crate::form::{BookForm, Form, OrderForm, ShowForm};
 use crate::kind::FileKind;
 use crate::selection::Selection;
 use itch_day::Limit;
@@ -51,6 +51,12 @@ pub enum Command<'a> {
     Show {
         kind: FileKind,
         form: ShowForm,
+        filters: Filters<'a>,
+    },
+    /// Show each message of a day file that changes an order, or those that are chosen, with that order as it was before.
+    ShowOrders {
+        limit: Limit,
+        form: OrderForm,
         filters: Filters<'a>,
     },
     /// Write a snapshot in canonical form, or only check whether it is in that form.
@@ -109,7 +115,7 @@ impl<'a> Request<'a> {
             Request::One { command, .. } => match command {
                 Command::Snap { selection, .. } | Command::Book { selection, .. } =>
                     selection.list(),
-                Command::Show { filters, .. } => filters.only,
+                Command::Show { filters, .. } | Command::ShowOrders { filters, .. } => filters.only,
                 Command::Check { .. } | Command::Canon { .. } => None,
             },
             Request::Two { command, .. } => match command {

@@ -9,6 +9,7 @@ ghost use Rattle.itch_commands.specs.declared.form.ShowForm.TheVariants.{Text};
 
 mod found;
 mod lines;
+mod orders;
 mod recorded;
 mod sink;
 
@@ -19,6 +20,7 @@ use found::if_found;
 use itch_day::{Limit, Stop as PartStop, pass_stop, read_part};
 use itch_frame::{BlockReader, CountedRead, CountedWrite};
 use itch_market::Stop;
+pub use orders::orders_blocks;
 pub use recorded::show_snapshot;
 use sink::{ShownLines, stopped};
 use std::alloc::Allocator;

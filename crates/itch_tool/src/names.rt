@@ -168,7 +168,7 @@ fn words_of(command: &Command<'_>) -> &'static str {
     match command {
         Command::Snap { .. } => "snap",
         Command::Check { .. } => "check",
-        Command::Show { .. } => "show",
+        Command::Show { .. } | Command::ShowOrders { .. } => "show",
         Command::Canon { check: true } => "canon --check",
         Command::Canon { check: false } => "canon",
         Command::Book { .. } => "book ..",

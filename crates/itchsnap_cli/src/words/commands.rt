@@ -189,7 +189,15 @@ pub const COMMANDS: [Entry; 14] = [
                 long: "names",
                 help: "Print codes as characters, and timestamps as times of day",
             },
+            Argument::Flag {
+                long: "orders",
+                help: "Print only executions, cancels, deletes and replaces, each with its order as it was before",
+            },
             JSON,
+            Argument::Flag {
+                long: "csv",
+                help: "With --orders, print comma-separated values, after a line of column names",
+            },
             PROGRESS,
         ],
         example: "Example: itchsnap show day.itch --reference 7",

@@ -4,8 +4,8 @@ use crate::words::commands::usage_fault;
 use crate::words::time::read_time;
 use clap::{ArgMatches, Error};
 use itch_commands::{
-    BookForm, Command, Expected, FeedPart, FileKind, Filters, Form, Limit, PairCommand, Request,
-    Selection, ShowForm, path_of,
+    BookForm, Command, Expected, FeedPart, FileKind, Filters, Form, Limit, OrderForm, PairCommand,
+    Request, Selection, ShowForm, path_of,
 };
 use std::alloc::Global;
 
@@ -59,11 +59,8 @@ fn read_command<'a>(
             expected: read_expected(alloc, options)?,
             form: read_form(options),
         }),
-        "show" => Ok(Command::Show {
-            kind: read_kind(alloc, options)?,
-            form: read_show_form(alloc, options)?,
-            filters: read_filters(alloc, options)?,
-        }),
+        "show" if options.get_flag("orders") => read_orders(alloc, options),
+        "show" => read_show(alloc, options),
         _ => Err(usage_fault(alloc, "a command is missing")?),
     }
 }
@@ -146,6 +143,45 @@ fn read_feed_part<'a>(alloc: Global, options: &ArgMatches<'a>) -> Result<FeedPar
         before: first.unwrap_or(1).saturating_sub(1),
         limit: read_limit(alloc, options)?,
     })
+}
+
+fn read_show<'a>(alloc: Global, options: &ArgMatches<'a>) -> Result<Command<'a>, Error> {
+    if options.get_flag("csv") {
+        return Err(usage_fault(alloc, "--csv needs --orders")?);
+    }
+    Ok(Command::Show {
+        kind: read_kind(alloc, options)?,
+        form: read_show_form(alloc, options)?,
+        filters: read_filters(alloc, options)?,
+    })
+}
+
+// `show --orders`, which applies the order rules of a day.
+fn read_orders<'a>(alloc: Global, options: &ArgMatches<'a>) -> Result<Command<'a>, Error> {
+    let FileKind::Day(limit) = read_kind(alloc, options)? else {
+        return Err(usage_fault(
+            alloc,
+            "--orders excludes --snapshot: a snapshot changes no order",
+        )?);
+    };
+    Ok(Command::ShowOrders {
+        limit,
+        form: read_order_form(alloc, options)?,
+        filters: read_filters(alloc, options)?,
+    })
+}
+
+fn read_order_form<'a>(alloc: Global, options: &ArgMatches<'a>) -> Result<OrderForm, Error> {
+    let (json, csv) = (options.get_flag("json"), options.get_flag("csv"));
+    match (options.get_flag("names"), json, csv) {
+        (false, false, false) => Ok(OrderForm::Text),
+        (true, false, false) => Ok(OrderForm::Named),
+        (false, true, false) => Ok(OrderForm::Json),
+        (false, false, true) => Ok(OrderForm::Csv),
+        (false, true, true) => Err(usage_fault(alloc, "--json and --csv exclude each other")?),
+        (true, true, _) => Err(usage_fault(alloc, "--names and --json exclude each other")?),
+        (true, false, true) => Err(usage_fault(alloc, "--names and --csv exclude each other")?),
+    }
 }
 
 fn read_show_form<'a>(alloc: Global, options: &ArgMatches<'a>) -> Result<ShowForm, Error> {

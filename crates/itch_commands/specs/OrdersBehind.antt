@@ -1,0 +1,67 @@
+-- The order behind a message: the live order that it refers to, as it was before the message.
+use Rattle.std.specs.Prelude.{ℕ, ◌+◌, ◌-◌, Bool, List, [], ◌∷◌, ◌++◌, map, length, Option, None, Some, option_map, if◌then◌else◌}
+use Rattle.std.specs.FinMap as finite
+use Rattle.itch_book.specs.declared.order.Order.{Order}
+use Rattle.itch_book.specs.Orders as book
+use Rattle.itch_codec.specs.Messages.{message_of}
+use Rattle.itch_codec.specs.declared.message.Message.{Message}
+use Rattle.itch_codec.specs.declared.message.Message.TheVariants as is
+use Rattle.itch_market.specs.Content.{Content, Listing, empty, laid}
+use Rattle.itch_market.specs.Effects.{effect}
+use Rattle.itch_market.specs.Runs.{run}
+use Rattle.itch_commands.specs.Choices.{Chosen, chosen_after, chosen_past, is_chosen}
+use Rattle.itch_commands.specs.OrderForms.{order_line}
+use Rattle.itch_commands.specs.declared.form.OrderForm.{OrderForm}
+use Rattle.itch_commands.specs.declared.show.orders.behind.Behind.{Behind}
+
+-- the stock of a locate, if the directory has one
+abbrev pub stock_at : Content → ℕ → Option (List ℕ)
+stock_at m locate = option_map (λ (s : Listing). s.entry.stock) (finite.get m.securities locate)
+
+-- the shares that are left of an order of which these are taken; of one that ends, none are
+abbrev pub left_of : Option ℕ → ℕ → ℕ
+left_of None shares = 0
+left_of (Some taken) shares = shares - taken
+
+-- the order of a reference with the stock of its locate, and the shares that are left once so many are taken, or once it ends
+abbrev pub order_behind : Content → ℕ → Option ℕ → Option Behind
+order_behind m reference taken =
+    option_map (λ (x : Order). record { order = x; stock = stock_at m x.locate; left = left_of taken x.shares }) (book.get m.orders reference)
+
+-- the order behind a message in the market before it: of an execution or a cancel the order that loses shares, of a delete the one that
+-- ends, and of a replace the original one
+abbrev pub behind : Content → Message → Option Behind
+behind m (is.OrderExecuted x) = order_behind m x.reference (Some x.shares)
+behind m (is.OrderExecutedWithPrice x) = order_behind m x.execution.reference (Some x.execution.shares)
+behind m (is.OrderCancel x) = order_behind m x.reference (Some x.shares)
+behind m (is.OrderDelete x) = order_behind m x.reference None
+behind m (is.OrderReplace x) = order_behind m x.original None
+behind m message = None
+
+-- the same of a message that is chosen
+abbrev pub chosen_behind : Chosen → Content → Message → Option Behind
+chosen_behind chosen m message = if is_chosen chosen message then behind m message else None
+
+-- the line of a message with the order behind it; without one, nothing
+abbrev pub line_behind : OrderForm → ℕ → Message → Option Behind → List ℕ
+line_behind form number message None = []
+line_behind form number message (Some order) = order_line form number message order
+
+-- the line of a message, if it is chosen and has an order behind it in this market
+abbrev pub line_in : OrderForm → Chosen → Content → ℕ → Message → List ℕ
+line_in form chosen m number message = line_behind form number message (chosen_behind chosen m message)
+
+-- The lines of these messages, each over the market that those before it leave of this one. The messages are numbered from here on.
+unfoldable pub lines_over : OrderForm → Chosen → Content → ℕ → List Message → List ℕ
+lines_over form chosen m number [] = []
+lines_over form chosen m number (message ∷ messages) =
+    line_in form chosen m number message ++ lines_over form (chosen_after chosen message) (effect m message) (number + 1) messages
+
+-- the lines of a day, from the empty market on
+abbrev pub lines_of_day : OrderForm → Chosen → List (List ℕ) → List ℕ
+lines_of_day form chosen payloads = lines_over form chosen empty 1 (map message_of payloads)
+
+-- the line of the message that the payload after these spells
+abbrev pub line_past : OrderForm → Chosen → List (List ℕ) → List ℕ → List ℕ
+line_past form chosen payloads payload =
+    line_in form (chosen_past chosen (map message_of payloads)) (run (map message_of payloads)) (length payloads + 1) (message_of payload)

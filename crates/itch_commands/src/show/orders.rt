@@ -1,0 +1,123 @@
+//! `show --orders`: messages that change an order, each with that order as it was before.
+ghost use Rattle.std.specs.Prelude.{◌≡◌, Bool};
+ghost use Rattle.std.specs.Option.{option_copied};
+ghost use Rattle.itch_commands.specs.ListedOrders.{Lists, ListsBelow, ListsFile, ListsPart, answer_of};
+
+mod behind;
+mod columns;
+mod lines;
+mod sink;
+
+use super::found::if_found;
+use super::sink::stopped;
+use crate::choice::Choice;
+use crate::fault::{Source, ToolFault};
+use crate::filters::Filters;
+use crate::form::OrderForm;
+use itch_book::OrderBook;
+use itch_day::{Limit, Stop as PartStop, pass_stop, read_part};
+use itch_frame::{BlockReader, CountedRead, CountedWrite};
+use itch_market::{LocateSet, Market, Stop};
+use lines::write_head;
+use sink::{OrderLines, Unlisted};
+use std::alloc::Allocator;
+
+/// Writes a line for each execution, cancel, delete and replace of a part of a day file, of those that the filters choose: the message,
+/// and the order that it refers to as it was before. Of a replace that is the original order; its new one has the same side, stock and
+/// attribution.
+///
+/// The messages are applied to a market. Where one is refused, the lines before it have been written, and the fault is that of
+/// [`check_blocks`](crate::check::check_blocks). If the part has no Stock Directory message of a stock that is looked for
+/// (`UnknownStock`), all lines have been written.
+pub fn orders_blocks<R: CountedRead, A: Allocator, B: OrderBook, W: CountedWrite>(
+    alloc: B::Alloc,
+    reader: &mut BlockReader<R, A>,
+    limit: Limit,
+    form: OrderForm,
+    filters: Filters<'_>,
+    only: Option<&LocateSet<B::Alloc>>,
+    out: &mut W,
+) -> Result<bool, ToolFault>
+    ensures { ListsFile W.contents W.failures R.remaining R.failures limit form (option_copied only.entry) filters.entry reader.old reader.new out.old result out.new }
+{
+    let choice = Choice::new(alloc, only, filters)?;
+    list_found::<R, A, B, W>(alloc, reader, limit, form, choice, out)
+}
+
+// The same of what is chosen.
+fn list_found<R: CountedRead, A: Allocator, B: OrderBook, W: CountedWrite>(
+    alloc: B::Alloc,
+    reader: &mut BlockReader<R, A>,
+    limit: Limit,
+    form: OrderForm,
+    choice: Choice<'_, B::Alloc>,
+    out: &mut W,
+) -> Result<bool, ToolFault>
+    ensures { Lists W.contents W.failures R.remaining R.failures limit form choice.entry reader.old reader.new out.old result out.new }
+{
+    let found = list_below::<R, A, B, W>(alloc, reader, limit, form, choice, out)?;
+    if_found(found)
+}
+
+// The same. Returns whether each of the stocks that are looked for has come.
+fn list_below<R: CountedRead, A: Allocator, B: OrderBook, W: CountedWrite>(
+    alloc: B::Alloc,
+    reader: &mut BlockReader<R, A>,
+    limit: Limit,
+    form: OrderForm,
+    choice: Choice<'_, B::Alloc>,
+    out: &mut W,
+) -> Result<bool, ToolFault>
+    ensures { ListsBelow W.contents W.failures R.remaining R.failures limit form choice.entry reader.old reader.new out.old result out.new }
+{
+    write_head(form, out)?;
+    list_part::<R, A, B, W>(alloc, reader, limit, form, choice, out)
+}
+
+// The lines below the head.
+fn list_part<R: CountedRead, A: Allocator, B: OrderBook, W: CountedWrite>(
+    alloc: B::Alloc,
+    reader: &mut BlockReader<R, A>,
+    limit: Limit,
+    form: OrderForm,
+    choice: Choice<'_, B::Alloc>,
+    out: &mut W,
+) -> Result<bool, ToolFault>
+    ensures { ListsPart W.contents W.failures R.remaining R.failures limit form choice.entry reader.old reader.new out.old result out.new }
+{
+    let mut count = 0;
+    let mut lines: OrderLines<'_, '_, B::Alloc, B, W> = OrderLines {
+        market: Market::new(alloc),
+        out,
+        form,
+        choice,
+    };
+    let stop = read_part(reader, &mut count, &mut lines, limit);
+    pass_stop(reader, &stop);
+    answer(stop, limit.after, count, lines.has_found_all())
+}
+
+// What is returned where a part goes no further. The end of the file is no fault, unless more messages are wanted.
+fn answer(
+    stop: PartStop<Unlisted>,
+    wanted: Option<u64>,
+    count: u64,
+    found: bool,
+) -> Result<bool, ToolFault>
+    ensures { result ≡ answer_of wanted count found stop }
+{
+    match stop {
+        PartStop::Full | PartStop::Late => Ok(found),
+        PartStop::End => match wanted {
+            None => Ok(found),
+            Some(_) => Err(ToolFault::Short {
+                file: Source::Only,
+                count,
+            }),
+        },
+        PartStop::Frame(fault) => Err(stopped(count, Stop::Frame(fault))),
+        PartStop::TooMany => Err(stopped(count, Stop::TooManyMessages)),
+        PartStop::Refused(Unlisted::Refused(why)) => Err(stopped(count, Stop::from(why))),
+        PartStop::Refused(Unlisted::Write(error)) => Err(ToolFault::Write(error)),
+    }
+}
