@@ -4,6 +4,7 @@ pub mod ReadParts
 pub mod Outputs
 pub mod Expectations
 pub mod ShownLines
+pub mod ListedLines
 pub mod Snapshots
 pub mod SnapshotSteps
 pub mod CopiedSnapshots

@@ -8,8 +8,8 @@ use itch_commands::join::join;
 use itch_commands::show::show;
 use itch_commands::snap::snap;
 use itch_commands::{
-    Book, BookForm, Command, FeedPart, FileKind, Filters, Limit, PairCommand, Selection, ShowForm,
-    ToolFault, perform, perform_pair, read_locates,
+    Book, BookForm, Command, FeedPart, FileKind, Filters, Limit, OrderForm, PairCommand, Selection,
+    ShowForm, ToolFault, perform, perform_pair, read_locates,
 };
 use itch_frame::BlockReader;
 use library_tests::doubles::{FuseWriter, PieceReader};
@@ -26,6 +26,7 @@ pub(super) enum Single {
     Show,
     ShowChosen,
     ShowSnapshot,
+    ShowOrders,
     Book,
     BookLocates,
     SnapStocks,
@@ -54,6 +55,11 @@ const AS_CSV: &[u8] = b"locate,stock,side,price,shares,orders\n1,AAPL,B,150.0000
 
 const CHOSEN_LINES: &[u8] = b"2 F 1 0 00:00:00.000000000 1 B 100 [AAPL] 150.0000 [ABCD]\n\
     4 U 1 0 00:00:00.000000000 1 3 100 150.0000\n";
+
+const ORDERS_AS_CSV: &[u8] = b"number,type,stock_locate,tracking_number,time,ns,order_reference_number,\
+    buy_sell_indicator,stock,order_price,shares_before,shares_after,attribution,executed_shares,match_number,\
+    printable,execution_price,cancelled_shares,new_order_reference_number,shares,price\n\
+    4,U,1,0,00:00:00.000000000,0,1,B,AAPL,150.0000,100,0,ABCD,,,,,,3,100,150.0000\n";
 
 const SNAPSHOT_LINES: &[u8] =
     b"{\"number\":2,\"type\":\"A\",\"stock_locate\":1,\"tracking_number\":0,\
@@ -150,6 +156,18 @@ const SHOW_SNAPSHOT: Command<'static> = Command::Show {
     },
 };
 
+// The orders behind the messages of a stock.
+const SHOW_ORDERS: Command<'static> = Command::ShowOrders {
+    limit: WHOLE_DAY,
+    form: OrderForm::Csv,
+    filters: Filters {
+        only: None,
+        stocks: Some("AAPL"),
+        types: None,
+        reference: None,
+    },
+};
+
 const BOOK_LOCATES: Command<'static> = Command::Book {
     selection: Selection::Locates("1"),
     depth: None,
@@ -193,6 +211,7 @@ pub(super) fn perform_single(
         Single::Book => booked(alloc, reader, out),
         Single::ShowChosen => performed(alloc, SHOW_CHOSEN, Some("1-3"), reader, out),
         Single::ShowSnapshot => performed(alloc, SHOW_SNAPSHOT, None, reader, out),
+        Single::ShowOrders => performed(alloc, SHOW_ORDERS, None, reader, out),
         Single::BookLocates => performed(alloc, BOOK_LOCATES, Some("1"), reader, out),
         Single::SnapStocks => performed(alloc, SNAP_STOCKS, None, reader, out),
         Single::BookStocks => performed(alloc, BOOK_STOCKS, None, reader, out),
@@ -224,6 +243,7 @@ pub(super) fn wanted(alloc: Global, command: Single) -> Result<Vec<u8>, Fail> {
         Single::Show => Ok(Vec::from_slice(alloc, LINES)?),
         Single::ShowChosen => Ok(Vec::from_slice(alloc, CHOSEN_LINES)?),
         Single::ShowSnapshot => Ok(Vec::from_slice(alloc, SNAPSHOT_LINES)?),
+        Single::ShowOrders => Ok(Vec::from_slice(alloc, ORDERS_AS_CSV)?),
         Single::Book => Ok(Vec::from_slice(alloc, b"1 AAPL\nB 150.0000 300 2\n")?),
         Single::BookLocates | Single::BookStocks => Ok(Vec::from_slice(alloc, AS_CSV)?),
         Single::Snap | Single::SnapStocks | Single::Canon => file(alloc, SNAPSHOT),

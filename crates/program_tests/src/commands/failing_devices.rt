@@ -50,6 +50,7 @@ fn writes_of_lines(rt: HostRuntime) -> TestResult {
         Single::Show,
         Single::ShowChosen,
         Single::ShowSnapshot,
+        Single::ShowOrders,
         Single::Book,
         Single::BookLocates,
         Single::BookStocks,
