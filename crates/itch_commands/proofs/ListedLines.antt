@@ -156,7 +156,7 @@ module _ {W T N : Type 0} (contents : W → Option (List ℕ)) (failures : W →
   -- what it takes, its market takes
   market_all : (s t : T) (count : ℕ) (ps : List (List ℕ)) → TakesAll Listed s count ps t → TakesAll TakesMessage (market s) count ps (market t)
   market_all s t count [] same = ap market same
-  market_all s t count (p ∷ ps) (mid, (named, formed, (took, written)), rest) = (market mid, took, market_all mid t (count + 1) ps rest)
+  market_all s t count (p ∷ ps) (mid, (named, formed, (took, written, next)), rest) = (market mid, took, market_all mid t (count + 1) ps rest)
 
   module _ {R : Type 0} (remaining : R → Option (List ℕ)) (failed_reads : R → Failures) (limit : Limit) (old new : Reading R) (count : ℕ) (s last t : T) (ps : List (List ℕ))
       (first : market s ≡ empty) (taken : Takes remaining Listed limit old new 0 count s last ps) (few : count ≤ 10 ^ 19 - 1) where
@@ -187,7 +187,7 @@ module _ {W T N : Type 0} (contents : W → Option (List ℕ)) (failures : W →
     abbrev Reads : Part Refused → Content → Type 0
     Reads why n = ReadsPart remaining failed_reads TakesMessage RefusesMessage limit old new 0 count empty why n
 
-    reads_by : (why : Part Refused) (n : Content) → StopsAt remaining RefusesMessage limit count new (market last) why n → Leaves old (length ps) why new
+    abbrev reads_by : (why : Part Refused) (n : Content) → StopsAt remaining RefusesMessage limit count new (market last) why n → Leaves old (length ps) why new
         → CountsPart why (failed_reads old.reader) (failed_reads new.reader) → Reads why n
     reads_by why n stops leaves counts = record {
       payloads = ps;
@@ -229,41 +229,41 @@ module _ {W T N : Type 0} (contents : W → Option (List ℕ)) (failures : W →
         all new same (all_by remaining failed_reads Only limit old new count (market t) few part.Full (reads_by part.Full (market t) (ap market same, most) leaves counts) refl)
 
     at_late : Stops part.Late → Stays → failed_reads new.reader ≡ failed_reads old.reader → Returns (passed new) (Ok found)
-    at_late (same, late) stays counts =
-        all (passed new) same (all_by remaining failed_reads Only limit old new count (market t) few part.Late (reads_by part.Late (market t) (ap market same, late) stays counts) refl)
+    at_late (same, before, late) stays counts =
+        all (passed new) same (all_by remaining failed_reads Only limit old new count (market t) few part.Late (reads_by part.Late (market t) (ap market same, before, late) stays counts) refl)
 
     at_end : (wanted : Option ℕ) → limit.after ≡ wanted → Stops part.End → Stays → failed_reads new.reader ≡ failed_reads old.reader → Returns (passed new) (ended_show wanted count found)
-    at_end None whole (same, end) stays counts =
-        all (passed new) same (whole_by remaining failed_reads Only limit old new count (market t) few (reads_by part.End (market t) (ap market same, end) stays counts) whole)
-    at_end (Some most) part_of (same, end) stays counts = (
+    at_end None whole (same, before, end) stays counts =
+        all (passed new) same (whole_by remaining failed_reads Only limit old new count (market t) few (reads_by part.End (market t) (ap market same, before, end) stays counts) whole)
+    at_end (Some most) part_of (same, before, end) stays counts = (
       ps,
-      until part.End (market t) stop.End (tool.Short Only count) (reads_by part.End (market t) (ap market same, end) stays counts) refl refl
+      until part.End (market t) stop.End (tool.Short Only count) (reads_by part.End (market t) (ap market same, before, end) stays counts) refl refl
           (ap (λ wanted. stopped stop.End wanted Only count) part_of),
       wrote_to (ap at same),
     )
 
     at_frame : (why : FrameFault) → Stops (part.Frame why) → Stays → CountsPart {F = Unlisted} (part.Frame why) (failed_reads old.reader) (failed_reads new.reader)
         → Returns new (Err (tool.Stopped Only (record { count = count; stop = stop.Frame why })))
-    at_frame (Truncated held) (same, cut) stays counts = (
+    at_frame (Truncated held) (same, before, cut, is_held, some) stays counts = (
       ps,
       until (part.Frame (Truncated held)) (market t) (stop.Frame (Truncated held)) (tool.Stopped Only (record { count = count; stop = stop.Frame (Truncated held) }))
-          (reads_by (part.Frame (Truncated held)) (market t) (ap market same, cut) stays counts) refl refl refl,
+          (reads_by (part.Frame (Truncated held)) (market t) (ap market same, before, cut, is_held, some) stays counts) refl refl refl,
       wrote_to (ap at same),
     )
-    at_frame (Read error) (same, going) stays counts = (
+    at_frame (Read error) (same, before, going) stays counts = (
       ps,
       until (part.Frame (Read error)) (market t) (stop.Frame (Read error)) (tool.Stopped Only (record { count = count; stop = stop.Frame (Read error) }))
-          (reads_by (part.Frame (Read error)) (market t) (ap market same, going) stays counts) refl refl refl,
+          (reads_by (part.Frame (Read error)) (market t) (ap market same, before, going) stays counts) refl refl refl,
       wrote_to (ap at same),
     )
     at_frame (Write sent error) never stays counts = absurd never
     at_frame TooLong never stays counts = absurd never
 
     at_many : Stops part.TooMany → Stays → failed_reads new.reader ≡ failed_reads old.reader → Returns (passed new) (Err (tool.Stopped Only (record { count = count; stop = stop.TooManyMessages })))
-    at_many (same, many) stays counts = (
+    at_many (same, before, many) stays counts = (
       ps,
       until part.TooMany (market t) stop.TooManyMessages (tool.Stopped Only (record { count = count; stop = stop.TooManyMessages }))
-          (reads_by part.TooMany (market t) (ap market same, many) stays counts) refl refl refl,
+          (reads_by part.TooMany (market t) (ap market same, before, many) stays counts) refl refl refl,
       wrote_to (ap at same),
     )
 
@@ -343,13 +343,13 @@ module _ {W T N : Type 0} (contents : W → Option (List ℕ)) (failures : W →
 
     named_so : (why : Part Unlisted) → Stops why → name t ≡ name s
     named_so part.Full (same, most) = still same
-    named_so part.Late (same, next) = still same
-    named_so part.End (same, next) = still same
-    named_so (part.Frame (Truncated held)) (same, cut) = still same
-    named_so (part.Frame (Read error)) (same, going) = still same
+    named_so part.Late (same, before, next) = still same
+    named_so part.End (same, before, next) = still same
+    named_so (part.Frame (Truncated held)) (same, before, cut, is_held, some) = still same
+    named_so (part.Frame (Read error)) (same, before, going) = still same
     named_so (part.Frame (Write sent error)) never = absurd never
     named_so (part.Frame TooLong) never = absurd never
-    named_so part.TooMany (same, next) = still same
+    named_so part.TooMany (same, before, next) = still same
     named_so (part.Refused why) (before, (p, next, some, few_before, early, (named, unlisted))) = named ∙ listed.named
 
   -- what reading a part into such a market writes, returns and leaves

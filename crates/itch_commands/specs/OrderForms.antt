@@ -40,12 +40,21 @@ abbrev pub attribution_value : Option (List ℕ) → List ℕ
 attribution_value None = codes "null"
 attribution_value (Some mpid) = codes "\"" ++ json_text (before_spaces mpid) ++ codes "\""
 
--- the same as members of the object of a message, and its end
-abbrev pub order_members : Behind → List ℕ
-order_members b =
+-- the side, stock and price as members of the object of a message
+abbrev pub price_members : Behind → List ℕ
+price_members b =
     codes ",\"buy_sell_indicator\":\"" ++ side_byte b.order.side ∷ [] ++ codes "\",\"stock\":\"" ++ json_text (stock_text b.stock)
-    ++ codes "\",\"order_price\":\"" ++ price_text b.order.price ++ codes "\",\"shares_before\":" ++ decimal b.order.shares
-    ++ codes ",\"shares_after\":" ++ decimal b.left ++ codes ",\"attribution\":" ++ attribution_value b.order.mpid ++ codes "}\n"
+    ++ codes "\",\"order_price\":\"" ++ price_text b.order.price ++ codes "\""
+
+-- the shares before and after and the attribution as members, and the end of the object
+abbrev pub share_members : Behind → List ℕ
+share_members b =
+    codes ",\"shares_before\":" ++ decimal b.order.shares ++ codes ",\"shares_after\":" ++ decimal b.left
+    ++ codes ",\"attribution\":" ++ attribution_value b.order.mpid ++ codes "}\n"
+
+-- what stands after the members of a message
+abbrev pub order_members : Behind → List ℕ
+order_members b = price_members b ++ share_members b
 
 -- the line with the names of the columns
 abbrev pub order_columns : List ℕ

@@ -43,7 +43,7 @@ pub(crate) fn columns(row: &str) -> Result<(&str, &str), Fail> {
 }
 
 // Words after the program's name, and the request that they are.
-const REQUESTS: [&str; 40] = [
+const REQUESTS: [&str; 43] = [
     "snap => One { file: None, command: Snap { limit: Limit { after: None, until: None }, selection: All } }",
     "snap day.itch => One { file: Some(\"day.itch\"), command: Snap { limit: Limit { after: None, until: None }, selection: All } }",
     "snap day.itch --after 0 => One { file: Some(\"day.itch\"), command: Snap { limit: Limit { after: Some(0), until: None }, selection: All } }",

@@ -17,7 +17,7 @@ use crate::form::OrderForm;
 use itch_book::OrderBook;
 use itch_day::{Limit, Stop as PartStop, pass_stop, read_part};
 use itch_frame::{BlockReader, CountedRead, CountedWrite};
-use itch_market::{LocateSet, Market, Stop};
+use itch_market::{LocateSet, Market, Refused, Stop};
 use lines::write_head;
 use sink::{OrderLines, Unlisted};
 use std::alloc::Allocator;
@@ -85,9 +85,10 @@ fn list_part<R: CountedRead, A: Allocator, B: OrderBook, W: CountedWrite>(
 ) -> Result<bool, ToolFault>
     ensures { ListsPart W.contents W.failures R.remaining R.failures limit form choice.entry reader.old reader.new out.old result out.new }
 {
+    let market: Market<B> = Market::new(alloc);
     let mut count = 0;
-    let mut lines: OrderLines<'_, '_, B::Alloc, B, W> = OrderLines {
-        market: Market::new(alloc),
+    let mut lines = OrderLines {
+        market,
         out,
         form,
         choice,
@@ -117,7 +118,12 @@ fn answer(
         },
         PartStop::Frame(fault) => Err(stopped(count, Stop::Frame(fault))),
         PartStop::TooMany => Err(stopped(count, Stop::TooManyMessages)),
-        PartStop::Refused(Unlisted::Refused(why)) => Err(stopped(count, Stop::from(why))),
+        PartStop::Refused(Unlisted::Refused(Refused::Codec(fault))) => {
+            Err(stopped(count, Stop::Codec(fault)))
+        }
+        PartStop::Refused(Unlisted::Refused(Refused::Rule(why))) => {
+            Err(stopped(count, Stop::Rule(why)))
+        }
         PartStop::Refused(Unlisted::Write(error)) => Err(ToolFault::Write(error)),
     }
 }

@@ -11,3 +11,6 @@ returns-in-Book g c = rw c.in-Book.is c.book_selected.ensures
 
 pub returns-in-Show : goal.returns-in-Show
 returns-in-Show g c = rw c.in-Show.is c.show_file.ensures
+
+pub returns-in-ShowOrders : goal.returns-in-ShowOrders
+returns-in-ShowOrders g c = rw c.in-ShowOrders.is c.orders_blocks.ensures

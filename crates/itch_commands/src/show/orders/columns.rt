@@ -1,19 +1,24 @@
 //! Comma-separated values of a message and the order behind it.
-ghost use Rattle.std.specs.Prelude.{◌≡◌, ◌+◌, ◌<◌, ◌≤◌, ◌++◌, length};
+ghost use Rattle.std.specs.Prelude.{◌≡◌, ◌+◌, ◌<◌, ◌≤◌, ◌++◌, length, codes};
 ghost use Rattle.itch_codec.specs.Lines.{hex_digit};
-ghost use Rattle.itch_commands.specs.OrderForms.{code_field, message_columns, order_columns, order_fields, own_columns};
+ghost use Rattle.itch_codec.specs.declared.message.Message.TheVariants as is;
+ghost use Rattle.itch_commands.specs.OrderForms.{attribution_field, code_field, header_columns, message_columns, order_columns, order_fields, own_columns};
 
 use super::behind::Behind;
 use super::lines::{side_text, stock_text};
 use crate::line::Line;
-use itch_codec::Message;
+use itch_codec::{
+    Alpha, Header, Message, OrderCancel, OrderExecuted, OrderExecutedWithPrice, OrderReplace,
+};
 
 /// The line with the names of the columns.
 pub fn columns() -> &'static [u8]
     ensures text { result.now ≡ order_columns }
     ensures short { length result.now < 65538 }
 {
-    b"number,type,stock_locate,tracking_number,time,ns,order_reference_number,buy_sell_indicator,stock,order_price,shares_before,shares_after,attribution,executed_shares,match_number,printable,execution_price,cancelled_shares,new_order_reference_number,shares,price\n"
+    b"number,type,stock_locate,tracking_number,time,ns,order_reference_number,buy_sell_indicator,stock,\
+    order_price,shares_before,shares_after,attribution,executed_shares,match_number,printable,\
+    execution_price,cancelled_shares,new_order_reference_number,shares,price\n"
 }
 
 /// The columns of any message: its number, its type and its header.
@@ -25,7 +30,16 @@ pub fn message_columns(number: u64, message: &Message<'_>) -> Line
     line.text(b",");
     line.text(&[message.kind()]);
     line.text(b",");
-    if let Some(header) = message.header() {
+    push_header(&mut line, message.header());
+    line
+}
+
+// The columns of a header, if there is one.
+fn push_header(line: &mut Line, header: Option<Header>)
+    requires { length line.old ≤ 100 }
+    ensures { line.new ≡ line.old ++ header_columns header }
+{
+    if let Some(header) = header {
         line.number(header.locate);
         line.text(b",");
         line.number(header.tracking);
@@ -35,7 +49,6 @@ pub fn message_columns(number: u64, message: &Message<'_>) -> Line
         line.number(header.stamp.value());
         line.text(b",");
     }
-    line
 }
 
 /// The columns of an order.
@@ -55,52 +68,90 @@ pub fn order_fields(behind: &Behind) -> Line
     line.text(b",");
     line.number(behind.left);
     line.text(b",");
-    if let Some(mpid) = &behind.order.mpid {
+    push_attribution(&mut line, &behind.order.mpid);
+    line
+}
+
+// An attribution as a field, which is empty without one.
+fn push_attribution(line: &mut Line, mpid: &Option<Alpha<4>>)
+    requires { length line.old ≤ 246 }
+    ensures { line.new ≡ line.old ++ attribution_field mpid.now }
+{
+    if let Some(mpid) = mpid {
         line.csv_text(mpid.text().as_bytes());
     }
-    line
 }
 
 /// The columns of one type of message, and the end of the line.
 pub fn own_columns(message: &Message<'_>) -> Line
     ensures { result ≡ own_columns message.now }
 {
-    let mut line = Line::new();
     match message {
-        Message::OrderExecuted(x) => {
-            line.text(b",");
-            line.number(x.shares);
-            line.text(b",");
-            line.number(x.match_number);
-            line.text(b",,,,,,\n");
-        }
-        Message::OrderExecutedWithPrice(x) => {
-            line.text(b",");
-            line.number(x.execution.shares);
-            line.text(b",");
-            line.number(x.execution.match_number);
-            line.text(b",");
-            push_code(&mut line, x.printable);
-            line.text(b",");
-            line.price(x.price);
-            line.text(b",,,,\n");
-        }
-        Message::OrderCancel(x) => {
-            line.text(b",,,,,");
-            line.number(x.shares);
-            line.text(b",,,\n");
-        }
-        Message::OrderReplace(x) => {
-            line.text(b",,,,,,");
-            line.number(x.reference);
-            line.text(b",");
-            line.number(x.shares);
-            line.text(b",");
-            line.price(x.price);
-            line.text(b"\n");
-        }
-        _ => line.text(b",,,,,,,,\n"),
+        Message::OrderExecuted(x) => execution_columns(x),
+        Message::OrderExecutedWithPrice(x) => priced_columns(x),
+        Message::OrderCancel(x) => cancel_columns(x),
+        Message::OrderReplace(x) => replacement_columns(x),
+        _ => no_columns(),
     }
+}
+
+fn execution_columns(x: &OrderExecuted) -> Line
+    ensures { result ≡ own_columns (is.OrderExecuted x.now) }
+{
+    let mut line = Line::new();
+    line.text(b",");
+    line.number(x.shares);
+    line.text(b",");
+    line.number(x.match_number);
+    line.text(b",,,,,,\n");
+    line
+}
+
+fn priced_columns(x: &OrderExecutedWithPrice) -> Line
+    ensures { result ≡ own_columns (is.OrderExecutedWithPrice x.now) }
+{
+    let mut line = Line::new();
+    line.text(b",");
+    line.number(x.execution.shares);
+    line.text(b",");
+    line.number(x.execution.match_number);
+    line.text(b",");
+    push_code(&mut line, x.printable);
+    line.text(b",");
+    line.price(x.price);
+    line.text(b",,,,\n");
+    line
+}
+
+fn cancel_columns(x: &OrderCancel) -> Line
+    ensures { result ≡ own_columns (is.OrderCancel x.now) }
+{
+    let mut line = Line::new();
+    line.text(b",,,,,");
+    line.number(x.shares);
+    line.text(b",,,\n");
+    line
+}
+
+fn replacement_columns(x: &OrderReplace) -> Line
+    ensures { result ≡ own_columns (is.OrderReplace x.now) }
+{
+    let mut line = Line::new();
+    line.text(b",,,,,,");
+    line.number(x.reference);
+    line.text(b",");
+    line.number(x.shares);
+    line.text(b",");
+    line.price(x.price);
+    line.text(b"\n");
+    line
+}
+
+fn no_columns() -> Line
+    ensures { result ≡ codes ",,,,,,,,\n" }
+{
+    let mut line = Line::new();
+    line.text(b",,,,,,,,\n");
     line
 }
 

@@ -1,7 +1,7 @@
 //! The line of a message with the order behind it.
-ghost use Rattle.std.specs.Prelude.{◌≡◌, ◌<◌, ◌≤◌, ◌++◌, ◌∷◌, [], length};
+ghost use Rattle.std.specs.Prelude.{◌≡◌, ◌+◌, ◌<◌, ◌≤◌, ◌++◌, ◌∷◌, [], length};
 ghost use Rattle.itch_codec.specs.Fields.{side_byte};
-ghost use Rattle.itch_commands.specs.OrderForms.{order_head, order_line, order_members, order_words, stock_text, without_last};
+ghost use Rattle.itch_commands.specs.OrderForms.{attribution_value, attribution_word, order_head, order_line, order_members, order_words, price_members, share_members, stock_text, without_last};
 ghost use Rattle.itch_commands.specs.Outputs.{WritesText};
 
 use super::behind::Behind;
@@ -37,17 +37,29 @@ pub fn write_order<W: CountedWrite>(
         OrderForm::Text => {
             let line = show_message(number, message);
             let words = order_words(behind);
-            write_both(without_last(1, line.as_str().as_bytes()), words.as_bytes(), out)
+            write_both(
+                without_last(1, line.as_str().as_bytes()),
+                words.as_bytes(),
+                out,
+            )
         }
         OrderForm::Named => {
             let line = show_named(number, message);
             let words = order_words(behind);
-            write_both(without_last(1, line.as_str().as_bytes()), words.as_bytes(), out)
+            write_both(
+                without_last(1, line.as_str().as_bytes()),
+                words.as_bytes(),
+                out,
+            )
         }
         OrderForm::Json => {
             let line = json(number, message);
             let members = order_members(behind);
-            write_both(without_last(2, line.as_str().as_bytes()), members.as_bytes(), out)
+            write_both(
+                without_last(2, line.as_str().as_bytes()),
+                members.as_bytes(),
+                out,
+            )
         }
         OrderForm::Csv => write_fields(number, message, behind, out),
     }
@@ -102,13 +114,22 @@ fn order_words(behind: &Behind) -> Line
     line.number(behind.order.shares);
     line.text(b" ");
     line.number(behind.left);
-    if let Some(mpid) = &behind.order.mpid {
+    push_attribution(&mut line, &behind.order.mpid);
+    line.text(b"\n");
+    line
+}
+
+// The attribution at the end of a line of text, if there is one.
+fn push_attribution(line: &mut Line, mpid: &Option<Alpha<4>>)
+    requires { length line.old ≤ 249 }
+    ensures text { line.new ≡ line.old ++ attribution_word mpid.now }
+    ensures short { length line.new ≤ length line.old + 7 }
+{
+    if let Some(mpid) = mpid {
         line.text(b" [");
         line.text(mpid.text().as_bytes());
         line.text(b"]");
     }
-    line.text(b"\n");
-    line
 }
 
 // The members that stand after those of a message, and the end of the object.
@@ -116,18 +137,45 @@ fn order_members(behind: &Behind) -> Line
     ensures { result ≡ order_members behind.now }
 {
     let mut line = Line::new();
+    push_price_members(&mut line, behind);
+    push_share_members(&mut line, behind);
+    line
+}
+
+fn push_price_members(line: &mut Line, behind: &Behind)
+    requires { length line.old ≤ 100 }
+    ensures text { line.new ≡ line.old ++ price_members behind.now }
+    ensures short { length line.new ≤ length line.old + 114 }
+{
     line.text(b",\"buy_sell_indicator\":\"");
     line.text(side_text(behind.order.side));
     line.text(b"\",\"stock\":\"");
     line.json_text(stock_text(&behind.stock));
     line.text(b"\",\"order_price\":\"");
     line.price(behind.order.price);
-    line.text(b"\",\"shares_before\":");
+    line.text(b"\"");
+}
+
+fn push_share_members(line: &mut Line, behind: &Behind)
+    requires { length line.old ≤ 114 }
+    ensures { line.new ≡ line.old ++ share_members behind.now }
+{
+    line.text(b",\"shares_before\":");
     line.number(behind.order.shares);
     line.text(b",\"shares_after\":");
     line.number(behind.left);
     line.text(b",\"attribution\":");
-    match &behind.order.mpid {
+    push_json_attribution(line, &behind.order.mpid);
+    line.text(b"}\n");
+}
+
+// The value of an attribution: a string, or null.
+fn push_json_attribution(line: &mut Line, mpid: &Option<Alpha<4>>)
+    requires { length line.old ≤ 246 }
+    ensures text { line.new ≡ line.old ++ attribution_value mpid.now }
+    ensures short { length line.new ≤ length line.old + 10 }
+{
+    match mpid {
         Some(mpid) => {
             line.text(b"\"");
             line.json_text(mpid.text().as_bytes());
@@ -135,8 +183,6 @@ fn order_members(behind: &Behind) -> Line
         }
         None => line.text(b"null"),
     }
-    line.text(b"}\n");
-    line
 }
 
 /// The characters of a stock without the spaces at its end; of no stock, none.

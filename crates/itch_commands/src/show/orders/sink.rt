@@ -15,16 +15,15 @@ use itch_codec::{CodecFault, Message};
 use itch_day::Sink;
 use itch_frame::CountedWrite;
 use itch_market::{Market, Refused};
-use std::alloc::Allocator;
 use std::io::Error;
 
 /// A market that takes the messages of a day, and writes the lines of those that are chosen and have an order behind them.
 #[derive(Drop)]
-pub struct OrderLines<'a, 'b, A: Allocator, B: OrderBook, W: CountedWrite> {
+pub struct OrderLines<'a, 'b, B: OrderBook, W: CountedWrite> {
     pub market: Market<B>,
     pub out: &'b mut W,
     pub form: OrderForm,
-    pub choice: Choice<'a, A>,
+    pub choice: Choice<'a, B::Alloc>,
 }
 
 /// Why a message is not listed.
@@ -36,7 +35,7 @@ pub enum Unlisted {
     Write(Error),
 }
 
-impl<'a, 'b, A: Allocator, B: OrderBook, W: CountedWrite> OrderLines<'a, 'b, A, B, W> {
+impl<'a, 'b, B: OrderBook, W: CountedWrite> OrderLines<'a, 'b, B, W> {
     /// Whether each of the stocks that are looked for has come.
     pub fn has_found_all(&self) -> bool
         ensures { result ≡ are_found (Chosen.stocks self.now.choice) }
@@ -57,7 +56,7 @@ impl<'a, 'b, A: Allocator, B: OrderBook, W: CountedWrite> OrderLines<'a, 'b, A, 
     }
 }
 
-impl<'a, 'b, A: Allocator, B: OrderBook, W: CountedWrite> Sink for OrderLines<'a, 'b, A, B, W> {
+impl<'a, 'b, B: OrderBook, W: CountedWrite> Sink for OrderLines<'a, 'b, B, W> {
     ghost use Rattle.std.specs.Prelude.{◌≡◌};
     ghost use Rattle.itch_commands.specs.ListedOrders.{ListsMessage, LeavesMessage};
 
@@ -78,15 +77,16 @@ impl<'a, 'b, A: Allocator, B: OrderBook, W: CountedWrite> Sink for OrderLines<'a
         payload: &[u8],
         message: &Result<Message<'_>, CodecFault>,
     ) -> Result<(), Unlisted> {
-        let _payload = payload;
         match message {
-            Ok(message) => {
-                let behind = self.chosen_behind(message);
-                if let Err(why) = self.market.apply(message) {
-                    return Err(Unlisted::Refused(Refused::Rule(why)));
+            Ok(decoded) => {
+                let behind = self.chosen_behind(decoded);
+                match self.market.take(number, payload, message) {
+                    Ok(()) => {
+                        self.choice.follow(decoded);
+                        write_behind(self.form, number, decoded, behind, self.out)
+                    }
+                    Err(why) => Err(Unlisted::Refused(why)),
                 }
-                self.choice.follow(message);
-                write_behind(self.form, number, message, behind, self.out)
             }
             Err(fault) => Err(Unlisted::Refused(Refused::Codec(*fault))),
         }
