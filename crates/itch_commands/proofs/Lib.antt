@@ -5,6 +5,7 @@ pub mod Outputs
 pub mod Expectations
 pub mod ShownLines
 pub mod ListedLines
+pub mod OrdersLeft
 pub mod ListedHeads
 pub mod Snapshots
 pub mod SnapshotSteps

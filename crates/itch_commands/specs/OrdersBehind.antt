@@ -1,5 +1,5 @@
 -- The order behind a message: the live order that it refers to, as it was before the message.
-use Rattle.std.specs.Prelude.{ℕ, ◌+◌, ◌-◌, Bool, List, [], ◌∷◌, ◌++◌, map, length, Option, None, Some, option_map, if◌then◌else◌}
+use Rattle.std.specs.Prelude.{ℕ, ◌+◌, ◌-◌, Bool, true, false, List, [], ◌∷◌, ◌++◌, map, length, Option, None, Some, option_map, if◌then◌else◌}
 use Rattle.std.specs.FinMap as finite
 use Rattle.itch_book.specs.declared.order.Order.{Order}
 use Rattle.itch_book.specs.Orders as book
@@ -38,7 +38,21 @@ behind m (is.OrderDelete x) = order_behind m x.reference None
 behind m (is.OrderReplace x) = order_behind m x.original None
 behind m message = None
 
--- the same of a message that is chosen
+-- the messages that change a live order
+abbrev pub changes_order : Message → Bool
+changes_order (is.OrderExecuted x) = true
+changes_order (is.OrderExecutedWithPrice x) = true
+changes_order (is.OrderCancel x) = true
+changes_order (is.OrderDelete x) = true
+changes_order (is.OrderReplace x) = true
+changes_order message = false
+
+-- the shares of an order; one that is not live has none
+abbrev pub shares_of : Option Order → ℕ
+shares_of None = 0
+shares_of (Some x) = x.shares
+
+-- the order behind a message that is chosen
 abbrev pub chosen_behind : Chosen → Content → Message → Option Behind
 chosen_behind chosen m message = if is_chosen chosen message then behind m message else None
 

@@ -1,14 +1,17 @@
 //! What is read with a set of locates, as `join` reads it, and what is shown without filters and with them.
 //!
 //! Each function here does nothing: its clauses are the laws.
-ghost use Rattle.std.specs.Prelude.{◌≡◌, ◌<◌, ◌≤◌, ◌+◌, ◌++◌, ℕ, Bool, List, None, Some, drop, length, map};
+ghost use Rattle.std.specs.Prelude.{◌≡◌, ◌<◌, ◌≤◌, ◌+◌, ◌++◌, ℕ, Bool, true, false, List, None, Some, IsSome, IsSomeAnd, IfSome, drop, length, map};
 ghost use Rattle.std.specs.List.{AllByRecursion, list_all, list_any};
 ghost use Rattle.itch_codec.specs.Fields.{AreBytes};
 ghost use Rattle.itch_codec.specs.Messages.{message_of};
 ghost use Rattle.itch_codec.specs.declared.message.Message.{Message};
+ghost use Rattle.itch_book.specs.Orders.{get};
 ghost use Rattle.itch_market.specs.Content.{Content, empty};
+ghost use Rattle.itch_market.specs.Effects.{effect};
 ghost use Rattle.itch_market.specs.GoodMarkets.{IsGood};
 ghost use Rattle.itch_market.specs.Partial.{only as cut};
+ghost use Rattle.itch_market.specs.Reasons.{reason};
 ghost use Rattle.itch_market.specs.Replays.{NoCause};
 ghost use Rattle.itch_market.specs.Runs.{AreMessages, Follows, run};
 ghost use Rattle.itch_market.specs.SameMarkets.{Same};
@@ -18,6 +21,7 @@ ghost use Rattle.itch_snapshot.specs.AsRead.{as_read};
 ghost use Rattle.itch_commands.specs.Choices.{Chosen, everything, chosen_past, are_found_in, chosen_lines, lines_of};
 ghost use Rattle.itch_commands.specs.FirstDifferences.{IsPlaceIn, IsSameIn};
 ghost use Rattle.itch_commands.specs.Sought.{sought, found_at, has_name, is_of_one, stock_past};
+ghost use Rattle.itch_commands.specs.OrdersBehind.{behind, changes_order, shares_of};
 ghost use Rattle.itch_commands.specs.Joining.{from_number, joined_market, joined_next};
 ghost use Rattle.itch_commands.specs.declared.form.ShowForm.TheVariants.{Text};
 ghost use Rattle.itch_day.specs.declared.limit.Limit.{Limit};
@@ -75,4 +79,12 @@ pub fn sought_stocks()
 pub fn one_first_difference()
     ensures place { (limit : Limit) → (one other : List ℕ) → (n k : ℕ) → IsPlaceIn limit one other n → IsPlaceIn limit one other k → n ≡ k }
     ensures nowhere { (limit : Limit) → (one other : List ℕ) → (n : ℕ) → IsPlaceIn limit one other n → IsSameIn limit one other → ⊥ }
+{}
+
+/// In a market, a message that changes an order and is not refused has an order behind it, with a stock, and no other message has one.
+/// What is left of that order is what the market has of it after the message.
+pub fn orders_behind()
+    ensures there { (m : Content) → (x : Message) → IsGood m → reason m x ≡ None → changes_order x ≡ true → IsSomeAnd (behind m x) (λ b. IsSome b.stock) }
+    ensures none { (m : Content) → (x : Message) → changes_order x ≡ false → behind m x ≡ None }
+    ensures left { (m : Content) → (x : Message) → IsGood m → reason m x ≡ None → IfSome (behind m x) (λ b. b.left ≡ shares_of (get (Content.orders (effect m x)) b.order.reference)) }
 {}
