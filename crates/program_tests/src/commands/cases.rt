@@ -56,7 +56,8 @@ const AS_CSV: &[u8] = b"locate,stock,side,price,shares,orders\n1,AAPL,B,150.0000
 const CHOSEN_LINES: &[u8] = b"2 F 1 0 00:00:00.000000000 1 B 100 [AAPL] 150.0000 [ABCD]\n\
     4 U 1 0 00:00:00.000000000 1 3 100 150.0000\n";
 
-const ORDERS_AS_CSV: &[u8] = b"number,type,stock_locate,tracking_number,time,ns,order_reference_number,\
+const ORDERS_AS_CSV: &[u8] =
+    b"number,type,stock_locate,tracking_number,time,ns,order_reference_number,\
     buy_sell_indicator,stock,order_price,shares_before,shares_after,attribution,executed_shares,match_number,\
     printable,execution_price,cancelled_shares,new_order_reference_number,shares,price\n\
     4,U,1,0,00:00:00.000000000,0,1,B,AAPL,150.0000,100,0,ABCD,,,,,,3,100,150.0000\n";
