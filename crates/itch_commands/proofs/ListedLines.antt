@@ -103,18 +103,26 @@ one_line : (form : OrderForm) (chosen : Chosen) (m : Content) (number : ℕ) (x 
 unfolding lines_over
 one_line form chosen m number x xs = refl
 
-module _ {W T N : Type 0} (contents : W → Option (List ℕ)) (failures : W → Failures) (at : T → W) (name : T → N) (form : T → OrderForm) (market : T → Content) (choice : T → Chosen) where
+module _ {W T N M : Type 0} (contents : W → Option (List ℕ)) (failures : W → Failures) (at : T → W) (name : T → N) (choice_name : T → M) (form : T → OrderForm)
+    (market : T → Content) (choice : T → Chosen) where
+  -- the same values are lent
+  abbrev pub SameNames : T → T → Type 0
+  SameNames s t = (name t ≡ name s) × (choice_name t ≡ choice_name s)
+
   -- a market that writes to what it lends
   abbrev pub Listed : T → ℕ → List ℕ → T → Type 0
   Listed s number payload t =
-      (name t ≡ name s) × (form t ≡ form s) × ListsMessage contents failures (form s) number payload (market s) (choice s) (at s) (market t) (choice t) (at t)
+      (name t ≡ name s) × (choice_name t ≡ choice_name s) × (form t ≡ form s)
+      × ListsMessage contents failures (form s) number payload (market s) (choice s) (at s) (market t) (choice t) (at t)
 
   abbrev pub Left : T → ℕ → List ℕ → Unlisted → T → Type 0
-  Left s number payload why t = (name t ≡ name s) × LeavesMessage contents failures (form s) number payload (market s) (choice s) (at s) why (market t) (at t)
+  Left s number payload why t =
+      (name t ≡ name s) × (choice_name t ≡ choice_name s)
+      × LeavesMessage contents failures (form s) number payload (market s) (choice s) (at s) why (market t) (at t)
 
   -- the lines of these payloads were written, of which the first has this number
   record AreListed (s : T) (m : Content) (number : ℕ) (ps : List (List ℕ)) (t : T) : Type 0 where
-    pub named : name t ≡ name s
+    pub named : SameNames s t
     pub formed : form t ≡ form s
     pub chosen : choice t ≡ chosen_past (choice s) (map message_of ps)
     pub wrote : Wrote contents failures (lines_over (form s) (choice s) m number (map message_of ps)) (at s) (at t)
@@ -123,7 +131,7 @@ module _ {W T N : Type 0} (contents : W → Option (List ℕ)) (failures : W →
 
   are_listed : (s t : T) (m : Content) (count : ℕ) (ps : List (List ℕ)) → IsGood m → market s ≡ laid m → TakesAll Listed s count ps t → AreListed s m (count + 1) ps t
   are_listed s t m count [] good same takes = record {
-    named = ap name takes;
+    named = (ap name takes, ap choice_name takes);
     formed = ap form takes;
     chosen = ap choice takes ∙ past_none (choice s);
     wrote = subst (λ x. Wrote contents failures (lines_over (form s) (choice s) m (count + 1) []) (at s) (at x)) (sym takes)
@@ -131,7 +139,7 @@ module _ {W T N : Type 0} (contents : W → Option (List ℕ)) (failures : W →
     left = ap market takes ∙ same;
     good = good;
   }
-  are_listed s t m count (p ∷ ps) good same (mid, (named, formed, ((clean, fits, took), (bytes, uncounted), next)), rest) =
+  are_listed s t m count (p ∷ ps) good same (mid, (named, chosen_named, formed, ((clean, fits, took), (bytes, uncounted), next)), rest) =
       let (none, left, still) = taken_on m (market s) (market mid) p good same clean fits took in
       let x = message_of p in
       let xs = map message_of ps in
@@ -140,7 +148,7 @@ module _ {W T N : Type 0} (contents : W → Option (List ℕ)) (failures : W →
       let others : lines_over (form mid) (choice mid) (effect m x) (count + 1 + 1) xs ≡ lines_over (form s) (chosen_after (choice s) x) (effect m x) (count + 1 + 1) xs =
       ap (λ f. lines_over f (choice mid) (effect m x) (count + 1 + 1) xs) formed ∙ ap (λ c. lines_over (form s) c (effect m x) (count + 1 + 1) xs) next in
       record {
-        named = later.named ∙ named;
+        named = (later.named.0 ∙ named, later.named.1 ∙ chosen_named);
         formed = later.formed ∙ formed;
         chosen = later.chosen ∙ ap (λ c. chosen_past c xs) next ∙ past_on (choice s) x xs;
         wrote = (
@@ -156,7 +164,7 @@ module _ {W T N : Type 0} (contents : W → Option (List ℕ)) (failures : W →
   -- what it takes, its market takes
   market_all : (s t : T) (count : ℕ) (ps : List (List ℕ)) → TakesAll Listed s count ps t → TakesAll TakesMessage (market s) count ps (market t)
   market_all s t count [] same = ap market same
-  market_all s t count (p ∷ ps) (mid, (named, formed, (took, written, next)), rest) = (market mid, took, market_all mid t (count + 1) ps rest)
+  market_all s t count (p ∷ ps) (mid, (named, chosen_named, formed, (took, written, next)), rest) = (market mid, took, market_all mid t (count + 1) ps rest)
 
   module _ {R : Type 0} (remaining : R → Option (List ℕ)) (failed_reads : R → Failures) (limit : Limit) (old new : Reading R) (count : ℕ) (s last t : T) (ps : List (List ℕ))
       (first : market s ≡ empty) (taken : Takes remaining Listed limit old new 0 count s last ps) (few : count ≤ 10 ^ 19 - 1) where
@@ -325,9 +333,9 @@ module _ {W T N : Type 0} (contents : W → Option (List ℕ)) (failures : W →
           )
 
       at_left : (why : Unlisted) → Left last (count + 1) p why t → Returns (passed new) (answer_of limit.after count found (part.Refused why))
-      at_left (unlisted.Refused (refused.Codec f)) (named, (refuses, kept)) = at_refused (refused.Codec f) (stop.Codec f) refl refl refuses kept
-      at_left (unlisted.Refused (refused.Rule f)) (named, (refuses, kept)) = at_refused (refused.Rule f) (stop.Rule f) refl refl refuses kept
-      at_left (unlisted.Write error) (named, unable) = unwritten error unable
+      at_left (unlisted.Refused (refused.Codec f)) (named, chosen_named, (refuses, kept)) = at_refused (refused.Codec f) (stop.Codec f) refl refl refuses kept
+      at_left (unlisted.Refused (refused.Rule f)) (named, chosen_named, (refuses, kept)) = at_refused (refused.Rule f) (stop.Rule f) refl refl refuses kept
+      at_left (unlisted.Write error) (named, chosen_named, unable) = unwritten error unable
 
     returns_so : (why : Part Unlisted) → Stops why → Leaves old (length ps) why new → CountsPart why (failed_reads old.reader) (failed_reads new.reader)
         → Returns (left_by why new) (answer_of limit.after count found why)
@@ -338,10 +346,10 @@ module _ {W T N : Type 0} (contents : W → Option (List ℕ)) (failures : W →
     returns_so part.TooMany stops stays counts = at_many stops stays counts
     returns_so (part.Refused why) (before, (p, next, some, few_before, early, left)) stays counts = at_left p next some few_before early before stays counts why left
 
-    still : t ≡ last → name t ≡ name s
-    still same = ap name same ∙ listed.named
+    still : t ≡ last → SameNames s t
+    still same = (ap name same ∙ listed.named.0, ap choice_name same ∙ listed.named.1)
 
-    named_so : (why : Part Unlisted) → Stops why → name t ≡ name s
+    named_so : (why : Part Unlisted) → Stops why → SameNames s t
     named_so part.Full (same, most) = still same
     named_so part.Late (same, before, next) = still same
     named_so part.End (same, before, next) = still same
@@ -350,12 +358,13 @@ module _ {W T N : Type 0} (contents : W → Option (List ℕ)) (failures : W →
     named_so (part.Frame (Write sent error)) never = absurd never
     named_so (part.Frame TooLong) never = absurd never
     named_so part.TooMany (same, before, next) = still same
-    named_so (part.Refused why) (before, (p, next, some, few_before, early, (named, unlisted))) = named ∙ listed.named
+    named_so (part.Refused why) (before, (p, next, some, few_before, early, (named, chosen_named, unlisted))) =
+        (named ∙ listed.named.0, chosen_named ∙ listed.named.1)
 
   -- what reading a part into such a market writes, returns and leaves
   pub listed_part : {R : Type 0} (remaining : R → Option (List ℕ)) (failed_reads : R → Failures) (limit : Limit) (old new : Reading R) (count : ℕ) (s t : T) (why : Part Unlisted) → market s ≡ empty
       → ReadsPart remaining failed_reads Listed Left limit old new 0 count s why t → count ≤ 10 ^ 19 - 1
-      → (name t ≡ name s)
+      → SameNames s t
       × ListsPart contents failures remaining failed_reads limit (form s) (choice s) old (left_by why new) (at s) (answer_of limit.after count (are_found (Chosen.stocks (choice t))) why) (at t)
   listed_part remaining failed_reads limit old new count s t why first reads few = (
     named_so remaining failed_reads limit old new count s reads.last t reads.payloads first reads.taken few why reads.stops,

@@ -18,7 +18,7 @@ use Rattle.itch_market.specs.Effects.{effect}
 use Rattle.itch_market.specs.GoodMarkets.{IsGood, IsListed}
 use Rattle.itch_market.specs.Reasons.{order_reason, reason}
 use Rattle.itch_market.specs.declared.refusal.Refusal.{Refusal}
-use Rattle.itch_market.proofs.AllowedMessages.{IsAllowedReplace, allowed_replace, live_passed}
+use Rattle.itch_market.proofs.AllowedMessages.{IsAllowedReplace, allowed_replace}
 use Rattle.itch_commands.specs.OrdersBehind.{behind, changes_order, left_of, order_behind, shares_of, stock_at}
 use Rattle.itch_commands.specs.declared.show.orders.behind.Behind.{Behind}
 
@@ -92,11 +92,11 @@ module _ (m : Content) (good : IsGood m) where
     by_listing None none = none
 
   there : (r locate : ℕ) (taken : Option ℕ) (later : Order → Option Refusal) → order_reason (book.get m.orders r) locate later ≡ None → IsSomeAnd (order_behind m r taken) (λ b. IsSome b.stock)
-  there r locate taken later clean = by_order (book.get m.orders r) refl (live_passed (book.get m.orders r) locate later clean) where
-    by_order : (o : Option Order) → book.get m.orders r ≡ o → IsSomeAnd o (λ x. later x ≡ None)
+  there r locate taken later clean = by_order (book.get m.orders r) refl clean where
+    by_order : (o : Option Order) → book.get m.orders r ≡ o → order_reason o locate later ≡ None
         → IsSomeAnd (option_map (λ (x : Order). record { order = x; stock = stock_at m x.locate; left = left_of taken x.shares }) o) (λ (b : Behind). IsSome b.stock)
-    by_order None is none = absurd none
-    by_order (Some x) is some = stock_there r x is
+    by_order None is none = absurd (let no_one : ⊥ = cc in no_one)
+    by_order (Some x) is none = stock_there r x is
 
   -- what is left of an order is what a book has of it
   remains : (r : ℕ) (taken : Option ℕ) (after : List Order) → ((x : Order) → book.get m.orders r ≡ Some x → shares_of (book.get after r) ≡ left_of taken x.shares)

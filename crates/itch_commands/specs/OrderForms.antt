@@ -115,4 +115,4 @@ abbrev pub order_line : OrderForm → ℕ → Message → Behind → List ℕ
 order_line form.Text number message b = without_last 1 (line_of number message) ++ order_words b
 order_line form.Named number message b = without_last 1 (named_line number message) ++ order_words b
 order_line form.Json number message b = without_last 2 (json_line number message) ++ order_members b
-order_line form.Csv number message b = message_columns number message ++ order_fields b ++ own_columns message
+order_line form.Csv number message b = message_columns number message ++ (order_fields b ++ own_columns message)

@@ -19,7 +19,7 @@ use itch_day::{Limit, Stop as PartStop, pass_stop, read_part};
 use itch_frame::{BlockReader, CountedRead, CountedWrite};
 use itch_market::{LocateSet, Market, Refused, Stop};
 use lines::write_head;
-use sink::{OrderLines, Unlisted};
+use sink::{ChosenMarket, OrderLines, Unlisted};
 use std::alloc::Allocator;
 
 /// Writes a line for each execution, cancel, delete and replace of a part of a day file, of those that the filters choose: the message,
@@ -86,12 +86,12 @@ fn list_part<R: CountedRead, A: Allocator, B: OrderBook, W: CountedWrite>(
     ensures { ListsPart W.contents W.failures R.remaining R.failures limit form choice.entry reader.old reader.new out.old result out.new }
 {
     let market: Market<B> = Market::new(alloc);
+    let mut chosen = ChosenMarket { market, choice };
     let mut count = 0;
     let mut lines = OrderLines {
-        market,
         out,
         form,
-        choice,
+        chosen: &mut chosen,
     };
     let stop = read_part(reader, &mut count, &mut lines, limit);
     pass_stop(reader, &stop);

@@ -136,17 +136,16 @@ fn push_attribution(line: &mut Line, mpid: &Option<Alpha<4>>)
 fn order_members(behind: &Behind) -> Line
     ensures { result ≡ order_members behind.now }
 {
-    let mut line = Line::new();
-    push_price_members(&mut line, behind);
+    let mut line = price_members(behind);
     push_share_members(&mut line, behind);
     line
 }
 
-fn push_price_members(line: &mut Line, behind: &Behind)
-    requires { length line.old ≤ 100 }
-    ensures text { line.new ≡ line.old ++ price_members behind.now }
-    ensures short { length line.new ≤ length line.old + 114 }
+fn price_members(behind: &Behind) -> Line
+    ensures text { result ≡ price_members behind.now }
+    ensures short { length result ≤ 114 }
 {
+    let mut line = Line::new();
     line.text(b",\"buy_sell_indicator\":\"");
     line.text(side_text(behind.order.side));
     line.text(b"\",\"stock\":\"");
@@ -154,6 +153,7 @@ fn push_price_members(line: &mut Line, behind: &Behind)
     line.text(b"\",\"order_price\":\"");
     line.price(behind.order.price);
     line.text(b"\"");
+    line
 }
 
 fn push_share_members(line: &mut Line, behind: &Behind)

@@ -17,13 +17,19 @@ use itch_frame::CountedWrite;
 use itch_market::{Market, Refused};
 use std::io::Error;
 
-/// A market that takes the messages of a day, and writes the lines of those that are chosen and have an order behind them.
+/// A market, and which of its messages are chosen by now.
 #[derive(Drop)]
-pub struct OrderLines<'a, 'b, B: OrderBook, W: CountedWrite> {
+pub struct ChosenMarket<'a, B: OrderBook> {
     pub market: Market<B>,
+    pub choice: Choice<'a, B::Alloc>,
+}
+
+/// Applies the messages of a day to a market, and writes the lines of those that are chosen and have an order behind them.
+#[derive(Drop)]
+pub struct OrderLines<'a, 'b, 'c, B: OrderBook, W: CountedWrite> {
     pub out: &'b mut W,
     pub form: OrderForm,
-    pub choice: Choice<'a, B::Alloc>,
+    pub chosen: &'c mut ChosenMarket<'a, B>,
 }
 
 /// Why a message is not listed.
@@ -35,28 +41,28 @@ pub enum Unlisted {
     Write(Error),
 }
 
-impl<'a, 'b, B: OrderBook, W: CountedWrite> OrderLines<'a, 'b, B, W> {
+impl<'a, 'b, 'c, B: OrderBook, W: CountedWrite> OrderLines<'a, 'b, 'c, B, W> {
     /// Whether each of the stocks that are looked for has come.
     pub fn has_found_all(&self) -> bool
-        ensures { result ≡ are_found (Chosen.stocks self.now.choice) }
+        ensures { result ≡ are_found (Chosen.stocks self.now.chosen.now.choice) }
     {
-        self.choice.has_found_all()
+        self.chosen.choice.has_found_all()
     }
 
     // The order behind a message, if the message is chosen.
     #[inline(always)]
     fn chosen_behind(&self, message: &Message<'_>) -> Option<Behind>
-        ensures { result ≡ chosen_behind self.now.choice self.now.market message.now }
+        ensures { result ≡ chosen_behind self.now.chosen.now.choice self.now.chosen.now.market message.now }
     {
-        if self.choice.is_chosen(message) {
-            Behind::of(&self.market, message)
+        if self.chosen.choice.is_chosen(message) {
+            Behind::of(&self.chosen.market, message)
         } else {
             None
         }
     }
 }
 
-impl<'a, 'b, B: OrderBook, W: CountedWrite> Sink for OrderLines<'a, 'b, B, W> {
+impl<'a, 'b, 'c, B: OrderBook, W: CountedWrite> Sink for OrderLines<'a, 'b, 'c, B, W> {
     ghost use Rattle.std.specs.Prelude.{◌≡◌};
     ghost use Rattle.itch_commands.specs.ListedOrders.{ListsMessage, LeavesMessage};
 
@@ -64,11 +70,11 @@ impl<'a, 'b, B: OrderBook, W: CountedWrite> Sink for OrderLines<'a, 'b, B, W> {
 
     ghost is_ready = { λ _ _. Unit {0} };
 
-    ghost takes = { λ s number payload t. (t.out.ghost_name ≡ s.out.ghost_name) × (t.form ≡ s.form)
-        × ListsMessage W.contents W.failures s.form number payload s.market s.choice s.out.now t.market t.choice t.out.now };
+    ghost takes = { λ s number payload t. (t.out.ghost_name ≡ s.out.ghost_name) × (t.chosen.ghost_name ≡ s.chosen.ghost_name) × (t.form ≡ s.form)
+        × ListsMessage W.contents W.failures s.form number payload s.chosen.now.market s.chosen.now.choice s.out.now t.chosen.now.market t.chosen.now.choice t.out.now };
 
-    ghost refuses = { λ s number payload why t. (t.out.ghost_name ≡ s.out.ghost_name)
-        × LeavesMessage W.contents W.failures s.form number payload s.market s.choice s.out.now why t.market t.out.now };
+    ghost refuses = { λ s number payload why t. (t.out.ghost_name ≡ s.out.ghost_name) × (t.chosen.ghost_name ≡ s.chosen.ghost_name)
+        × LeavesMessage W.contents W.failures s.form number payload s.chosen.now.market s.chosen.now.choice s.out.now why t.chosen.now.market t.out.now };
 
     #[inline(always)]
     fn take(
@@ -80,9 +86,9 @@ impl<'a, 'b, B: OrderBook, W: CountedWrite> Sink for OrderLines<'a, 'b, B, W> {
         match message {
             Ok(decoded) => {
                 let behind = self.chosen_behind(decoded);
-                match self.market.take(number, payload, message) {
+                match self.chosen.market.take(number, payload, message) {
                     Ok(()) => {
-                        self.choice.follow(decoded);
+                        self.chosen.choice.follow(decoded);
                         write_behind(self.form, number, decoded, behind, self.out)
                     }
                     Err(why) => Err(Unlisted::Refused(why)),
@@ -94,7 +100,7 @@ impl<'a, 'b, B: OrderBook, W: CountedWrite> Sink for OrderLines<'a, 'b, B, W> {
 
     #[inline(always)]
     fn look_ahead(&mut self, blocks: &[u8]) {
-        self.market.look_ahead(blocks);
+        self.chosen.market.look_ahead(blocks);
     }
 }
 
