@@ -99,8 +99,8 @@ impl<'a, 'b, 'c, B: OrderBook, W: CountedWrite> Sink for OrderLines<'a, 'b, 'c, 
     }
 
     #[inline(always)]
-    fn look_ahead(&mut self, blocks: &[u8]) {
-        self.chosen.market.look_ahead(blocks);
+    fn look_ahead(&mut self, blocks: &[u8]) -> u64 {
+        self.chosen.market.look_ahead(blocks)
     }
 }
 
