@@ -10,11 +10,11 @@ from ._handles import found
 from ._library import library
 
 Time = Union[int, str, datetime.time]
-TIME = re.compile(r"([01]\d|2[0-3]):([0-5]\d)(?::([0-5]\d)(?:\.(\d{1,9}))?)?", re.ASCII)
+TIME = re.compile(r"([01]?\d|2[0-3]):([0-5]\d)(?::([0-5]\d)(?:\.(\d{1,9}))?)?", re.ASCII)
 
 
 def nanoseconds(time: Time) -> int:
-    """The nanoseconds since midnight of a time: that number itself, a text such as '10:30', '10:30:00' or '10:30:00.000000001', or a
+    """The nanoseconds since midnight of a time: that number itself, a text such as '10:30', '9:30', '10:30:00' or '10:30:00.000000001', or a
     `datetime.time`."""
     if isinstance(time, datetime.time):
         return ((time.hour * 60 + time.minute) * 60 + time.second) * 10**9 + time.microsecond * 1000

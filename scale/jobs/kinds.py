@@ -11,7 +11,7 @@ from .program import Failure, Program, Refusal, has_no_messages
 from .results import Day, Result, attempt
 
 END = "end"
-TIME = re.compile(r"([01]\d|2[0-3]):[0-5]\d(:[0-5]\d(\.\d{1,9})?)?")
+TIME = re.compile(r"([01]?\d|2[0-3]):[0-5]\d(:[0-5]\d(\.\d{1,9})?)?")
 
 
 class Site(NamedTuple):

@@ -34,7 +34,12 @@ def matching(pattern, what):
 def points(text):
     """Points, each once, in the order in which they are named."""
     read = matching(POINT, "point of a day: end, a number of messages, or a time such as 10:30")
-    return tuple(dict.fromkeys(map(read, text.split(","))))
+    return tuple(dict.fromkeys(two_digits(read(point)) for point in text.split(",")))
+
+
+def two_digits(point):
+    """A point with two digits for the hour, as the files of its results are called: 9:30 is 09:30."""
+    return f"0{point}" if point[1:2] == ":" else point
 
 
 locates = matching(LOCATES, "list of locates")

@@ -47,7 +47,7 @@ def a_stock_of_any_characters_is_found_by_its_name(program):
         if "," not in name:
             yield from differs(stock, found, (0, f"1 {name}\nB 150.0000 100 1\n".encode(), b""))
         elif all(name.split(",")):
-            yield from differs(stock, found, (1, b"", b"itchsnap: unknown stock\n"))
+            yield from differs(stock, found, (1, b"", f"itchsnap: unknown stock\n  day.itch: no stock {name.split(',')[0]}\n".encode()))
         else:
             yield from differs(stock, found[:2], (2, b""))
 

@@ -103,7 +103,8 @@ def thousands_of_names_take_no_longer_than_a_directory(program):
             if seconds > 1:
                 yield f"{words}: {seconds} s"
             got = ended_in(folder, program, *words, "--stock", f"{names},NONE")
-            yield from differs((words, "NONE"), (got[0], got[2]), (1, b"itchsnap: unknown stock\n"))
+            second = b"" if words[0] == "join" else b"  day.itch: no stock NONE\n"
+            yield from differs((words, "NONE"), (got[0], got[2]), (1, b"itchsnap: unknown stock\n" + second))
 
 
 RUNS = (

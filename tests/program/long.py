@@ -52,7 +52,7 @@ def a_list_of_1000_stocks_is_read(program):
     yield from differs("book", ended(program, "book", "--stock", words, "day.itch", day=day),
                        ended(program, "book", ",".join(map(str, wanted)), "day.itch", day=day))
     yield from differs("an unknown one among them", ended(program, "snap", "day.itch", "--stock", words + ",S,S0000002", day=day),
-                       (1, b"", b"itchsnap: unknown stock\n"))
+                       (1, b"", b"itchsnap: unknown stock\n  day.itch: no stock S\n"))
 
 
 def books_and_stocks_of_65536_locates_are_found(program):
@@ -91,7 +91,7 @@ def a_word_of_100000_letters_is_refused(program):
             (["check", word], 3, f"itchsnap: cannot open\n  {word}: File name too long (os error 36)".encode()),
             (["snap", "--only", word], 2, b"itchsnap: bad locate list"),
             (["book", word], 2, b"itchsnap: bad locate list"),
-            (["snap", "--stock", word], 1, b"itchsnap: unknown stock"),
+            (["snap", "--stock", word], 1, b"itchsnap: unknown stock\n  standard input: no stock has more than 8 characters"),
             (["fetch", "--port", "1", "--user", word, "--pass", "p"], 2, b"itchsnap: bad user"),
             (["fetch", "--port", "1", "--user", "u", "--pass", word], 2, b"itchsnap: bad password")):
         yield from differs(words[0], ended(program, *words), (status, b"", line + b"\n"))

@@ -53,7 +53,7 @@ USAGE_FAULTS = [
     "--to out --after 1,+2",
     "--to out --after 1,1000000000000",
     "--to out --until 3,2",
-    "--to out --until 2,9:30",
+    "--to out --until 2,009:30",
     "--to out --every 0",
     "--to out --every +1",
     "--to out --after 1 --until 3",

@@ -30,7 +30,7 @@ FAULTS = [
     "snap --after -5",
     "snap --after",
     "snap --after 1 --after 2",
-    "snap --until 9:30",
+    "snap --until 009:30",
     "check --until 24:00",
     "check --until 10:30:00:00",
     "check --until 10:30:",

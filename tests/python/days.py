@@ -137,12 +137,12 @@ def a_day_ends_after_a_number_of_messages():
 
 def times_are_given_in_four_ways():
     wanted = {0: (0, "00:00", datetime.time()), 37_800 * 10**9: ("10:30", "10:30:00", "10:30:00.0", datetime.time(10, 30)),
-              86_399_999_999_999: ("23:59:59.999999999",), 2**64 - 1: (2**64 - 1,), 37_800_250_000_000: ("10:30:00.25",),
+              86_399_999_999_999: ("23:59:59.999999999",), 2**64 - 1: (2**64 - 1,), 37_800_250_000_000: ("10:30:00.25",), 34_200 * 10**9: ("9:30", "09:30", "9:30:00"),
               37_800_000_007_000: (datetime.time(10, 30, 0, 7),)}
     for number, times in wanted.items():
         for time in times:
             yield from differs(repr(time), nanoseconds(time), number)
-    for time in (-1, 2**64, "", "10", "1030", "10:3", "24:00", "10:60", "10:30 ", "10:30:00.1234567891", "1\u0660:30"):
+    for time in (-1, 2**64, "", "10", "1030", "10:3", "009:30", ":30", "24:00", "10:60", "10:30 ", "10:30:00.1234567891", "1\u0660:30"):
         yield from differs(repr(time), raised(nanoseconds, time), "ValueError")
     for time in (1.5, None, True, b"10:30"):
         yield from differs(repr(time), raised(nanoseconds, time), "TypeError")

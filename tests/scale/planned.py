@@ -27,8 +27,8 @@ def a_plan_has_a_line_for_each_job(folder):
     for number, wanted in enumerate([*rounds, []], 1):
         got = job(*words[:1], "--round", number, *words[1:]).output
         yield from differs(f"round {number}", [*map(shlex.split, got.splitlines())], wanted)
-    plain = job("plan", "--out", room / "out", "--points", "10:30,7,end,7", one).output
-    yield from differs("plan of points", shlex.split(plain), [str(JOB), "snapshots", *site, "--points", "10:30,7,end", str(one)])
+    plain = job("plan", "--out", room / "out", "--points", "9:30,7,end,7,09:30", one).output
+    yield from differs("plan of points", shlex.split(plain), [str(JOB), "snapshots", *site, "--points", "09:30,7,end", str(one)])
 
 
 def the_report_names_what_is_refused_and_what_is_missing(folder):

@@ -86,14 +86,14 @@ pub record AreApplied (limit : Limit) (p : List (List ℕ)) (n : Content) : Type
   pub left : n ≡ laid (run (map message_of p))
 
 -- what ends the comparison where a file stops
-over_ends : (why : Option Stop) (limit : Limit) (file : Source) (count : ℕ) → over why limit file count ≡ Ok tt → (why ≡ None) ⊎ ((why ≡ Some End) × (limit.after ≡ None))
+pub over_ends : (why : Option Stop) (limit : Limit) (file : Source) (count : ℕ) → over why limit file count ≡ Ok tt → (why ≡ None) ⊎ ((why ≡ Some End) × (limit.after ≡ None))
 over_ends None limit file count is = inl refl
 over_ends (Some stop) limit file count is = by_stop (stopped stop limit.after file count) refl where
   by_stop : (result : Result ℕ ToolFault) → stopped stop limit.after file count ≡ result → (Some stop ≡ None) ⊎ ((Some stop ≡ Some End) × (limit.after ≡ None))
   by_stop (Ok some) returns = let (at, whole) = stopped_end stop limit.after file count some returns in inr (ap Some at, whole)
   by_stop (Err fault) returns = absurd (cc)
 
-over_fails : (why : Option Stop) (limit : Limit) (file : Source) (count : ℕ) (fault : ToolFault) → over why limit file count ≡ Err fault
+pub over_fails : (why : Option Stop) (limit : Limit) (file : Source) (count : ℕ) (fault : ToolFault) → over why limit file count ≡ Err fault
     → (stop : Stop) × (why ≡ Some stop) × (stopped stop limit.after file count ≡ Err fault)
 over_fails None limit file count fault is = absurd (cc)
 over_fails (Some stop) limit file count fault is = by_stop (stopped stop limit.after file count) refl where
@@ -225,7 +225,7 @@ module _ {R : Type 0} (remaining : R → Option (List ℕ)) (failures : R → Fa
             few = few;
           }
 
-applied : (limit : Limit) (old new : Option (List ℕ)) (count : ℕ) (p : List (List ℕ)) (n : Content) → TakesEarly limit empty old new count p n → AreApplied limit p n
+pub applied : (limit : Limit) (old new : Option (List ℕ)) (count : ℕ) (p : List (List ℕ)) (n : Content) → TakesEarly limit empty old new count p n → AreApplied limit p n
 applied limit old new count p n (takes, counted, few, early) = record {
   taken = record { full = takes.full; taken = takes.none; few = omega (arith, counted, few); early = early };
   fits = takes.fits;
@@ -302,7 +302,7 @@ module _ {R : Type 0} (remaining : R → Option (List ℕ)) (failures : R → Fa
   }
 
   -- the part that is wanted is over where this stops it
-  read_over : (old new : Reading R) (count : ℕ) (n : Content) (few : count ≤ 10 ^ 19 - 1) (stop : Part Refused)
+  pub read_over : (old new : Reading R) (count : ℕ) (n : Content) (few : count ≤ 10 ^ 19 - 1) (stop : Part Refused)
       (reads : ReadsPart remaining failures TakesMessage RefusesMessage limit old new 0 count empty stop n) → (reason_of stop ≡ None) ⊎ ((reason_of stop ≡ Some End) × (limit.after ≡ None))
       → ReadsDay remaining failures file limit old (left_by stop new) (Ok reads.payloads)
   read_over old new count n few stop reads (inl none) = all_by remaining failures file limit old new count n few stop reads none

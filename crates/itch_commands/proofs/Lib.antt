@@ -38,3 +38,5 @@ pub mod UnfilteredLines
 pub mod PointReadings
 pub mod PassedBytes
 pub mod WrittenLocates
+pub mod TalliedDays
+pub mod InfoTexts

@@ -28,3 +28,5 @@ pub mod Expectations
 pub mod OrderForms
 pub mod OrdersBehind
 pub mod ListedOrders
+pub mod Tallies
+pub mod Infos

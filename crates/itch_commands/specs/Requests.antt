@@ -11,11 +11,12 @@ use Rattle.itch_commands.specs.declared.filters.Filters.{Filters}
 use Rattle.itch_commands.specs.declared.request.Request.{Request}
 use Rattle.itch_commands.specs.declared.request.Request.TheVariants.{One, Two, At}
 use Rattle.itch_commands.specs.declared.request.Command.{Command}
-use Rattle.itch_commands.specs.declared.request.Command.TheVariants.{Snap, Check, Show, ShowOrders, Canon, Book}
+use Rattle.itch_commands.specs.declared.request.Command.TheVariants.{Snap, Check, Info, Show, ShowOrders, Canon, Book}
 use Rattle.itch_commands.specs.declared.request.PairCommand.{PairCommand}
 use Rattle.itch_commands.specs.declared.request.PairCommand.TheVariants.{Compare, CompareFirst, Join}
 use Rattle.itch_commands.specs.Choices.{Chosen, chosen_by}
 use Rattle.itch_commands.specs.Commands.{Snaps, SnapsStocks, Checks, ShowsSnapshot, WritesCanon, ChecksCanon, ListsBooks, ListsStocks, Compares, ComparesFirst, Joins, JoinsStocks}
+use Rattle.itch_commands.specs.Infos.{Informs}
 use Rattle.itch_commands.specs.declared.form.BookForm.{BookForm}
 use Rattle.itch_commands.specs.declared.form.ShowForm.{ShowForm}
 use Rattle.itch_commands.specs.declared.kind.FileKind.{FileKind}
@@ -94,6 +95,7 @@ module _ {R W : Type 0} (remaining : R → Option (List ℕ)) (failed_reads : R 
   abbrev pub Performs : Command → Option Wanted → Reading R → Reading R → W → Result Bool ToolFault → W → Type 0
   Performs (Snap limit selection) set old new = PerformsSnap limit selection set old new
   Performs (Check limit expected form) set old new = Checks remaining failed_reads contents failed_writes form limit expected (FromBlocks old new)
+  Performs (Info limit form) set old new = Informs remaining failed_reads contents failed_writes form limit (FromBlocks old new)
   Performs (Show kind form filters) set old new = ShowsFile kind form set filters old new
   Performs (ShowOrders limit form filters) set old new = ListsFile contents failed_writes remaining failed_reads limit form set filters old new
   Performs (Canon false) set old new = WritesCanon remaining failed_reads contents failed_writes (FromBlocks old new)

@@ -81,7 +81,7 @@ fn check_count(expected: u64, count: u64) -> Result<(), ToolFault>
 }
 
 // Whether a system event is the last of a day.
-fn is_last(event: Option<u8>) -> bool
+pub(crate) fn is_last(event: Option<u8>) -> bool
     ensures { result ≡ is_last event }
 {
     event == Some(END_OF_MESSAGES)

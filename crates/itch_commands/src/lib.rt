@@ -24,6 +24,7 @@ mod fault;
 mod feed_part;
 mod filters;
 mod form;
+pub mod info;
 pub mod join;
 mod kind;
 pub mod laws;

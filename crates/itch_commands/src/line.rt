@@ -1,7 +1,9 @@
 //! A line of output, made part by part.
-ghost use Rattle.std.specs.Prelude.{◌≡◌, ◌+◌, ◌*◌, ◌%◌, ◌≤◌, ◌++◌, [], length};
-ghost use Rattle.itch_codec.specs.Clock.{clock};
-ghost use Rattle.itch_codec.specs.Lines.{price_text};
+ghost use Rattle.std.specs.Prelude.{◌≡◌, ◌+◌, ◌*◌, ◌/◌, ◌%◌, ◌<◌, ◌≤◌, ◌++◌, [], ◌∷◌, length};
+ghost use Rattle.itch_codec.specs.Clock.{clock, two_digits, nine_digits};
+ghost use Rattle.itch_codec.specs.Json.{escaped};
+ghost use Rattle.itch_codec.specs.Lines.{hex_digit, price_text};
+ghost use Rattle.itch_codec.specs.Named.{character};
 ghost use Rattle.itch_commands.specs.Forms.{csv_text, json_text, quoted_char};
 ghost use Rattle.std.specs.List.{flat_map};
 
@@ -74,37 +76,93 @@ impl Line {
         self.text(&decimals);
     }
 
-    /// Appends nanoseconds since midnight as a time of the day.
-    #[tactic(auto, unfolding(itch_codec::specs::Clock::clock, itch_codec::specs::Clock::two_digits, itch_codec::specs::Clock::nine_digits))]
+    /// Appends nanoseconds since midnight as a time of the day, such as `09:30:00.000000001`. A timestamp has less than 100 hours.
+    #[tactic(auto, using(itch_codec::proofs::Joining::joining), unfolding(itch_codec::specs::Clock::clock))]
     pub fn clock(&mut self, nanoseconds: u64)
         requires { length self.old ≤ 238 }
-        ensures clock { self.new ≡ self.old ++ clock nanoseconds }
-        ensures short { length self.new ≡ length self.old + 18 }
+        ensures text { self.new ≡ self.old ++ clock nanoseconds }
+        ensures short { length self.new ≤ length self.old + 18 }
     {
-        let hours = nanoseconds / 3_600_000_000_000;
-        let minutes = nanoseconds / 60_000_000_000 % 60;
-        let seconds = nanoseconds / 1_000_000_000 % 60;
-        let digits = [
-            digit(hours / 10),
-            digit(hours),
-            b':',
-            digit(minutes / 10),
-            digit(minutes),
-            b':',
-            digit(seconds / 10),
-            digit(seconds),
-            b'.',
-            digit(nanoseconds / 100_000_000),
-            digit(nanoseconds / 10_000_000),
-            digit(nanoseconds / 1_000_000),
-            digit(nanoseconds / 100_000),
-            digit(nanoseconds / 10_000),
-            digit(nanoseconds / 1_000),
-            digit(nanoseconds / 100),
-            digit(nanoseconds / 10),
-            digit(nanoseconds),
-        ];
-        self.text(&digits);
+        self.two_digits(nanoseconds / 3_600_000_000_000);
+        self.text(b":");
+        self.two_digits(nanoseconds / 60_000_000_000 % 60);
+        self.text(b":");
+        self.two_digits(nanoseconds / 1_000_000_000 % 60);
+        self.text(b".");
+        self.nine_digits(nanoseconds);
+    }
+
+    // Appends the last two decimal digits of a number.
+    #[tactic(auto, unfolding(itch_codec::specs::Clock::two_digits))]
+    fn two_digits(&mut self, number: u64)
+        requires { length self.old ≤ 254 }
+        ensures text { self.new ≡ self.old ++ two_digits number }
+        ensures short { length self.new ≡ length self.old + 2 }
+    {
+        self.text(&[digit(number / 10), digit(number)]);
+    }
+
+    // Appends the last nine decimal digits of a number.
+    #[tactic(auto, unfolding(itch_codec::specs::Clock::nine_digits))]
+    fn nine_digits(&mut self, number: u64)
+        requires { length self.old ≤ 247 }
+        ensures text { self.new ≡ self.old ++ nine_digits number }
+        ensures short { length self.new ≡ length self.old + 9 }
+    {
+        self.text(&[
+            digit(number / 100_000_000),
+            digit(number / 10_000_000),
+            digit(number / 1_000_000),
+            digit(number / 100_000),
+            digit(number / 10_000),
+            digit(number / 1_000),
+            digit(number / 100),
+            digit(number / 10),
+            digit(number),
+        ]);
+    }
+
+    /// Appends a byte as a character between single quotes: after a reverse solidus if it is a single quote or one itself, and as `\\x`
+    /// and two hexadecimal digits if it is not printable.
+    pub fn character(&mut self, byte: u8)
+        requires { length self.old ≤ 252 }
+        ensures text { self.new ≡ self.old ++ character byte }
+        ensures short { length self.new ≤ length self.old + 4 }
+    {
+        if byte == b'\'' || byte == b'\\' {
+            self.text(&[b'\\', byte]);
+        } else if byte < b' ' || byte > b'~' {
+            self.text(b"\\x");
+            self.hex(byte);
+        } else {
+            self.text(&[byte]);
+        }
+    }
+
+    /// Appends any byte within a string of JSON: after a reverse solidus if it is a quotation mark or one itself, and as `\\u00` and two
+    /// hexadecimal digits if it is not printable.
+    pub fn escaped(&mut self, byte: u8)
+        requires { length self.old ≤ 250 }
+        ensures text { self.new ≡ self.old ++ escaped byte }
+        ensures short { length self.new ≤ length self.old + 6 }
+    {
+        if byte == b'"' || byte == b'\\' {
+            self.text(&[b'\\', byte]);
+        } else if byte < b' ' || byte > b'~' {
+            self.text(b"\\u00");
+            self.hex(byte);
+        } else {
+            self.text(&[byte]);
+        }
+    }
+
+    // Appends a byte in hexadecimal digits.
+    fn hex(&mut self, byte: u8)
+        requires { length self.old ≤ 254 }
+        ensures text { self.new ≡ self.old ++ hex_digit (byte / 16) ∷ hex_digit (byte % 16) ∷ [] }
+        ensures short { length self.new ≡ length self.old + 2 }
+    {
+        self.text(&[hex_digit(byte / 16), hex_digit(byte % 16)]);
     }
 
     /// Appends a printable text within a string of JSON.
@@ -156,4 +214,15 @@ fn digit(number: u64) -> u8
     ensures { result ≡ 48 + number % 10 }
 {
     b'0' + (number % 10) as u8
+}
+
+fn hex_digit(digit: u8) -> u8
+    requires { digit < 16 }
+    ensures { result ≡ hex_digit digit }
+{
+    if digit < 10 {
+        b'0' + digit
+    } else {
+        b'a' + digit - 10
+    }
 }

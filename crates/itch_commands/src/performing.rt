@@ -11,6 +11,7 @@ use crate::fault::ToolFault;
 use crate::feed_part::FeedPart;
 use crate::filters::Filters;
 use crate::form::{BookForm, ShowForm};
+use crate::info::info_blocks;
 use crate::join::{join_blocks, join_stocks};
 use crate::kind::FileKind;
 use crate::request::{Command, PairCommand};
@@ -42,6 +43,9 @@ pub fn perform<R: CountedRead, A: Allocator, B: OrderBook, W: CountedWrite>(
             expected,
             form,
         } => check_blocks::<R, A, B, W>(alloc, reader, limit, expected, form, out),
+        Command::Info { limit, form } => {
+            info_blocks::<R, A, B, W>(alloc, reader, limit, form, out)
+        }
         Command::Show {
             kind,
             form,

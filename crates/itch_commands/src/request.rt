@@ -47,6 +47,11 @@ pub enum Command<'a> {
         expected: Expected,
         form: Form,
     },
+    /// Tell what a day file contains, in numbers.
+    Info {
+        limit: Limit,
+        form: Form,
+    },
     /// Show each message of a file as a line, or those that are chosen.
     Show {
         kind: FileKind,
@@ -116,7 +121,7 @@ impl<'a> Request<'a> {
                 Command::Snap { selection, .. } | Command::Book { selection, .. } =>
                     selection.list(),
                 Command::Show { filters, .. } | Command::ShowOrders { filters, .. } => filters.only,
-                Command::Check { .. } | Command::Canon { .. } => None,
+                Command::Check { .. } | Command::Info { .. } | Command::Canon { .. } => None,
             },
             Request::Two { command, .. } => match command {
                 PairCommand::Join { selection, .. } => selection.list(),

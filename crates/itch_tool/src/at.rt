@@ -1,5 +1,6 @@
 //! The snapshot at a point of the day, from the checkpoint that is nearest to it.
 
+use crate::beginning::Beginning;
 use crate::checkpoints::{Checkpoint, EMPTY_SNAPSHOT, nearest, path_of};
 use crate::failure::Failure;
 use crate::feed::{FeedFault, open_after};
@@ -21,6 +22,7 @@ pub fn join_at<R: Files + Input + Eprint + AllocGlobal + Clock, W: CountedWrite>
     point: Limit,
     selection: Selection<'_>,
     progress: Option<&Progress<'_, R>>,
+    beginning: &Beginning,
     only: Option<LocateSet<Global>>,
     out: &mut W,
 ) -> Result<bool, Failure> {
@@ -29,7 +31,7 @@ pub fn join_at<R: Files + Input + Eprint + AllocGlobal + Clock, W: CountedWrite>
     if !has_wanted(alloc, &checkpoint, only.as_ref())? {
         return Err(unfit(alloc, Unfit::Partial, folder, feed)?);
     }
-    let feed = match open_after(rt, feed, &checkpoint, progress) {
+    let feed = match open_after(rt, feed, &checkpoint, progress, beginning) {
         Ok(feed) => feed,
         Err(FeedFault::Tool(fault)) => return Err(Failure::from(fault)),
         Err(FeedFault::Unfit(why)) => return Err(unfit(alloc, why, folder, feed)?),
@@ -43,7 +45,13 @@ pub fn join_at<R: Files + Input + Eprint + AllocGlobal + Clock, W: CountedWrite>
         return Ok(perform_pair_over(alloc, join, only, EMPTY_SNAPSHOT, feed, out)?);
     }
     let path = path_of(alloc, folder, &checkpoint)?;
-    let joined = match open(rt, Some(path.as_str()), Source::Snapshot, progress) {
+    let joined = match open(
+        rt,
+        Some(path.as_str()),
+        Source::Snapshot,
+        progress,
+        beginning,
+    ) {
         Ok(snapshot) => perform_pair_over(alloc, join, only, snapshot, feed, out),
         Err(fault) => Err(fault),
     };

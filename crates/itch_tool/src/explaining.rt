@@ -1,26 +1,30 @@
 //! What is said on standard error, and the status that goes with it.
 
+use crate::beginning::Beginning;
 use crate::failure::Failure;
 use crate::final_status::{ends_by_closed_pipe, final_status};
 use crate::names::{CommandFiles, JobNames, Name, SessionNames, Subject};
 use crate::packed::packed_file;
+use crate::second_look::{lacked_stock, last_event};
+use crate::selected::Selected;
 use clap::Error;
 use clap::error::ErrorKind;
 use itch_commands::snap::Unfit;
-use itch_commands::{Source, ToolFault, system_fault};
+use itch_commands::{Source, ToolFault, Unmet, system_fault};
 use itch_soup::SoupFault;
 use itchsnap_live::{LiveFault, Names, SessionCause, SessionDevice, SessionFault};
 use std::io;
 use std::rt::Files;
 
 /// Says a failure on standard error, and returns the status. Of a closed pipe nothing is said.
-pub fn finish<R: Files + Eprint>(
+pub fn finish<R: Files + Eprint + AllocGlobal>(
     rt: &R,
     names: &JobNames<'_>,
+    beginning: &Beginning,
     outcome: Result<bool, Failure>,
 ) -> u8 {
     match &outcome {
-        Err(failure) if !ends_by_closed_pipe(&outcome) => match say(rt, names, failure) {
+        Err(failure) if !ends_by_closed_pipe(&outcome) => match say(rt, names, beginning, failure) {
             Ok(()) => final_status(&outcome),
             Err(error) => final_status(&Err(Failure::from(ToolFault::Write(error)))),
         },
@@ -56,11 +60,12 @@ fn say_live<R: Eprint>(rt: &R, fault: &LiveFault, names: Names<'_>) -> io::Resul
 }
 
 /// Prints what help or a usage fault has to say, and returns the status.
-pub fn explain<R: Files + Print + Eprint>(rt: &R, error: Error) -> u8 {
+pub fn explain<R: Files + Print + Eprint + AllocGlobal>(rt: &R, error: Error) -> u8 {
     if matches!(error.kind(), ErrorKind::OutOfMemory) {
         return finish(
             rt,
             &JobNames::none(),
+            &Beginning::new(),
             Err(Failure::from(ToolFault::OutOfMemory)),
         );
     }
@@ -69,16 +74,26 @@ pub fn explain<R: Files + Print + Eprint>(rt: &R, error: Error) -> u8 {
         Err(failed) => finish(
             rt,
             &JobNames::none(),
+            &Beginning::new(),
             Err(Failure::from(system_fault(failed, ToolFault::Write(failed)))),
         ),
     }
 }
 
 // Writes the line of a failure, and a second one where there is more to say. What follows a feed has said it.
-fn say<R: Files + Eprint>(rt: &R, names: &JobNames<'_>, failure: &Failure) -> io::Result<()> {
+fn say<R: Files + Eprint + AllocGlobal>(
+    rt: &R,
+    names: &JobNames<'_>,
+    beginning: &Beginning,
+    failure: &Failure,
+) -> io::Result<()> {
     match failure {
         Failure::Command { fault, checkpoint } => {
-            say_command(rt, fault, subject_of(&names.files, fault, checkpoint))
+            rt.eprintln(fault)?;
+            match subject_of(&names.files, fault, checkpoint) {
+                Some(subject) => say_subject(rt, fault, subject, beginning),
+                None => say_lack(rt, fault, names),
+            }
         }
         Failure::Session(fault) => say_session(rt, fault, &names.session),
         Failure::Open { name, error } => {
@@ -86,7 +101,8 @@ fn say<R: Files + Eprint>(rt: &R, names: &JobNames<'_>, failure: &Failure) -> io
             eprintln!(rt; "  {name}: {error}")
         }
         Failure::Checkpoint { why, detail } => {
-            say_unfit(rt, *why, detail.as_str(), names.files.subject(Source::Only))
+            let feed = names.files.subject(Source::Only);
+            say_unfit(rt, *why, detail.as_str(), feed, beginning)
         }
         Failure::Said { .. } => Ok(()),
     }
@@ -105,15 +121,12 @@ fn subject_of<'a>(
 }
 
 // Of a command: which file failed and what the system says, or what a file is that is no day file.
-fn say_command<R: Files + Eprint>(
+fn say_subject<R: Files + Eprint>(
     rt: &R,
     fault: &ToolFault,
-    subject: Option<Subject<'_>>,
+    subject: Subject<'_>,
+    beginning: &Beginning,
 ) -> io::Result<()> {
-    rt.eprintln(fault)?;
-    let Some(subject) = subject else {
-        return Ok(());
-    };
     if let Some(error) = fault.io_error() {
         let name = subject.name();
         return eprintln!(rt; "  {name}: {error}");
@@ -121,10 +134,50 @@ fn say_command<R: Files + Eprint>(
     if !matches!(fault, ToolFault::Stopped { .. } | ToolFault::Snap { .. }) {
         return Ok(());
     }
-    match packed_file(rt, subject) {
+    match packed_file(rt, subject, beginning) {
         Some(packed) => eprintln!(rt; "  {packed}"),
         None => Ok(()),
     }
+}
+
+// Of a command: what its words name that is not there, or what its file lacks.
+fn say_lack<R: Files + Eprint + AllocGlobal>(
+    rt: &R,
+    fault: &ToolFault,
+    names: &JobNames<'_>,
+) -> io::Result<()> {
+    let Selected {
+        locates,
+        stocks,
+        part,
+    } = names.selected;
+    let file = names.files.last();
+    match (fault, locates, stocks) {
+        (ToolFault::BadLocates, Some(list), _) => match stock_in(list) {
+            Some(stock) => eprintln!(rt; "  {stock}: use --stock to name a stock"),
+            None => Ok(()),
+        },
+        (ToolFault::UnknownStock, _, Some(stocks)) => match lacked_stock(rt, file, stocks, part) {
+            Some(lacked) => eprintln!(rt; "  {lacked}"),
+            None => Ok(()),
+        },
+        (ToolFault::Unmet(Unmet::NoEnd), _, _) => match last_event(rt, file, part) {
+            Some(event) => eprintln!(rt; "  {event}"),
+            None => Ok(()),
+        },
+        _ => Ok(()),
+    }
+}
+
+// The first item of a list that may be a stock: it begins with a capital letter, and has no more than 8 characters.
+fn stock_in(list: &str) -> Option<&str> {
+    list.split(',').find(|item| {
+        item.len() <= 8
+            && item
+                .bytes()
+                .next()
+                .is_some_and(|byte| byte.is_ascii_uppercase())
+    })
 }
 
 // Of a session: which device failed and what the system says, or how its peer broke the rules.
@@ -150,10 +203,11 @@ fn say_unfit<R: Files + Eprint>(
     why: Unfit,
     detail: &str,
     feed: Subject<'_>,
+    beginning: &Beginning,
 ) -> io::Result<()> {
     eprintln!(rt; "itchsnap: {why}")?;
     let packed = match why {
-        Unfit::Beyond | Unfit::OtherDay => packed_file(rt, feed),
+        Unfit::Beyond | Unfit::OtherDay => packed_file(rt, feed, beginning),
         Unfit::Partial => None,
     };
     match packed {

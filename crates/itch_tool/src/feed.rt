@@ -1,5 +1,6 @@
 //! The feed of a checkpoint, opened right after the messages that the checkpoint has.
 
+use crate::beginning::{Beginning, Begun};
 use crate::checkpoints::Checkpoint;
 use crate::opened::{read_fault, size};
 use itch_commands::snap::{Fingerprint, MOST_FIRST, MOST_LAST, Passed, Unfit, why_unfit};
@@ -37,10 +38,12 @@ pub fn open_after<'a, R: Files + Input + Eprint + AllocGlobal + Clock>(
     path: Option<&str>,
     checkpoint: &Checkpoint,
     progress: Option<&'a Progress<'a, R>>,
-) -> Result<Watched<'a, Opened<R::File, R::Reader>, R>, FeedFault> {
+    beginning: &'a Beginning,
+) -> Result<Watched<'a, Opened<R::File, Begun<'a, R::Reader>>, R>, FeedFault> {
     let offset = checkpoint.mark.offset;
     let Some(path) = path else {
-        return read_after(rt, Opened::Standard(rt.reader()), checkpoint, progress);
+        let standard = Begun::new(rt.reader(), beginning);
+        return read_after(rt, Opened::Standard(standard), checkpoint, progress);
     };
     let mut file = match fs::open(rt, path) {
         Ok(file) => file,
@@ -71,10 +74,10 @@ pub fn open_after<'a, R: Files + Input + Eprint + AllocGlobal + Clock>(
 // The same where there is no way to the offset but through all bytes before.
 fn read_after<'a, R: Files + Input + Eprint + AllocGlobal + Clock>(
     rt: &R,
-    opened: Opened<R::File, R::Reader>,
+    opened: Opened<R::File, Begun<'a, R::Reader>>,
     checkpoint: &Checkpoint,
     progress: Option<&'a Progress<'a, R>>,
-) -> Result<Watched<'a, Opened<R::File, R::Reader>, R>, FeedFault> {
+) -> Result<Watched<'a, Opened<R::File, Begun<'a, R::Reader>>, R>, FeedFault> {
     if let Some(progress) = progress {
         progress.add_file(None);
     }

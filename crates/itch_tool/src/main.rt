@@ -6,6 +6,7 @@
 #![tactic(auto)]
 
 mod at;
+mod beginning;
 mod checkpoints;
 mod explaining;
 mod failure;
@@ -22,9 +23,12 @@ mod packed;
 mod password;
 mod points;
 mod run;
+mod second_look;
+mod selected;
 mod serving;
 mod sockets;
 
+use crate::beginning::Beginning;
 use crate::explaining::{explain, finish};
 use crate::names::JobNames;
 use crate::password::password_of_environment;
@@ -58,7 +62,11 @@ fn perform(rt: &HostRuntime, words: &Words) -> u8 {
     };
     let terminal = rt.stdout().is_terminal();
     match read_job(rt.alloc(), words.line.as_slice(), terminal, password) {
-        Ok(job) => finish(rt, &JobNames::of(&job), run(rt, &job)),
+        Ok(job) => {
+            let beginning = Beginning::new();
+            let outcome = run(rt, &job, &beginning);
+            finish(rt, &JobNames::of(&job), &beginning, outcome)
+        }
         Err(error) => explain(rt, error),
     }
 }

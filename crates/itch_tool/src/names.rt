@@ -2,6 +2,7 @@
 ghost use Rattle.std.specs.Prelude.{◌≡◌, Some, None};
 ghost use Rattle.itch_tool.specs.Names.{first_path, input_name, last_path, name_of, output_name, subject_of};
 
+use crate::selected::Selected;
 use itch_commands::{Command, PairCommand, Request, Source};
 use itchsnap_cli::words::{FeedWords, FollowWords, Job, LiveWords, PointWords, Server};
 use itchsnap_live::{SessionDevice, SessionFault};
@@ -21,7 +22,7 @@ pub enum Name<'a> {
 }
 
 impl<'a> Name<'a> {
-    fn of_input(path: Option<&'a str>) -> Name<'a>
+    pub fn of_input(path: Option<&'a str>) -> Name<'a>
         ensures { result ≡ input_name path.entry }
     {
         match path {
@@ -152,6 +153,11 @@ impl<'a> CommandFiles<'a> {
         CommandFiles::of_one(path, "serve - ..", None)
     }
 
+    /// The only file, the second of two, or the feed.
+    pub fn last(&self) -> InputFile<'a> {
+        self.last
+    }
+
     pub fn subject(&self, source: Source) -> Subject<'a>
         ensures { result ≡ subject_of self.now source }
     {
@@ -168,6 +174,7 @@ fn words_of(command: &Command<'_>) -> &'static str {
     match command {
         Command::Snap { .. } => "snap",
         Command::Check { .. } => "check",
+        Command::Info { .. } => "info",
         Command::Show { .. } | Command::ShowOrders { .. } => "show",
         Command::Canon { check: true } => "canon --check",
         Command::Canon { check: false } => "canon",
@@ -263,11 +270,19 @@ impl<'a> SessionNames<'a> {
 #[derive(Clone, Copy)]
 pub struct JobNames<'a> {
     pub files: CommandFiles<'a>,
+    pub selected: Selected<'a>,
     pub session: SessionNames<'a>,
 }
 
 impl<'a> JobNames<'a> {
     pub fn of(job: &Job<'a>) -> JobNames<'a> {
+        JobNames {
+            selected: Selected::of(job),
+            ..JobNames::named(job)
+        }
+    }
+
+    fn named(job: &Job<'a>) -> JobNames<'a> {
         match job {
             Job::Files {
                 request,
@@ -277,6 +292,7 @@ impl<'a> JobNames<'a> {
             Job::Points(words) => JobNames::of_files(CommandFiles::of_points(words)),
             Job::Serve { file, address, .. } => JobNames {
                 files: CommandFiles::of_served(*file),
+                selected: Selected::nothing(),
                 session: SessionNames::of_served(*address),
             },
             Job::Fetch { server, output, .. } => {
@@ -293,6 +309,7 @@ impl<'a> JobNames<'a> {
     pub fn none() -> JobNames<'a> {
         JobNames {
             files: CommandFiles::of_one(None, "", None),
+            selected: Selected::nothing(),
             session: SessionNames::of_peer(Name::Output, None),
         }
     }

@@ -1,5 +1,6 @@
 //! What a command reads, opened.
 
+use crate::beginning::{Beginning, Begun};
 use itch_commands::{Source, ToolFault, system_fault};
 use itch_frame::FrameFault;
 use itch_market::{ReplayEnd, Stop};
@@ -7,8 +8,8 @@ use itchsnap_cli::input::{Opened, Progress, Watched};
 use std::rt::Files;
 use std::{fs, io};
 
-/// Opens the file of a path, or standard input if there is no path. `progress` counts what is read of it, and is told its size, and
-/// `source` says in a fault which file it is.
+/// Opens the file of a path, or standard input if there is no path. `progress` counts what is read of it, and is told its size,
+/// `source` says in a fault which file it is, and `beginning` notes the first bytes of standard input.
 ///
 /// An error is `Open`, or `OutOfMemory` if the system has no memory for it.
 pub fn open<'a, R: Files + Input + Eprint>(
@@ -16,12 +17,14 @@ pub fn open<'a, R: Files + Input + Eprint>(
     path: Option<&str>,
     source: Source,
     progress: Option<&'a Progress<'a, R>>,
-) -> Result<Watched<'a, Opened<R::File, R::Reader>, R>, ToolFault> {
+    beginning: &'a Beginning,
+) -> Result<Watched<'a, Opened<R::File, Begun<'a, R::Reader>>, R>, ToolFault> {
     let Some(path) = path else {
         if let Some(progress) = progress {
             progress.add_file(None);
         }
-        return Ok(Watched::new(Opened::Standard(rt.reader()), progress));
+        let standard = Begun::new(rt.reader(), beginning);
+        return Ok(Watched::new(Opened::Standard(standard), progress));
     };
     let file = match fs::open(rt, path) {
         Ok(file) => file,

@@ -1,5 +1,6 @@
 //! What to do with a file that is compressed, or of captured packets.
 
+use crate::beginning::Beginning;
 use crate::names::{InputFile, Subject};
 use itchsnap_cli::input::{MOST_MAGIC, Packing};
 use std::io::Read;
@@ -9,26 +10,29 @@ use std::{fmt, fs};
 /// A file that is no day file, but may have one inside. `Display` says what it is, and how to read it.
 #[derive(Clone, Copy)]
 pub struct PackedFile<'a> {
-    path: &'a str,
+    // None of standard input.
+    path: Option<&'a str>,
     packing: Packing,
     words: &'static str,
 }
 
 /// The file that a refusal is about, if its first bytes are those of a packed one. It need not be refused for its first message: that may
 /// be one that is not decoded.
-pub fn packed_file<'a, R: Files>(rt: &R, subject: Subject<'a>) -> Option<PackedFile<'a>> {
-    let Subject::Input(
-        InputFile {
-            path: Some(path),
-            words,
-        },
-    ) = subject
-    else {
+pub fn packed_file<'a, R: Files>(
+    rt: &R,
+    subject: Subject<'a>,
+    beginning: &Beginning,
+) -> Option<PackedFile<'a>> {
+    let Subject::Input(InputFile { path, words }) = subject else {
         return None;
+    };
+    let packing = match path {
+        Some(path) => packing(rt, path)?,
+        None => beginning.packing()?,
     };
     Some(PackedFile {
         path,
-        packing: packing(rt, path)?,
+        packing,
         words,
     })
 }
@@ -46,25 +50,60 @@ fn packing<R: Files>(rt: &R, path: &str) -> Option<Packing> {
 
 impl fmt::Display for PackedFile<'_> {
     fn fmt<W: fmt::Write>(&self, f: &mut fmt::Formatter<W>) -> fmt::Result {
-        let PackedFile {
-            path,
-            packing,
-            words,
-        } = self;
-        let (form, reader) = match packing {
-            Packing::Gzip => ("a gzip", "zcat"),
-            Packing::Zstd => ("a zstd", "zstdcat"),
-            Packing::Xz => ("an xz", "xzcat"),
-            Packing::Capture => {
-                return write!(
-                    f,
-                    "{path}: this is a file of captured packets: extract its messages first"
-                );
-            }
+        let name = self.path.unwrap_or("standard input");
+        let Some((form, reader)) = form_and_reader(self.packing, self.path.is_some()) else {
+            return write!(
+                f,
+                "{name}: this is a file of captured packets: extract its messages first"
+            );
         };
-        write!(
-            f,
-            "{path}: this is {form} file: {reader} {path} | itchsnap {words}"
-        )
+        write!(f, "{name}: this is {form} file: {reader}")?;
+        if let Some(path) = self.path {
+            write!(f, " {}", Quoted { path })?;
+        }
+        let words = self.words;
+        write!(f, " | itchsnap {words}")
     }
+}
+
+// What a file is called that is packed so, and the command that unpacks one that is named, or standard input. Nothing unpacks captured
+// packets.
+fn form_and_reader(packing: Packing, is_named: bool) -> Option<(&'static str, &'static str)> {
+    match packing {
+        Packing::Gzip => Some(("a gzip", "zcat")),
+        Packing::Bzip2 => Some(("a bzip2", "bzcat")),
+        Packing::Zstd => Some(("a zstd", "zstdcat")),
+        Packing::Xz => Some(("an xz", "xzcat")),
+        Packing::Lz4 => Some(("an lz4", "lz4cat")),
+        Packing::Zip if is_named => Some(("a zip", "unzip -p")),
+        Packing::Zip => Some(("a zip", "funzip")),
+        Packing::Capture => None,
+    }
+}
+
+// A path as a word of a shell's command.
+#[derive(Drop)]
+struct Quoted<'a> {
+    path: &'a str,
+}
+
+impl fmt::Display for Quoted<'_> {
+    fn fmt<W: fmt::Write>(&self, f: &mut fmt::Formatter<W>) -> fmt::Result {
+        if self.path.bytes().all(is_plain) {
+            return f.write_str(self.path);
+        }
+        f.write_str("'")?;
+        for (index, part) in self.path.split('\'').enumerate() {
+            if index > 0 {
+                f.write_str("'\\''")?;
+            }
+            f.write_str(part)?;
+        }
+        f.write_str("'")
+    }
+}
+
+// Whether a byte stands for itself in a word of a shell's command.
+fn is_plain(byte: u8) -> bool {
+    byte.is_ascii_alphanumeric() || b"./_-+=:,@%".contains(&byte) || byte >= 128
 }

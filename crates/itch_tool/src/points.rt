@@ -1,5 +1,6 @@
 //! Snapshots of several points of a day file, in the files of a folder.
 
+use crate::beginning::Beginning;
 use crate::failure::Failure;
 use crate::locate_list::read_only;
 use crate::noted::{Noted, Notes};
@@ -22,6 +23,7 @@ use std::rt::{Clock, Files};
 pub fn run_points<R: Files + Input + Eprint + AllocGlobal + Clock>(
     rt: &R,
     words: &PointWords<'_>,
+    beginning: &Beginning,
 ) -> Result<bool, Failure> {
     let alloc = rt.alloc();
     let only = match words.only {
@@ -33,7 +35,7 @@ pub fn run_points<R: Files + Input + Eprint + AllocGlobal + Clock>(
     } else {
         None
     };
-    let file = open(rt, words.file, Source::Only, progress.as_ref())?;
+    let file = open(rt, words.file, Source::Only, progress.as_ref(), beginning)?;
     let notes = Notes::new(alloc)?;
     let reader = blocks(alloc, Noted::new(file, &notes))?;
     save_points(rt, words, only, &notes, reader)

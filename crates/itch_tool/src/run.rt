@@ -1,6 +1,7 @@
 //! The commands over files and standard streams.
 
 use crate::at::join_at;
+use crate::beginning::Beginning;
 use crate::failure::Failure;
 use crate::live::{run_feed, run_follow, run_live};
 use crate::locate_list::read_only;
@@ -22,8 +23,9 @@ use std::io::{self, BufReader, BufWriter, Read, Write};
 use std::net::{Net, TcpListener, TcpStream};
 use std::rt::{Clock, Files};
 
-/// Performs the job, with its output on standard output. True is status 0, and false is status 1 with the output written.
-pub fn run<R>(rt: &R, job: &Job<'_>) -> Result<bool, Failure>
+/// Performs the job, with its output on standard output. True is status 0, and false is status 1 with the output written. `beginning`
+/// notes the first bytes of standard input.
+pub fn run<R>(rt: &R, job: &Job<'_>, beginning: &Beginning) -> Result<bool, Failure>
 where
     R: Files<File = File> + Input + Print + Eprint + AllocGlobal + Clock,
     R: Net<Listener = TcpListener, Stream = TcpStream>,
@@ -33,8 +35,8 @@ where
             request,
             progress,
             output,
-        } => run_request(rt, *request, *progress, *output),
-        Job::Points(words) => run_points(rt, words),
+        } => run_request(rt, *request, *progress, beginning, *output),
+        Job::Points(words) => run_points(rt, words, beginning),
         Job::Serve {
             file,
             kind,
@@ -46,7 +48,7 @@ where
         } => {
             let session = session.unwrap_or(default_session());
             run_serve(
-                rt, *file, *kind, *address, login, session, *count, *progress,
+                rt, *file, *kind, *address, login, session, *count, *progress, beginning,
             )
         }
         Job::Fetch {
@@ -76,6 +78,7 @@ fn run_request<R: Files + Input + Print + Eprint + AllocGlobal + Clock>(
     rt: &R,
     request: Request<'_>,
     progress: bool,
+    beginning: &Beginning,
     output: Option<&str>,
 ) -> Result<bool, Failure> {
     let only = match request.only() {
@@ -83,16 +86,18 @@ fn run_request<R: Files + Input + Print + Eprint + AllocGlobal + Clock>(
         None => None,
     };
     let Some(path) = output else {
-        return request_to(rt, request, progress, only, io::writer(rt));
+        return request_to(rt, request, progress, beginning, only, io::writer(rt));
     };
     let (output, file) = Output::create(rt, path)?;
-    output.finish(rt, request_to(rt, request, progress, only, file))
+    let outcome = request_to(rt, request, progress, beginning, only, file);
+    output.finish(rt, outcome)
 }
 
 fn request_to<R: Files + Input + Eprint + AllocGlobal + Clock, W: Write + Drop>(
     rt: &R,
     request: Request<'_>,
     progress: bool,
+    beginning: &Beginning,
     only: Option<LocateSet<Global>>,
     writer: W,
 ) -> Result<bool, Failure> {
@@ -101,7 +106,7 @@ fn request_to<R: Files + Input + Eprint + AllocGlobal + Clock, W: Write + Drop>(
     };
     let mut out = Counted::new(buffered);
     let progress = if progress { Progress::begin(rt) } else { None };
-    let answer = answer(rt, request, progress.as_ref(), only, &mut out)?;
+    let answer = answer(rt, request, progress.as_ref(), beginning, only, &mut out)?;
     match out.into_inner().flush() {
         Ok(()) => Ok(answer),
         Err(error) => Err(Failure::from(ToolFault::Write(error))),
@@ -113,13 +118,14 @@ fn answer<R: Files + Input + Eprint + AllocGlobal + Clock, W: CountedWrite>(
     rt: &R,
     request: Request<'_>,
     progress: Option<&Progress<'_, R>>,
+    beginning: &Beginning,
     only: Option<LocateSet<Global>>,
     out: &mut W,
 ) -> Result<bool, Failure> {
     let alloc = rt.alloc();
     match request {
         Request::One { file, command } => {
-            let file = open(rt, file, Source::Only, progress)?;
+            let file = open(rt, file, Source::Only, progress, beginning)?;
             Ok(perform_over(alloc, command, only.as_ref(), file, out)?)
         }
         Request::Two {
@@ -128,8 +134,8 @@ fn answer<R: Files + Input + Eprint + AllocGlobal + Clock, W: CountedWrite>(
             command,
         } => {
             let (first_source, second_source) = sources(&command);
-            let first = open(rt, first, first_source, progress)?;
-            let second = open(rt, second, second_source, progress)?;
+            let first = open(rt, first, first_source, progress, beginning)?;
+            let second = open(rt, second, second_source, progress, beginning)?;
             Ok(perform_pair_over(alloc, command, only, first, second, out)?)
         }
         Request::At {
@@ -137,7 +143,9 @@ fn answer<R: Files + Input + Eprint + AllocGlobal + Clock, W: CountedWrite>(
             feed,
             point,
             selection,
-        } => join_at(rt, folder, feed, point, selection, progress, only, out),
+        } => join_at(
+            rt, folder, feed, point, selection, progress, beginning, only, out,
+        ),
     }
 }
 

@@ -1,5 +1,6 @@
 //! The two ends of a session over sockets.
 
+use crate::beginning::Beginning;
 use crate::failure::Failure;
 use crate::opened::open;
 use crate::output::Output;
@@ -30,6 +31,7 @@ pub fn run_serve<R>(
     session: Alpha<10>,
     count: u64,
     progress: bool,
+    beginning: &Beginning,
 ) -> Result<bool, Failure>
 where
     R: Files + Input + Print + Eprint + AllocGlobal + Clock,
@@ -37,7 +39,7 @@ where
 {
     let login = read_login(rt, login)?;
     let progress = if progress { Progress::begin(rt) } else { None };
-    let file = open(rt, file, Source::Only, progress.as_ref())?;
+    let file = open(rt, file, Source::Only, progress.as_ref(), beginning)?;
     let alloc = rt.alloc();
     let mut reader = blocks(alloc, file)?;
     let mut out = Counted::new(io::writer(rt));

@@ -3,3 +3,4 @@ pub mod Opening
 pub mod Tallies
 pub mod Watches
 pub mod Packings
+pub mod Types

@@ -2,7 +2,7 @@
 use Rattle.std.specs.Prelude.{ℕ, Bool, cond, ◌||◌, nat_eq, List, [], ◌∷◌, Option, Some, None}
 use Rattle.std.specs.List.{starts_with}
 use Rattle.itchsnap_cli.specs.declared.input.packed.Packing.{Packing}
-use Rattle.itchsnap_cli.specs.declared.input.packed.Packing.TheVariants.{Gzip, Zstd, Xz, Capture}
+use Rattle.itchsnap_cli.specs.declared.input.packed.Packing.TheVariants.{Gzip, Bzip2, Zstd, Xz, Lz4, Zip, Capture}
 
 -- a file begins with this magic number
 abbrev pub begins : List ℕ → List ℕ → Bool
@@ -14,10 +14,13 @@ is_capture bytes =
     begins (161 ∷ 178 ∷ 195 ∷ 212 ∷ []) bytes || (begins (212 ∷ 195 ∷ 178 ∷ 161 ∷ []) bytes
     || (begins (161 ∷ 178 ∷ 60 ∷ 77 ∷ []) bytes || (begins (77 ∷ 60 ∷ 178 ∷ 161 ∷ []) bytes || begins (10 ∷ 13 ∷ 13 ∷ 10 ∷ []) bytes)))
 
--- the form of a file that begins so: gzip (RFC 1952), zstd (RFC 8878), xz, or captured packets
+-- the form of a file that begins so: gzip (RFC 1952), bzip2, zstd (RFC 8878), xz, a frame of lz4, zip, or captured packets
 abbrev pub packing_of : List ℕ → Option Packing
 packing_of bytes =
     cond (begins (31 ∷ 139 ∷ []) bytes) (Some Gzip)
+    (cond (begins (66 ∷ 90 ∷ 104 ∷ []) bytes) (Some Bzip2)
     (cond (begins (40 ∷ 181 ∷ 47 ∷ 253 ∷ []) bytes) (Some Zstd)
     (cond (begins (253 ∷ 55 ∷ 122 ∷ 88 ∷ 90 ∷ 0 ∷ []) bytes) (Some Xz)
-    (cond (is_capture bytes) (Some Capture) None)))
+    (cond (begins (4 ∷ 34 ∷ 77 ∷ 24 ∷ []) bytes) (Some Lz4)
+    (cond (begins (80 ∷ 75 ∷ 3 ∷ 4 ∷ []) bytes) (Some Zip)
+    (cond (is_capture bytes) (Some Capture) None))))))

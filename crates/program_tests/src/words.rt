@@ -43,7 +43,7 @@ pub(crate) fn columns(row: &str) -> Result<(&str, &str), Fail> {
 }
 
 // Words after the program's name, and the request that they are.
-const REQUESTS: [&str; 43] = [
+const REQUESTS: [&str; 45] = [
     "snap => One { file: None, command: Snap { limit: Limit { after: None, until: None }, selection: All } }",
     "snap day.itch => One { file: Some(\"day.itch\"), command: Snap { limit: Limit { after: None, until: None }, selection: All } }",
     "snap day.itch --after 0 => One { file: Some(\"day.itch\"), command: Snap { limit: Limit { after: Some(0), until: None }, selection: All } }",
@@ -53,6 +53,8 @@ const REQUESTS: [&str; 43] = [
     "check - => One { file: None, command: Check { limit: Limit { after: None, until: None }, expected: Expected { count: None, end: false }, form: Text } }",
     "check day.itch => One { file: Some(\"day.itch\"), command: Check { limit: Limit { after: None, until: None }, expected: Expected { count: None, end: false }, form: Text } }",
     "check --expect 007 --ended --after 5 => One { file: None, command: Check { limit: Limit { after: Some(5), until: None }, expected: Expected { count: Some(7), end: true }, form: Text } }",
+    "info day.itch => One { file: Some(\"day.itch\"), command: Info { limit: Limit { after: None, until: None }, form: Text } }",
+    "info - --json --after 3 --until 9:30 => One { file: None, command: Info { limit: Limit { after: Some(3), until: Some(34200000000000) }, form: Json } }",
     "show day.itch => One { file: Some(\"day.itch\"), command: Show { kind: Day(Limit { after: None, until: None }), form: Text, filters: Filters { only: None, stocks: None, types: None, reference: None } } }",
     "show --names --reference 18446744073709551615 => One { file: None, command: Show { kind: Day(Limit { after: None, until: None }), form: Named, filters: Filters { only: None, stocks: None, types: None, reference: Some(18446744073709551615) } } }",
     "show - --json --snapshot => One { file: None, command: Show { kind: Snapshot, form: Json, filters: Filters { only: None, stocks: None, types: None, reference: None } } }",
@@ -155,6 +157,9 @@ fn times_are_read(rt: HostRuntime) -> TestResult {
     let cases = [
         ("00:00", 0),
         ("10:30", 37_800_000_000_000),
+        ("9:30", 34_200_000_000_000),
+        ("09:30", 34_200_000_000_000),
+        ("0:00:01", 1_000_000_000),
         ("23:59:59", 86_399_000_000_000),
         ("10:30:00.000000001", 37_800_000_000_001),
         ("10:30:00.5", 37_800_500_000_000),

@@ -9,8 +9,11 @@ pub const MOST_MAGIC: usize = 6;
 #[derive(Clone, Copy, Debug, PartialEq, Eq)]
 pub enum Packing {
     Gzip,
+    Bzip2,
     Zstd,
     Xz,
+    Lz4,
+    Zip,
     /// Packets that were captured, in the form of pcap or of pcapng.
     Capture,
 }
@@ -22,10 +25,16 @@ impl Packing {
     {
         if beginning.starts_with(&[0x1f, 0x8b]) {
             Some(Packing::Gzip)
+        } else if beginning.starts_with(b"BZh") {
+            Some(Packing::Bzip2)
         } else if beginning.starts_with(&[0x28, 0xb5, 0x2f, 0xfd]) {
             Some(Packing::Zstd)
         } else if beginning.starts_with(&[0xfd, 0x37, 0x7a, 0x58, 0x5a, 0x00]) {
             Some(Packing::Xz)
+        } else if beginning.starts_with(&[0x04, 0x22, 0x4d, 0x18]) {
+            Some(Packing::Lz4)
+        } else if beginning.starts_with(b"PK\x03\x04") {
+            Some(Packing::Zip)
         } else if is_capture(beginning) {
             Some(Packing::Capture)
         } else {

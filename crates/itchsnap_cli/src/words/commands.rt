@@ -19,7 +19,7 @@ pub struct Entry {
 }
 
 /// The commands.
-pub const COMMANDS: [Entry; 14] = [
+pub const COMMANDS: [Entry; 15] = [
     Entry {
         name: "snap",
         about: "Write the snapshot of the market that a day file leaves",
@@ -72,6 +72,12 @@ pub const COMMANDS: [Entry; 14] = [
             PROGRESS,
         ],
         example: "Example: itchsnap check day.itch",
+    },
+    Entry {
+        name: "info",
+        about: "Summarize a day file: messages by type, times, events, stocks and live orders",
+        takes: &[FILE, AFTER, UNTIL, JSON, PROGRESS],
+        example: "Example: itchsnap info day.itch",
     },
     Entry {
         name: "compare",

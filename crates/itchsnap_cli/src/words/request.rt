@@ -1,4 +1,6 @@
 //! Requests over files, made from the matched words of the command line.
+ghost use Rattle.std.specs.Prelude.{◌≡◌};
+ghost use Rattle.itchsnap_cli.specs.Types.{is_message_type};
 
 use crate::words::commands::usage_fault;
 use crate::words::time::read_time;
@@ -8,6 +10,12 @@ use itch_commands::{
     Request, Selection, ShowForm, path_of,
 };
 use std::alloc::Global;
+
+/// The types of TotalView-ITCH 5.0, and that of End of Snapshot (GLIMPSE 5.0).
+const TYPES: [char; 24] = [
+    'S', 'R', 'H', 'Y', 'L', 'V', 'W', 'K', 'J', 'h', 'A', 'F', 'E', 'C', 'X', 'D', 'U', 'P', 'Q',
+    'B', 'I', 'N', 'O', 'G',
+];
 
 /// Reads the matched words of a request over files other than `snap`.
 ///
@@ -57,6 +65,10 @@ fn read_command<'a>(
         "check" => Ok(Command::Check {
             limit: read_limit(alloc, options)?,
             expected: read_expected(alloc, options)?,
+            form: read_form(options),
+        }),
+        "info" => Ok(Command::Info {
+            limit: read_limit(alloc, options)?,
             form: read_form(options),
         }),
         "show" if options.get_flag("orders") => read_orders(alloc, options),
@@ -208,15 +220,26 @@ fn read_filters<'a>(alloc: Global, options: &ArgMatches<'a>) -> Result<Filters<'
     })
 }
 
-// The letters of message types: one or more, printable and ASCII.
+// The letters of message types: one or more.
 fn read_types<'a>(alloc: Global, options: &ArgMatches<'a>) -> Result<Option<&'a str>, Error> {
     let Some(types) = options.get_str("types") else {
         return Ok(None);
     };
-    if types.is_empty() || !types.bytes().all(|byte| matches!(byte, b' '..=b'~')) {
+    if types.is_empty() {
         return Err(usage_fault(alloc, "--types takes letters of message types, such as AEX")?);
     }
+    if let Some(other) = types.chars().find(|letter| !is_type(*letter)) {
+        let message = format!(in alloc; "--types: no message has type '{other}'")?;
+        return Err(usage_fault(alloc, message.as_str())?);
+    }
     Ok(Some(types))
+}
+
+// Whether a letter is a type of message.
+fn is_type(letter: char) -> bool
+    ensures { result ≡ is_message_type letter }
+{
+    TYPES.contains(&letter)
 }
 
 // The two files of a command, of which one may be standard input.

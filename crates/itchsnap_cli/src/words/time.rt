@@ -4,8 +4,8 @@ ghost use Rattle.std.specs.Prelude.{◌<◌, ◌≤◌, ◌^◌, IfSome};
 /// The nanoseconds of a second.
 const SECOND: u64 = 1_000_000_000;
 
-/// The time of day that a text spells, in nanoseconds since midnight: hours and minutes, such as `10:30`, then seconds and up to nine
-/// decimals if it has them, such as `10:30:00.000000001`; or the nanoseconds themselves.
+/// The time of day that a text spells, in nanoseconds since midnight: hours and minutes, such as `10:30` or `9:30`, then seconds and up
+/// to nine decimals if it has them, such as `10:30:00.000000001`; or the nanoseconds themselves.
 pub fn read_time(text: &str) -> Option<u64> {
     let mut parts = text.split(':');
     let first = parts.next()?;
@@ -16,12 +16,23 @@ pub fn read_time(text: &str) -> Option<u64> {
     if parts.next().is_some() {
         return None;
     }
-    let minutes = two_digits(first, 24)? * 60 + two_digits(minutes, 60)?;
+    let minutes = read_hours(first)? * 60 + two_digits(minutes, 60)?;
     let rest = match seconds {
         Some(seconds) => read_seconds(seconds)?,
         None => 0,
     };
     Some(minutes * 60 * SECOND + rest)
+}
+
+// Hours of one digit or two, below 24.
+fn read_hours(text: &str) -> Option<u64>
+    ensures { IfSome result (λ hours. hours < 24) }
+{
+    if text.len() > 2 {
+        return None;
+    }
+    let hours = read_digits(text)?;
+    if hours < 24 { Some(hours) } else { None }
 }
 
 // Seconds with up to nine decimals, in nanoseconds.

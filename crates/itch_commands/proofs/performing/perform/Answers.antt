@@ -14,3 +14,6 @@ returns-in-Show g c = rw c.in-Show.is c.show_file.ensures
 
 pub returns-in-ShowOrders : goal.returns-in-ShowOrders
 returns-in-ShowOrders g c = rw c.in-ShowOrders.is c.orders_blocks.ensures
+
+pub returns-in-Info : goal.returns-in-Info
+returns-in-Info g c = rw c.in-Info.is c.info_blocks.ensures

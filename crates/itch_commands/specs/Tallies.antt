@@ -1,0 +1,113 @@
+-- What `info` tells of messages: how many of each type, their times, the system events, and the live orders on the way.
+use Rattle.std.specs.Prelude.{◌≡◌, ◌≢◌, ℕ, ◌+◌, ◌-◌, ◌^◌, ◌<◌, ◌==◌, ◌⊎◌, min, max, slice_index, if◌then◌else◌, Bool, true, false, List, [], ◌∷◌, ◌++◌, length, map, Option, None, Some}
+use Rattle.std.specs.FinMap as finite
+use Rattle.std.specs.List.{count_by}
+use Rattle.itch_codec.specs.Headers.{kind_of, time_of}
+use Rattle.itch_codec.specs.Messages.{message_of}
+use Rattle.itch_codec.specs.declared.message.Message.{Message}
+use Rattle.itch_codec.specs.declared.message.Message.TheVariants as is
+use Rattle.itch_day.specs.Marks.{IsMark, latest}
+use Rattle.itch_day.specs.declared.mark.Mark.{Mark}
+use Rattle.itch_frame.specs.Blocks.{blocks}
+use Rattle.itch_market.specs.Content.{Content, empty, laid}
+use Rattle.itch_market.specs.Effects.{effect}
+use Rattle.itch_market.specs.GoodMarkets.{IsGood}
+use Rattle.itch_market.specs.Runs.{run}
+use Rattle.itch_commands.specs.Expectations.{is_last}
+use Rattle.itch_commands.specs.declared.info.events.Event.{Event}
+use Rattle.itch_commands.specs.declared.info.summary.Summary.{Summary}
+use Rattle.itch_commands.specs.declared.info.tally.Tally.{Tally}
+
+-- how many messages have this type
+abbrev pub count_of : ℕ → List Message → ℕ
+count_of kind messages = count_by (λ message. kind_of message == kind) messages
+
+-- the earlier one of two times, of which there may be none
+abbrev pub earlier : Option ℕ → Option ℕ → Option ℕ
+earlier None time = time
+earlier (Some before) None = Some before
+earlier (Some before) (Some time) = Some (min before time)
+
+-- the earliest time of these messages and of a time before them
+abbrev pub earliest : Option ℕ → List Message → Option ℕ
+earliest before [] = before
+earliest before (message ∷ rest) = earliest (earlier before (time_of message)) rest
+
+-- the system event that a message with this number is, if it is one
+abbrev pub event_of : ℕ → Message → List Event
+event_of number (is.SystemEvent x) = record { number = number; time = x.header.stamp; code = x.code } ∷ []
+event_of number message = []
+
+-- the system events among these messages, of which the first has this number
+abbrev pub events_from : ℕ → List Message → List Event
+events_from number [] = []
+events_from number (message ∷ rest) = event_of number message ++ events_from (number + 1) rest
+
+-- the number of live orders
+abbrev pub live : Content → ℕ
+live m = length m.orders
+
+-- the greatest number of live orders after any of these messages, of which the first finds this market
+abbrev pub peak_from : Content → List Message → ℕ
+peak_from m [] = 0
+peak_from m (message ∷ rest) = max (live (effect m message)) (peak_from (effect m message) rest)
+
+-- the summary of messages that leave this market
+abbrev pub summary_in : Content → List (List ℕ) → Summary
+summary_in m payloads =
+    record {
+      count = length payloads;
+      bytes = min (length (blocks payloads)) (2 ^ 64 - 1);
+      first = earliest None (map message_of payloads);
+      last = latest None (map message_of payloads);
+      stocks = length (finite.keys m.securities);
+      live = live m;
+      peak = peak_from empty (map message_of payloads);
+      is_ended = is_last m.event;
+    }
+
+-- the summary of the messages at the beginning of a day
+abbrev pub summary_of : List (List ℕ) → Summary
+summary_of payloads = summary_in (run (map message_of payloads)) payloads
+
+-- one message more, which leaves this market, is counted
+pub record IsCounted (old : Tally) (message : Message) (m : Content) (new : Tally) : Type 0 where
+  pub counts : (kind : ℕ) → kind < 256 → slice_index new.counts.counts kind ≡ slice_index old.counts.counts kind + (if kind_of message == kind then 1 else 0)
+  pub first : new.first ≡ earlier old.first (time_of message)
+  pub peak : new.peak ≡ max old.peak (live m)
+
+-- the system event of one message more, if it is one, is in the list, unless memory is refused for it, or was for another
+pub record IsListed (before : Bool) (old : List Event) (number : ℕ) (message : Message) (now : Bool) (new : List Event) : Type 0 where
+  pub complete : now ≡ true → (before ≡ true) × (new ≡ old ++ event_of number message)
+  pub lost : now ≡ false → (before ≡ false) ⊎ (event_of number message ≢ [])
+
+-- what was counted of these messages
+pub record IsTally (payloads : List (List ℕ)) (mark : Mark) (m : Content) (tally : Tally) (complete : Bool) (events : List Event) : Type 0 where
+  pub marked : IsMark mark payloads
+  pub market : m ≡ laid (run (map message_of payloads))
+  pub good : IsGood (run (map message_of payloads))
+  pub counts : (kind : ℕ) → kind < 256 → slice_index tally.counts.counts kind ≡ count_of kind (map message_of payloads)
+  pub first : tally.first ≡ earliest None (map message_of payloads)
+  pub peak : tally.peak ≡ peak_from empty (map message_of payloads)
+  pub listed : complete ≡ true → events ≡ events_from 1 (map message_of payloads)
+  pub lost : complete ≡ false → events_from 1 (map message_of payloads) ≢ []
+
+-- nothing is counted yet
+pub record IsNew (tally : Tally) : Type 0 where
+  pub counts : (kind : ℕ) → kind < 256 → slice_index tally.counts.counts kind ≡ 0
+  pub first : tally.first ≡ None
+  pub peak : tally.peak ≡ 0
+
+-- the summary of what was counted
+abbrev pub summary_by : Mark → Content → Tally → Summary
+summary_by mark m tally =
+    record {
+      count = mark.count;
+      bytes = mark.offset;
+      first = tally.first;
+      last = mark.latest;
+      stocks = length (finite.keys m.securities);
+      live = live m;
+      peak = tally.peak;
+      is_ended = is_last m.event;
+    }

@@ -1,0 +1,60 @@
+//! The first bytes of standard input, which tell whether it is compressed.
+
+use itchsnap_cli::input::{MOST_MAGIC, Packing};
+use std::cell::Cell;
+use std::io::{self, Read};
+
+/// The first bytes that came from standard input, and how many came.
+#[derive(Drop)]
+pub struct Beginning {
+    bytes: Cell<[u8; MOST_MAGIC]>,
+    count: Cell<usize>,
+}
+
+impl Beginning {
+    /// Nothing has come.
+    pub fn new() -> Beginning {
+        Beginning {
+            bytes: Cell::new([0; MOST_MAGIC]),
+            count: Cell::new(0),
+        }
+    }
+
+    /// The form of a packed file that its bytes tell, if they do.
+    pub fn packing(&self) -> Option<Packing> {
+        if self.count.get() < MOST_MAGIC {
+            return None;
+        }
+        Packing::of(&self.bytes.get())
+    }
+
+    fn pass(&self, piece: &[u8]) {
+        let mut bytes = self.bytes.get();
+        for (byte, &next) in bytes.iter_mut().skip(self.count.get()).zip(piece) {
+            *byte = next;
+        }
+        self.bytes.set(bytes);
+        self.count.set(self.count.get().saturating_add(piece.len()));
+    }
+}
+
+/// A reader that reads as the one inside does, and notes the first bytes.
+#[derive(Drop)]
+pub struct Begun<'a, T> {
+    inner: T,
+    beginning: &'a Beginning,
+}
+
+impl<'a, T> Begun<'a, T> {
+    pub fn new(inner: T, beginning: &'a Beginning) -> Begun<'a, T> {
+        Begun { inner, beginning }
+    }
+}
+
+impl<T: Read> Read for Begun<'_, T> {
+    fn read(&mut self, buf: &mut [u8]) -> io::Result<usize> {
+        let count = self.inner.read(buf)?;
+        self.beginning.pass(&buf[..count]);
+        Ok(count)
+    }
+}

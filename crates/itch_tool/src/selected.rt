@@ -1,0 +1,85 @@
+//! What a request selects, in words, and from which part of its file.
+
+use itch_commands::{Command, FileKind, Limit, PairCommand, Request, Selection};
+use itchsnap_cli::words::{Job, PointWords};
+
+/// The list of locates or of stocks that a request selects, and the part of its one file that it reads.
+#[derive(Clone, Copy)]
+pub struct Selected<'a> {
+    pub locates: Option<&'a str>,
+    pub stocks: Option<&'a str>,
+    /// None where a second file is read too.
+    pub part: Option<Limit>,
+}
+
+impl<'a> Selected<'a> {
+    pub fn of(job: &Job<'a>) -> Selected<'a> {
+        match job {
+            Job::Files { request, .. } => Selected::of_request(request),
+            Job::Points(PointWords { only, .. }) => Selected::new(*only, None, None),
+            _ => Selected::nothing(),
+        }
+    }
+
+    pub fn nothing() -> Selected<'a> {
+        Selected::new(None, None, None)
+    }
+
+    fn new(locates: Option<&'a str>, stocks: Option<&'a str>, part: Option<Limit>) -> Selected<'a> {
+        Selected {
+            locates,
+            stocks,
+            part,
+        }
+    }
+
+    fn of_request(request: &Request<'a>) -> Selected<'a> {
+        match request {
+            Request::One { command, .. } => Selected::of_command(command),
+            Request::Two {
+                command: PairCommand::Join { selection, .. },
+                ..
+            } => Selected::by(*selection, None),
+            Request::Two { .. } => Selected::nothing(),
+            Request::At {
+                selection,
+                point,
+                ..
+            } => Selected::by(*selection, Some(*point)),
+        }
+    }
+
+    fn of_command(command: &Command<'a>) -> Selected<'a> {
+        match command {
+            Command::Snap { limit, selection } => Selected::by(*selection, Some(*limit)),
+            Command::Book {
+                selection,
+                kind,
+                ..
+            } => Selected::by(*selection, Some(part_of(*kind))),
+            Command::Show { kind, filters, .. } => {
+                Selected::new(filters.only, filters.stocks, Some(part_of(*kind)))
+            }
+            Command::Check { limit, .. } | Command::Info { limit, .. } => {
+                Selected::new(None, None, Some(*limit))
+            }
+            Command::Canon { .. } => Selected::nothing(),
+        }
+    }
+
+    fn by(selection: Selection<'a>, part: Option<Limit>) -> Selected<'a> {
+        match selection {
+            Selection::All => Selected::new(None, None, part),
+            Selection::Locates(list) => Selected::new(Some(list), None, part),
+            Selection::Stocks(names) => Selected::new(None, Some(names), part),
+        }
+    }
+}
+
+// The part of a file that is read. A snapshot is read whole.
+fn part_of(kind: FileKind) -> Limit {
+    match kind {
+        FileKind::Day(limit) => limit,
+        FileKind::Snapshot => Limit::whole(),
+    }
+}
